@@ -27,8 +27,20 @@ all_from P (x ∷ xs) h (suc i) d lt = all_from P xs h.1 i d (omega arith)
 pub both_orders : HaveTwo two_listen (effects_in_order gives_five gives_six) (effects_in_order gives_six gives_five)
 both_orders = record {
   trace = (refl, omega arith, (refl, omega arith, (refl, omega arith, (refl, omega arith, tt))));
-  one = record { few = omega arith; within = all_from (λ s. IsWithinLimits s.label) (effects_in_order gives_five gives_six).steps (tt, (tt, (tt, (tt, (tt, (tt, tt)))))); shifts = all_from (λ s. TellsShift One s.label) (effects_in_order gives_five gives_six).steps (tt, (tt, (tt, (tt, (tt, (tt, tt)))))) };
-  two = record { few = omega arith; within = all_from (λ s. IsWithinLimits s.label) (effects_in_order gives_six gives_five).steps (tt, (tt, (tt, (tt, (tt, (tt, tt)))))); shifts = all_from (λ s. TellsShift One s.label) (effects_in_order gives_six gives_five).steps (tt, (tt, (tt, (tt, (tt, (tt, tt)))))) };
+  one = record {
+    few = omega arith;
+    within = all_from (λ s. IsWithinLimits s.label) (effects_in_order gives_five gives_six).steps
+        (tt, (tt, (tt, (tt, (tt, (tt, tt))))));
+    shifts = all_from (λ s. TellsShift One s.label) (effects_in_order gives_five gives_six).steps
+        (tt, (tt, (tt, (tt, (tt, (tt, tt))))));
+  };
+  two = record {
+    few = omega arith;
+    within = all_from (λ s. IsWithinLimits s.label) (effects_in_order gives_six gives_five).steps
+        (tt, (tt, (tt, (tt, (tt, (tt, tt))))));
+    shifts = all_from (λ s. TellsShift One s.label) (effects_in_order gives_six gives_five).steps
+        (tt, (tt, (tt, (tt, (tt, (tt, tt))))));
+  };
   versions = (refl, refl);
   differ = λ e. absurd cc;
   yes_one = tt;

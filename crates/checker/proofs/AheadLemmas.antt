@@ -29,11 +29,14 @@ module _ {A : Type 0} where
   none_passed (Some (Ok items)) = refl
   none_passed (Some (Err e)) = refl
 
-  pub one_passed : (a b c : Option (Result (List A) TextFault)) (items : List A) (item : A) → Passes a b items → Yields b c (Some item) → Passes a c (items ++ item ∷ [])
+  pub one_passed : (a b c : Option (Result (List A) TextFault)) (items : List A) (item : A) → Passes a b items
+      → Yields b c (Some item) → Passes a c (items ++ item ∷ [])
   one_passed None b c items item p y = tt
   one_passed (Some l) None c items item p y = absurd p
   one_passed (Some l) (Some r) None items item p y = absurd y
-  one_passed (Some l) (Some r) (Some (Ok more)) items item p y = p ∙ ap (λ (s : Result (List A) TextFault). s >>= λ more. Ok (items ++ more)) y ∙ ap (λ (l : List A). Ok l) (sym (append_assoc items (item ∷ []) more))
+  one_passed (Some l) (Some r) (Some (Ok more)) items item p y =
+      p ∙ ap (λ (s : Result (List A) TextFault). s >>= λ more. Ok (items ++ more)) y
+      ∙ ap (λ (l : List A). Ok l) (sym (append_assoc items (item ∷ []) more))
   one_passed (Some l) (Some r) (Some (Err e)) items item p y = p ∙ ap (λ (s : Result (List A) TextFault). s >>= λ more. Ok (items ++ more)) y
 
   pub all_passed : (a b c : Option (Result (List A) TextFault)) (items : List A) → Passes a b items → Yields b c None → IsAll a (items ++ [])
@@ -49,11 +52,14 @@ module _ {A : Type 0} where
   passed_on None b c xs ys p q = tt
   passed_on (Some l) None c xs ys p q = absurd p
   passed_on (Some l) (Some r) None xs ys p q = absurd q
-  passed_on (Some l) (Some r) (Some (Ok more)) xs ys p q = p ∙ ap (λ (s : Result (List A) TextFault). s >>= λ more. Ok (xs ++ more)) q ∙ ap (λ (l : List A). Ok l) (sym (append_assoc xs ys more))
+  passed_on (Some l) (Some r) (Some (Ok more)) xs ys p q =
+      p ∙ ap (λ (s : Result (List A) TextFault). s >>= λ more. Ok (xs ++ more)) q
+      ∙ ap (λ (l : List A). Ok l) (sym (append_assoc xs ys more))
   passed_on (Some l) (Some r) (Some (Err e)) xs ys p q = p ∙ ap (λ (s : Result (List A) TextFault). s >>= λ more. Ok (xs ++ more)) q
 
   -- where the whole list is known, so is what is left of it
-  pub rest_of_whole : (a b : Option (Result (List A) TextFault)) (items all : List A) → Passes a b items → IsWhole a all → (rest : List A) × (b ≡ Some (Ok rest)) × (all ≡ items ++ rest)
+  pub rest_of_whole : (a b : Option (Result (List A) TextFault)) (items all : List A) → Passes a b items → IsWhole a all
+      → (rest : List A) × (b ≡ Some (Ok rest)) × (all ≡ items ++ rest)
   rest_of_whole None b items all p is = absurd cc
   rest_of_whole (Some l) None items all p is = absurd p
   rest_of_whole (Some l) (Some (Ok rest)) items all p is =
@@ -70,7 +76,8 @@ module _ {A : Type 0} where
   whole_of_rest (Some l) (Some r) items rest p is = p ∙ ap (λ (s : Result (List A) TextFault). s >>= λ more. Ok (items ++ more)) is
 
   -- a fault of what is left is that of the whole
-  pub err_before : (a b : Option (Result (List A) TextFault)) (items : List A) (f : TextFault) → Passes a b items → IfSome b (λ read. read ≡ Err f) → IfSome a (λ read. read ≡ Err f)
+  pub err_before : (a b : Option (Result (List A) TextFault)) (items : List A) (f : TextFault) → Passes a b items
+      → IfSome b (λ read. read ≡ Err f) → IfSome a (λ read. read ≡ Err f)
   err_before None b items f p fails = tt
   err_before (Some l) None items f p fails = absurd p
   err_before (Some l) (Some r) items f p fails = p ∙ ap (λ (s : Result (List A) TextFault). s >>= λ more. Ok (items ++ more)) fails
@@ -81,7 +88,8 @@ module _ {A : Type 0} where
   trace_fails_before a b items faults.Read p fails = tt
   trace_fails_before a b items faults.OutOfMemory p fails = tt
 
-  pub witness_fails_before : (a b : Option (Result (List A) TextFault)) (items : List A) (e : CaseFault) → Passes a b items → WitnessFails e b → WitnessFails e a
+  pub witness_fails_before : (a b : Option (Result (List A) TextFault)) (items : List A) (e : CaseFault)
+      → Passes a b items → WitnessFails e b → WitnessFails e a
   witness_fails_before a b items (faults.Trace f) p fails = absurd fails
   witness_fails_before a b items (faults.Witness f) p fails = err_before a b items f p fails
   witness_fails_before a b items faults.Read p fails = tt
@@ -98,9 +106,12 @@ lines_more o n m items line so_far one =
     further = omega (arith, length-append items (line ∷ []))
 
     entries : (o.held ++ enumerate_from o.next items) ++ (o.next + length items, line) ∷ [] ≡ o.held ++ enumerate_from o.next (items ++ line ∷ [])
-    entries = append_assoc o.held (enumerate_from o.next items) ((o.next + length items, line) ∷ []) ∙ ap (λ (es : List (ℕ × Line)). o.held ++ es) (sym (enumerate_append o.next items (line ∷ [])))
+    entries =
+        append_assoc o.held (enumerate_from o.next items) ((o.next + length items, line) ∷ [])
+        ∙ ap (λ (es : List (ℕ × Line)). o.held ++ es) (sym (enumerate_append o.next items (line ∷ [])))
 
-pub step_more : (o m : Order) (line : Line) (ahead : Option Line) → IsInStep o (Some line) → m ≡ with_line o line → IfSome ahead (λ next. Follows line next) → IsInStep m ahead
+pub step_more : (o m : Order) (line : Line) (ahead : Option Line) → IsInStep o (Some line) → m ≡ with_line o line
+    → IfSome ahead (λ next. Follows line next) → IsInStep m ahead
 step_more o m line None step one follows = tt
 step_more o m line (Some next) step one follows =
     let later : line.moment ≤ next.moment = follows.1 in
@@ -119,10 +130,18 @@ line_reached (Some line) moment is = (line, refl)
 
 -- ---- a line that is named before it is reached
 
-pub between_none : (o : Order) (a : Option (Result (List Line) TextFault)) (ahead : Option Line) (noted : ℕ → Bool) (number moment : ℕ) → IsInStep o ahead → IfSome ahead (λ line. moment < line.moment) → ((t : ℕ) → noted t ≡ false) → o.next ≤ number
+pub between_none : (o : Order) (a : Option (Result (List Line) TextFault)) (ahead : Option Line) (noted : ℕ → Bool)
+    (number moment : ℕ) → IsInStep o ahead → IfSome ahead (λ line. moment < line.moment) → ((t : ℕ) → noted t ≡ false)
+    → o.next ≤ number
     → Between o a a ahead noted number moment []
 between_none o a None noted number moment step late none low = record { passed = none_passed a; next = tt; threads = none; low = omega (arith, low) }
-between_none o a (Some line) noted number moment step late none low = record { passed = none_passed a; next = (let at = step.0 in omega (arith, at), late); threads = none; low = omega (arith, low) }
+between_none o a (Some line) noted number moment step late none low =
+    record {
+      passed = none_passed a;
+      next = (let at = step.0 in omega (arith, at), late);
+      threads = none;
+      low = omega (arith, low);
+    }
 
 or_swap : (a b : Bool) → (a || b) ≡ (b || (a || false))
 or_swap true true = refl
@@ -130,8 +149,11 @@ or_swap true false = refl
 or_swap false true = refl
 or_swap false false = refl
 
-pub between_more : (o : Order) (a b c : Option (Result (List Line) TextFault)) (line : Line) (ahead : Option Line) (noted now : ℕ → Bool) (number moment : ℕ) (between : List Line)
-    → Between o a b (Some line) noted number moment between → Yields b c (Some line) → IfSome ahead (λ next. Follows line next) → (line.number ≡ number → ⊥) → ((t : ℕ) → now t ≡ (line.thread == t || noted t))
+pub between_more : (o : Order) (a b c : Option (Result (List Line) TextFault)) (line : Line) (ahead : Option Line)
+    (noted now : ℕ → Bool) (number moment : ℕ) (between : List Line)
+    → Between o a b (Some line) noted number moment between → Yields b c (Some line)
+    → IfSome ahead (λ next. Follows line next) → (line.number ≡ number → ⊥)
+    → ((t : ℕ) → now t ≡ (line.thread == t || noted t))
     → Between o a c ahead now number moment (between ++ line ∷ [])
 between_more o a b c line ahead noted now number moment between h y follows other grows =
     let at = h.next.0 in
@@ -141,11 +163,15 @@ between_more o a b c line ahead noted now number moment between h y follows othe
     record {
       passed = one_passed a b c between line h.passed y;
       next = by_ahead ahead follows;
-      threads = λ t. grows t ∙ ap (λ (n : Bool). line.thread == t || n) (h.threads t) ∙ or_swap (line.thread == t) (is_among t between) ∙ sym (list_any-append (λ (l : Line). l.thread == t) between (line ∷ []));
+      threads =
+          λ t. grows t ∙ ap (λ (n : Bool). line.thread == t || n) (h.threads t)
+          ∙ or_swap (line.thread == t) (is_among t between)
+          ∙ sym (list_any-append (λ (l : Line). l.thread == t) between (line ∷ []));
       low = omega (arith, at, low, len, other);
     }
   where
-    by_ahead : (ahead : Option Line) → IfSome ahead (λ next. Follows line next) → IfSome ahead (λ next. (next.number ≡ o.next + length (between ++ line ∷ [])) × (moment < next.moment))
+    by_ahead : (ahead : Option Line) → IfSome ahead (λ next. Follows line next)
+        → IfSome ahead (λ next. (next.number ≡ o.next + length (between ++ line ∷ [])) × (moment < next.moment))
     by_ahead None f = tt
     by_ahead (Some next) f =
         let at = h.next.0 in
@@ -155,7 +181,16 @@ between_more o a b c line ahead noted now number moment between h y follows othe
         let len = length-append between (line ∷ []) in
         (omega (arith, at, number, len), omega (arith, late, rises))
 
-pub late_found : (o : Order) (a b c : Option (Result (List Line) TextFault)) (line : Line) (noted : ℕ → Bool) (number extras moment : ℕ) (between : List Line) (rule : Rule)
-    → Between o a b (Some line) noted number moment between → Yields b c (Some line) → line.number ≡ number → rule ≡ late_by o (noted line.thread) line extras moment → IsLate o a c number extras moment rule
+pub late_found : (o : Order) (a b c : Option (Result (List Line) TextFault)) (line : Line) (noted : ℕ → Bool)
+    (number extras moment : ℕ) (between : List Line) (rule : Rule)
+    → Between o a b (Some line) noted number moment between → Yields b c (Some line) → line.number ≡ number
+    → rule ≡ late_by o (noted line.thread) line extras moment → IsLate o a c number extras moment rule
 late_found o a b c line noted number extras moment between rule h y is said =
-    inl (between, line, one_passed a b c between line h.passed y, sym is ∙ h.next.0, h.next.1, said ∙ ap (λ (n : Bool). late_by o n line extras moment) (h.threads line.thread))
+    inl (
+      between,
+      line,
+      one_passed a b c between line h.passed y,
+      sym is ∙ h.next.0,
+      h.next.1,
+      said ∙ ap (λ (n : Bool). late_by o n line extras moment) (h.threads line.thread),
+    )

@@ -1,5 +1,6 @@
 -- A case, cut at its first line that begins a witness, and its first fault.
-use Rattle.std.proofs.Common.{◌≡◌, ◌≢◌, ◌+◌, ℕ, true, false, List, [], ◌∷◌, ◌++◌, length, take, drop, refl, sym, ap, ◌∙◌, arith, append-nil, append_assoc, length-append, Some, Result, Ok, Err}
+use Rattle.std.proofs.Common.{◌≡◌, ◌≢◌, ◌+◌, ℕ, true, false, List, [], ◌∷◌, ◌++◌, length, take, drop, refl, sym, ap}
+use Rattle.std.proofs.Common.{◌∙◌, arith, append-nil, append_assoc, length-append, Some, Result, Ok, Err}
 use Rattle.std.specs.List.{AllByRecursion, concat}
 use Rattle.std.proofs.lemmas.List.{take_at, drop_at, take-append-drop}
 use Rattle.bstr.specs.Text.{lines_of}
@@ -28,9 +29,12 @@ module _ (v : Version) where
   abbrev pub AreTraceLines : List (List ℕ) → Type 0
   AreTraceLines raws = AllByRecursion (λ raw. begins_witness v raw ≡ false) raws
 
-  pub place_found : (front : List (List ℕ)) (raw : List ℕ) (rest : List (List ℕ)) → AreTraceLines front → begins_witness v raw ≡ true → cut_place v (front ++ raw ∷ rest) ≡ length front
+  pub place_found : (front : List (List ℕ)) (raw : List ℕ) (rest : List (List ℕ)) → AreTraceLines front
+      → begins_witness v raw ≡ true → cut_place v (front ++ raw ∷ rest) ≡ length front
   place_found [] raw rest none begins = rw begins refl
-  place_found (r ∷ front) raw rest none begins = rw none.0 (let there : cut_place v (front ++ raw ∷ rest) ≡ length front = place_found front raw rest none.1 begins in omega arith)
+  place_found (r ∷ front) raw rest none begins =
+      rw none.0 (let there : cut_place v (front ++ raw ∷ rest) ≡ length front =
+      place_found front raw rest none.1 begins in omega arith)
 
   place_end : (front : List (List ℕ)) → AreTraceLines front → cut_place v front ≡ length front
   place_end [] none = refl
@@ -59,7 +63,8 @@ module _ (v : Version) where
   pub cut_start : (text : List ℕ) → IsCutSoFar text 0 (lines_of text)
   cut_start text = record { front = []; lines = refl; none = tt; here = refl }
 
-  pub cut_more : (text : List ℕ) (at : ℕ) (raw : List ℕ) (left : List (List ℕ)) → IsCutSoFar text at (raw ∷ left) → begins_witness v raw ≡ false → IsCutSoFar text (at + length raw) left
+  pub cut_more : (text : List ℕ) (at : ℕ) (raw : List ℕ) (left : List (List ℕ)) → IsCutSoFar text at (raw ∷ left)
+      → begins_witness v raw ≡ false → IsCutSoFar text (at + length raw) left
   cut_more text at raw left c begins = record {
     front = c.front ++ raw ∷ [];
     lines = append_assoc c.front (raw ∷ []) left ∙ c.lines;
@@ -77,14 +82,21 @@ module _ (v : Version) where
       (ap (take at) all ∙ take_at (concat c.front) (concat left) at (sym c.here), ap (drop at) all ∙ drop_at (concat c.front) (concat left) at (sym c.here))
 
   -- the parts, where the place of the cut is known
-  pub parts_at : (text : List ℕ) (front left : List (List ℕ)) → front ++ left ≡ lines_of text → cut_place v (front ++ left) ≡ length front → (trace_part v text ≡ concat front) × (witness_part v text ≡ concat left)
+  pub parts_at : (text : List ℕ) (front left : List (List ℕ)) → front ++ left ≡ lines_of text
+      → cut_place v (front ++ left) ≡ length front
+      → (trace_part v text ≡ concat front) × (witness_part v text ≡ concat left)
   parts_at text front left lines place =
       let same : cut_place v (lines_of text) ≡ length front = ap (cut_place v) (sym lines) ∙ place in (
-        ap (λ (n : ℕ). concat (take n (lines_of text))) same ∙ ap (λ (raws : List (List ℕ)). concat (take (length front) raws)) (sym lines) ∙ ap concat (take_at front left (length front) refl),
-        ap (λ (n : ℕ). concat (drop n (lines_of text))) same ∙ ap (λ (raws : List (List ℕ)). concat (drop (length front) raws)) (sym lines) ∙ ap concat (drop_at front left (length front) refl),
+        ap (λ (n : ℕ). concat (take n (lines_of text))) same
+            ∙ ap (λ (raws : List (List ℕ)). concat (take (length front) raws)) (sym lines)
+            ∙ ap concat (take_at front left (length front) refl),
+        ap (λ (n : ℕ). concat (drop n (lines_of text))) same
+            ∙ ap (λ (raws : List (List ℕ)). concat (drop (length front) raws)) (sym lines)
+            ∙ ap concat (drop_at front left (length front) refl),
       )
 
-  pub cut_found : (text : List ℕ) (at : ℕ) (raw : List ℕ) (left : List (List ℕ)) → IsCutSoFar text at (raw ∷ left) → begins_witness v raw ≡ true → (take at text ≡ trace_part v text) × (drop at text ≡ witness_part v text)
+  pub cut_found : (text : List ℕ) (at : ℕ) (raw : List ℕ) (left : List (List ℕ)) → IsCutSoFar text at (raw ∷ left)
+      → begins_witness v raw ≡ true → (take at text ≡ trace_part v text) × (drop at text ≡ witness_part v text)
   cut_found text at raw left c begins =
       let parts = parts_at text c.front (raw ∷ left) c.lines (place_found c.front raw left c.none begins) in
       let here = front_is text at (raw ∷ left) c in
@@ -97,14 +109,17 @@ module _ (v : Version) where
       (here.0 ∙ sym parts.0, here.1 ∙ sym parts.1)
 
 -- a case's two parts, read one behind the other, give the case's answer
-pub case_is : (text : List ℕ) (given : Result Verdict CaseFault) → let v = version_named (lines_of text) in GivesTexts given (Some (trace_part v text)) (Some (witness_part v text)) → given ≢ Err faults.Read → GivesCase given (case_result text)
+pub case_is : (text : List ℕ) (given : Result Verdict CaseFault) → let v = version_named (lines_of text) in
+    GivesTexts given (Some (trace_part v text)) (Some (witness_part v text)) → given ≢ Err faults.Read
+    → GivesCase given (case_result text)
 unfolding case_result
 case_is text given gives unread = by given gives unread
   where
     v : Version
     v = version_named (lines_of text)
 
-    by : (r : Result Verdict CaseFault) → GivesTexts r (Some (trace_part v text)) (Some (witness_part v text)) → r ≢ Err faults.Read → GivesCase r (case_of v text)
+    by : (r : Result Verdict CaseFault) → GivesTexts r (Some (trace_part v text)) (Some (witness_part v text))
+        → r ≢ Err faults.Read → GivesCase r (case_of v text)
     by (Ok verdict) is unread = is
     by (Err (faults.Trace f)) is unread = is
     by (Err (faults.Witness f)) is unread = is

@@ -12,7 +12,8 @@ use Rattle.case_forms.specs.declared.trace.Header.{Header}
 use Rattle.checker.specs.Explains.{Explains, IsYes}
 
 -- the steps before one of a run are a run, and it is permitted after them
-pub run_at : (h : Header) (w : World tcp_shape) (xs : List (Stamped tcp_shape)) → Lawful (tcp h) w xs → (place : ℕ) (x : Stamped tcp_shape) → slice_get xs place ≡ Some x
+pub run_at : (h : Header) (w : World tcp_shape) (xs : List (Stamped tcp_shape)) → Lawful (tcp h) w xs
+    → (place : ℕ) (x : Stamped tcp_shape) → slice_get xs place ≡ Some x
     → Lawful (tcp h) w (take place xs) × Permitted (tcp h) x.moment (after_all (tcp h) w (take place xs)) x.step
 run_at h w [] may place x here = absurd cc
 run_at h w (first ∷ xs) may zero x here =
@@ -30,6 +31,7 @@ run_until h w (x ∷ xs) may zero = tt
 run_until h w (x ∷ xs) may (suc place) = (may.0, run_until h (after (tcp h) x.moment w x.step) xs may.1 place)
 
 -- what holds where a witness explains its trace holds where the verdict is yes
-pub yes_then : {E : Type 0} (t : Trace) (w : Witness) (P : Type 0) (r : Result Verdict E) → (Explains t w → P) → IfOk r (λ v. IsYes v ↔ Explains t w) → IfOk r (λ v. IsYes v → P)
+pub yes_then : {E : Type 0} (t : Trace) (w : Witness) (P : Type 0) (r : Result Verdict E) → (Explains t w → P)
+    → IfOk r (λ v. IsYes v ↔ Explains t w) → IfOk r (λ v. IsYes v → P)
 yes_then t w P (Ok v) then explained = λ said. then (explained.0 said)
 yes_then t w P (Err e) then explained = tt

@@ -62,18 +62,22 @@ none_removed n k (e ∷ es) le r =
     rw differ (ap (λ (xs : List (ℕ × Line)). e ∷ xs) (none_removed n (suc e.0) es (omega arith) r.1))
 
 -- what is taken is one line less
-one_removed : (n k : ℕ) (es : List (ℕ × Line)) → Rises k es → is_none (lookup (nat_eq n) es) ≡ false → length es ≡ suc (length (filter (λ e. not (n == e.0)) es))
+one_removed : (n k : ℕ) (es : List (ℕ × Line)) → Rises k es → is_none (lookup (nat_eq n) es) ≡ false
+    → length es ≡ suc (length (filter (λ e. not (n == e.0)) es))
 one_removed n k [] r found = absurd cc
 one_removed n k (e ∷ es) r found = by_test (n == e.0) refl (one_removed n (suc e.0) es r.1)
   where
-    by_test : (b : Bool) → (n == e.0) ≡ b → (is_none (lookup (nat_eq n) es) ≡ false → length es ≡ suc (length (filter (λ x. not (n == x.0)) es))) → length (e ∷ es) ≡ suc (length (filter (λ x. not (n == x.0)) (e ∷ es)))
+    by_test : (b : Bool) → (n == e.0) ≡ b
+        → (is_none (lookup (nat_eq n) es) ≡ false → length es ≡ suc (length (filter (λ x. not (n == x.0)) es)))
+        → length (e ∷ es) ≡ suc (length (filter (λ x. not (n == x.0)) (e ∷ es)))
     by_test true is rest =
         let same : n ≡ e.0 = grind (arith, nat_tests) in
         rw is (ap (λ (xs : List (ℕ × Line)). suc (length xs)) (sym (none_removed n (suc e.0) es (omega arith) r.1)))
     by_test false is rest = rw is (ap suc (rest (rw is at found)))
 
 -- a step that breaks no rule of order takes one line from those that are left, or none
-taken_by : (o : Order) (moment k : ℕ) (label : Label NamedLine) → Rises k o.held → first_broken (order_rules o (record { moment = moment; take = take_of label })) ≡ None
+taken_by : (o : Order) (moment k : ℕ) (label : Label NamedLine) → Rises k o.held
+    → first_broken (order_rules o (record { moment = moment; take = take_of label })) ≡ None
     → length o.held ≡ cond (takes_line label) 1 0 + length (held_after o.held (take_of label))
 taken_by o moment k (L line) r none =
     let t = none_all (order_rules o (record { moment = moment; take = take_of (L line) })) none in
@@ -89,17 +93,22 @@ taken_by o moment k (F host recovery) r none = omega arith
 
 module _ (header : Header) (lines : List Line) where
   left_rise : (done : List Move) → Rises (first_event_line header) (unplaced header lines done)
-  left_rise done = filter_rises (λ e. not (is_placed done e.0)) (first_event_line header) (numbered header lines) (numbered_rise (first_event_line header) lines)
+  left_rise done =
+      filter_rises (λ e. not (is_placed done e.0)) (first_event_line header) (numbered header lines)
+      (numbered_rise (first_event_line header) lines)
 
   taken_more : (earlier : List Step) (w : World tcp_shape) (s : Step) → broken header lines earlier w s ≡ None
       → length (unplaced header lines (moves earlier)) ≡ cond (takes_line s.label) 1 0 + length (unplaced header lines (moves (earlier ++ s ∷ [])))
   taken_more earlier w s none =
-      let order = (none_both (order_rules (order_of header lines (moves earlier)) (move_of s)) (option_map_or (act_rules header w) (act_of header lines s) []) none).0 in
+      let order =
+      (none_both (order_rules (order_of header lines (moves earlier)) (move_of s))
+      (option_map_or (act_rules header w) (act_of header lines s) []) none).0 in
       let held = ap (λ (o : Order). o.held) (order_more header lines (moves earlier) (move_of s)) ∙ ap (unplaced header lines) (sym (moves_more earlier s)) in
       taken_by (order_of header lines (moves earlier)) s.moment (first_event_line header) s.label (left_rise (moves earlier)) order
       ∙ ap (λ (left : List (ℕ × Line)). cond (takes_line s.label) 1 0 + length left) held
 
-  taken_all : (earlier : List Step) (w : World tcp_shape) (steps : List Step) → IsClean header lines earlier w steps → length (unplaced header lines (moves earlier)) ≡ count_by (λ s. takes_line s.label) steps
+  taken_all : (earlier : List Step) (w : World tcp_shape) (steps : List Step) → IsClean header lines earlier w steps
+      → length (unplaced header lines (moves earlier)) ≡ count_by (λ s. takes_line s.label) steps
   taken_all earlier w [] clean = ap length clean
   taken_all earlier w (s ∷ steps) clean =
       taken_more earlier w s clean.0

@@ -1,5 +1,6 @@
 -- The start and the end of the loop that replays a witness while the lines of the trace are read.
-use Rattle.std.proofs.Common.{◌≡◌, ◌+◌, ℕ, Bool, true, false, List, [], ◌∷◌, ◌++◌, Option, Some, None, Result, Ok, Err, IfSome, refl, sym, ap, ◌∙◌, arith, append_assoc, append-nil}
+use Rattle.std.proofs.Common.{◌≡◌, ◌+◌, ℕ, Bool, true, false, List, [], ◌∷◌, ◌++◌, Option, Some, None, Result, Ok, Err}
+use Rattle.std.proofs.Common.{IfSome, refl, sym, ap, ◌∙◌, arith, append_assoc, append-nil}
 use Rattle.std.specs.Prelude.{count_by, not, cond}
 use Rattle.std.specs.List.{enumerate_from}
 use Rattle.std.proofs.lemmas.List.Sums.{sum_by-cons, sum_by-append}
@@ -78,7 +79,8 @@ next_number o None step = tt
 next_number o (Some line) step = step.0
 
 -- a line is left that was offered, or the one that is read ahead
-pub some_left : (held : List (ℕ × Line)) (next : ℕ) (line : Option Line) (rest : Option (Result (List Line) TextFault)) (items : List Line) (n : ℕ) (earlier : List Step)
+pub some_left : (held : List (ℕ × Line)) (next : ℕ) (line : Option Line) (rest : Option (Result (List Line) TextFault))
+    (items : List Line) (n : ℕ) (earlier : List Step)
     → first_of_both held line ≡ Some n → IfSome line (λ l. l.number ≡ next) → left_with line rest ≡ Some (Ok items)
     → verdict_left (held ++ enumerate_from next items) earlier ≡ No 0 n Unplaced
 some_left (e ∷ held) next line rest items n earlier is number left = let same : e.0 ≡ n = cc in ap (λ (m : ℕ). No 0 m Unplaced) same
@@ -91,7 +93,8 @@ some_left [] next (Some l) (Some (Ok more)) items n earlier is number left =
     ap (λ (ls : List Line). verdict_left (enumerate_from next ls) earlier) (sym all) ∙ ap (λ (m : ℕ). No 0 m Unplaced) (sym number ∙ same)
 
 -- or none is
-pub none_left : (held : List (ℕ × Line)) (next : ℕ) (line : Option Line) (rest : Option (Result (List Line) TextFault)) (items : List Line) (taken hidden : ℕ) (earlier : List Step)
+pub none_left : (held : List (ℕ × Line)) (next : ℕ) (line : Option Line) (rest : Option (Result (List Line) TextFault))
+    (items : List Line) (taken hidden : ℕ) (earlier : List Step)
     → first_of_both held line ≡ None → left_with line rest ≡ Some (Ok items) → Tallied earlier taken hidden
     → verdict_left (held ++ enumerate_from next items) earlier ≡ Yes taken hidden
 none_left (e ∷ held) next line rest items taken hidden earlier is left counts = absurd cc
@@ -101,7 +104,9 @@ none_left [] next None rest items taken hidden earlier is left counts =
     ap (λ (ls : List Line). verdict_left (enumerate_from next ls) earlier) (sym all)
     ∙ (λ i. Yes (sym counts.taken_are i) (sym counts.hidden_are i))
 
-pub ends_when : (header : Header) (lines left : Option (Result (List Line) TextFault)) (steps ahead next : Option (Result (List Step) TextFault)) (o : Order) (p : Progress) (offered : List Line) (earlier : List Step) (items : List Line) (v : Verdict)
+pub ends_when : (header : Header) (lines left : Option (Result (List Line) TextFault))
+    (steps ahead next : Option (Result (List Step) TextFault)) (o : Order) (p : Progress) (offered : List Line)
+    (earlier : List Step) (items : List Line) (v : Verdict)
     → SoFar header lines left steps ahead o p offered earlier → Yields ahead next None → IsAll left items
     → (left ≡ Some (Ok items) → verdict_left (o.held ++ enumerate_from o.next items) earlier ≡ v) → Ends header lines steps v
 ends_when header None left steps ahead next o p offered earlier items v f y all is = tt
@@ -115,7 +120,8 @@ ends_when header (Some l) (Some r) (Some s) ahead next o p offered earlier items
       earlier ++ [],
       whole,
       done,
-      sym (f_told ∙ all_done header (Some l) (Some s) (Some r) ahead o p offered earlier items f here (offered ++ items) (ap (λ (x : Result (List Line) TextFault). Some x) whole) ∙ is here),
+      sym (f_told ∙ all_done header (Some l) (Some s) (Some r) ahead o p offered earlier items f here (offered ++ items)
+          (ap (λ (x : Result (List Line) TextFault). Some x) whole) ∙ is here),
     )
   where
     f_told : verdict_on header (offered ++ items) [] (earlier ++ []) ≡ verdict_on header (offered ++ items) [] earlier
@@ -128,13 +134,17 @@ all_read None items all = tt
 all_read (Some l) items all = (items, all)
 
 -- a fault of the witness is told where the trace has none
-pub witness_last : (e : CaseFault) (lines : Option (Result (List Line) TextFault)) (steps : Option (Result (List Step) TextFault)) (items : List Line) → IsAll lines items → WitnessFails e steps → CaseFails e lines steps
+pub witness_last : (e : CaseFault) (lines : Option (Result (List Line) TextFault))
+    (steps : Option (Result (List Step) TextFault)) (items : List Line) → IsAll lines items → WitnessFails e steps
+    → CaseFails e lines steps
 witness_last (faults.Trace f) lines steps items all fails = absurd fails
 witness_last (faults.Witness f) lines steps items all fails = (all_read lines items all, fails)
 witness_last faults.Read lines steps items all fails = tt
 witness_last faults.OutOfMemory lines steps items all fails = tt
 
-pub refused_ends : (header : Header) (lines left : Option (Result (List Line) TextFault)) (steps next : Option (Result (List Step) TextFault)) (place named : ℕ) (rule : Rule) (items : List Line) (rest : List Step)
+pub refused_ends : (header : Header) (lines left : Option (Result (List Line) TextFault))
+    (steps next : Option (Result (List Step) TextFault)) (place named : ℕ) (rule : Rule) (items : List Line)
+    (rest : List Step)
     → IsBroken header lines left steps next place named rule → IsAll left items → IsAll next rest → Ends header lines steps (No (place + 2) named rule)
 refused_ends header None left steps next place named rule items rest b all done = tt
 refused_ends header (Some l) left None next place named rule items rest b all done = tt
@@ -145,16 +155,22 @@ refused_ends header (Some l) left (Some s) next place named rule items rest (ear
       (earlier ++ step ∷ []) ++ rest,
       whole,
       steps_done,
-      sym (ap (verdict_on header (passed ++ items) []) (append_assoc earlier (step ∷ []) rest) ∙ told (passed ++ items) (ap (λ (x : Result (List Line) TextFault). Some x) whole) rest),
+      sym (ap (verdict_on header (passed ++ items) []) (append_assoc earlier (step ∷ []) rest)
+          ∙ told (passed ++ items) (ap (λ (x : Result (List Line) TextFault). Some x) whole) rest),
     )
 
 -- a fault of the lines that are left
-pub lines_fail : (header : Header) (lines left : Option (Result (List Line) TextFault)) (steps next : Option (Result (List Step) TextFault)) (place named : ℕ) (rule : Rule) (e : CaseFault)
+pub lines_fail : (header : Header) (lines left : Option (Result (List Line) TextFault))
+    (steps next : Option (Result (List Step) TextFault)) (place named : ℕ) (rule : Rule) (e : CaseFault)
     → IsBroken header lines left steps next place named rule → TraceFails e left → CaseFails e lines steps
-lines_fail header lines left steps next place named rule e (earlier, ahead, step, passed, before, took, through, told) fails = trace_first e lines steps (trace_fails_before lines left passed e through fails)
+lines_fail header lines left steps next place named rule e
+    (earlier, ahead, step, passed, before, took, through, told) fails =
+    trace_first e lines steps (trace_fails_before lines left passed e through fails)
 
 -- or of the steps, where the lines have none
-pub steps_fail : (header : Header) (lines left : Option (Result (List Line) TextFault)) (steps next : Option (Result (List Step) TextFault)) (place named : ℕ) (rule : Rule) (e : CaseFault) (items : List Line)
+pub steps_fail : (header : Header) (lines left : Option (Result (List Line) TextFault))
+    (steps next : Option (Result (List Step) TextFault)) (place named : ℕ) (rule : Rule) (e : CaseFault)
+    (items : List Line)
     → IsBroken header lines left steps next place named rule → IsAll left items → WitnessFails e next → CaseFails e lines steps
 steps_fail header lines left steps next place named rule e items (earlier, ahead, step, passed, before, took, through, told) all fails =
     witness_last e lines steps (passed ++ items) (whole_of_rest lines left passed items through all)

@@ -52,7 +52,9 @@ Opens t w earlier = (thread : ℕ) (call : Call) → turn_of thread w.threads �
 
 -- 2. what reads were told
 
-told_done : (h : Header) (w : World tcp_shape) (socket : ℕ) (step : Step tcp_shape) → of_effect h w step [] (λ call answer. call_told call answer socket) ≡ flat_map (λ d. bytes_told socket d.call d.answer) (of_effect h w step [] one_done)
+told_done : (h : Header) (w : World tcp_shape) (socket : ℕ) (step : Step tcp_shape)
+    → of_effect h w step [] (λ call answer. call_told call answer socket)
+    ≡ flat_map (λ d. bytes_told socket d.call d.answer) (of_effect h w step [] one_done)
 told_done h w socket (Begin line t call) = refl
 told_done h w socket (Finish line t answer) = refl
 told_done h w socket (At host d) = refl
@@ -62,12 +64,15 @@ told_done h w socket (Effect t answer) = go (turn_of t w.threads)
     by (calls.Recv n most) (answers.Bytes bytes) = sym (append-nil _)
     by call answer = refl
 
-    go : (u : Turn tcp_shape) → of_turn u [] (λ call. call_told call answer socket) ≡ flat_map (λ d. bytes_told socket d.call d.answer) (of_turn u [] (λ call. one_done call answer))
+    go : (u : Turn tcp_shape)
+        → of_turn u [] (λ call. call_told call answer socket)
+        ≡ flat_map (λ d. bytes_told socket d.call d.answer) (of_turn u [] (λ call. one_done call answer))
     go Idle = refl
     go (Called call) = by call answer
     go (Answered x) = refl
 
-pub told_run : (h : Header) (w : World tcp_shape) (xs : List (Stamped tcp_shape)) (socket : ℕ) → told_from h socket w xs ≡ flat_map (λ d. bytes_told socket d.call d.answer) (run_done h w xs)
+pub told_run : (h : Header) (w : World tcp_shape) (xs : List (Stamped tcp_shape)) (socket : ℕ)
+    → told_from h socket w xs ≡ flat_map (λ d. bytes_told socket d.call d.answer) (run_done h w xs)
 told_run h w [] socket = refl
 told_run h w (x ∷ xs) socket =
     let v = after (tcp h) x.moment w x.step in
@@ -88,16 +93,21 @@ abbrev Last : (ℕ → Option Call) → (ℕ → Option Call) → World tcp_shap
 Last now before w h = (thread : ℕ) (call : Call) → turn_of thread w.threads ≡ Called call → option_or (now thread) (before thread) ≡ Some call
 
 -- a call that begins
-last_begin : (h : Header) (w : World tcp_shape) (before : ℕ → Option Call) (thread : ℕ) (began : Call) → ((other : ℕ) (call : Call) → turn_of other w.threads ≡ Called call → before other ≡ Some call)
-    → (other : ℕ) (call : Call) → (if nat_eq other thread then in_call began else turn_of other w.threads) ≡ Called call → option_or (if other == thread then Some began else None) (before other) ≡ Some call
+last_begin : (h : Header) (w : World tcp_shape) (before : ℕ → Option Call) (thread : ℕ) (began : Call)
+    → ((other : ℕ) (call : Call) → turn_of other w.threads ≡ Called call → before other ≡ Some call)
+    → (other : ℕ) (call : Call) → (if nat_eq other thread then in_call began else turn_of other w.threads) ≡ Called call
+    → option_or (if other == thread then Some began else None) (before other) ≡ Some call
 last_begin h w before thread began old other call is = go (nat_eq other thread) refl is
   where
-    go : (b : Bool) → nat_eq other thread ≡ b → (if b then in_call began else turn_of other w.threads) ≡ Called call → option_or (if b then Some began else None) (before other) ≡ Some call
+    go : (b : Bool) → nat_eq other thread ≡ b → (if b then in_call began else turn_of other w.threads) ≡ Called call
+        → option_or (if b then Some began else None) (before other) ≡ Some call
     go true same is = ap (λ (c : Call). Some c) (same_call began call is)
     go false differ is = old other call is
 
 -- a turn that is no call that is open
-last_other : (h : Header) (w : World tcp_shape) (before : ℕ → Option Call) (thread : ℕ) (u : Turn tcp_shape) → ((call : Call) → u ≡ Called call → ⊥) → ((other : ℕ) (call : Call) → turn_of other w.threads ≡ Called call → before other ≡ Some call)
+last_other : (h : Header) (w : World tcp_shape) (before : ℕ → Option Call) (thread : ℕ) (u : Turn tcp_shape)
+    → ((call : Call) → u ≡ Called call → ⊥)
+    → ((other : ℕ) (call : Call) → turn_of other w.threads ≡ Called call → before other ≡ Some call)
     → (other : ℕ) (call : Call) → (if nat_eq other thread then u else turn_of other w.threads) ≡ Called call → before other ≡ Some call
 last_other h w before thread u not' old other call is = go (nat_eq other thread) is
   where
@@ -124,7 +134,8 @@ none_where : (b : Bool) → (if b then no_call else None) ≡ None
 none_where true = refl
 none_where false = refl
 
-begun_event : (q number thread : ℕ) (e : Event) (x : Extras) → (if q == thread then begun e x else None) ≡ option_map_or (begun_by q) (event_taken number thread e x) None
+begun_event : (q number thread : ℕ) (e : Event) (x : Extras)
+    → (if q == thread then begun e x else None) ≡ option_map_or (begun_by q) (event_taken number thread e x) None
 begun_event q number thread (events.CallBegin call) Bare = refl
 begun_event q number thread (events.CallBegin call) (One a) = none_where (q == thread)
 begun_event q number thread (events.CallBegin call) (Two a b) = none_where (q == thread)
@@ -139,11 +150,16 @@ begun_event q number thread (events.Came host wire) (One a) = none_where (q == t
 begun_event q number thread (events.Came host wire) (Two a b) = none_where (q == thread)
 begun_event q number thread (events.Expired host lport rport timer) x = go (expired_by timer x)
   where
-    go : (o : Option Expired) → (if q == thread then no_call else None) ≡ option_map_or (begun_by q) (option_map (λ e. taken.Expired number host (record { lport = lport; rport = rport }) e) o) None
+    go : (o : Option Expired)
+        → (if q == thread then no_call else None)
+        ≡ option_map_or (begun_by q) (option_map
+        (λ e. taken.Expired number host (record { lport = lport; rport = rport }) e) o) None
     go None = none_where (q == thread)
     go (Some e) = none_where (q == thread)
 
-begins_found : (q : ℕ) (x : Extras) (o : Option Line) → option_map_or (λ line. if q == line.thread then begun line.event x else None) o None ≡ option_map_or (begun_by q) (option_map_or (taken_of x) o None) None
+begins_found : (q : ℕ) (x : Extras) (o : Option Line)
+    → option_map_or (λ line. if q == line.thread then begun line.event x else None) o None
+    ≡ option_map_or (begun_by q) (option_map_or (taken_of x) o None) None
 begins_found q x None = refl
 begins_found q x (Some line) = begun_event q line.number line.thread line.event x
 
@@ -151,7 +167,9 @@ begins_found q x (Some line) = begun_event q line.number line.thread line.event 
 abbrev with_taken : ℕ → Option TakenLine → List (Stamped tcp_shape) → List (Stamped tcp_shape)
 with_taken moment o rest = cons_option (option_map (stamp moment) (option_map step_of (option_map (λ (line : TakenLine). labels.L line) o))) rest
 
-pub done_run : (t : Trace) (w : World tcp_shape) (earlier steps : List WitnessStep) → Opens t w earlier → Lawful (tcp t.header) w (stamped t.header t.lines steps) → done_from t earlier steps ≡ run_done t.header w (stamped t.header t.lines steps)
+pub done_run : (t : Trace) (w : World tcp_shape) (earlier steps : List WitnessStep) → Opens t w earlier
+    → Lawful (tcp t.header) w (stamped t.header t.lines steps)
+    → done_from t earlier steps ≡ run_done t.header w (stamped t.header t.lines steps)
 done_run t w earlier [] open' may = refl
 done_run t w earlier (s ∷ steps) open' may = by_label s.label may (λ v o m. done_run t v (s ∷ earlier) steps o m)
   where
@@ -161,36 +179,55 @@ done_run t w earlier (s ∷ steps) open' may = by_label s.label may (λ v o m. d
     begun_before : ℕ → Option Call
     begun_before thread = last_begun t thread earlier
 
-    by_taken : (o : Option TakenLine) → Lawful (tcp t.header) w (with_taken s.moment o rest) → Then t.header rest (done_from t (s ∷ earlier) steps) begun_before (λ q. option_map_or (begun_by q) o None)
+    by_taken : (o : Option TakenLine) → Lawful (tcp t.header) w (with_taken s.moment o rest)
+        → Then t.header rest (done_from t (s ∷ earlier) steps) begun_before (λ q. option_map_or (begun_by q) o None)
         → done_from t (s ∷ earlier) steps ≡ run_done t.header w (with_taken s.moment o rest)
     by_taken None may onward = onward w open' may
     by_taken (Some (taken.CallBegin line thread call)) may onward = onward (after (tcp t.header) s.moment w (Begin line thread call))
-        (λ other c is. last_begin t.header w begun_before thread call open' other c (sym (turn_insert (tcp t.header) other thread (Called call) w.threads) ∙ is)) may.1
+        (λ other c is. last_begin t.header w begun_before thread call open' other c
+        (sym (turn_insert (tcp t.header) other thread (Called call) w.threads) ∙ is)) may.1
     by_taken (Some (taken.CallEnd line thread answer)) may onward = onward (after (tcp t.header) s.moment w (Finish line thread answer))
-        (λ other c is. last_other t.header w begun_before thread Idle (λ call no. absurd cc) open' other c (sym (turn_insert (tcp t.header) other thread Idle w.threads) ∙ is)) may.1
+        (λ other c is. last_other t.header w begun_before thread Idle (λ call no. absurd cc) open' other c
+        (sym (turn_insert (tcp t.header) other thread Idle w.threads) ∙ is)) may.1
     by_taken (Some (taken.Sent line host made wire)) may onward = onward _ open' may.1
     by_taken (Some (taken.Came line host copied wire)) may onward = onward _ open' may.1
     by_taken (Some (taken.Heard line host wire)) may onward = onward _ open' may.1
     by_taken (Some (taken.Expired line host ports e)) may onward = onward _ open' may.1
 
-    by_line : (named : NamedLine) → Lawful (tcp t.header) w (with_taken s.moment (option_map_or (taken_of named.extras) (line_at t.header t.lines named.number) None) rest)
+    by_line : (named : NamedLine)
+        → Lawful (tcp t.header) w (with_taken s.moment
+        (option_map_or (taken_of named.extras) (line_at t.header t.lines named.number) None) rest)
         → Then t.header rest (done_from t (s ∷ earlier) steps) begun_before (λ thread. begins t thread (labels.L named))
-        → done_from t (s ∷ earlier) steps ≡ run_done t.header w (with_taken s.moment (option_map_or (taken_of named.extras) (line_at t.header t.lines named.number) None) rest)
+        → done_from t (s ∷ earlier) steps
+        ≡ run_done t.header w (with_taken s.moment
+        (option_map_or (taken_of named.extras) (line_at t.header t.lines named.number) None) rest)
     by_line named may onward = by_taken (option_map_or (taken_of named.extras) (line_at t.header t.lines named.number) None) may
-        (λ v last m. onward v (λ q c is. ap (λ (o : Option Call). option_or o (begun_before q)) (begins_found q named.extras (line_at t.header t.lines named.number)) ∙ last q c is) m)
+        (λ v last m. onward v (λ q c is.
+        ap (λ (o : Option Call). option_or o (begun_before q))
+        (begins_found q named.extras (line_at t.header t.lines named.number)) ∙ last q c is) m)
 
-    by_turn : (thread : ℕ) (answer : Answer) (u : Turn tcp_shape) → turn_of thread w.threads ≡ u → first_broken (effect_rules (tcp t.header) s.moment w.hosts u answer) ≡ None
-        → Lawful (tcp t.header) (effect_after (tcp t.header) s.moment w thread answer u) rest → Then t.header rest (done_from t (s ∷ earlier) steps) begun_before (λ other. None)
-        → option_map_or (λ call. one_done call answer) (last_begun t thread earlier) [] ++ done_from t (s ∷ earlier) steps ≡ of_turn u [] (λ call. one_done call answer) ++ run_done t.header (effect_after (tcp t.header) s.moment w thread answer u) rest
+    by_turn : (thread : ℕ) (answer : Answer) (u : Turn tcp_shape) → turn_of thread w.threads ≡ u
+        → first_broken (effect_rules (tcp t.header) s.moment w.hosts u answer) ≡ None
+        → Lawful (tcp t.header) (effect_after (tcp t.header) s.moment w thread answer u) rest
+        → Then t.header rest (done_from t (s ∷ earlier) steps) begun_before (λ other. None)
+        → option_map_or (λ call. one_done call answer) (last_begun t thread earlier) []
+        ++ done_from t (s ∷ earlier) steps
+        ≡ of_turn u [] (λ call. one_done call answer)
+        ++ run_done t.header (effect_after (tcp t.header) s.moment w thread answer u) rest
     by_turn thread answer Idle is may lawful onward = absurd (none-some _ (sym may))
     by_turn thread answer (Answered given) is may lawful onward = absurd (none-some _ (sym may))
     by_turn thread answer (Called call) is may lawful onward =
         ap (λ (o : Option Call). option_map_or (λ c. one_done c answer) o [] ++ done_from t (s ∷ earlier) steps) (open' thread call is)
         ∙ ap (λ (l : List CallDone). one_done call answer ++ l) (onward (effect_after (tcp t.header) s.moment w thread answer (Called call))
-        (λ other c now. last_other t.header w begun_before thread (Answered answer) (λ x no. absurd cc) open' other c (sym (turn_insert (tcp t.header) other thread (Answered answer) w.threads) ∙ now)) lawful)
+        (λ other c now. last_other t.header w begun_before thread (Answered answer) (λ x no. absurd cc) open' other c
+        (sym (turn_insert (tcp t.header) other thread (Answered answer) w.threads) ∙ now)) lawful)
 
-    by_label : (l : Label NamedLine) → Lawful (tcp t.header) w (cons_option (option_map (stamp s.moment) (label_step (line_at t.header t.lines) l)) rest) → Then t.header rest (done_from t (s ∷ earlier) steps) begun_before (λ thread. begins t thread l)
-        → does t earlier l ++ done_from t (s ∷ earlier) steps ≡ run_done t.header w (cons_option (option_map (stamp s.moment) (label_step (line_at t.header t.lines) l)) rest)
+    by_label : (l : Label NamedLine)
+        → Lawful (tcp t.header) w (cons_option
+        (option_map (stamp s.moment) (label_step (line_at t.header t.lines) l)) rest)
+        → Then t.header rest (done_from t (s ∷ earlier) steps) begun_before (λ thread. begins t thread l)
+        → does t earlier l ++ done_from t (s ∷ earlier) steps
+        ≡ run_done t.header w (cons_option (option_map (stamp s.moment) (label_step (line_at t.header t.lines) l)) rest)
     by_label (labels.L named) may onward = by_line named may onward
     by_label (labels.D thread answer) may onward = by_turn thread answer (turn_of thread w.threads) refl may.0 may.1 onward
     by_label (labels.M host plan) may onward = onward _ open' may.1
@@ -203,7 +240,9 @@ pub opens_start : (t : Trace) → Opens t (start (tcp t.header)) []
 opens_start t thread call is = absurd cc
 
 -- the text's bytes that reads were told are the world's
-pub told_is : (t : Trace) (steps : List WitnessStep) (socket : ℕ) → Lawful (tcp t.header) (start (tcp t.header)) (stamped t.header t.lines steps) → told_to t.header socket (stamped t.header t.lines steps) ≡ told t steps socket
+pub told_is : (t : Trace) (steps : List WitnessStep) (socket : ℕ)
+    → Lawful (tcp t.header) (start (tcp t.header)) (stamped t.header t.lines steps)
+    → told_to t.header socket (stamped t.header t.lines steps) ≡ told t steps socket
 told_is t steps socket may = told_run t.header (start (tcp t.header)) (stamped t.header t.lines steps) socket
     ∙ ap (λ (l : List CallDone). flat_map (λ e. bytes_told socket e.call e.answer) l) (sym (done_run t (start (tcp t.header)) [] steps (opens_start t) may))
 
@@ -221,7 +260,9 @@ pub or_nothing : (b : Bool) → b ≡ (b || false)
 or_nothing true = refl
 or_nothing false = refl
 
-end_done : (h : Header) (w : World tcp_shape) (socket : ℕ) (step : Step tcp_shape) → of_effect h w step false (λ call answer. call_told_end call answer socket) ≡ list_any (λ d. is_told_end socket d.call d.answer) (of_effect h w step [] one_done)
+end_done : (h : Header) (w : World tcp_shape) (socket : ℕ) (step : Step tcp_shape)
+    → of_effect h w step false (λ call answer. call_told_end call answer socket)
+    ≡ list_any (λ d. is_told_end socket d.call d.answer) (of_effect h w step [] one_done)
 end_done h w socket (Begin line t call) = refl
 end_done h w socket (Finish line t answer) = refl
 end_done h w socket (At host d) = refl
@@ -231,12 +272,15 @@ end_done h w socket (Effect t answer) = go (turn_of t w.threads)
     by (calls.Recv n most) answers.Eof = or_nothing (n == socket)
     by call answer = refl
 
-    go : (u : Turn tcp_shape) → of_turn u false (λ call. call_told_end call answer socket) ≡ list_any (λ d. is_told_end socket d.call d.answer) (of_turn u [] (λ call. one_done call answer))
+    go : (u : Turn tcp_shape)
+        → of_turn u false (λ call. call_told_end call answer socket)
+        ≡ list_any (λ d. is_told_end socket d.call d.answer) (of_turn u [] (λ call. one_done call answer))
     go Idle = refl
     go (Called call) = by call answer
     go (Answered x) = refl
 
-pub end_run : (h : Header) (w : World tcp_shape) (xs : List (Stamped tcp_shape)) (socket : ℕ) → told_end_from h socket w xs ≡ list_any (λ d. is_told_end socket d.call d.answer) (run_done h w xs)
+pub end_run : (h : Header) (w : World tcp_shape) (xs : List (Stamped tcp_shape)) (socket : ℕ)
+    → told_end_from h socket w xs ≡ list_any (λ d. is_told_end socket d.call d.answer) (run_done h w xs)
 end_run h w [] socket = refl
 end_run h w (x ∷ xs) socket =
     let v = after (tcp h) x.moment w x.step in
@@ -244,6 +288,8 @@ end_run h w (x ∷ xs) socket =
     ∙ ap (λ (b : Bool). list_any (λ d. is_told_end socket d.call d.answer) (of_effect h w x.step [] one_done) || b) (end_run h v xs socket)
     ∙ any_append (λ d. is_told_end socket d.call d.answer) (of_effect h w x.step [] one_done) (run_done h v xs)
 
-pub told_end_is : (t : Trace) (steps : List WitnessStep) (socket : ℕ) → Lawful (tcp t.header) (start (tcp t.header)) (stamped t.header t.lines steps) → was_told_end t.header socket (stamped t.header t.lines steps) ≡ told_end t steps socket
+pub told_end_is : (t : Trace) (steps : List WitnessStep) (socket : ℕ)
+    → Lawful (tcp t.header) (start (tcp t.header)) (stamped t.header t.lines steps)
+    → was_told_end t.header socket (stamped t.header t.lines steps) ≡ told_end t steps socket
 told_end_is t steps socket may = end_run t.header (start (tcp t.header)) (stamped t.header t.lines steps) socket
     ∙ ap (λ (l : List CallDone). list_any (λ d. is_told_end socket d.call d.answer) l) (sym (done_run t (start (tcp t.header)) [] steps (opens_start t) may))

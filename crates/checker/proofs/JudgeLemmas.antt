@@ -1,5 +1,7 @@
 -- What the verdict says of the whole lists.
-use Rattle.std.proofs.Common.{◌≡◌, ℕ, ◌+◌, ◌<◌, zero, suc, true, List, [], ◌∷◌, ◌++◌, length, take, refl, sym, ap, ◌∙◌, subst, arith, Option, Some, None, inl, inr, ◌⊎◌, append_assoc, append-nil, length-append, Result, Ok, Err}
+use Rattle.std.proofs.Common.{◌≡◌, ℕ, ◌+◌, ◌<◌, zero, suc, true, List, [], ◌∷◌, ◌++◌, length, take, refl, sym, ap, ◌∙◌}
+use Rattle.std.proofs.Common.{subst, arith, Option, Some, None, inl, inr, ◌⊎◌, append_assoc, append-nil, length-append}
+use Rattle.std.proofs.Common.{Result, Ok, Err}
 use Rattle.std.specs.Prelude.{not, count_by, slice_get, IfOk, ◌↔◌}
 use Rattle.std.specs.List.{cons_option}
 use Rattle.std.specs.Option.{option_map_or}
@@ -50,7 +52,9 @@ module _ (t : Trace) where
 
   -- among the steps that are left, none breaks a rule and a line is left, or one is the first that does
   abbrev SaysLeft : List Step → List Step → Verdict → Type 0
-  SaysLeft earlier steps (Yes lines hidden) = (lines ≡ count_by (λ s. takes_line s.label) (earlier ++ steps)) × (hidden ≡ count_by (λ s. not (takes_line s.label)) (earlier ++ steps))
+  SaysLeft earlier steps (Yes lines hidden) =
+      (lines ≡ count_by (λ s. takes_line s.label) (earlier ++ steps))
+      × (hidden ≡ count_by (λ s. not (takes_line s.label)) (earlier ++ steps))
   SaysLeft earlier steps (No witness_line trace_line rule) =
       ((witness_line ≡ 0) × (rule ≡ Unplaced)
       × ((line : Line) × (slice_get (unplaced t.header t.lines (moves (earlier ++ steps))) 0 ≡ Some (trace_line, line)))
@@ -59,18 +63,25 @@ module _ (t : Trace) where
       × ((s : Step) × (slice_get steps place ≡ Some s) × (breaks (earlier ++ take place steps) s ≡ Some rule) × (trace_line ≡ line_named s.label))
       × ((i : ℕ) (s : Step) → i < place → slice_get steps i ≡ Some s → breaks (earlier ++ take i steps) s ≡ None))
 
-  left_says : (left : List (ℕ × Line)) (earlier : List Step) → unplaced t.header t.lines (moves (earlier ++ [])) ≡ left → SaysLeft earlier [] (verdict_left left earlier)
-  left_says [] earlier is = (ap (count_by (λ s. takes_line s.label)) (sym (append-nil earlier)), ap (count_by (λ s. not (takes_line s.label))) (sym (append-nil earlier)))
+  left_says : (left : List (ℕ × Line)) (earlier : List Step) → unplaced t.header t.lines (moves (earlier ++ [])) ≡ left
+      → SaysLeft earlier [] (verdict_left left earlier)
+  left_says [] earlier is = (
+    ap (count_by (λ s. takes_line s.label)) (sym (append-nil earlier)),
+    ap (count_by (λ s. not (takes_line s.label))) (sym (append-nil earlier)),
+  )
   left_says (e ∷ left) earlier is = inl (refl, refl, (e.1, ap (λ (es : List (ℕ × Line)). slice_get es 0) is), λ i s here. absurd cc)
 
   -- one step in front, which breaks no rule
-  front : (earlier : List Step) (s : Step) (steps : List Step) (v : Verdict) → breaks earlier s ≡ None → SaysLeft (earlier ++ s ∷ []) steps v → SaysLeft earlier (s ∷ steps) v
+  front : (earlier : List Step) (s : Step) (steps : List Step) (v : Verdict) → breaks earlier s ≡ None
+      → SaysLeft (earlier ++ s ∷ []) steps v → SaysLeft earlier (s ∷ steps) v
   front earlier s steps (Yes lines hidden) none said = rw (append_assoc) at said
   front earlier s steps (No witness_line trace_line rule) none (inl said) =
       inl (said.0, said.1, (said.2.0, rw append_assoc at said.2.1), each)
     where
       each : (i : ℕ) (u : Step) → slice_get (s ∷ steps) i ≡ Some u → breaks (earlier ++ take i (s ∷ steps)) u ≡ None
-      each zero u here = (let same : s ≡ u = cc in subst (λ (xs : List Step). breaks xs u ≡ None) (sym (append-nil earlier)) (subst (λ (x : Step). breaks earlier x ≡ None) same none))
+      each zero u here =
+          (let same : s ≡ u = cc in subst (λ (xs : List Step). breaks xs u ≡ None) (sym (append-nil earlier))
+          (subst (λ (x : Step). breaks earlier x ≡ None) same none))
       each (suc i) u here = subst (λ (xs : List Step). breaks xs u ≡ None) (append_assoc earlier (s ∷ []) (take i steps)) (said.3 i u here)
   front earlier s steps (No witness_line trace_line rule) none (inr said) =
       inr (
@@ -81,28 +92,53 @@ module _ (t : Trace) where
       )
     where
       each : (i : ℕ) (u : Step) → i < suc said.0 → slice_get (s ∷ steps) i ≡ Some u → breaks (earlier ++ take i (s ∷ steps)) u ≡ None
-      each zero u lt here = (let same : s ≡ u = cc in subst (λ (xs : List Step). breaks xs u ≡ None) (sym (append-nil earlier)) (subst (λ (x : Step). breaks earlier x ≡ None) same none))
+      each zero u lt here =
+          (let same : s ≡ u = cc in subst (λ (xs : List Step). breaks xs u ≡ None) (sym (append-nil earlier))
+          (subst (λ (x : Step). breaks earlier x ≡ None) same none))
       each (suc i) u lt here = subst (λ (xs : List Step). breaks xs u ≡ None) (append_assoc earlier (s ∷ []) (take i steps)) (said.3 i u (omega arith) here)
 
   from_says : (earlier : List Step) (steps : List Step) → SaysLeft earlier steps (verdict_from t.header t.lines earlier (world_of earlier) steps)
   from_says earlier [] = rw (append-nil earlier) at (left_says (unplaced t.header t.lines (moves (earlier ++ []))) earlier refl)
   from_says earlier (s ∷ steps) = by_rule (breaks earlier s) refl (from_says (earlier ++ s ∷ []) steps)
     where
-      by_rule : (r : Option Rule) → breaks earlier s ≡ r → SaysLeft (earlier ++ s ∷ []) steps (verdict_from t.header t.lines (earlier ++ s ∷ []) (world_of (earlier ++ s ∷ [])) steps)
-          → SaysLeft earlier (s ∷ steps) (refused_or (breaks earlier s) earlier s (verdict_from t.header t.lines (earlier ++ s ∷ []) (next_world t.header t.lines (world_of earlier) s) steps))
+      by_rule : (r : Option Rule) → breaks earlier s ≡ r
+          → SaysLeft (earlier ++ s ∷ []) steps
+          (verdict_from t.header t.lines (earlier ++ s ∷ []) (world_of (earlier ++ s ∷ [])) steps)
+          → SaysLeft earlier (s ∷ steps)
+          (refused_or (breaks earlier s) earlier s
+          (verdict_from t.header t.lines (earlier ++ s ∷ [])
+          (next_world t.header t.lines (world_of earlier) s) steps))
       by_rule None is rest =
-          subst (λ (r : Option Rule). SaysLeft earlier (s ∷ steps) (refused_or r earlier s (verdict_from t.header t.lines (earlier ++ s ∷ []) (next_world t.header t.lines (world_of earlier) s) steps))) (sym is)
+          subst (λ (r : Option Rule). SaysLeft earlier (s ∷ steps)
+          (refused_or r earlier s (verdict_from t.header t.lines (earlier ++ s ∷ [])
+          (next_world t.header t.lines (world_of earlier) s) steps))) (sym is)
           (front earlier s steps (verdict_from t.header t.lines (earlier ++ s ∷ []) (next_world t.header t.lines (world_of earlier) s) steps) is
-          (subst (λ (u : World tcp_shape). SaysLeft (earlier ++ s ∷ []) steps (verdict_from t.header t.lines (earlier ++ s ∷ []) u steps)) (world_more t.header t.lines (start (tcp t.header)) earlier s) rest))
+          (subst (λ (u : World tcp_shape).
+          SaysLeft (earlier ++ s ∷ []) steps (verdict_from t.header t.lines (earlier ++ s ∷ []) u steps))
+          (world_more t.header t.lines (start (tcp t.header)) earlier s) rest))
       by_rule (Some rule) is rest =
-          subst (λ (r : Option Rule). SaysLeft earlier (s ∷ steps) (refused_or r earlier s (verdict_from t.header t.lines (earlier ++ s ∷ []) (next_world t.header t.lines (world_of earlier) s) steps))) (sym is)
-          (inr (0, omega arith, (s, refl, subst (λ (xs : List Step). breaks xs s ≡ Some rule) (sym (append-nil earlier)) is, refl), λ i u lt here. absurd (omega arith)))
+          subst (λ (r : Option Rule). SaysLeft earlier (s ∷ steps)
+          (refused_or r earlier s (verdict_from t.header t.lines (earlier ++ s ∷ [])
+          (next_world t.header t.lines (world_of earlier) s) steps))) (sym is)
+          (inr (
+            0,
+            omega arith,
+            (
+              s,
+              refl,
+              subst (λ (xs : List Step). breaks xs s ≡ Some rule) (sym (append-nil earlier)) is,
+              refl,
+            ),
+            λ i u lt here. absurd (omega arith),
+          ))
 
 -- all rules of a step ascend: those of order, then those of the machine
 all_ascend : (header : Header) (lines : List Line) (earlier : List Step) (w : World tcp_shape) (s : Step) → ascend 1 (all_rules header lines earlier w s) ≡ true
 all_ascend header lines earlier w s = go (act_of header lines s)
   where
-    go : (act : Option (Stamped tcp_shape)) → ascend 1 (order_rules (order_of header lines (moves earlier)) (move_of s) ++ option_map_or (act_rules header w) act []) ≡ true
+    go : (act : Option (Stamped tcp_shape))
+        → ascend 1 (order_rules (order_of header lines (moves earlier)) (move_of s)
+        ++ option_map_or (act_rules header w) act []) ≡ true
     go None = refl
     go (Some act) = rules_ascend header act.moment w act.step
 
@@ -114,7 +150,18 @@ verdict_says t w (Yes lines hidden) is =
 verdict_says t w (No witness_line trace_line rule) is =
     elim (subst (λ (v : Verdict). SaysLeft t [] w.steps v) is (from_says t [] w.steps)) [
       | inl said ↦ inl (said.0, said.1, record { line = said.2.0; left = said.2.1; before = said.3 })
-      | inr said ↦ inr (said.0, omega (arith, said.1), record { step = said.2.0; here = said.2.1; breaks = said.2.2; least = least_at said.0 said.2.0 said.2.2; names = said.2.3; before = said.3 })
+      | inr said ↦ inr (
+        said.0,
+        omega (arith, said.1),
+        record {
+          step = said.2.0;
+          here = said.2.1;
+          breaks = said.2.2;
+          least = least_at said.0 said.2.0 said.2.2;
+          names = said.2.3;
+          before = said.3;
+        },
+      )
     ]
   where
     least_at : (place : ℕ) (s : Step) → broken_at t w place s ≡ Some rule → IsLeastBroken (rules_at t w place s) rule

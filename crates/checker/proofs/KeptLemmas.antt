@@ -31,10 +31,14 @@ use Rattle.checker.specs.Verdicts.{act_rules, act_after, broken}
 use Rattle.checker.specs.Kept.{held_act, kept_broken}
 
 -- a line that is no longer held breaks a rule of order, whatever the machine says
-gone : (o : Order) (moment n extras : ℕ) → held_line o n ≡ None → (r : Rule) × ((rest : List (Rule × Bool)) → first_broken (order_rules o (taking moment n extras) ++ rest) ≡ Some r)
+gone : (o : Order) (moment n extras : ℕ) → held_line o n ≡ None
+    → (r : Rule) × ((rest : List (Rule × Bool))
+    → first_broken (order_rules o (taking moment n extras) ++ rest) ≡ Some r)
 gone o moment n extras none = by_test (is_offered o n) refl
   where
-    by_test : (b : Bool) → is_offered o n ≡ b → (r : Rule) × ((rest : List (Rule × Bool)) → first_broken (order_rules o (taking moment n extras) ++ rest) ≡ Some r)
+    by_test : (b : Bool) → is_offered o n ≡ b
+        → (r : Rule) × ((rest : List (Rule × Bool))
+        → first_broken (order_rules o (taking moment n extras) ++ rest) ≡ Some r)
     by_test true is = (rules.LineAgain, λ rest. simp (none, is) refl)
     by_test false is = (rules.LineRange, λ rest. simp (none, is) refl)
 
@@ -53,18 +57,26 @@ module _ (header : Header) (lines : List Line) (earlier : List Step) where
   machine_part w act = option_map_or (act_rules header w) act []
 
   broken_at : (w : World tcp_shape) (moment : ℕ) (label : Label NamedLine) (span : Span)
-      → broken header lines earlier w (record { moment = moment; label = label; span = span }) ≡ kept_broken header (order_of header lines (moves earlier)) w (record { moment = moment; label = label; span = span })
+      → broken header lines earlier w (record { moment = moment; label = label; span = span })
+      ≡ kept_broken header (order_of header lines (moves earlier)) w
+      (record { moment = moment; label = label; span = span })
   broken_at w moment (L named) span = by_test (is_placed (moves earlier) named.number) refl
     where
       rules_of_order : List (Rule × Bool)
       rules_of_order = order_rules (order_of header lines (moves earlier)) (taking moment named.number (extras_count named.extras))
 
       by_test : (b : Bool) → is_placed (moves earlier) named.number ≡ b
-          → broken header lines earlier w (record { moment = moment; label = L named; span = span }) ≡ kept_broken header (order_of header lines (moves earlier)) w (record { moment = moment; label = L named; span = span })
-      by_test false is = ap (λ (found : Option Line). first_broken (rules_of_order ++ machine_part w (line_act moment named found))) (sym (held_not_placed named.number is))
+          → broken header lines earlier w (record { moment = moment; label = L named; span = span })
+          ≡ kept_broken header (order_of header lines (moves earlier)) w
+          (record { moment = moment; label = L named; span = span })
+      by_test false is =
+          ap (λ (found : Option Line). first_broken (rules_of_order ++ machine_part w (line_act moment named found)))
+          (sym (held_not_placed named.number is))
       by_test true is =
           let none = gone (order_of header lines (moves earlier)) moment named.number (extras_count named.extras) (held_placed named.number is) in
-          none.1 (machine_part w (line_act moment named (line_at header lines named.number))) ∙ sym (none.1 (machine_part w (line_act moment named (held_line (order_of header lines (moves earlier)) named.number))))
+          none.1 (machine_part w (line_act moment named (line_at header lines named.number)))
+          ∙ sym (none.1 (machine_part w (line_act moment named
+          (held_line (order_of header lines (moves earlier)) named.number))))
   broken_at w moment (D t answer) span = refl
   broken_at w moment (M host plan) span = refl
   broken_at w moment (T host line choice) span = refl
@@ -78,15 +90,19 @@ module _ (header : Header) (lines : List Line) (earlier : List Step) where
 
   act_at : (w : World tcp_shape) (moment : ℕ) (label : Label NamedLine) (span : Span)
       → kept_broken header (order_of header lines (moves earlier)) w (record { moment = moment; label = label; span = span }) ≡ None
-      → held_act (order_of header lines (moves earlier)) (record { moment = moment; label = label; span = span }) ≡ act_of header lines (record { moment = moment; label = label; span = span })
+      → held_act (order_of header lines (moves earlier)) (record { moment = moment; label = label; span = span })
+      ≡ act_of header lines (record { moment = moment; label = label; span = span })
   act_at w moment (L named) span ok = by_test (is_placed (moves earlier) named.number) refl
     where
       by_test : (b : Bool) → is_placed (moves earlier) named.number ≡ b
-          → held_act (order_of header lines (moves earlier)) (record { moment = moment; label = L named; span = span }) ≡ act_of header lines (record { moment = moment; label = L named; span = span })
+          → held_act (order_of header lines (moves earlier)) (record { moment = moment; label = L named; span = span })
+          ≡ act_of header lines (record { moment = moment; label = L named; span = span })
       by_test false is = ap (line_act moment named) (held_not_placed named.number is)
       by_test true is =
           let none = gone (order_of header lines (moves earlier)) moment named.number (extras_count named.extras) (held_placed named.number is) in
-          let h : Some none.0 ≡ None = sym (none.1 (machine_part w (line_act moment named (held_line (order_of header lines (moves earlier)) named.number)))) ∙ ok in absurd cc
+          let h : Some none.0 ≡ None =
+          sym (none.1 (machine_part w (line_act moment named
+          (held_line (order_of header lines (moves earlier)) named.number)))) ∙ ok in absurd cc
   act_at w moment (D t answer) span ok = refl
   act_at w moment (M host plan) span ok = refl
   act_at w moment (T host line choice) span ok = refl
@@ -95,7 +111,8 @@ module _ (header : Header) (lines : List Line) (earlier : List Step) where
   act_at w moment (F host recovery) span ok = refl
 
   -- and the act is that of the line that is held, where no rule is broken
-  pub act_is : (w : World tcp_shape) (s : Step) → kept_broken header (order_of header lines (moves earlier)) w s ≡ None → held_act (order_of header lines (moves earlier)) s ≡ act_of header lines s
+  pub act_is : (w : World tcp_shape) (s : Step) → kept_broken header (order_of header lines (moves earlier)) w s ≡ None
+      → held_act (order_of header lines (moves earlier)) s ≡ act_of header lines s
   act_is w s ok = act_at w s.moment s.label s.span ok
 
 -- the rules may be asked of the world of which all is forgotten that may be discarded
@@ -124,10 +141,13 @@ next_steps p (Some act) = omega arith
 
 -- the rule of order that a step breaks which takes a line is the least that it breaks
 pub refused_line : (header : Header) (o : Order) (w : World tcp_shape) (s : Step) (named : NamedLine) (rule : Rule)
-    → s.label ≡ L named → Some rule ≡ first_broken (order_rules o (taking s.moment named.number (extras_count named.extras))) → Some rule ≡ kept_broken header o w s
+    → s.label ≡ L named
+    → Some rule ≡ first_broken (order_rules o (taking s.moment named.number (extras_count named.extras)))
+    → Some rule ≡ kept_broken header o w s
 refused_line header o w s named rule is broken =
     subst (λ (label : Label NamedLine). Some rule ≡ kept_broken header o w (record s { label = label })) (sym is)
-    (sym (first_broken-append_some (order_rules o (taking s.moment named.number (extras_count named.extras))) (option_map_or (act_rules header w) (held_act o (record s { label = L named })) []) rule (sym broken)))
+    (sym (first_broken-append_some (order_rules o (taking s.moment named.number (extras_count named.extras)))
+    (option_map_or (act_rules header w) (held_act o (record s { label = L named })) []) rule (sym broken)))
 
 -- where it breaks none, what its line breaks in the machine is the least
 pub placed_line : (p : Progress) (o : Order) (s : Step) (named : NamedLine) (line : Line) (taken : TakenLine) → s.label ≡ L named

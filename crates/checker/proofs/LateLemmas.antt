@@ -35,7 +35,8 @@ module _ (header : Header) (lines : List Line) where
 
   -- what a step does is the same whatever lines come behind those that it may name
   act_at : (more : List Line) (moment : ℕ) (label : Label NamedLine) (span : Span) → NamesBelow next_number label
-      → act_of header (lines ++ more) (record { moment = moment; label = label; span = span }) ≡ act_of header lines (record { moment = moment; label = label; span = span })
+      → act_of header (lines ++ more) (record { moment = moment; label = label; span = span })
+      ≡ act_of header lines (record { moment = moment; label = label; span = span })
   act_at more moment (L named) span below = ap (line_act moment named) (line_at-front header lines more named.number below)
   act_at more moment (D t answer) span below = refl
   act_at more moment (M host plan) span below = refl
@@ -48,29 +49,40 @@ module _ (header : Header) (lines : List Line) where
   act_more more s below = act_at more s.moment s.label s.span below
 
   -- which rules of order it breaks, too, as long as the moments of those lines are not reached
-  order_at : (more : List Line) (earlier : List Move) (moment : ℕ) (label : Label NamedLine) (span : Span) → TakesBelow next_number earlier → AreLater moment more → NamesBelow next_number label
-      → order_rules (order_of header (lines ++ more) earlier) (move_of (record { moment = moment; label = label; span = span })) ≡ order_rules (order_of header lines earlier) (move_of (record { moment = moment; label = label; span = span }))
+  order_at : (more : List Line) (earlier : List Move) (moment : ℕ) (label : Label NamedLine) (span : Span)
+      → TakesBelow next_number earlier → AreLater moment more → NamesBelow next_number label
+      → order_rules (order_of header (lines ++ more) earlier)
+      (move_of (record { moment = moment; label = label; span = span }))
+      ≡ order_rules (order_of header lines earlier) (move_of (record { moment = moment; label = label; span = span }))
   order_at more earlier moment (L named) span takes later below =
       ap (λ (o : Order). order_rules o (taking moment named.number (extras_count named.extras))) (order_with header lines more earlier takes)
       ∙ taking_same (order_of header lines earlier) more moment named.number (extras_count named.extras) later below
   order_at more earlier moment (D t answer) span takes later below =
-      ap (λ (o : Order). order_rules o (passing moment)) (order_with header lines more earlier takes) ∙ passing_same (order_of header lines earlier) more moment later
+      ap (λ (o : Order). order_rules o (passing moment)) (order_with header lines more earlier takes)
+      ∙ passing_same (order_of header lines earlier) more moment later
   order_at more earlier moment (M host plan) span takes later below =
-      ap (λ (o : Order). order_rules o (passing moment)) (order_with header lines more earlier takes) ∙ passing_same (order_of header lines earlier) more moment later
+      ap (λ (o : Order). order_rules o (passing moment)) (order_with header lines more earlier takes)
+      ∙ passing_same (order_of header lines earlier) more moment later
   order_at more earlier moment (T host line choice) span takes later below =
-      ap (λ (o : Order). order_rules o (passing moment)) (order_with header lines more earlier takes) ∙ passing_same (order_of header lines earlier) more moment later
+      ap (λ (o : Order). order_rules o (passing moment)) (order_with header lines more earlier takes)
+      ∙ passing_same (order_of header lines earlier) more moment later
   order_at more earlier moment (K host line) span takes later below =
-      ap (λ (o : Order). order_rules o (passing moment)) (order_with header lines more earlier takes) ∙ passing_same (order_of header lines earlier) more moment later
+      ap (λ (o : Order). order_rules o (passing moment)) (order_with header lines more earlier takes)
+      ∙ passing_same (order_of header lines earlier) more moment later
   order_at more earlier moment (R host line) span takes later below =
-      ap (λ (o : Order). order_rules o (passing moment)) (order_with header lines more earlier takes) ∙ passing_same (order_of header lines earlier) more moment later
+      ap (λ (o : Order). order_rules o (passing moment)) (order_with header lines more earlier takes)
+      ∙ passing_same (order_of header lines earlier) more moment later
   order_at more earlier moment (F host recovery) span takes later below =
-      ap (λ (o : Order). order_rules o (passing moment)) (order_with header lines more earlier takes) ∙ passing_same (order_of header lines earlier) more moment later
+      ap (λ (o : Order). order_rules o (passing moment)) (order_with header lines more earlier takes)
+      ∙ passing_same (order_of header lines earlier) more moment later
 
   -- a step that names none of the later lines breaks the same rule
-  pub broken_more : (more : List Line) (earlier : List Step) (w : World tcp_shape) (s : Step) → TakesBelow next_number (moves earlier) → AreLater s.moment more → NamesBelow next_number s.label
+  pub broken_more : (more : List Line) (earlier : List Step) (w : World tcp_shape) (s : Step)
+      → TakesBelow next_number (moves earlier) → AreLater s.moment more → NamesBelow next_number s.label
       → broken header (lines ++ more) earlier w s ≡ broken header lines earlier w s
   broken_more more earlier w s takes later below =
-      λ i. first_broken (order_at more (moves earlier) s.moment s.label s.span takes later below i ++ option_map_or (act_rules header w) (act_more more s below i) [])
+      λ i. first_broken (order_at more (moves earlier) s.moment s.label s.span takes later below i
+      ++ option_map_or (act_rules header w) (act_more more s below i) [])
 
   -- a step that names one of them breaks one of four
   pub broken_late : (between after : List Line) (line : Line) (earlier : List Step) (w : World tcp_shape) (moment : ℕ) (named : NamedLine) (span : Span)
@@ -82,7 +94,8 @@ module _ (header : Header) (lines : List Line) where
       (order_rules (order_of header (lines ++ (between ++ line ∷ after)) (moves earlier)) (taking moment named.number (extras_count named.extras)))
       (option_map_or (act_rules header w) (act_of header (lines ++ (between ++ line ∷ after)) (record { moment = moment; label = L named; span = span })) [])
       (late_rule (order_of header lines (moves earlier)) between line (extras_count named.extras) moment)
-      (ap (λ (n : ℕ). first_broken (order_rules (order_of header (lines ++ (between ++ line ∷ after)) (moves earlier)) (taking moment n (extras_count named.extras)))) at
+      (ap (λ (n : ℕ). first_broken (order_rules (order_of header (lines ++ (between ++ line ∷ after)) (moves earlier))
+      (taking moment n (extras_count named.extras)))) at
       ∙ late_line header lines between after line (moves earlier) moment (extras_count named.extras) takes late)
 
   -- a step that names a line past the last breaks the first rule
@@ -94,7 +107,9 @@ module _ (header : Header) (lines : List Line) where
       (not_offered header lines (moves earlier) named.number le)
 
   -- a step that breaks no rule takes no line past the last
-  names_at : (earlier : List Step) (w : World tcp_shape) (moment : ℕ) (label : Label NamedLine) (span : Span) → broken header lines earlier w (record { moment = moment; label = label; span = span }) ≡ None → NamesBelow next_number label
+  names_at : (earlier : List Step) (w : World tcp_shape) (moment : ℕ) (label : Label NamedLine) (span : Span)
+      → broken header lines earlier w (record { moment = moment; label = label; span = span }) ≡ None
+      → NamesBelow next_number label
   names_at earlier w moment (L named) span none = by_test (nat_lt named.number next_number) refl
     where
       by_test : (b : Bool) → nat_lt named.number next_number ≡ b → named.number < next_number
@@ -114,7 +129,8 @@ module _ (header : Header) (lines : List Line) where
   names_below earlier w s none = names_at earlier w s.moment s.label s.span none
 
 -- so the steps that were done take no line past the last
-not_taken : (next moment : ℕ) (label : Label NamedLine) (span : Span) → NamesBelow next label → TakesBelow next (move_of (record { moment = moment; label = label; span = span }) ∷ [])
+not_taken : (next moment : ℕ) (label : Label NamedLine) (span : Span) → NamesBelow next label
+    → TakesBelow next (move_of (record { moment = moment; label = label; span = span }) ∷ [])
 not_taken next moment (L named) span below = λ n le.
     let apart : nat_eq named.number n ≡ false = grind (arith, nat_tests, below, le) in
     rw apart refl
@@ -128,7 +144,8 @@ not_taken next moment (F host recovery) span below = λ n le. refl
 both_below : (next : ℕ) (a b : List Move) → TakesBelow next a → TakesBelow next b → TakesBelow next (a ++ b)
 both_below next a b p q = λ n le. list_any-append _ a b ∙ (λ i. p n le i || q n le i)
 
-pub takes_more : (next : ℕ) (earlier : List Step) (s : Step) → TakesBelow next (moves earlier) → NamesBelow next s.label → TakesBelow next (moves (earlier ++ s ∷ []))
+pub takes_more : (next : ℕ) (earlier : List Step) (s : Step) → TakesBelow next (moves earlier) → NamesBelow next s.label
+    → TakesBelow next (moves (earlier ++ s ∷ []))
 takes_more next earlier s takes below =
     subst (TakesBelow next) (sym (map-append move_of earlier (s ∷ [])))
     (both_below next (moves earlier) (move_of s ∷ []) takes (not_taken next s.moment s.label s.span below))
@@ -147,7 +164,9 @@ first_below next s rest takes = (at s.moment s.label s.span (λ n le. (parts n l
     parts : (n : ℕ) → next ≤ n → (is_placed (move_of s ∷ []) n ≡ false) × (is_placed (moves rest) n ≡ false)
     parts n le = let p = either _ (is_placed (moves rest) n) (takes n le) in (rw p.0 refl, p.1)
 
-    at : (moment : ℕ) (label : Label NamedLine) (span : Span) → TakesBelow next (move_of (record { moment = moment; label = label; span = span }) ∷ []) → NamesBelow next label
+    at : (moment : ℕ) (label : Label NamedLine) (span : Span)
+        → TakesBelow next (move_of (record { moment = moment; label = label; span = span }) ∷ [])
+        → NamesBelow next label
     at moment (L named) span none = by_test (nat_lt named.number next) refl
       where
         by_test : (b : Bool) → nat_lt named.number next ≡ b → named.number < next
@@ -164,7 +183,9 @@ first_below next s rest takes = (at s.moment s.label s.span (λ n le. (parts n l
     at moment (R host line) span none = tt
     at moment (F host recovery) span none = tt
 
-pub stamped_more : (header : Header) (lines more : List Line) (earlier : List Step) → TakesBelow (first_event_line header + length lines) (moves earlier) → stamped header (lines ++ more) earlier ≡ stamped header lines earlier
+pub stamped_more : (header : Header) (lines more : List Line) (earlier : List Step)
+    → TakesBelow (first_event_line header + length lines) (moves earlier)
+    → stamped header (lines ++ more) earlier ≡ stamped header lines earlier
 stamped_more header lines more [] takes = refl
 stamped_more header lines more (s ∷ rest) takes =
     let parts = first_below (first_event_line header + length lines) s rest takes in

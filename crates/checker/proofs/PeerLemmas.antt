@@ -21,7 +21,9 @@ use Rattle.verdict.proofs.RuleLemmas.{none_all}
 use Rattle.streams.specs.Lists.{modify}
 use Rattle.streams.proofs.Places.{get_append, all_push, all_modify}
 use Rattle.spec_network.specs.Tables.{pick, other, with_host, waiting}
-use Rattle.spec_network.specs.Hosts.{HostState, Turn, Idle, Called, Answered, World, Deed, Does, Expires, Makes, Sends, Gets, Hears, Takes, Drops, Answers, Step, Begin, Finish, Effect, At, Stamped, turn_of}
+use Rattle.spec_network.specs.Hosts.{HostState, Turn, Idle, Called, Answered, World, Deed, Does, Expires, Makes, Sends}
+use Rattle.spec_network.specs.Hosts.{Gets, Hears, Takes, Drops, Answers, Step, Begin, Finish, Effect, At, Stamped}
+use Rattle.spec_network.specs.Hosts.{turn_of}
 use Rattle.spec_network.specs.HostRules.{aim_of, Permitted}
 use Rattle.spec_network.specs.HostSteps.{deed_after, call_after, effect_after, after, after_all, start, Lawful}
 use Rattle.window_rules.specs.declared.control.Profile.{Profile}
@@ -71,33 +73,43 @@ Begins w step me f = (f.stream.peer ≡ None) ⊎ ((q : EndpointId) × (f.stream
 
 -- the endpoints of a host after a step
 pub record Moves (w : World tcp_shape) (step : Step tcp_shape) (host : Host) (es fs : List Endpoint) : Type 0 where
-  pub onward : (i : ℕ) (e : Endpoint) → slice_get es i ≡ Some e → (f : Endpoint) × (slice_get fs i ≡ Some f) × Meets w step (name host i) e.stream.peer f.stream.peer
+  pub onward : (i : ℕ) (e : Endpoint) → slice_get es i ≡ Some e
+      → (f : Endpoint) × (slice_get fs i ≡ Some f) × Meets w step (name host i) e.stream.peer f.stream.peer
   pub back : (i : ℕ) (f : Endpoint) → slice_get fs i ≡ Some f → ((e : Endpoint) × (slice_get es i ≡ Some e)) ⊎ Begins w step (name host i) f
 
 moves_not : (w : World tcp_shape) (step : Step tcp_shape) (host : Host) (es : List Endpoint) → Moves w step host es es
 moves_not w step host es = record { onward = λ i e at. (e, at, inl refl); back = λ i f at. inl (f, at) }
 
-moves_one : (w : World tcp_shape) (step : Step tcp_shape) (host : Host) (es : List Endpoint) (i : ℕ) (f : Endpoint → Endpoint) → ((e : Endpoint) → slice_get es i ≡ Some e → Meets w step (name host i) e.stream.peer (f e).stream.peer) → Moves w step host es (modify es i f)
+moves_one : (w : World tcp_shape) (step : Step tcp_shape) (host : Host) (es : List Endpoint) (i : ℕ)
+    (f : Endpoint → Endpoint)
+    → ((e : Endpoint) → slice_get es i ≡ Some e → Meets w step (name host i) e.stream.peer (f e).stream.peer)
+    → Moves w step host es (modify es i f)
 moves_one w step host es i f new = record {
   onward = modify_each (λ j e x. Meets w step (name host j) e.stream.peer x.stream.peer) f es i (λ j e at n. inl refl) new;
   back = all_modify (λ j y. ((e : Endpoint) × (slice_get es j ≡ Some e)) ⊎ Begins w step (name host j) y) f es i (λ j e x. inl (e, x)) (λ e x. inl (e, x));
 }
 
-moves_map : (w : World tcp_shape) (step : Step tcp_shape) (host : Host) (es : List Endpoint) (f : Endpoint → Endpoint) → ((e : Endpoint) → (f e).stream ≡ e.stream) → Moves w step host es (map f es)
+moves_map : (w : World tcp_shape) (step : Step tcp_shape) (host : Host) (es : List Endpoint) (f : Endpoint → Endpoint)
+    → ((e : Endpoint) → (f e).stream ≡ e.stream) → Moves w step host es (map f es)
 moves_map w step host es f same = record {
   onward = map_onward (λ j e x. Meets w step (name host j) e.stream.peer x.stream.peer) f es (λ j e at. inl (ap (λ (s : Stream). s.peer) (same e)));
   back = λ j y e. let h = map_back f es j y e in inl (h.0, h.1);
 }
 
-moves_push : (w : World tcp_shape) (step : Step tcp_shape) (host : Host) (es : List Endpoint) (e : Endpoint) → ((j : ℕ) → Begins w step (name host j) e) → Moves w step host es (es ++ e ∷ [])
+moves_push : (w : World tcp_shape) (step : Step tcp_shape) (host : Host) (es : List Endpoint) (e : Endpoint)
+    → ((j : ℕ) → Begins w step (name host j) e) → Moves w step host es (es ++ e ∷ [])
 moves_push w step host es e new = record {
   onward = λ i x at. (x, get_append es (e ∷ []) i x at, inl refl);
   back = all_push (λ j y. ((x : Endpoint) × (slice_get es j ≡ Some x)) ⊎ Begins w step (name host j) y) es e (λ j x at. inl (x, at)) (inr (new _));
 }
 
 -- the endpoint of some ports changes, but not in its streams
-moves_at_ports : (w : World tcp_shape) (step : Step tcp_shape) (host : Host) (b : HostTcp) (lport rport : ℕ) (f : Endpoint → Endpoint) → ((e : Endpoint) → (f e).stream ≡ e.stream) → Moves w step host b.endpoints (at_ports b lport rport f).endpoints
-moves_at_ports w step host b lport rport f same = map_or_cases (λ (x : HostTcp). Moves w step host b.endpoints x.endpoints) (place_of b lport rport) b (λ i. with_endpoint b i f)
+moves_at_ports : (w : World tcp_shape) (step : Step tcp_shape) (host : Host) (b : HostTcp) (lport rport : ℕ)
+    (f : Endpoint → Endpoint) → ((e : Endpoint) → (f e).stream ≡ e.stream)
+    → Moves w step host b.endpoints (at_ports b lport rport f).endpoints
+moves_at_ports w step host b lport rport f same =
+    map_or_cases (λ (x : HostTcp). Moves w step host b.endpoints x.endpoints) (place_of b lport rport) b
+    (λ i. with_endpoint b i f)
     (λ e. moves_not w step host b.endpoints) (λ i at. moves_one w step host b.endpoints i f (λ e there. inl (ap (λ (s : Stream). s.peer) (same e))))
 
 -- 1. what hosts do
@@ -129,14 +141,18 @@ read_syn v e m = by (is_half v)
     by false = refl
 
 -- a segment that comes in (`m`), as the endpoint reads it (`r`)
-meets_taking : (h : Header) (s : ℕ) (w : World tcp_shape) (host : Host) (line : ℕ) (how : TakeChoice) (m r : Emission) (i : ℕ) (e : Endpoint) → waiting line (pick w.hosts host).inbox ≡ Some m
-    → slice_get (pick w.hosts host).body.endpoints i ≡ Some e → taker (pick w.hosts host).body m ≡ AtEndpoint i e → Waits e → m.sender ≡ r.sender → m.flags.syn ≡ r.flags.syn → first_broken (endpoint_rules h host (pick w.hosts host).body how r s i e) ≡ None
+meets_taking : (h : Header) (s : ℕ) (w : World tcp_shape) (host : Host) (line : ℕ) (how : TakeChoice) (m r : Emission)
+    (i : ℕ) (e : Endpoint) → waiting line (pick w.hosts host).inbox ≡ Some m
+    → slice_get (pick w.hosts host).body.endpoints i ≡ Some e → taker (pick w.hosts host).body m ≡ AtEndpoint i e
+    → Waits e → m.sender ≡ r.sender → m.flags.syn ≡ r.flags.syn
+    → first_broken (endpoint_rules h host (pick w.hosts host).body how r s i e) ≡ None
     → Meets w (At host (Takes line how)) (name host i) e.stream.peer (endpoint_taken h e how r s).stream.peer
 meets_taking h s w host line how m r i e waits there is calm sender syn may = go r.flags.rst (is_syn_sent e.state) refl refl may
   where
     go : (b t : Bool) → r.flags.rst ≡ b → is_syn_sent e.state ≡ t
         → first_broken (if t then syn_sent_rules e how r s else connected_rules h (pick w.hosts host).body (name host i) e how r s) ≡ None
-        → Meets w (At host (Takes line how)) (name host i) e.stream.peer (if b then was_reset e how s else if t then on_syn h e how r s else segment_taken h e how r s).stream.peer
+        → Meets w (At host (Takes line how)) (name host i) e.stream.peer
+        (if b then was_reset e how s else if t then on_syn h e how r s else segment_taken h e how r s).stream.peer
     go true t reset sent may = inl refl
     go false true reset sent may = inr (
       (calm sent).0,
@@ -155,9 +171,11 @@ meets_taking h s w host line how m r i e waits there is calm sender syn may = go
     )
     go false false reset sent may = inl refl
 
-moves_taking : (h : Header) (s : ℕ) (w : World tcp_shape) (host : Host) (line : ℕ) (how : TakeChoice) (m : Emission) → Steady w.hosts → waiting line (pick w.hosts host).inbox ≡ Some m
+moves_taking : (h : Header) (s : ℕ) (w : World tcp_shape) (host : Host) (line : ℕ) (how : TakeChoice) (m : Emission)
+    → Steady w.hosts → waiting line (pick w.hosts host).inbox ≡ Some m
     → first_broken (taker_rules h host (pick w.hosts host).body how m s (taker (pick w.hosts host).body m)) ≡ None
-    → Moves w (At host (Takes line how)) host (pick w.hosts host).body.endpoints (after_taking h (pick w.hosts host).body how m s (taker (pick w.hosts host).body m)).endpoints
+    → Moves w (At host (Takes line how)) host (pick w.hosts host).body.endpoints
+    (after_taking h (pick w.hosts host).body how m s (taker (pick w.hosts host).body m)).endpoints
 moves_taking h s w host line how m steady waits may = go (taker (pick w.hosts host).body m) refl may
   where
     b : HostTcp
@@ -170,19 +188,37 @@ moves_taking h s w host line how m steady waits may = go (taker (pick w.hosts ho
         let first = not_false (m.flags.syn && not m.flags.ack && not m.flags.rst) (none_all (listener_rules how m) may).0 in
         let syn = (both_true m.flags.syn (not m.flags.ack) (both_true (m.flags.syn && not m.flags.ack) (not m.flags.rst) first).0).0 in
         moves_push w (At host (Takes line how)) host b.endpoints (child (profile_of h) l how m s)
-        (λ j. inr (m.sender, refl, λ none. record { line = line; how = how; segment = m; takes = refl; waits = waits; syn = syn; made = refl; goes = inr (l, none, is) }))
+        (λ j. inr (
+          m.sender,
+          refl,
+          λ none.
+              record {
+                line = line;
+                how = how;
+                segment = m;
+                takes = refl;
+                waits = waits;
+                syn = syn;
+                made = refl;
+                goes = inr (l, none, is);
+              },
+        ))
     go (AtEndpoint i e) is may = let r = as_read h.version e m in
         moves_one w (At host (Takes line how)) host b.endpoints i (λ x. endpoint_taken h x how r s)
         (λ x there.
         let one : e ≡ x = same_Some e x (sym (taker_there b m i e is) ∙ there) in
-        meets_taking h s w host line how m r i x waits there (is ∙ ap (λ (y : Endpoint). AtEndpoint i y) one) (steady.own host i x there).waits (read_maker h.version e m) (read_syn h.version e m)
+        meets_taking h s w host line how m r i x waits there (is ∙ ap (λ (y : Endpoint). AtEndpoint i y) one)
+        (steady.own host i x there).waits (read_maker h.version e m) (read_syn h.version e m)
         (subst (λ (y : Endpoint). first_broken (endpoint_rules h host b how r s i y) ≡ None) one may))
 
 moves_deed : (h : Header) (s : ℕ) (w : World tcp_shape) (host : Host) (d : Deed tcp_shape) → Steady w.hosts → Permitted (tcp h) s w (At host d)
-    → Moves w (At host d) host (pick w.hosts host).body.endpoints (deed_after (tcp h) host s (suc w.count) (pick w.hosts (other host)).wire (pick w.hosts host) d).body.endpoints
+    → Moves w (At host d) host (pick w.hosts host).body.endpoints
+    (deed_after (tcp h) host s (suc w.count) (pick w.hosts (other host)).wire (pick w.hosts host) d).body.endpoints
 moves_deed h s w host (Does x) steady may =
     moves_at_ports w (At host (Does x)) host (pick w.hosts host).body x.lport x.rport (λ e. after_recovery e x.cwnd x.ssthresh s) (λ e. refl)
-moves_deed h s w host (Expires line x) steady may = moves_at_ports w (At host (Expires line x)) host (pick w.hosts host).body x.lport x.rport (λ e. after_expiry e x.expired s) (λ e. expiry_stream x.expired e s)
+moves_deed h s w host (Expires line x) steady may =
+    moves_at_ports w (At host (Expires line x)) host (pick w.hosts host).body x.lport x.rport
+    (λ e. after_expiry e x.expired s) (λ e. expiry_stream x.expired e s)
 moves_deed h s w host (Makes m) steady may = moves_at_ports w (At host (Makes m)) host (pick w.hosts host).body m.lport m.rport (λ e. after_making e m s)
     (λ e. either_stream m.flags.rst (record (shut_down (endpoint_made e m s)) { reset_due = false }) (endpoint_made e m s) e.stream refl refl)
 moves_deed h s w host (Sends line number wire) steady may = moves_not w (At host (Sends line number wire)) host (pick w.hosts host).body.endpoints
@@ -196,29 +232,44 @@ moves_deed h s w host (Takes line how) steady may = let k = pick w.hosts host in
     moves_taking h s w host line how m steady e (subst (λ (x : Emission). first_broken (taker_rules h host k.body how x s (taker k.body x)) ≡ None) one t.2))
 moves_deed h s w host (Drops line) steady may = moves_not w (At host (Drops line)) host (pick w.hosts host).body.endpoints
 moves_deed h s w host (Answers line) steady may = let k = pick w.hosts host in let step : Step tcp_shape = At host (Answers line) in
-    on_cases (λ (b : HostTcp). Moves w step host k.body.endpoints b.endpoints) (waiting line k.inbox) k.body _ (moves_not w step host k.body.endpoints) (λ m e. moves_not w step host k.body.endpoints)
+    on_cases (λ (b : HostTcp). Moves w step host k.body.endpoints b.endpoints) (waiting line k.inbox) k.body _
+    (moves_not w step host k.body.endpoints) (λ m e. moves_not w step host k.body.endpoints)
 
 -- 2. calls
 
-moves_same : (w : World tcp_shape) (step : Step tcp_shape) (host : Host) (b : HostTcp) (i : ℕ) (f : Endpoint → Endpoint) → ((e : Endpoint) → (f e).stream.peer ≡ e.stream.peer) → Moves w step host b.endpoints (with_endpoint b i f).endpoints
+moves_same : (w : World tcp_shape) (step : Step tcp_shape) (host : Host) (b : HostTcp) (i : ℕ) (f : Endpoint → Endpoint)
+    → ((e : Endpoint) → (f e).stream.peer ≡ e.stream.peer)
+    → Moves w step host b.endpoints (with_endpoint b i f).endpoints
 moves_same w step host b i f same = moves_one w step host b.endpoints i f (λ e at. inl (same e))
 
-moves_change : (w : World tcp_shape) (step : Step tcp_shape) (host : Host) (b : HostTcp) (n : ℕ) (f : Endpoint → Endpoint) → ((e : Endpoint) → (f e).stream.peer ≡ e.stream.peer) → Moves w step host b.endpoints (option_map_or (change_thing b f) (thing_of b n) b).endpoints
-moves_change w step host b n f same = map_or_cases (λ (x : HostTcp). Moves w step host b.endpoints x.endpoints) (thing_of b n) b (change_thing b f) (λ e. moves_not w step host b.endpoints) (λ thing e. go thing)
+moves_change : (w : World tcp_shape) (step : Step tcp_shape) (host : Host) (b : HostTcp) (n : ℕ)
+    (f : Endpoint → Endpoint) → ((e : Endpoint) → (f e).stream.peer ≡ e.stream.peer)
+    → Moves w step host b.endpoints (option_map_or (change_thing b f) (thing_of b n) b).endpoints
+moves_change w step host b n f same =
+    map_or_cases (λ (x : HostTcp). Moves w step host b.endpoints x.endpoints) (thing_of b n) b (change_thing b f)
+    (λ e. moves_not w step host b.endpoints) (λ thing e. go thing)
   where
     go : (thing : SocketTarget) → Moves w step host b.endpoints (change_thing b f thing).endpoints
     go (ListenerAt l) = moves_not w step host b.endpoints
     go (EndpointAt i) = moves_same w step host b i f same
 
-moves_gone : (w : World tcp_shape) (step : Step tcp_shape) (host : Host) (b : HostTcp) (n : ℕ) (f : Endpoint → Endpoint) → ((e : Endpoint) → (f e).stream.peer ≡ e.stream.peer)
+moves_gone : (w : World tcp_shape) (step : Step tcp_shape) (host : Host) (b : HostTcp) (n : ℕ) (f : Endpoint → Endpoint)
+    → ((e : Endpoint) → (f e).stream.peer ≡ e.stream.peer)
     → Moves w step host b.endpoints (option_map_or (λ thing. record (thing_gone b thing f) { sockets = dead b.sockets n }) (thing_of b n) b).endpoints
-moves_gone w step host b n f same = map_or_cases (λ (x : HostTcp). Moves w step host b.endpoints x.endpoints) (thing_of b n) b (λ thing. record (thing_gone b thing f) { sockets = dead b.sockets n }) (λ e. moves_not w step host b.endpoints) (λ thing e. go thing)
+moves_gone w step host b n f same =
+    map_or_cases (λ (x : HostTcp). Moves w step host b.endpoints x.endpoints) (thing_of b n) b
+    (λ thing. record (thing_gone b thing f) { sockets = dead b.sockets n }) (λ e. moves_not w step host b.endpoints)
+    (λ thing e. go thing)
   where
     go : (thing : SocketTarget) → Moves w step host b.endpoints (thing_gone b thing f).endpoints
-    go (ListenerAt l) = moves_map w step host b.endpoints (orphaned l) (λ e. either_stream (option_map_or (λ holder. holder == l) e.listener false) (after_abort e) e e.stream refl refl)
+    go (ListenerAt l) =
+        moves_map w step host b.endpoints (orphaned l)
+        (λ e. either_stream (option_map_or (λ holder. holder == l) e.listener false)
+        (after_abort e) e e.stream refl refl)
     go (EndpointAt i) = moves_same w step host b i f same
 
-moves_accept : (w : World tcp_shape) (step : Step tcp_shape) (host : Host) (b : HostTcp) (n : ℕ) (thing : SocketTarget) → Moves w step host b.endpoints (after_accept b n thing).endpoints
+moves_accept : (w : World tcp_shape) (step : Step tcp_shape) (host : Host) (b : HostTcp) (n : ℕ) (thing : SocketTarget)
+    → Moves w step host b.endpoints (after_accept b n thing).endpoints
 moves_accept w step host b n (EndpointAt i) = moves_not w step host b.endpoints
 moves_accept w step host b n (ListenerAt l) = go (queue_of b l)
   where
@@ -232,12 +283,15 @@ moves_call p w step host b (calls.Listen at port backlog) (answers.Given n) = mo
 moves_call p w step host b (calls.Connect at lport rport) (answers.Given n) =
     moves_push w step host b.endpoints (new_endpoint lport rport None states.SynSent p) (λ j. inl refl)
 moves_call p w step host b (calls.Accept h) (answers.Given n) =
-    map_or_cases (λ (x : HostTcp). Moves w step host b.endpoints x.endpoints) (thing_of b h) b (after_accept b n) (λ e. moves_not w step host b.endpoints) (λ thing e. moves_accept w step host b n thing)
+    map_or_cases (λ (x : HostTcp). Moves w step host b.endpoints x.endpoints) (thing_of b h) b (after_accept b n)
+    (λ e. moves_not w step host b.endpoints) (λ thing e. moves_accept w step host b n thing)
 moves_call p w step host b (calls.Send h bytes) (answers.Given n) = moves_change w step host b h (after_send bytes n) (λ e. refl)
 moves_call p w step host b (calls.Recv h most) (answers.Bytes bytes) = moves_change w step host b h (after_recv bytes) (λ e. refl)
 moves_call p w step host b (calls.Shut h) answers.Done = moves_change w step host b h after_shut (λ e. refl)
 moves_call p w step host b (calls.Close h) answers.Done = moves_gone w step host b h after_close
-    (λ e. ap (λ (s : Stream). s.peer) (either_stream (is_syn_sent e.state) (shut_down (record e { stream = record e.stream { ended = true } })) (after_shut e) (record e.stream { ended = true }) refl refl))
+    (λ e. ap (λ (s : Stream). s.peer)
+    (either_stream (is_syn_sent e.state) (shut_down (record e { stream = record e.stream { ended = true } }))
+    (after_shut e) (record e.stream { ended = true }) refl refl))
 moves_call p w step host b (calls.Abort h) answers.Done = moves_gone w step host b h after_abort (λ e. refl)
 moves_call p w step host b call answer = moves_not w step host b.endpoints
 
@@ -250,10 +304,16 @@ pub record BothMove (w : World tcp_shape) (step : Step tcp_shape) (b : Hosts) : 
 both_not : (w : World tcp_shape) (step : Step tcp_shape) → BothMove w step w.hosts
 both_not w step = record { all = λ x. moves_not w step x (pick w.hosts x).body.endpoints }
 
-both_host : (w : World tcp_shape) (step : Step tcp_shape) (host : Host) (k : HostState tcp_shape) → Moves w step host (pick w.hosts host).body.endpoints k.body.endpoints → BothMove w step (with_host w.hosts host k)
-both_host w step host k f = record { all = with_cases w.hosts host k (λ x y. Moves w step x (pick w.hosts x).body.endpoints y.body.endpoints) f (moves_not w step (other host) (pick w.hosts (other host)).body.endpoints) }
+both_host : (w : World tcp_shape) (step : Step tcp_shape) (host : Host) (k : HostState tcp_shape)
+    → Moves w step host (pick w.hosts host).body.endpoints k.body.endpoints → BothMove w step (with_host w.hosts host k)
+both_host w step host k f =
+    record {
+      all = with_cases w.hosts host k (λ x y. Moves w step x (pick w.hosts x).body.endpoints y.body.endpoints) f
+          (moves_not w step (other host) (pick w.hosts (other host)).body.endpoints);
+    }
 
-pub both_step : (h : Header) (s : ℕ) (w : World tcp_shape) (step : Step tcp_shape) → Steady w.hosts → Permitted (tcp h) s w step → BothMove w step (after (tcp h) s w step).hosts
+pub both_step : (h : Header) (s : ℕ) (w : World tcp_shape) (step : Step tcp_shape) → Steady w.hosts
+    → Permitted (tcp h) s w step → BothMove w step (after (tcp h) s w step).hosts
 both_step h s w (Begin line t call) steady may = both_not w (Begin line t call)
 both_step h s w (Finish line t answer) steady may = both_not w (Finish line t answer)
 both_step h s w (Effect t answer) steady may = go (turn_of t w.threads)
@@ -261,19 +321,24 @@ both_step h s w (Effect t answer) steady may = go (turn_of t w.threads)
     by : (call : Call) (o : Option Host) → BothMove w (Effect t answer) (call_after (tcp h) s w.hosts (Calls call answer) o)
     by call None = both_not w (Effect t answer)
     by call (Some host) =
-        both_host w (Effect t answer) host (record (pick w.hosts host) { body = after_call (profile_of h) (pick w.hosts host).body call answer }) (moves_call (profile_of h) w (Effect t answer) host (pick w.hosts host).body call answer)
+        both_host w (Effect t answer) host
+        (record (pick w.hosts host) { body = after_call (profile_of h) (pick w.hosts host).body call answer })
+        (moves_call (profile_of h) w (Effect t answer) host (pick w.hosts host).body call answer)
 
     go : (u : Turn tcp_shape) → BothMove w (Effect t answer) (effect_after (tcp h) s w t answer u).hosts
     go Idle = both_not w (Effect t answer)
     go (Called call) = by call (aim_of (tcp h) w.hosts (aim call))
     go (Answered x) = both_not w (Effect t answer)
-both_step h s w (At host d) steady may = both_host w (At host d) host (deed_after (tcp h) host s (suc w.count) (pick w.hosts (other host)).wire (pick w.hosts host) d) (moves_deed h s w host d steady may)
+both_step h s w (At host d) steady may =
+    both_host w (At host d) host (deed_after (tcp h) host s (suc w.count) (pick w.hosts (other host)).wire
+    (pick w.hosts host) d) (moves_deed h s w host d steady may)
 
 abbrev peer_in : Option Endpoint → Option EndpointId
 peer_in o = option_map_or (λ e. e.stream.peer) o None
 
 -- the peer of one endpoint
-pub meets : (w : World tcp_shape) (step : Step tcp_shape) (b : Hosts) → BothMove w step b → (me : EndpointId) → Meets w step me (peer_of w.hosts me) (peer_of b me)
+pub meets : (w : World tcp_shape) (step : Step tcp_shape) (b : Hosts) → BothMove w step b → (me : EndpointId)
+    → Meets w step me (peer_of w.hosts me) (peer_of b me)
 meets w step b both me = go (find w.hosts me) (find b me) refl refl
   where
     new : (f : Endpoint) → find w.hosts me ≡ None → ((e : Endpoint) × (find w.hosts me ≡ Some e)) ⊎ Begins w step me f → Meets w step me None f.stream.peer
@@ -289,7 +354,9 @@ meets w step b both me = go (find w.hosts me) (find b me) refl refl
         subst (λ (x : Option Endpoint). Meets w step me e.stream.peer (peer_in x)) (sym h.1 ∙ now) h.2
 
 -- each step of a run meets peers so
-pub peers_met : (h : Header) (before : List (Stamped tcp_shape)) (x : Stamped tcp_shape) → Lawful (tcp h) (start (tcp h)) before → Permitted (tcp h) x.moment (world_at_end h before) x.step → PeersAreMet h before x
+pub peers_met : (h : Header) (before : List (Stamped tcp_shape)) (x : Stamped tcp_shape)
+    → Lawful (tcp h) (start (tcp h)) before → Permitted (tcp h) x.moment (world_at_end h before) x.step
+    → PeersAreMet h before x
 peers_met h before x run may me =
     let w = world_at_end h before in
     meets w x.step (after (tcp h) x.moment w x.step).hosts (both_step h x.moment w x.step (steady_run h (start (tcp h)) before (steady_start h) run) may) me
@@ -301,7 +368,8 @@ WasMet h w steps me q =
     × (peer_of (after_all (tcp h) w (take place steps)).hosts me ≡ None) × TakesSynOf (after_all (tcp h) w (take place steps)) x.step me q
 
 -- a peer at the end was there before the run, or was met in it
-from_run : (h : Header) (w : World tcp_shape) (steps : List (Stamped tcp_shape)) (me q : EndpointId) → Steady w.hosts → Lawful (tcp h) w steps → peer_of (after_all (tcp h) w steps).hosts me ≡ Some q
+from_run : (h : Header) (w : World tcp_shape) (steps : List (Stamped tcp_shape)) (me q : EndpointId) → Steady w.hosts
+    → Lawful (tcp h) w steps → peer_of (after_all (tcp h) w steps).hosts me ≡ Some q
     → (peer_of w.hosts me ≡ Some q) ⊎ WasMet h w steps me q
 from_run h w [] me q steady run is = inl is
 from_run h w (x ∷ xs) me q steady run is = go (from_run h v xs me q (steady_step h x.moment w x.step steady run.0) run.1 is)

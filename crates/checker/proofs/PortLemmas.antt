@@ -1,5 +1,6 @@
 -- What each step keeps of the ports of endpoints and listeners, and of what socket numbers name.
-use Rattle.std.proofs.Common.{◌≡◌, ℕ, zero, suc, ◌⊎◌, Bool, true, false, List, [], ◌∷◌, ◌++◌, length, Option, Some, None, refl, ap, sym, subst, ◌∙◌, inl, inr, nat_eq, arith}
+use Rattle.std.proofs.Common.{◌≡◌, ℕ, zero, suc, ◌⊎◌, Bool, true, false, List, [], ◌∷◌, ◌++◌, length, Option, Some}
+use Rattle.std.proofs.Common.{None, refl, ap, sym, subst, ◌∙◌, inl, inr, nat_eq, arith}
 use Rattle.std.specs.Prelude.{if◌then◌else◌, ◌==◌, ◌&&◌, ◌+◌, not, cond, slice_get}
 use Rattle.std.specs.Option.{option_map, option_map_or}
 use Rattle.std.specs.Map.{lookup}
@@ -37,7 +38,8 @@ use Rattle.spec_tcp.specs.declared.endpoint.Socket.{Socket}
 use Rattle.spec_tcp.specs.declared.endpoint.SocketTarget.{SocketTarget}
 use Rattle.spec_tcp.specs.declared.endpoint.SocketTarget.TheVariants.{ListenerAt, EndpointAt}
 use Rattle.spec_tcp.specs.Endpoints.{new_endpoint}
-use Rattle.spec_tcp.specs.HostTcp.{HostTcp, has_ports, last_from, place_of, at_ports, listens_on, listener_on, with_endpoint, with_socket, thing_of, if_live, queue_of, dead}
+use Rattle.spec_tcp.specs.HostTcp.{HostTcp, has_ports, last_from, place_of, at_ports, listens_on, listener_on}
+use Rattle.spec_tcp.specs.HostTcp.{with_endpoint, with_socket, thing_of, if_live, queue_of, dead}
 use Rattle.spec_tcp.specs.Calls.Send.{after_send}
 use Rattle.spec_tcp.specs.Calls.Receive.{after_recv}
 use Rattle.spec_tcp.specs.Calls.Close.{shut_down, after_shut, after_close, after_abort, orphaned, thing_gone, after_gone, without_listener}
@@ -50,7 +52,8 @@ use Rattle.spec_tcp.specs.Arrives.OtherStates.Reset.{was_reset}
 use Rattle.spec_tcp.specs.Arrives.OtherStates.{taken as segment_taken}
 use Rattle.spec_tcp.specs.Arrives.SynSent.{on_syn}
 use Rattle.spec_tcp.specs.Arrives.Listen.{listener_rules, child}
-use Rattle.spec_tcp.specs.Arrives.{Taker, Nobody, AtListener, AtEndpoint, listener_taker, endpoint_taker, taker, taker_rules, endpoint_taken, joined, endpoint_after, after_taking}
+use Rattle.spec_tcp.specs.Arrives.{Taker, Nobody, AtListener, AtEndpoint, listener_taker, endpoint_taker, taker}
+use Rattle.spec_tcp.specs.Arrives.{taker_rules, endpoint_taken, joined, endpoint_after, after_taking}
 use Rattle.spec_tcp.specs.Timeouts.{after_expiry}
 use Rattle.spec_tcp.specs.Recovery.{after_recovery}
 use Rattle.spec_tcp.specs.Machine.{tcp, tcp_shape}
@@ -74,22 +77,33 @@ port_at ls l = option_map (λ k. k.port) (slice_get ls l)
 last_has : {X : Type 0} (test : X → Bool) (place : ℕ) (found : Option ℕ) (xs : List X) (P : ℕ → Type 0) → ((i : ℕ) → found ≡ Some i → P i)
     → ((j k : ℕ) (x : X) → place + j ≡ k → slice_get xs j ≡ Some x → test x ≡ true → P k) → (i : ℕ) → last_from test place found xs ≡ Some i → P i
 last_has test place found [] P old new i e = old i e
-last_has {X} test place found (x ∷ xs) P old new i e = last_has test (suc place) (if test x then Some place else found) xs P (first (test x) refl) (λ j k y sum at is. new (suc j) k y (omega (arith, sum)) at is) i e
+last_has {X} test place found (x ∷ xs) P old new i e =
+    last_has test (suc place) (if test x then Some place else found) xs P (first (test x) refl)
+    (λ j k y sum at is. new (suc j) k y (omega (arith, sum)) at is) i e
   where
     first : (b : Bool) → test x ≡ b → (k : ℕ) → (if b then Some place else found) ≡ Some k → P k
     first true is k e = let same : place ≡ k = same_Some place k e in new 0 k x (omega (arith, same)) refl is
     first false is k e = old k e
 
 -- the endpoint of ports has them
-pub place_ports : (b : HostTcp) (lport rport i : ℕ) (e : Endpoint) → place_of b lport rport ≡ Some i → slice_get b.endpoints i ≡ Some e → (e.lport ≡ lport) × (e.rport ≡ rport)
-place_ports b lport rport i e at there = last_has (has_ports lport rport) 0 None b.endpoints (λ k. (y : Endpoint) → slice_get b.endpoints k ≡ Some y → (y.lport ≡ lport) × (y.rport ≡ rport))
-    (λ k no. absurd (none-some k no)) (λ j k x sum here is y same. found j k x sum here (both_true (x.lport == lport) (x.rport == rport) is) y same) i at e there
+pub place_ports : (b : HostTcp) (lport rport i : ℕ) (e : Endpoint) → place_of b lport rport ≡ Some i
+    → slice_get b.endpoints i ≡ Some e → (e.lport ≡ lport) × (e.rport ≡ rport)
+place_ports b lport rport i e at there =
+    last_has (has_ports lport rport) 0 None b.endpoints
+    (λ k. (y : Endpoint) → slice_get b.endpoints k ≡ Some y → (y.lport ≡ lport) × (y.rport ≡ rport))
+    (λ k no. absurd (none-some k no))
+    (λ j k x sum here is y same. found j k x sum here (both_true (x.lport == lport) (x.rport == rport) is) y same)
+    i at e there
   where
-    found : (j k : ℕ) (x : Endpoint) → 0 + j ≡ k → slice_get b.endpoints j ≡ Some x → ((x.lport == lport) ≡ true) × ((x.rport == rport) ≡ true) → (y : Endpoint) → slice_get b.endpoints k ≡ Some y → (y.lport ≡ lport) × (y.rport ≡ rport)
+    found : (j k : ℕ) (x : Endpoint) → 0 + j ≡ k → slice_get b.endpoints j ≡ Some x
+        → ((x.lport == lport) ≡ true) × ((x.rport == rport) ≡ true) → (y : Endpoint) → slice_get b.endpoints k ≡ Some y
+        → (y.lport ≡ lport) × (y.rport ≡ rport)
     found j k x sum here is y same =
         let place : j ≡ k = omega (arith, sum) in
-        let one : x ≡ y = same_Some x y (sym here ∙ subst (λ (n : ℕ). slice_get b.endpoints n ≡ Some y) (sym place) same) in
-        (subst (λ (z : Endpoint). z.lport ≡ lport) one (number_same x.lport lport is.0), subst (λ (z : Endpoint). z.rport ≡ rport) one (number_same x.rport rport is.1))
+        let one : x ≡ y = same_Some x y (sym here ∙ subst (λ (n : ℕ). slice_get b.endpoints n ≡ Some y) (sym place) same) in (
+          subst (λ (z : Endpoint). z.lport ≡ lport) one (number_same x.lport lport is.0),
+          subst (λ (z : Endpoint). z.rport ≡ rport) one (number_same x.rport rport is.1),
+        )
 
 -- the listener on a port has it
 listener_port : (b : HostTcp) (port l : ℕ) → listener_on b port ≡ Some l → port_at b.listeners l ≡ Some port
@@ -118,7 +132,9 @@ taker_place b m i e x = go (place_of b m.rport m.lport) x
     by j f true x = absurd (no_listener (listener_on b m.rport) i e x)
     by j f false x = let same : j ≡ i = cc in ap (λ n. Some n) same
 
-    inner : (j : ℕ) (o : Option Endpoint) → option_map_or (λ f. if is_closed f.state then listener_taker b m else AtEndpoint j f) o (listener_taker b m) ≡ AtEndpoint i e → Some j ≡ Some i
+    inner : (j : ℕ) (o : Option Endpoint)
+        → option_map_or (λ f. if is_closed f.state then listener_taker b m else AtEndpoint j f) o (listener_taker b m)
+        ≡ AtEndpoint i e → Some j ≡ Some i
     inner j None x = absurd (no_listener (listener_on b m.rport) i e x)
     inner j (Some f) x = by j f (is_closed f.state) x
 
@@ -133,7 +149,9 @@ taker_listener b m l x = go (place_of b m.rport m.lport) x
     by j f true x = at_listener (listener_on b m.rport) l x
     by j f false x = absurd cc
 
-    inner : (j : ℕ) (o : Option Endpoint) → option_map_or (λ f. if is_closed f.state then listener_taker b m else AtEndpoint j f) o (listener_taker b m) ≡ AtListener l → listener_on b m.rport ≡ Some l
+    inner : (j : ℕ) (o : Option Endpoint)
+        → option_map_or (λ f. if is_closed f.state then listener_taker b m else AtEndpoint j f) o (listener_taker b m)
+        ≡ AtListener l → listener_on b m.rport ≡ Some l
     inner j None x = at_listener (listener_on b m.rport) l x
     inner j (Some f) x = by j f (is_closed f.state) x
 
@@ -143,7 +161,8 @@ taker_listener b m l x = go (place_of b m.rport m.lport) x
 
 -- 2. lists of listeners
 
-port_modify : (ls : List Listener) (l : ℕ) (f : Listener → Listener) → ((k : Listener) → (f k).port ≡ k.port) → (j : ℕ) → port_at (modify ls l f) j ≡ port_at ls j
+port_modify : (ls : List Listener) (l : ℕ) (f : Listener → Listener) → ((k : Listener) → (f k).port ≡ k.port) → (j : ℕ)
+    → port_at (modify ls l f) j ≡ port_at ls j
 port_modify [] l f same j = refl
 port_modify (k ∷ ls) zero f same zero = ap (λ n. Some n) (same k)
 port_modify (k ∷ ls) zero f same (suc j) = refl
@@ -196,21 +215,33 @@ pub record Moved (all : List CallDone) (a : Hosts) (x : Host) (b c : HostTcp) : 
   pub ends : (i : ℕ) (e : Endpoint) → slice_get b.endpoints i ≡ Some e → (f : Endpoint) × (slice_get c.endpoints i ≡ Some f) × SameEnd e f
   pub born : (i : ℕ) (f : Endpoint) → slice_get c.endpoints i ≡ Some f → ((e : Endpoint) × (slice_get b.endpoints i ≡ Some e)) ⊎ Born a x c f
   pub listeners : (l port : ℕ) → port_at b.listeners l ≡ Some port → port_at c.listeners l ≡ Some port
-  pub sockets : (n : ℕ) (s : Socket) → lookup (nat_eq n) c.sockets ≡ Some s → ((t : Socket) × (lookup (nat_eq n) b.sockets ≡ Some t) × (t.thing ≡ s.thing)) ⊎ Names all x c n s.thing
+  pub sockets : (n : ℕ) (s : Socket) → lookup (nat_eq n) c.sockets ≡ Some s
+      → ((t : Socket) × (lookup (nat_eq n) b.sockets ≡ Some t) × (t.thing ≡ s.thing)) ⊎ Names all x c n s.thing
 
 moved_not : (all : List CallDone) (a : Hosts) (x : Host) (b : HostTcp) → Moved all a x b b
-moved_not all a x b = record { ends = λ i e at. (e, at, same_end e); born = λ i f at. inl (f, at); listeners = λ l port e. e; sockets = λ n s e. inl (s, e, refl) }
+moved_not all a x b =
+    record {
+      ends = λ i e at. (e, at, same_end e);
+      born = λ i f at. inl (f, at);
+      listeners = λ l port e. e;
+      sockets = λ n s e. inl (s, e, refl);
+    }
 
-moved_one : (all : List CallDone) (a : Hosts) (x : Host) (b : HostTcp) (i : ℕ) (f : Endpoint → Endpoint) → ((e : Endpoint) → SameEnd e (f e)) → Moved all a x b (with_endpoint b i f)
+moved_one : (all : List CallDone) (a : Hosts) (x : Host) (b : HostTcp) (i : ℕ) (f : Endpoint → Endpoint)
+    → ((e : Endpoint) → SameEnd e (f e)) → Moved all a x b (with_endpoint b i f)
 moved_one all a x b i f new = record {
   ends = modify_each (λ j. SameEnd) f b.endpoints i (λ j e at n. same_end e) (λ e at. new e);
-  born = all_modify (λ j y. ((e : Endpoint) × (slice_get b.endpoints j ≡ Some e)) ⊎ Born a x (with_endpoint b i f) y) f b.endpoints i (λ j e at. inl (e, at)) (λ e at. inl (e, at));
+  born = all_modify (λ j y. ((e : Endpoint) × (slice_get b.endpoints j ≡ Some e)) ⊎ Born a x (with_endpoint b i f) y) f
+      b.endpoints i (λ j e at. inl (e, at)) (λ e at. inl (e, at));
   listeners = λ l port e. e;
   sockets = λ n s e. inl (s, e, refl);
 }
 
-moved_at_ports : (all : List CallDone) (a : Hosts) (x : Host) (b : HostTcp) (lport rport : ℕ) (f : Endpoint → Endpoint) → ((e : Endpoint) → SameEnd e (f e)) → Moved all a x b (at_ports b lport rport f)
-moved_at_ports all a x b lport rport f new = map_or_cases (λ (c : HostTcp). Moved all a x b c) (place_of b lport rport) b (λ i. with_endpoint b i f) (λ e. moved_not all a x b) (λ i at. moved_one all a x b i f new)
+moved_at_ports : (all : List CallDone) (a : Hosts) (x : Host) (b : HostTcp) (lport rport : ℕ) (f : Endpoint → Endpoint)
+    → ((e : Endpoint) → SameEnd e (f e)) → Moved all a x b (at_ports b lport rport f)
+moved_at_ports all a x b lport rport f new =
+    map_or_cases (λ (c : HostTcp). Moved all a x b c) (place_of b lport rport) b (λ i. with_endpoint b i f)
+    (λ e. moved_not all a x b) (λ i at. moved_one all a x b i f new)
 
 -- 4. what hosts do
 
@@ -221,7 +252,9 @@ expiry_end e Msl2 s = plain_end e (after_expiry e Msl2 s) refl refl refl
 expiry_end e Giveup s = plain_end e (after_expiry e Giveup s) refl refl refl
 
 making_end : (e : Endpoint) (m : SegmentPlan) (s : ℕ) → SameEnd e (after_making e m s)
-making_end e m s = either_end m.flags.rst e (record (shut_down (endpoint_made e m s)) { reset_due = false }) (endpoint_made e m s) (plain_end e _ refl refl refl) (plain_end e _ refl refl refl)
+making_end e m s =
+    either_end m.flags.rst e (record (shut_down (endpoint_made e m s)) { reset_due = false }) (endpoint_made e m s)
+    (plain_end e _ refl refl refl) (plain_end e _ refl refl refl)
 
 taken_end : (h : Header) (e : Endpoint) (how : TakeChoice) (r : Emission) (s : ℕ) → SameEnd e (endpoint_taken h e how r s)
 taken_end h e how r s =
@@ -232,7 +265,10 @@ taken_end h e how r s =
 joined_ports : (b : HostTcp) (i : ℕ) (e : Endpoint) (m : Emission) (j : ℕ) → port_at (joined b i e m) j ≡ port_at b.listeners j
 joined_ports b i e m j = go (is_syn_received e.state && acknowledges_syn e m) e.listener
   where
-    go : (c : Bool) (o : Option ℕ) → port_at (if c then option_map_or (λ l. modify b.listeners l (λ x. record x { queue = x.queue ++ i ∷ [] })) o b.listeners else b.listeners) j ≡ port_at b.listeners j
+    go : (c : Bool) (o : Option ℕ)
+        → port_at (if c then option_map_or
+        (λ l. modify b.listeners l (λ x. record x { queue = x.queue ++ i ∷ [] })) o b.listeners else b.listeners) j
+        ≡ port_at b.listeners j
     go true None = refl
     go true (Some l) = port_modify b.listeners l (λ x. record x { queue = x.queue ++ i ∷ [] }) (λ k. refl) j
     go false o = refl
@@ -250,9 +286,13 @@ moved_taking all a h x b how m s from may = go (taker b m) refl may
         record {
           ends = λ i e at. (e, get_append b.endpoints (child (profile_of h) l how m s ∷ []) i e at, same_end e);
           born =
-              all_push (λ j y. ((e : Endpoint) × (slice_get b.endpoints j ≡ Some e)) ⊎ Born a x (after_taking h b how m s (AtListener l)) y) b.endpoints (child (profile_of h) l how m s) (λ j e at. inl (e, at))
+              all_push (λ j y. ((e : Endpoint) × (slice_get b.endpoints j ≡ Some e))
+              ⊎ Born a x (after_taking h b how m s (AtListener l)) y) b.endpoints (child (profile_of h) l how m s)
+              (λ j e at. inl (e, at))
               (inr (record {
-                listener = λ k same. subst (λ j. port_at b.listeners j ≡ Some m.rport) (same_Some l k same) (listener_port b m.rport l (taker_listener b m l is));
+                listener =
+                    λ k same. subst (λ j. port_at b.listeners j ≡ Some m.rport) (same_Some l k same)
+                    (listener_port b m.rport l (taker_listener b m l is));
                 peer = λ q same. subst (λ (n : EndpointId). (n.host ≡ other x) × HasAt a n m.lport m.rport) (same_Some m.sender q same) (from syn);
               }));
           listeners = λ j port e. e;
@@ -261,18 +301,26 @@ moved_taking all a h x b how m s from may = go (taker b m) refl may
     go (AtEndpoint i e) is may = let r = as_read h.version e m in let f : Endpoint → Endpoint = λ y. endpoint_taken h y how r s in
         record {
           ends = modify_each (λ j. SameEnd) f b.endpoints i (λ j y at n. same_end y) (λ y at. taken_end h y how r s);
-          born = all_modify (λ j y. ((z : Endpoint) × (slice_get b.endpoints j ≡ Some z)) ⊎ Born a x (endpoint_after h b how r s i e) y) f b.endpoints i (λ j y at. inl (y, at)) (λ y at. inl (y, at));
+          born = all_modify (λ j y. ((z : Endpoint) × (slice_get b.endpoints j ≡ Some z))
+              ⊎ Born a x (endpoint_after h b how r s i e) y) f b.endpoints i (λ j y at. inl (y, at))
+              (λ y at. inl (y, at));
           listeners = λ l port at. joined_ports b i e r l ∙ at;
           sockets = λ n t e. inl (t, e, refl);
         }
 
 pub moved_deed : (all : List CallDone) (h : Header) (s : ℕ) (w : World tcp_shape) (host : Host) (d : Deed tcp_shape)
-    → ((n : ℕ) (m : Emission) → waiting n (pick w.hosts host).inbox ≡ Some m → m.flags.syn ≡ true → (m.sender.host ≡ other host) × HasAt w.hosts m.sender m.lport m.rport) → Permitted (tcp h) s w (At host d)
+    → ((n : ℕ) (m : Emission) → waiting n (pick w.hosts host).inbox ≡ Some m → m.flags.syn ≡ true
+    → (m.sender.host ≡ other host) × HasAt w.hosts m.sender m.lport m.rport) → Permitted (tcp h) s w (At host d)
     → Moved all w.hosts host (pick w.hosts host).body (deed_after (tcp h) host s (suc w.count) (pick w.hosts (other host)).wire (pick w.hosts host) d).body
 moved_deed all h s w host (Does x) from may =
-    moved_at_ports all w.hosts host (pick w.hosts host).body x.lport x.rport (λ e. after_recovery e x.cwnd x.ssthresh s) (λ e. plain_end e (after_recovery e x.cwnd x.ssthresh s) refl refl refl)
-moved_deed all h s w host (Expires line x) from may = moved_at_ports all w.hosts host (pick w.hosts host).body x.lport x.rport (λ e. after_expiry e x.expired s) (λ e. expiry_end e x.expired s)
-moved_deed all h s w host (Makes m) from may = moved_at_ports all w.hosts host (pick w.hosts host).body m.lport m.rport (λ e. after_making e m s) (λ e. making_end e m s)
+    moved_at_ports all w.hosts host (pick w.hosts host).body x.lport x.rport (λ e. after_recovery e x.cwnd x.ssthresh s)
+    (λ e. plain_end e (after_recovery e x.cwnd x.ssthresh s) refl refl refl)
+moved_deed all h s w host (Expires line x) from may =
+    moved_at_ports all w.hosts host (pick w.hosts host).body x.lport x.rport (λ e. after_expiry e x.expired s)
+    (λ e. expiry_end e x.expired s)
+moved_deed all h s w host (Makes m) from may =
+    moved_at_ports all w.hosts host (pick w.hosts host).body m.lport m.rport (λ e. after_making e m s)
+    (λ e. making_end e m s)
 moved_deed all h s w host (Sends line number wire) from may = moved_not all w.hosts host (pick w.hosts host).body
 moved_deed all h s w host (Gets line copied wire) from may = moved_not all w.hosts host (pick w.hosts host).body
 moved_deed all h s w host (Hears line wire) from may = moved_not all w.hosts host (pick w.hosts host).body
@@ -281,46 +329,61 @@ moved_deed all h s w host (Takes line how) from may = let k = pick w.hosts host 
     (λ m e.
     let t = on_passes (waiting line k.inbox) rules.Inbox (λ x. taker_rules h host k.body how x s (taker k.body x)) may in
     let one : t.0 ≡ m = same_Some t.0 m (sym t.1 ∙ e) in
-    moved_taking all w.hosts h host k.body how m s (from line m e) (subst (λ (x : Emission). first_broken (taker_rules h host k.body how x s (taker k.body x)) ≡ None) one t.2))
+    moved_taking all w.hosts h host k.body how m s (from line m e)
+    (subst (λ (x : Emission). first_broken (taker_rules h host k.body how x s (taker k.body x)) ≡ None) one t.2))
 moved_deed all h s w host (Drops line) from may = moved_not all w.hosts host (pick w.hosts host).body
 moved_deed all h s w host (Answers line) from may = let k = pick w.hosts host in
-    on_cases (λ (c : HostTcp). Moved all w.hosts host k.body c) (waiting line k.inbox) k.body _ (moved_not all w.hosts host k.body) (λ m e. moved_not all w.hosts host k.body)
+    on_cases (λ (c : HostTcp). Moved all w.hosts host k.body c) (waiting line k.inbox) k.body _
+    (moved_not all w.hosts host k.body) (λ m e. moved_not all w.hosts host k.body)
 
 -- 5. calls
 
 -- what stands in the table of socket numbers after one is given, and after one is closed
-socket_insert : (sockets : List (ℕ × Socket)) (n : ℕ) (v : Socket) (m : ℕ) (s : Socket) → lookup (nat_eq m) (insert_entry nat_eq sockets n v) ≡ Some s → (lookup (nat_eq m) sockets ≡ Some s) ⊎ ((n ≡ m) × (v ≡ s))
+socket_insert : (sockets : List (ℕ × Socket)) (n : ℕ) (v : Socket) (m : ℕ) (s : Socket)
+    → lookup (nat_eq m) (insert_entry nat_eq sockets n v) ≡ Some s
+    → (lookup (nat_eq m) sockets ≡ Some s) ⊎ ((n ≡ m) × (v ≡ s))
 socket_insert sockets n v m s e = go (nat_eq m n) refl (sym (lookup_insert m n v sockets) ∙ e)
   where
     go : (c : Bool) → nat_eq m n ≡ c → cond c (Some v) (lookup (nat_eq m) sockets) ≡ Some s → (lookup (nat_eq m) sockets ≡ Some s) ⊎ ((n ≡ m) × (v ≡ s))
     go true is e = inr (sym (number_same m n is), same_Some v s e)
     go false is e = inl e
 
-socket_dead : (b : HostTcp) (n m : ℕ) (s : Socket) → lookup (nat_eq m) (dead b.sockets n) ≡ Some s → (t : Socket) × (lookup (nat_eq m) b.sockets ≡ Some t) × (t.thing ≡ s.thing)
+socket_dead : (b : HostTcp) (n m : ℕ) (s : Socket) → lookup (nat_eq m) (dead b.sockets n) ≡ Some s
+    → (t : Socket) × (lookup (nat_eq m) b.sockets ≡ Some t) × (t.thing ≡ s.thing)
 socket_dead b n m s = go (lookup (nat_eq n) b.sockets) refl
   where
-    by : (v : Socket) → lookup (nat_eq n) b.sockets ≡ Some v → (lookup (nat_eq m) b.sockets ≡ Some s) ⊎ ((n ≡ m) × (record v { live = false } ≡ s)) → (t : Socket) × (lookup (nat_eq m) b.sockets ≡ Some t) × (t.thing ≡ s.thing)
+    by : (v : Socket) → lookup (nat_eq n) b.sockets ≡ Some v
+        → (lookup (nat_eq m) b.sockets ≡ Some s) ⊎ ((n ≡ m) × (record v { live = false } ≡ s))
+        → (t : Socket) × (lookup (nat_eq m) b.sockets ≡ Some t) × (t.thing ≡ s.thing)
     by v at (inl old) = (s, old, refl)
     by v at (inr one) = (v, subst (λ k. lookup (nat_eq k) b.sockets ≡ Some v) one.0 at, ap (λ (x : Socket). x.thing) one.1)
 
-    go : (o : Option Socket) → lookup (nat_eq n) b.sockets ≡ o → lookup (nat_eq m) (option_map_or (λ v. insert_entry nat_eq b.sockets n (record v { live = false })) o b.sockets) ≡ Some s → (t : Socket) × (lookup (nat_eq m) b.sockets ≡ Some t) × (t.thing ≡ s.thing)
+    go : (o : Option Socket) → lookup (nat_eq n) b.sockets ≡ o
+        → lookup (nat_eq m) (option_map_or
+        (λ v. insert_entry nat_eq b.sockets n (record v { live = false })) o b.sockets) ≡ Some s
+        → (t : Socket) × (lookup (nat_eq m) b.sockets ≡ Some t) × (t.thing ≡ s.thing)
     go None at e = (s, e, refl)
     go (Some v) at e = by v at (socket_insert b.sockets n (record v { live = false }) m s e)
 
 -- what a live number names
-thing_here : (b : HostTcp) (n : ℕ) (thing : SocketTarget) → thing_of b n ≡ Some thing → (s : Socket) × (lookup (nat_eq n) b.sockets ≡ Some s) × (s.thing ≡ thing)
+thing_here : (b : HostTcp) (n : ℕ) (thing : SocketTarget) → thing_of b n ≡ Some thing
+    → (s : Socket) × (lookup (nat_eq n) b.sockets ≡ Some s) × (s.thing ≡ thing)
 thing_here b n thing = go (lookup (nat_eq n) b.sockets) refl
   where
-    by : (s : Socket) (c : Bool) → lookup (nat_eq n) b.sockets ≡ Some s → (if c then Some s.thing else None) ≡ Some thing → (t : Socket) × (lookup (nat_eq n) b.sockets ≡ Some t) × (t.thing ≡ thing)
+    by : (s : Socket) (c : Bool) → lookup (nat_eq n) b.sockets ≡ Some s
+        → (if c then Some s.thing else None) ≡ Some thing
+        → (t : Socket) × (lookup (nat_eq n) b.sockets ≡ Some t) × (t.thing ≡ thing)
     by s true at e = (s, at, same_Some s.thing thing e)
     by s false at e = absurd (none-some thing e)
 
-    go : (o : Option Socket) → lookup (nat_eq n) b.sockets ≡ o → option_map_or if_live o None ≡ Some thing → (t : Socket) × (lookup (nat_eq n) b.sockets ≡ Some t) × (t.thing ≡ thing)
+    go : (o : Option Socket) → lookup (nat_eq n) b.sockets ≡ o → option_map_or if_live o None ≡ Some thing
+        → (t : Socket) × (lookup (nat_eq n) b.sockets ≡ Some t) × (t.thing ≡ thing)
     go None at e = absurd (none-some thing e)
     go (Some s) at e = by s s.live at e
 
 -- a number is given to a thing whose name is right
-with_new : (all : List CallDone) (a : Hosts) (x : Host) (b c : HostTcp) (n : ℕ) (thing : SocketTarget) → Moved all a x b c → c.sockets ≡ b.sockets → Names all x c n thing → Moved all a x b (with_socket c n thing)
+with_new : (all : List CallDone) (a : Hosts) (x : Host) (b c : HostTcp) (n : ℕ) (thing : SocketTarget)
+    → Moved all a x b c → c.sockets ≡ b.sockets → Names all x c n thing → Moved all a x b (with_socket c n thing)
 with_new all a x b c n thing g same names = record {
   ends = g.ends;
   born = λ i f at. again f (g.born i f at);
@@ -336,18 +399,28 @@ with_new all a x b c n thing g same names = record {
     same_names (EndpointAt i) y = y
     same_names (ListenerAt l) y = y
 
-    by : (m : ℕ) (s : Socket) → (lookup (nat_eq m) c.sockets ≡ Some s) ⊎ ((n ≡ m) × (record { thing = thing; live = true } ≡ s)) → ((t : Socket) × (lookup (nat_eq m) b.sockets ≡ Some t) × (t.thing ≡ s.thing)) ⊎ Names all x (with_socket c n thing) m s.thing
+    by : (m : ℕ) (s : Socket)
+        → (lookup (nat_eq m) c.sockets ≡ Some s) ⊎ ((n ≡ m) × (record { thing = thing; live = true } ≡ s))
+        → ((t : Socket) × (lookup (nat_eq m) b.sockets ≡ Some t) × (t.thing ≡ s.thing))
+        ⊎ Names all x (with_socket c n thing) m s.thing
     by m s (inl old) = inl (s, subst (λ (l : List (ℕ × Socket)). lookup (nat_eq m) l ≡ Some s) same old, refl)
-    by m s (inr one) = inr (subst (λ k. Names all x (with_socket c n thing) k s.thing) one.0 (subst (λ (t : SocketTarget). Names all x (with_socket c n thing) n t) (ap (λ (y : Socket). y.thing) one.1) (same_names thing names)))
+    by m s (inr one) =
+        inr (subst (λ k. Names all x (with_socket c n thing) k s.thing) one.0
+        (subst (λ (t : SocketTarget). Names all x (with_socket c n thing) n t) (ap (λ (y : Socket). y.thing) one.1)
+        (same_names thing names)))
 
-moved_change : (all : List CallDone) (a : Hosts) (x : Host) (b : HostTcp) (n : ℕ) (f : Endpoint → Endpoint) → ((e : Endpoint) → SameEnd e (f e)) → Moved all a x b (change b n f)
-moved_change all a x b n f new = map_or_cases (λ (c : HostTcp). Moved all a x b c) (thing_of b n) b (change_thing b f) (λ e. moved_not all a x b) (λ thing e. go thing)
+moved_change : (all : List CallDone) (a : Hosts) (x : Host) (b : HostTcp) (n : ℕ) (f : Endpoint → Endpoint)
+    → ((e : Endpoint) → SameEnd e (f e)) → Moved all a x b (change b n f)
+moved_change all a x b n f new =
+    map_or_cases (λ (c : HostTcp). Moved all a x b c) (thing_of b n) b (change_thing b f) (λ e. moved_not all a x b)
+    (λ thing e. go thing)
   where
     go : (thing : SocketTarget) → Moved all a x b (change_thing b f thing)
     go (ListenerAt l) = moved_not all a x b
     go (EndpointAt i) = moved_one all a x b i f new
 
-moved_dead : (all : List CallDone) (a : Hosts) (x : Host) (b c : HostTcp) (n : ℕ) → Moved all a x b c → c.sockets ≡ b.sockets → Moved all a x b (record c { sockets = dead b.sockets n })
+moved_dead : (all : List CallDone) (a : Hosts) (x : Host) (b c : HostTcp) (n : ℕ) → Moved all a x b c
+    → c.sockets ≡ b.sockets → Moved all a x b (record c { sockets = dead b.sockets n })
 moved_dead all a x b c n g same = record {
   ends = g.ends;
   born = λ i f at. again f (g.born i f at);
@@ -361,14 +434,20 @@ moved_dead all a x b c n g same = record {
 
 moved_map : (all : List CallDone) (a : Hosts) (x : Host) (b : HostTcp) (l : ℕ) → Moved all a x b (without_listener b l)
 moved_map all a x b l = record {
-  ends = map_onward (λ j. SameEnd) (orphaned l) b.endpoints (λ j e at. either_end (option_map_or (λ holder. holder == l) e.listener false) e (after_abort e) e (plain_end e (after_abort e) refl refl refl) (same_end e));
+  ends = map_onward (λ j. SameEnd) (orphaned l) b.endpoints
+      (λ j e at. either_end (option_map_or (λ holder. holder == l) e.listener false) e (after_abort e) e
+      (plain_end e (after_abort e) refl refl refl) (same_end e));
   born = λ j y e. let h = map_back (orphaned l) b.endpoints j y e in inl (h.0, h.1);
   listeners = λ k port e. port_modify b.listeners l (λ y. record y { is_open = false }) (λ y. refl) k ∙ e;
   sockets = λ n s e. inl (s, e, refl);
 }
 
-moved_gone : (all : List CallDone) (a : Hosts) (x : Host) (b : HostTcp) (n : ℕ) (f : Endpoint → Endpoint) → ((e : Endpoint) → SameEnd e (f e)) → Moved all a x b (after_gone b n f)
-moved_gone all a x b n f new = map_or_cases (λ (c : HostTcp). Moved all a x b c) (thing_of b n) b (λ thing. record (thing_gone b thing f) { sockets = dead b.sockets n }) (λ e. moved_not all a x b) (λ thing e. go thing)
+moved_gone : (all : List CallDone) (a : Hosts) (x : Host) (b : HostTcp) (n : ℕ) (f : Endpoint → Endpoint)
+    → ((e : Endpoint) → SameEnd e (f e)) → Moved all a x b (after_gone b n f)
+moved_gone all a x b n f new =
+    map_or_cases (λ (c : HostTcp). Moved all a x b c) (thing_of b n) b
+    (λ thing. record (thing_gone b thing f) { sockets = dead b.sockets n }) (λ e. moved_not all a x b)
+    (λ thing e. go thing)
   where
     go : (thing : SocketTarget) → Moved all a x b (record (thing_gone b thing f) { sockets = dead b.sockets n })
     go (ListenerAt l) = moved_dead all a x b (without_listener b l) n (moved_map all a x b l) refl
@@ -387,18 +466,27 @@ pub record Known (all : List CallDone) (x : Host) (b : HostTcp) : Type 0 where
   pub numbers : (n : ℕ) (s : Socket) → lookup (nat_eq n) b.sockets ≡ Some s → Names all x b n s.thing
   pub children : (i : ℕ) (e : Endpoint) (l : ℕ) → slice_get b.endpoints i ≡ Some e → e.listener ≡ Some l → port_at b.listeners l ≡ Some e.lport
 
-moved_accept : (all : List CallDone) (a : Hosts) (x : Host) (b : HostTcp) (h n : ℕ) → Known all x b → Stands all (calls.Accept h) (answers.Given n) → (thing : SocketTarget) → thing_of b h ≡ Some thing → Moved all a x b (after_accept b n thing)
+moved_accept : (all : List CallDone) (a : Hosts) (x : Host) (b : HostTcp) (h n : ℕ) → Known all x b
+    → Stands all (calls.Accept h) (answers.Given n) → (thing : SocketTarget) → thing_of b h ≡ Some thing
+    → Moved all a x b (after_accept b n thing)
 moved_accept all a x b h n known stands (EndpointAt i) is = moved_not all a x b
 moved_accept all a x b h n known stands (ListenerAt l) is = go (queue_of b l) refl
   where
     go : (queue : List ℕ) → queue_of b l ≡ queue → Moved all a x b (accepted_from b l n queue)
     go [] at = moved_not all a x b
     go (c ∷ queue) at = with_new all a x b wide n (EndpointAt c) (record {
-      ends = modify_each (λ j. SameEnd) free b.endpoints c (λ j e there no. same_end e) (λ e there. record { lport = refl; rport = refl; listener = λ k no. absurd (none-some k no) });
-      born = all_modify (λ j y. ((e : Endpoint) × (slice_get b.endpoints j ≡ Some e)) ⊎ Born a x wide y) free b.endpoints c (λ j e there. inl (e, there)) (λ e there. inl (e, there));
+      ends = modify_each (λ j. SameEnd) free b.endpoints c (λ j e there no. same_end e)
+          (λ e there. record { lport = refl; rport = refl; listener = λ k no. absurd (none-some k no) });
+      born = all_modify (λ j y. ((e : Endpoint) × (slice_get b.endpoints j ≡ Some e)) ⊎ Born a x wide y) free
+          b.endpoints c (λ j e there. inl (e, there)) (λ e there. inl (e, there));
       listeners = λ k port e. port_modify b.listeners l (λ y. record y { queue = queue }) (λ y. refl) k ∙ e;
       sockets = λ m s e. inl (s, e, refl);
-    }) refl (free e, modify_here free b.endpoints c e first.1, Accepted x e.lport e.rport listening.1 h n (subst (λ port. Stands all (calls.Listen x port listening.1) (answers.Given h)) port listening.3) stands)
+    }) refl (
+      free e,
+      modify_here free b.endpoints c e first.1,
+      Accepted x e.lport e.rport listening.1 h n
+          (subst (λ port. Stands all (calls.Listen x port listening.1) (answers.Given h)) port listening.3) stands,
+    )
       where
         free : Endpoint → Endpoint
         free e = record e { listener = None }
@@ -418,27 +506,46 @@ moved_accept all a x b h n known stands (ListenerAt l) is = go (queue_of b l) re
         port : listening.0 ≡ e.lport
         port = same_Some listening.0 e.lport (sym listening.2 ∙ known.children c e l first.1 first.2)
 
-pub moved_call : (p : Profile) (all : List CallDone) (a : Hosts) (x : Host) (b : HostTcp) (call : Call) (answer : Answer) → Known all x b → Stands all call answer
-    → ((at : Host) (port backlog : ℕ) → call ≡ calls.Listen at port backlog → at ≡ x) → ((at : Host) (lport rport : ℕ) → call ≡ calls.Connect at lport rport → at ≡ x)
+pub moved_call : (p : Profile) (all : List CallDone) (a : Hosts) (x : Host) (b : HostTcp) (call : Call)
+    (answer : Answer) → Known all x b → Stands all call answer
+    → ((at : Host) (port backlog : ℕ) → call ≡ calls.Listen at port backlog → at ≡ x)
+    → ((at : Host) (lport rport : ℕ) → call ≡ calls.Connect at lport rport → at ≡ x)
     → Moved all a x b (after_call p b call answer)
 moved_call p all a x b (calls.Listen at port backlog) (answers.Given n) known stands listens opens =
     let k : Listener = record { port = port; backlog = backlog; is_open = true; queue = [] } in
     with_new all a x b (record b { listeners = b.listeners ++ k ∷ [] }) n (ListenerAt (length b.listeners))
-    (record { ends = λ i e there. (e, there, same_end e); born = λ i f there. inl (f, there); listeners = λ l p e. port_push b.listeners k l p e; sockets = λ m s e. inl (s, e, refl) }) refl
-    (port, backlog, port_new b.listeners k, subst (λ (y : Host). Stands all (calls.Listen y port backlog) (answers.Given n)) (listens at port backlog refl) stands)
+    (record {
+      ends = λ i e there. (e, there, same_end e);
+      born = λ i f there. inl (f, there);
+      listeners = λ l p e. port_push b.listeners k l p e;
+      sockets = λ m s e. inl (s, e, refl);
+    }) refl (
+      port,
+      backlog,
+      port_new b.listeners k,
+      subst (λ (y : Host). Stands all (calls.Listen y port backlog) (answers.Given n))
+          (listens at port backlog refl) stands,
+    )
 moved_call p all a x b (calls.Connect at lport rport) (answers.Given n) known stands listens opens =
     let e : Endpoint = new_endpoint lport rport None states.SynSent p in
     with_new all a x b (record b { endpoints = b.endpoints ++ e ∷ [] }) n (EndpointAt (length b.endpoints))
     (record {
       ends = λ i y there. (y, get_append b.endpoints (e ∷ []) i y there, same_end y);
-      born = all_push (λ j y. ((z : Endpoint) × (slice_get b.endpoints j ≡ Some z)) ⊎ Born a x (record b { endpoints = b.endpoints ++ e ∷ [] }) y) b.endpoints e (λ j y there. inl (y, there))
+      born = all_push (λ j y. ((z : Endpoint) × (slice_get b.endpoints j ≡ Some z))
+          ⊎ Born a x (record b { endpoints = b.endpoints ++ e ∷ [] }) y) b.endpoints e (λ j y there. inl (y, there))
           (inr (record { listener = λ l no. absurd (none-some l no); peer = λ q no. absurd (none-some q no) }));
       listeners = λ l p at. at;
       sockets = λ m s at. inl (s, at, refl);
-    }) refl
-    (e, end_new b.endpoints e, Opened x lport rport n (subst (λ (y : Host). Stands all (calls.Connect y lport rport) (answers.Given n)) (opens at lport rport refl) stands))
+    }) refl (
+      e,
+      end_new b.endpoints e,
+      Opened x lport rport n
+          (subst (λ (y : Host). Stands all (calls.Connect y lport rport) (answers.Given n))
+          (opens at lport rport refl) stands),
+    )
 moved_call p all a x b (calls.Accept h) (answers.Given n) known stands listens opens =
-    map_or_cases (λ (c : HostTcp). Moved all a x b c) (thing_of b h) b (after_accept b n) (λ e. moved_not all a x b) (λ thing e. moved_accept all a x b h n known stands thing e)
+    map_or_cases (λ (c : HostTcp). Moved all a x b c) (thing_of b h) b (after_accept b n) (λ e. moved_not all a x b)
+    (λ thing e. moved_accept all a x b h n known stands thing e)
 moved_call p all a x b (calls.Send h bytes) (answers.Given n) known stands listens opens =
     moved_change all a x b h (after_send bytes n) (λ e. plain_end e (after_send bytes n e) refl refl refl)
 moved_call p all a x b (calls.Recv h most) (answers.Bytes bytes) known stands listens opens =

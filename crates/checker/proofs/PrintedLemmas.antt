@@ -1,6 +1,7 @@
 -- Texts that stand for a trace and for a witness of its version, one behind the other, are a case whose verdict is theirs; so are the texts that are printed of
 -- them.
-use Rattle.std.proofs.Common.{◌≡◌, ◌≤◌, ◌<◌, ◌+◌, ◌^◌, ℕ, true, false, Bool, ◌&&◌, List, [], ◌∷◌, ◌++◌, map, length, get_or, refl, sym, ap, subst, ◌∙◌, arith, Result, Ok}
+use Rattle.std.proofs.Common.{◌≡◌, ◌≤◌, ◌<◌, ◌+◌, ◌^◌, ℕ, true, false, Bool, ◌&&◌, List, [], ◌∷◌, ◌++◌, map, length}
+use Rattle.std.proofs.Common.{get_or, refl, sym, ap, subst, ◌∙◌, arith, Result, Ok}
 use Rattle.std.specs.Fmt.{decimal}
 use Rattle.std.specs.Str.{bytes_eq}
 use Rattle.std.specs.Str.Parse.{digits_value}
@@ -80,7 +81,8 @@ first_letter versions.Three = refl
 first_letter versions.Four = refl
 first_letter versions.FourHalf = refl
 
-not_first : (v : Version) (n : ℕ) (ws : List (List ℕ)) (raw : List ℕ) → AllByRecursion IsClean ws → IsOther ws → IsLine n (joined ws) raw → begins_witness v raw ≡ false
+not_first : (v : Version) (n : ℕ) (ws : List (List ℕ)) (raw : List ℕ) → AllByRecursion IsClean ws → IsOther ws
+    → IsLine n (joined ws) raw → begins_witness v raw ≡ false
 not_first v n [] raw clean other line = absurd other
 not_first v n (w ∷ ws) raw clean other line =
     let end = ending_again raw (joined (w ∷ ws)) (joined_no_return (w ∷ ws) clean) line.ends in
@@ -106,22 +108,42 @@ late_others versions.Four i j = ((omega arith, λ e. omega arith), ((omega arith
 late_others versions.FourHalf i j = ((omega arith, λ e. omega arith), ((omega arith, λ e. omega arith), ((omega arith, λ e. omega arith), tt)))
 
 header_others : (h : Header) → AllByRecursion IsOther (header_words h)
-header_others h =
-    (version_other h.version, ((omega arith, λ e. omega arith), ((omega arith, λ e. omega arith), ((omega arith, λ e. omega arith), ((omega arith, λ e. omega arith), ((omega arith, λ e. omega arith), late_others h.version h.initial h.congestion))))))
+header_others h = (
+  version_other h.version,
+  (
+    (omega arith, λ e. omega arith),
+    (
+      (omega arith, λ e. omega arith),
+      (
+        (omega arith, λ e. omega arith),
+        (
+          (omega arith, λ e. omega arith),
+          ((omega arith, λ e. omega arith), late_others h.version h.initial h.congestion),
+        ),
+      ),
+    ),
+  ),
+)
 
-words_not : (v : Version) (number : ℕ) (lines : List (List (List ℕ))) (raws : List (List ℕ)) → AllByRecursion (AllByRecursion IsClean) lines → AllByRecursion IsOther lines → AreLines number lines raws → AreTraceLines v raws
+words_not : (v : Version) (number : ℕ) (lines : List (List (List ℕ))) (raws : List (List ℕ))
+    → AllByRecursion (AllByRecursion IsClean) lines → AllByRecursion IsOther lines → AreLines number lines raws
+    → AreTraceLines v raws
 words_not v number [] [] clean other h = tt
 words_not v number [] (raw ∷ raws) clean other h = absurd h
 words_not v number (ws ∷ lines) [] clean other h = absurd h
-words_not v number (ws ∷ lines) (raw ∷ raws) clean other h = (not_first v number ws raw clean.0 other.0 h.0, words_not v (number + 1) lines raws clean.1 other.1 h.1)
+words_not v number (ws ∷ lines) (raw ∷ raws) clean other h =
+    (not_first v number ws raw clean.0 other.0 h.0, words_not v (number + 1) lines raws clean.1 other.1 h.1)
 
 event_not : (u v : Version) (place : Place) (l : Line) (raw : List ℕ) → IsEventLine u place l raw → begins_witness v raw ≡ false
 event_not u v place l raw t =
     let w = first_plain (decimal l.moment) (number l.thread ∷ event_pieces l.event) t.texts t.written in
     let moment = t.moment in
-    not_first v place.1 t.texts raw (written_clean (line_pieces l) t.texts (line_clean u l t.moment t.thread t.event) t.written) (subst IsOther (sym w.1) (other_number l.moment w.0 (omega arith))) t.text
+    not_first v place.1 t.texts raw
+    (written_clean (line_pieces l) t.texts (line_clean u l t.moment t.thread t.event) t.written)
+    (subst IsOther (sym w.1) (other_number l.moment w.0 (omega arith))) t.text
 
-events_not : (u v : Version) (place : Place) (lines : List Line) (raws : List (List ℕ)) → AreSpelled (IsEventLine u) behind place lines raws → AreTraceLines v raws
+events_not : (u v : Version) (place : Place) (lines : List Line) (raws : List (List ℕ))
+    → AreSpelled (IsEventLine u) behind place lines raws → AreTraceLines v raws
 events_not u v place [] [] h = tt
 events_not u v place [] (raw ∷ raws) h = absurd h
 events_not u v place (l ∷ ls) [] h = absurd h
@@ -136,7 +158,8 @@ both P (x ∷ xs) ys p q = (p.0, both P xs ys p.1 q)
 begins : (v : Version) (raw : List ℕ) → IsLine 1 (first_text v) raw → begins_witness v raw ≡ true
 begins v raw line =
     let end = ending_again raw (first_text v) (first_ends v) line.ends in
-    ap (λ (b : Bool). b && bytes_eq (without_terminator raw) (first_text v)) end.1 ∙ ap (λ (x : List ℕ). bytes_eq x (first_text v)) end.0 ∙ (bytes_eq-Decides (first_text v) (first_text v)).1 refl
+    ap (λ (b : Bool). b && bytes_eq (without_terminator raw) (first_text v)) end.1
+    ∙ ap (λ (x : List ℕ). bytes_eq x (first_text v)) end.0 ∙ (bytes_eq-Decides (first_text v) (first_text v)).1 refl
 
 abbrev answered : Verdict → Result Verdict CaseFault
 answered v = Ok v
@@ -144,21 +167,28 @@ answered v = Ok v
 -- the lines of a trace's text, of which none begins a witness
 trace_lines : (v : Version) (t : Trace) (a : List ℕ) (s : IsTraceText t a) → AreTraceLines v (s.headers ++ s.events)
 trace_lines v t a s =
-    both (λ raw. begins_witness v raw ≡ false) s.headers s.events (words_not v 1 (header_words t.header) s.headers (header_clean t.header s.limits) (header_others t.header) s.are_headers)
+    both (λ raw. begins_witness v raw ≡ false) s.headers s.events
+    (words_not v 1 (header_words t.header) s.headers (header_clean t.header s.limits)
+    (header_others t.header) s.are_headers)
     (events_not t.header.version v (first_place t.header) t.lines s.events s.are_events)
 
 trace_raws : (t : Trace) (a : List ℕ) (s : IsTraceText t a) → AllByRecursion IsRaw (s.headers ++ s.events)
 trace_raws t a s =
-    both IsRaw s.headers s.events (header_raw t.header s.headers s.limits s.are_headers) (spelled_raws behind (IsEventLine t.header.version) (line_is_raw t.header.version) (first_place t.header) t.lines s.events s.are_events)
+    both IsRaw s.headers s.events (header_raw t.header s.headers s.limits s.are_headers)
+    (spelled_raws behind (IsEventLine t.header.version) (line_is_raw t.header.version)
+    (first_place t.header) t.lines s.events s.are_events)
 
 -- a case is cut between the two texts
-case_parts : (t : Trace) (w : Witness) (a b : List ℕ) → IsTraceText t a → IsWitnessText w b → (trace_part w.version (a ++ b) ≡ a) × (witness_part w.version (a ++ b) ≡ b)
+case_parts : (t : Trace) (w : Witness) (a b : List ℕ) → IsTraceText t a → IsWitnessText w b
+    → (trace_part w.version (a ++ b) ≡ a) × (witness_part w.version (a ++ b) ≡ b)
 case_parts t w a b s q =
     let front : List (List ℕ) = s.headers ++ s.events in
     let raws = both IsRaw (s.headers ++ s.events) (q.first ∷ q.raws) (trace_raws t a s) (text_raws w b q) in
     let whole : a ++ b ≡ concat ((s.headers ++ s.events) ++ q.first ∷ q.raws) =
-    ap (λ (x : List ℕ). x ++ b) s.joined ∙ ap (λ (x : List ℕ). concat (s.headers ++ s.events) ++ x) q.parts ∙ sym (concat_both (s.headers ++ s.events) (q.first ∷ q.raws)) in
-    let lines : lines_of (a ++ b) ≡ (s.headers ++ s.events) ++ q.first ∷ q.raws = ap lines_of whole ∙ lines_of-concat ((s.headers ++ s.events) ++ q.first ∷ q.raws) raws in
+    ap (λ (x : List ℕ). x ++ b) s.joined ∙ ap (λ (x : List ℕ). concat (s.headers ++ s.events) ++ x) q.parts
+    ∙ sym (concat_both (s.headers ++ s.events) (q.first ∷ q.raws)) in
+    let lines : lines_of (a ++ b) ≡ (s.headers ++ s.events) ++ q.first ∷ q.raws =
+    ap lines_of whole ∙ lines_of-concat ((s.headers ++ s.events) ++ q.first ∷ q.raws) raws in
     let place = place_found w.version (s.headers ++ s.events) q.first q.raws (trace_lines w.version t a s) (begins w.version q.first q.begins) in
     let parts = parts_at w.version (a ++ b) (s.headers ++ s.events) (q.first ∷ q.raws) (sym lines) place in
     (parts.0 ∙ sym s.joined, parts.1 ∙ sym q.parts)
@@ -171,7 +201,8 @@ cut_named versions.Three text = (refl, refl)
 cut_named versions.Four text = (refl, refl)
 cut_named versions.FourHalf text = (refl, refl)
 
-pub case_is : (t : Trace) (w : Witness) (a b : List ℕ) → t.header.version ≡ w.version → IsTraceText t a → IsWitnessText w b → case_result (a ++ b) ≡ Ok (verdict t w)
+pub case_is : (t : Trace) (w : Witness) (a b : List ℕ) → t.header.version ≡ w.version → IsTraceText t a
+    → IsWitnessText w b → case_result (a ++ b) ≡ Ok (verdict t w)
 unfolding case_result
 case_is t w a b version s q =
     let parts = case_parts t w a b s q in
@@ -197,34 +228,62 @@ same_verdict t w =
     spans_apart (traces.with_columns t) t (witnesses.with_columns w) (ap (λ (ls : List Line). record { header = t.header; lines = ls }) (lines_apart t.lines))
     ∙ steps_apart t (witnesses.with_columns w) w (said_same 2 w.steps)
 
-pub printed_case_is : (t : Trace) (w : Witness) → t.header.version ≡ w.version → traces.IsPrintableTrace t → witnesses.IsPrintableWitness w → case_result (trace_text t ++ witness_text w) ≡ Ok (verdict t w)
+pub printed_case_is : (t : Trace) (w : Witness) → t.header.version ≡ w.version → traces.IsPrintableTrace t
+    → witnesses.IsPrintableWitness w → case_result (trace_text t ++ witness_text w) ≡ Ok (verdict t w)
 printed_case_is t w version p q =
     case_is (traces.with_columns t) (witnesses.with_columns w) (trace_text t) (witness_text w) version (trace_law.is_printed t p) (witness_law.is_printed w q)
     ∙ ap answered (same_verdict t w)
 
-pub printed_case_yes : (t : Trace) (w : Witness) → t.header.version ≡ w.version → traces.IsPrintableTrace t → witnesses.IsPrintableWitness w → Explains t w → (v : Verdict) × (case_result (trace_text t ++ witness_text w) ≡ Ok v) × IsYes v
+pub printed_case_yes : (t : Trace) (w : Witness) → t.header.version ≡ w.version → traces.IsPrintableTrace t
+    → witnesses.IsPrintableWitness w → Explains t w
+    → (v : Verdict) × (case_result (trace_text t ++ witness_text w) ≡ Ok v) × IsYes v
 printed_case_yes t w version p q e = (verdict t w, printed_case_is t w version p q, explains_yes t w e)
 
 -- the same of values in memory, which are as their types say
-pub case_in_memory : (t : Trace) (w : Witness) (text : List ℕ) → text ≡ trace_text t ++ witness_text w → AllByRecursion traces.IsInMemory t.lines → AllByRecursion witnesses.IsInMemory w.steps
-    → t.header.version ≡ w.version → traces.IsWithinTrace t → witnesses.IsWithinWitness w → witnesses.TellShifts w.version w.steps → case_result text ≡ Ok (verdict t w)
-case_in_memory t w text is b d version p q s = ap case_result is ∙ printed_case_is t w version (trace_law.within_prints t p b) (witness_law.within_prints w q s d)
+pub case_in_memory : (t : Trace) (w : Witness) (text : List ℕ) → text ≡ trace_text t ++ witness_text w
+    → AllByRecursion traces.IsInMemory t.lines → AllByRecursion witnesses.IsInMemory w.steps
+    → t.header.version ≡ w.version → traces.IsWithinTrace t → witnesses.IsWithinWitness w
+    → witnesses.TellShifts w.version w.steps → case_result text ≡ Ok (verdict t w)
+case_in_memory t w text is b d version p q s =
+    ap case_result is ∙ printed_case_is t w version (trace_law.within_prints t p b) (witness_law.within_prints w q s d)
 
-pub yes_in_memory : (t : Trace) (w : Witness) (text : List ℕ) → text ≡ trace_text t ++ witness_text w → AllByRecursion traces.IsInMemory t.lines → AllByRecursion witnesses.IsInMemory w.steps
-    → t.header.version ≡ w.version → traces.IsWithinTrace t → witnesses.IsWithinWitness w → witnesses.TellShifts w.version w.steps → Explains t w → (v : Verdict) × (case_result text ≡ Ok v) × IsYes v
+pub yes_in_memory : (t : Trace) (w : Witness) (text : List ℕ) → text ≡ trace_text t ++ witness_text w
+    → AllByRecursion traces.IsInMemory t.lines → AllByRecursion witnesses.IsInMemory w.steps
+    → t.header.version ≡ w.version → traces.IsWithinTrace t → witnesses.IsWithinWitness w
+    → witnesses.TellShifts w.version w.steps → Explains t w → (v : Verdict) × (case_result text ≡ Ok v) × IsYes v
 yes_in_memory t w text is b d version p q s e = (verdict t w, case_in_memory t w text is b d version p q s, explains_yes t w e)
 
 -- ---- a case that is printed, computed
 
 two_listen_prints : traces.IsPrintableTrace two_listen
 two_listen_prints = record {
-  header = record { skew = omega arith; msl_least = omega arith; msl = omega arith; grain = omega arith; minrto = omega arith; extra = omega arith; initial = λ e. refl; congestion = λ e. refl };
+  header =
+      record {
+        skew = omega arith;
+        msl_least = omega arith;
+        msl = omega arith;
+        grain = omega arith;
+        minrto = omega arith;
+        extra = omega arith;
+        initial = λ e. refl;
+        congestion = λ e. refl;
+      };
   recorded = (refl, omega arith, (refl, omega arith, (refl, omega arith, (refl, omega arith, tt))));
   few = omega arith;
   lines = (
-    record { moment = omega arith; thread = omega arith; event = (omega arith, omega arith, omega arith, omega arith); bytes = (tt, (tt, (tt, (tt, (tt, tt))))) },
+    record {
+      moment = omega arith;
+      thread = omega arith;
+      event = (omega arith, omega arith, omega arith, omega arith);
+      bytes = (tt, (tt, (tt, (tt, (tt, tt)))));
+    },
     (
-      record { moment = omega arith; thread = omega arith; event = (omega arith, omega arith, omega arith, omega arith); bytes = (tt, (tt, (tt, (tt, (tt, tt))))) },
+      record {
+        moment = omega arith;
+        thread = omega arith;
+        event = (omega arith, omega arith, omega arith, omega arith);
+        bytes = (tt, (tt, (tt, (tt, (tt, tt)))));
+      },
       (
         record { moment = omega arith; thread = omega arith; event = omega arith; bytes = (tt, (tt, (tt, tt))) },
         (record { moment = omega arith; thread = omega arith; event = omega arith; bytes = (tt, (tt, (tt, tt))) }, tt),
@@ -233,16 +292,31 @@ two_listen_prints = record {
   );
 }
 
-taken : (moment n : ℕ) → moment ≤ 1000 → n ≤ 1000 → witnesses.IsPrintableStep versions.One (record { moment = moment; label = L (record { number = n; extras = Bare }); span = nowhere })
+taken : (moment n : ℕ) → moment ≤ 1000 → n ≤ 1000
+    → witnesses.IsPrintableStep versions.One
+    (record { moment = moment; label = L (record { number = n; extras = Bare }); span = nowhere })
 taken moment n low small = record { moment = omega arith; label = (omega arith, tt); bytes = (tt, (tt, tt)) }
 
-given : (thread socket : ℕ) → thread ≤ 1000 → socket ≤ 1000 → witnesses.IsPrintableStep versions.One (record { moment = 15; label = D thread (Given socket); span = nowhere })
+given : (thread socket : ℕ) → thread ≤ 1000 → socket ≤ 1000
+    → witnesses.IsPrintableStep versions.One (record { moment = 15; label = D thread (Given socket); span = nowhere })
 given thread socket low small = record { moment = omega arith; label = (omega arith, omega arith); bytes = (tt, (tt, (tt, (tt, tt)))) }
 
 two_orders_print : witnesses.IsPrintableWitness (effects_in_order gives_five gives_six)
 two_orders_print = record {
   few = omega arith;
-  steps = (taken 10 7 (omega arith) (omega arith), (taken 10 8 (omega arith) (omega arith), (given 1 5 (omega arith) (omega arith), (given 2 6 (omega arith) (omega arith), (taken 20 9 (omega arith) (omega arith), (taken 20 10 (omega arith) (omega arith), tt))))));
+  steps = (
+    taken 10 7 (omega arith) (omega arith),
+    (
+      taken 10 8 (omega arith) (omega arith),
+      (
+        given 1 5 (omega arith) (omega arith),
+        (
+          given 2 6 (omega arith) (omega arith),
+          (taken 20 9 (omega arith) (omega arith), (taken 20 10 (omega arith) (omega arith), tt)),
+        ),
+      ),
+    ),
+  );
 }
 
 two_listen_is_yes : case_result (trace_text two_listen ++ witness_text (effects_in_order gives_five gives_six)) ≡ Ok (Yes 4 2)

@@ -78,7 +78,9 @@ reads_at a n most bytes (Some x) may =
     refused (c ∷ queue) = refl
 
 -- a number that names an endpoint is that endpoint's number, or another
-pub number_named : (a z : Hosts) → Steady z → Stay a z → (socket : ℕ) (me : EndpointId) → owner (pick z me.host).body socket ≡ Some me.number → (n : ℕ) → Owned a n → (c : Bool) → (n == socket) ≡ c → is_socket_of a n me ≡ c
+pub number_named : (a z : Hosts) → Steady z → Stay a z → (socket : ℕ) (me : EndpointId)
+    → owner (pick z me.host).body socket ≡ Some me.number → (n : ℕ) → Owned a n → (c : Bool) → (n == socket) ≡ c
+    → is_socket_of a n me ≡ c
 number_named a z g stay socket me own n o true is =
     let late = subst (λ k. owner (pick z o.0).body k ≡ Some o.1) (number_same n socket is) (stay o.0 n o.1 o.2) in
     subst (λ (k : EndpointId). is_socket_of a n k ≡ true) (one_owner z g o.0 me.host socket o.1 me.number late own) (socket_here a o.0 n o.1 o.2)
@@ -94,20 +96,29 @@ accepted_call a z socket me g stay own (calls.Send n bytes) (answers.Given count
     ∙ sym (append-nil (if n == socket then take count bytes else []))
 accepted_call a z socket me g stay own call answer o may = refl
 
-accepted_step : (h : Header) (s : ℕ) (w : World tcp_shape) (z : Hosts) (socket : ℕ) (me : EndpointId) → Steady z → Stay w.hosts z → owner (pick z me.host).body socket ≡ Some me.number
-    → (step : Step tcp_shape) → Permitted (tcp h) s w step → of_effect h w step [] (λ call answer. call_accepted w.hosts call answer me) ≡ flat_map (λ d. bytes_accepted socket d.call d.answer) (of_effect h w step [] one_done)
+accepted_step : (h : Header) (s : ℕ) (w : World tcp_shape) (z : Hosts) (socket : ℕ) (me : EndpointId) → Steady z
+    → Stay w.hosts z → owner (pick z me.host).body socket ≡ Some me.number
+    → (step : Step tcp_shape) → Permitted (tcp h) s w step
+    → of_effect h w step [] (λ call answer. call_accepted w.hosts call answer me)
+    ≡ flat_map (λ d. bytes_accepted socket d.call d.answer) (of_effect h w step [] one_done)
 accepted_step h s w z socket me g stay own (Begin line t call) may = refl
 accepted_step h s w z socket me g stay own (Finish line t answer) may = refl
 accepted_step h s w z socket me g stay own (At host d) may = refl
 accepted_step h s w z socket me g stay own (Effect t answer) may = go (turn_of t w.threads) may
   where
-    go : (u : Turn tcp_shape) → first_broken (effect_rules (tcp h) s w.hosts u answer) ≡ None → of_turn u [] (λ call. call_accepted w.hosts call answer me) ≡ flat_map (λ d. bytes_accepted socket d.call d.answer) (of_turn u [] (λ call. one_done call answer))
+    go : (u : Turn tcp_shape) → first_broken (effect_rules (tcp h) s w.hosts u answer) ≡ None
+        → of_turn u [] (λ call. call_accepted w.hosts call answer me)
+        ≡ flat_map (λ d. bytes_accepted socket d.call d.answer) (of_turn u [] (λ call. one_done call answer))
     go Idle may = refl
-    go (Called call) may = accepted_call w.hosts z socket me g stay own call answer (aim_of (tcp h) w.hosts (aim call)) (effect_allowed h s w.hosts call answer (aim_of (tcp h) w.hosts (aim call)) may).1
+    go (Called call) may =
+        accepted_call w.hosts z socket me g stay own call answer (aim_of (tcp h) w.hosts (aim call))
+        (effect_allowed h s w.hosts call answer (aim_of (tcp h) w.hosts (aim call)) may).1
     go (Answered x) may = refl
 
-pub accepted_run : (h : Header) (w : World tcp_shape) (steps : List (Stamped tcp_shape)) (z : Hosts) (socket : ℕ) (me : EndpointId) → Steady w.hosts → Lawful (tcp h) w steps → Steady z → Stay (after_all (tcp h) w steps).hosts z
-    → owner (pick z me.host).body socket ≡ Some me.number → accepted_from h me w steps ≡ flat_map (λ d. bytes_accepted socket d.call d.answer) (run_done h w steps)
+pub accepted_run : (h : Header) (w : World tcp_shape) (steps : List (Stamped tcp_shape)) (z : Hosts) (socket : ℕ)
+    (me : EndpointId) → Steady w.hosts → Lawful (tcp h) w steps → Steady z → Stay (after_all (tcp h) w steps).hosts z
+    → owner (pick z me.host).body socket ≡ Some me.number
+    → accepted_from h me w steps ≡ flat_map (λ d. bytes_accepted socket d.call d.answer) (run_done h w steps)
 accepted_run h w [] z socket me f may g stay own = refl
 accepted_run h w (x ∷ xs) z socket me f may g stay own =
     let v = after (tcp h) x.moment w x.step in
@@ -119,7 +130,8 @@ accepted_run h w (x ∷ xs) z socket me f may g stay own =
 
 -- 3. where something was accepted or told there is a number
 
-sender_call : (a : Hosts) (me : EndpointId) (call : Call) (answer : Answer) → (call_accepted a call answer me ≡ []) ⊎ ((n : ℕ) × (owner (pick a me.host).body n ≡ Some me.number))
+sender_call : (a : Hosts) (me : EndpointId) (call : Call) (answer : Answer)
+    → (call_accepted a call answer me ≡ []) ⊎ ((n : ℕ) × (owner (pick a me.host).body n ≡ Some me.number))
 sender_call a me (calls.Send n bytes) (answers.Given count) = go (is_socket_of a n me) refl
   where
     go : (c : Bool) → is_socket_of a n me ≡ c → ((if c then take count bytes else []) ≡ []) ⊎ ((n : ℕ) × (owner (pick a me.host).body n ≡ Some me.number))
@@ -127,13 +139,17 @@ sender_call a me (calls.Send n bytes) (answers.Given count) = go (is_socket_of a
     go false is = inl refl
 sender_call a me call answer = inl refl
 
-sender_step : (h : Header) (w : World tcp_shape) (me : EndpointId) (step : Step tcp_shape) → (of_effect h w step [] (λ call answer. call_accepted w.hosts call answer me) ≡ []) ⊎ ((n : ℕ) × (owner (pick w.hosts me.host).body n ≡ Some me.number))
+sender_step : (h : Header) (w : World tcp_shape) (me : EndpointId) (step : Step tcp_shape)
+    → (of_effect h w step [] (λ call answer. call_accepted w.hosts call answer me) ≡ [])
+    ⊎ ((n : ℕ) × (owner (pick w.hosts me.host).body n ≡ Some me.number))
 sender_step h w me (Begin line t call) = inl refl
 sender_step h w me (Finish line t answer) = inl refl
 sender_step h w me (At host d) = inl refl
 sender_step h w me (Effect t answer) = go (turn_of t w.threads)
   where
-    go : (u : Turn tcp_shape) → (of_turn u [] (λ call. call_accepted w.hosts call answer me) ≡ []) ⊎ ((n : ℕ) × (owner (pick w.hosts me.host).body n ≡ Some me.number))
+    go : (u : Turn tcp_shape)
+        → (of_turn u [] (λ call. call_accepted w.hosts call answer me) ≡ [])
+        ⊎ ((n : ℕ) × (owner (pick w.hosts me.host).body n ≡ Some me.number))
     go Idle = inl refl
     go (Called call) = sender_call w.hosts me call answer
     go (Answered x) = inl refl
@@ -141,16 +157,21 @@ sender_step h w me (Effect t answer) = go (turn_of t w.threads)
 pub sender_run : (h : Header) (w : World tcp_shape) (steps : List (Stamped tcp_shape)) (me : EndpointId) → Steady w.hosts → Lawful (tcp h) w steps
     → (accepted_from h me w steps ≡ []) ⊎ ((n : ℕ) × (owner (pick (after_all (tcp h) w steps).hosts me.host).body n ≡ Some me.number))
 sender_run h w [] me f may = inl refl
-sender_run h w (x ∷ xs) me f may = go (sender_step h w me x.step) (sender_run h (after (tcp h) x.moment w x.step) xs me (steady_step h x.moment w x.step f may.0) may.1)
+sender_run h w (x ∷ xs) me f may =
+    go (sender_step h w me x.step)
+    (sender_run h (after (tcp h) x.moment w x.step) xs me (steady_step h x.moment w x.step f may.0) may.1)
   where
-    go : (of_effect h w x.step [] (λ call answer. call_accepted w.hosts call answer me) ≡ []) ⊎ ((n : ℕ) × (owner (pick w.hosts me.host).body n ≡ Some me.number))
-        → (accepted_from h me (after (tcp h) x.moment w x.step) xs ≡ []) ⊎ ((n : ℕ) × (owner (pick (after_all (tcp h) w (x ∷ xs)).hosts me.host).body n ≡ Some me.number))
+    go : (of_effect h w x.step [] (λ call answer. call_accepted w.hosts call answer me) ≡ [])
+        ⊎ ((n : ℕ) × (owner (pick w.hosts me.host).body n ≡ Some me.number))
+        → (accepted_from h me (after (tcp h) x.moment w x.step) xs ≡ [])
+        ⊎ ((n : ℕ) × (owner (pick (after_all (tcp h) w (x ∷ xs)).hosts me.host).body n ≡ Some me.number))
         → (accepted_from h me w (x ∷ xs) ≡ []) ⊎ ((n : ℕ) × (owner (pick (after_all (tcp h) w (x ∷ xs)).hosts me.host).body n ≡ Some me.number))
     go (inr y) rest = inr (y.0, stays_run h w (x ∷ xs) f may me.host y.0 me.number y.1)
     go (inl e) (inr y) = inr y
     go (inl e) (inl r) = inl (ap (λ (l : List ℕ). l ++ accepted_from h me (after (tcp h) x.moment w x.step) xs) e ∙ r)
 
-reader_call : (a : Hosts) (socket : ℕ) (call : Call) (answer : Answer) (o : Option Host) → Allowed a call answer o → (call_told call answer socket ≡ []) ⊎ Owned a socket
+reader_call : (a : Hosts) (socket : ℕ) (call : Call) (answer : Answer) (o : Option Host) → Allowed a call answer o
+    → (call_told call answer socket ≡ []) ⊎ Owned a socket
 reader_call a socket (calls.Recv n most) (answers.Bytes bytes) o may = go (n == socket) refl
   where
     go : (c : Bool) → (n == socket) ≡ c → ((if c then bytes else []) ≡ []) ⊎ Owned a socket
@@ -158,21 +179,28 @@ reader_call a socket (calls.Recv n most) (answers.Bytes bytes) o may = go (n == 
     go false is = inl refl
 reader_call a socket call answer o may = inl refl
 
-reader_step : (h : Header) (s : ℕ) (w : World tcp_shape) (socket : ℕ) (step : Step tcp_shape) → Permitted (tcp h) s w step → (of_effect h w step [] (λ call answer. call_told call answer socket) ≡ []) ⊎ Owned w.hosts socket
+reader_step : (h : Header) (s : ℕ) (w : World tcp_shape) (socket : ℕ) (step : Step tcp_shape)
+    → Permitted (tcp h) s w step
+    → (of_effect h w step [] (λ call answer. call_told call answer socket) ≡ []) ⊎ Owned w.hosts socket
 reader_step h s w socket (Begin line t call) may = inl refl
 reader_step h s w socket (Finish line t answer) may = inl refl
 reader_step h s w socket (At host d) may = inl refl
 reader_step h s w socket (Effect t answer) may = go (turn_of t w.threads) may
   where
-    go : (u : Turn tcp_shape) → first_broken (effect_rules (tcp h) s w.hosts u answer) ≡ None → (of_turn u [] (λ call. call_told call answer socket) ≡ []) ⊎ Owned w.hosts socket
+    go : (u : Turn tcp_shape) → first_broken (effect_rules (tcp h) s w.hosts u answer) ≡ None
+        → (of_turn u [] (λ call. call_told call answer socket) ≡ []) ⊎ Owned w.hosts socket
     go Idle may = inl refl
-    go (Called call) may = reader_call w.hosts socket call answer (aim_of (tcp h) w.hosts (aim call)) (effect_allowed h s w.hosts call answer (aim_of (tcp h) w.hosts (aim call)) may).1
+    go (Called call) may =
+        reader_call w.hosts socket call answer (aim_of (tcp h) w.hosts (aim call))
+        (effect_allowed h s w.hosts call answer (aim_of (tcp h) w.hosts (aim call)) may).1
     go (Answered x) may = inl refl
 
 pub reader_run : (h : Header) (w : World tcp_shape) (steps : List (Stamped tcp_shape)) (socket : ℕ) → Steady w.hosts → Lawful (tcp h) w steps
     → (told_from h socket w steps ≡ []) ⊎ Owned (after_all (tcp h) w steps).hosts socket
 reader_run h w [] socket f may = inl refl
-reader_run h w (x ∷ xs) socket f may = go (reader_step h x.moment w socket x.step may.0) (reader_run h (after (tcp h) x.moment w x.step) xs socket (steady_step h x.moment w x.step f may.0) may.1)
+reader_run h w (x ∷ xs) socket f may =
+    go (reader_step h x.moment w socket x.step may.0)
+    (reader_run h (after (tcp h) x.moment w x.step) xs socket (steady_step h x.moment w x.step f may.0) may.1)
   where
     go : (of_effect h w x.step [] (λ call answer. call_told call answer socket) ≡ []) ⊎ Owned w.hosts socket
         → (told_from h socket (after (tcp h) x.moment w x.step) xs ≡ []) ⊎ Owned (after_all (tcp h) w (x ∷ xs)).hosts socket
@@ -183,19 +211,28 @@ reader_run h w (x ∷ xs) socket f may = go (reader_step h x.moment w socket x.s
 
 -- 4. what ended an endpoint's sending
 
-ended_call : (a z : Hosts) (socket : ℕ) (me : EndpointId) → Steady z → Stay a z → owner (pick z me.host).body socket ≡ Some me.number → (call : Call) (answer : Answer) → call_ended a call answer me ≡ true → (is_ended socket call answer || false) ≡ true
-ended_call a z socket me g stay own (calls.Shut n) answers.Done e = ap (λ (b : Bool). b || false) (number_self n socket ((g.sound me.host).alone n socket me.number (stay me.host n me.number (socket_owner a n me e)) own))
-ended_call a z socket me g stay own (calls.Close n) answers.Done e = ap (λ (b : Bool). b || false) (number_self n socket ((g.sound me.host).alone n socket me.number (stay me.host n me.number (socket_owner a n me e)) own))
+ended_call : (a z : Hosts) (socket : ℕ) (me : EndpointId) → Steady z → Stay a z
+    → owner (pick z me.host).body socket ≡ Some me.number → (call : Call) (answer : Answer)
+    → call_ended a call answer me ≡ true → (is_ended socket call answer || false) ≡ true
+ended_call a z socket me g stay own (calls.Shut n) answers.Done e =
+    ap (λ (b : Bool). b || false) (number_self n socket
+    ((g.sound me.host).alone n socket me.number (stay me.host n me.number (socket_owner a n me e)) own))
+ended_call a z socket me g stay own (calls.Close n) answers.Done e =
+    ap (λ (b : Bool). b || false) (number_self n socket
+    ((g.sound me.host).alone n socket me.number (stay me.host n me.number (socket_owner a n me e)) own))
 ended_call a z socket me g stay own call answer e = absurd cc
 
-ended_step : (h : Header) (w : World tcp_shape) (z : Hosts) (socket : ℕ) (me : EndpointId) → Steady z → Stay w.hosts z → owner (pick z me.host).body socket ≡ Some me.number
-    → (step : Step tcp_shape) → of_effect h w step false (λ call answer. call_ended w.hosts call answer me) ≡ true → list_any (λ d. is_ended socket d.call d.answer) (of_effect h w step [] one_done) ≡ true
+ended_step : (h : Header) (w : World tcp_shape) (z : Hosts) (socket : ℕ) (me : EndpointId) → Steady z → Stay w.hosts z
+    → owner (pick z me.host).body socket ≡ Some me.number
+    → (step : Step tcp_shape) → of_effect h w step false (λ call answer. call_ended w.hosts call answer me) ≡ true
+    → list_any (λ d. is_ended socket d.call d.answer) (of_effect h w step [] one_done) ≡ true
 ended_step h w z socket me g stay own (Begin line t call) e = absurd cc
 ended_step h w z socket me g stay own (Finish line t answer) e = absurd cc
 ended_step h w z socket me g stay own (At host d) e = absurd cc
 ended_step h w z socket me g stay own (Effect t answer) e = go (turn_of t w.threads) e
   where
-    go : (u : Turn tcp_shape) → of_turn u false (λ call. call_ended w.hosts call answer me) ≡ true → list_any (λ d. is_ended socket d.call d.answer) (of_turn u [] (λ call. one_done call answer)) ≡ true
+    go : (u : Turn tcp_shape) → of_turn u false (λ call. call_ended w.hosts call answer me) ≡ true
+        → list_any (λ d. is_ended socket d.call d.answer) (of_turn u [] (λ call. one_done call answer)) ≡ true
     go Idle e = absurd cc
     go (Called call) e = ended_call w.hosts z socket me g stay own call answer e
     go (Answered x) e = absurd cc
@@ -207,42 +244,59 @@ or_right : (b c : Bool) → c ≡ true → (b || c) ≡ true
 or_right true c e = refl
 or_right false c e = e
 
-pub ended_run : (h : Header) (w : World tcp_shape) (steps : List (Stamped tcp_shape)) (z : Hosts) (socket : ℕ) (me : EndpointId) → Steady w.hosts → Lawful (tcp h) w steps → Steady z → Stay (after_all (tcp h) w steps).hosts z
-    → owner (pick z me.host).body socket ≡ Some me.number → ended_from h me w steps ≡ true → list_any (λ d. is_ended socket d.call d.answer) (run_done h w steps) ≡ true
+pub ended_run : (h : Header) (w : World tcp_shape) (steps : List (Stamped tcp_shape)) (z : Hosts) (socket : ℕ)
+    (me : EndpointId) → Steady w.hosts → Lawful (tcp h) w steps → Steady z → Stay (after_all (tcp h) w steps).hosts z
+    → owner (pick z me.host).body socket ≡ Some me.number → ended_from h me w steps ≡ true
+    → list_any (λ d. is_ended socket d.call d.answer) (run_done h w steps) ≡ true
 ended_run h w [] z socket me f may g stay own e = absurd cc
 ended_run h w (x ∷ xs) z socket me f may g stay own e =
     sym (any_append (λ d. is_ended socket d.call d.answer) (of_effect h w x.step [] one_done) (run_done h (after (tcp h) x.moment w x.step) xs))
-    ∙ go (of_effect h w x.step false (λ call answer. call_ended w.hosts call answer me)) refl e (λ more. ended_run h (after (tcp h) x.moment w x.step) xs z socket me (steady_step h x.moment w x.step f may.0) may.1 g stay own more)
+    ∙ go (of_effect h w x.step false (λ call answer. call_ended w.hosts call answer me)) refl e
+    (λ more. ended_run h (after (tcp h) x.moment w x.step) xs z socket me
+    (steady_step h x.moment w x.step f may.0) may.1 g stay own more)
   where
-    go : (b : Bool) → of_effect h w x.step false (λ call answer. call_ended w.hosts call answer me) ≡ b → (b || ended_from h me (after (tcp h) x.moment w x.step) xs) ≡ true
-        → (ended_from h me (after (tcp h) x.moment w x.step) xs ≡ true → list_any (λ d. is_ended socket d.call d.answer) (run_done h (after (tcp h) x.moment w x.step) xs) ≡ true)
-        → (list_any (λ d. is_ended socket d.call d.answer) (of_effect h w x.step [] one_done) || list_any (λ d. is_ended socket d.call d.answer) (run_done h (after (tcp h) x.moment w x.step) xs)) ≡ true
+    go : (b : Bool) → of_effect h w x.step false (λ call answer. call_ended w.hosts call answer me) ≡ b
+        → (b || ended_from h me (after (tcp h) x.moment w x.step) xs) ≡ true
+        → (ended_from h me (after (tcp h) x.moment w x.step) xs ≡ true
+        → list_any (λ d. is_ended socket d.call d.answer) (run_done h (after (tcp h) x.moment w x.step) xs) ≡ true)
+        → (list_any (λ d. is_ended socket d.call d.answer) (of_effect h w x.step [] one_done)
+        || list_any (λ d. is_ended socket d.call d.answer) (run_done h (after (tcp h) x.moment w x.step) xs)) ≡ true
     go true is e more = or_left _ _ (ended_step h w z socket me g (λ y n i e. stay y n i (stays_run h w (x ∷ xs) f may y n i e)) own x.step is)
     go false is e more = or_right _ _ (more e)
 
-ender_call : (a : Hosts) (me : EndpointId) (call : Call) (answer : Answer) → call_ended a call answer me ≡ true → (n : ℕ) × (owner (pick a me.host).body n ≡ Some me.number)
+ender_call : (a : Hosts) (me : EndpointId) (call : Call) (answer : Answer) → call_ended a call answer me ≡ true
+    → (n : ℕ) × (owner (pick a me.host).body n ≡ Some me.number)
 ender_call a me (calls.Shut n) answers.Done e = (n, socket_owner a n me e)
 ender_call a me (calls.Close n) answers.Done e = (n, socket_owner a n me e)
 ender_call a me call answer e = absurd cc
 
-pub ender_run : (h : Header) (w : World tcp_shape) (steps : List (Stamped tcp_shape)) (me : EndpointId) → Steady w.hosts → Lawful (tcp h) w steps → ended_from h me w steps ≡ true
+pub ender_run : (h : Header) (w : World tcp_shape) (steps : List (Stamped tcp_shape)) (me : EndpointId) → Steady w.hosts
+    → Lawful (tcp h) w steps → ended_from h me w steps ≡ true
     → (n : ℕ) × (owner (pick (after_all (tcp h) w steps).hosts me.host).body n ≡ Some me.number)
 ender_run h w [] me f may e = absurd cc
-ender_run h w (x ∷ xs) me f may e = go (of_effect h w x.step false (λ call answer. call_ended w.hosts call answer me)) refl e (λ more. ender_run h (after (tcp h) x.moment w x.step) xs me (steady_step h x.moment w x.step f may.0) may.1 more)
+ender_run h w (x ∷ xs) me f may e =
+    go (of_effect h w x.step false (λ call answer. call_ended w.hosts call answer me)) refl e
+    (λ more. ender_run h (after (tcp h) x.moment w x.step) xs me (steady_step h x.moment w x.step f may.0) may.1 more)
   where
-    by_turn : (answer : Answer) (u : Turn tcp_shape) → of_turn u false (λ call. call_ended w.hosts call answer me) ≡ true → (n : ℕ) × (owner (pick w.hosts me.host).body n ≡ Some me.number)
+    by_turn : (answer : Answer) (u : Turn tcp_shape)
+        → of_turn u false (λ call. call_ended w.hosts call answer me) ≡ true
+        → (n : ℕ) × (owner (pick w.hosts me.host).body n ≡ Some me.number)
     by_turn answer Idle e = absurd cc
     by_turn answer (Called call) e = ender_call w.hosts me call answer e
     by_turn answer (Answered y) e = absurd cc
 
-    by_step : (step : Step tcp_shape) → of_effect h w step false (λ call answer. call_ended w.hosts call answer me) ≡ true → (n : ℕ) × (owner (pick w.hosts me.host).body n ≡ Some me.number)
+    by_step : (step : Step tcp_shape)
+        → of_effect h w step false (λ call answer. call_ended w.hosts call answer me) ≡ true
+        → (n : ℕ) × (owner (pick w.hosts me.host).body n ≡ Some me.number)
     by_step (Begin line t call) e = absurd cc
     by_step (Finish line t answer) e = absurd cc
     by_step (At host d) e = absurd cc
     by_step (Effect t answer) e = by_turn answer (turn_of t w.threads) e
 
-    go : (b : Bool) → of_effect h w x.step false (λ call answer. call_ended w.hosts call answer me) ≡ b → (b || ended_from h me (after (tcp h) x.moment w x.step) xs) ≡ true
-        → (ended_from h me (after (tcp h) x.moment w x.step) xs ≡ true → (n : ℕ) × (owner (pick (after_all (tcp h) w (x ∷ xs)).hosts me.host).body n ≡ Some me.number))
+    go : (b : Bool) → of_effect h w x.step false (λ call answer. call_ended w.hosts call answer me) ≡ b
+        → (b || ended_from h me (after (tcp h) x.moment w x.step) xs) ≡ true
+        → (ended_from h me (after (tcp h) x.moment w x.step) xs ≡ true
+        → (n : ℕ) × (owner (pick (after_all (tcp h) w (x ∷ xs)).hosts me.host).body n ≡ Some me.number))
         → (n : ℕ) × (owner (pick (after_all (tcp h) w (x ∷ xs)).hosts me.host).body n ≡ Some me.number)
     go true is e more = let y = by_step x.step is in (y.0, stays_run h w (x ∷ xs) f may me.host y.0 me.number y.1)
     go false is e more = more e
@@ -253,7 +307,8 @@ ender_run h w (x ∷ xs) me f may e = go (of_effect h w x.step false (λ call an
 abbrev pub AllMet : Hosts → Hosts → Type 0
 AllMet a b = (me : EndpointId) (e : Endpoint) → find a me ≡ Some e → HasStream b me (λ s. (q : EndpointId) → e.stream.peer ≡ Some q → s.peer ≡ Some q)
 
-pub met_run : (h : Header) (w : World tcp_shape) (steps : List (Stamped tcp_shape)) → Steady w.hosts → Lawful (tcp h) w steps → AllMet w.hosts (after_all (tcp h) w steps).hosts
+pub met_run : (h : Header) (w : World tcp_shape) (steps : List (Stamped tcp_shape)) → Steady w.hosts
+    → Lawful (tcp h) w steps → AllMet w.hosts (after_all (tcp h) w steps).hosts
 met_run h w [] g may me e at = (e, at, λ q is. is)
 met_run h w (x ∷ xs) g may me e at =
     let one = later_step h x.moment w x.step g may.0 me e at in

@@ -42,7 +42,8 @@ filter_bare : (test : ℕ → Bool) (es : List (ℕ × Line)) → filter (λ e. 
 filter_bare test [] = refl
 filter_bare test (e ∷ es) = by_test (test e.0) refl (filter_bare test es)
   where
-    by_test : (b : Bool) → test e.0 ≡ b → filter (λ x. test x.0) (map bare es) ≡ map bare (filter (λ x. test x.0) es) → filter (λ x. test x.0) (map bare (e ∷ es)) ≡ map bare (filter (λ x. test x.0) (e ∷ es))
+    by_test : (b : Bool) → test e.0 ≡ b → filter (λ x. test x.0) (map bare es) ≡ map bare (filter (λ x. test x.0) es)
+        → filter (λ x. test x.0) (map bare (e ∷ es)) ≡ map bare (filter (λ x. test x.0) (e ∷ es))
     by_test true is rest = rw is (ap (λ (xs : List (ℕ × Line)). bare e ∷ xs) rest)
     by_test false is rest = rw is rest
 
@@ -83,7 +84,9 @@ rules_with o moment t found =
     ∷ (Overdue, has_overdue o moment)
     ∷ []
 
-rules_bare : (o : Order) (moment : ℕ) (what : Option Take) → order_rules (bare_order o) (record { moment = moment; take = what }) ≡ order_rules o (record { moment = moment; take = what })
+rules_bare : (o : Order) (moment : ℕ) (what : Option Take)
+    → order_rules (bare_order o) (record { moment = moment; take = what })
+    ≡ order_rules o (record { moment = moment; take = what })
 rules_bare o moment None = rw (overdue_bare o moment) refl
 rules_bare o moment (Some t) = ap (rules_with (bare_order o) moment t) (lookup-map_values placeless (nat_eq t.number) o.held) ∙ by_line (held_line o t.number)
   where
@@ -98,7 +101,8 @@ line_bare header lines n =
 
 -- what a step does in the machine
 act_bare : (header : Header) (lines : List Line) (moment : ℕ) (label : Label NamedLine) (span : Span)
-    → act_of header (map placeless lines) (record { moment = moment; label = label; span = span }) ≡ act_of header lines (record { moment = moment; label = label; span = span })
+    → act_of header (map placeless lines) (record { moment = moment; label = label; span = span })
+    ≡ act_of header lines (record { moment = moment; label = label; span = span })
 act_bare header lines moment (L named) span = ap (line_act) (line_bare header lines named.number) ∙ by_line (line_at header lines named.number)
   where
     line_act : Option Line → Option (Stamped tcp_shape)
@@ -114,23 +118,38 @@ act_bare header lines moment (K host line) span = refl
 act_bare header lines moment (R host line) span = refl
 act_bare header lines moment (F host recovery) span = refl
 
-broken_bare : (header : Header) (lines : List Line) (earlier : List Step) (w : World tcp_shape) (s : Step) → broken header (map placeless lines) earlier w s ≡ broken header lines earlier w s
+broken_bare : (header : Header) (lines : List Line) (earlier : List Step) (w : World tcp_shape) (s : Step)
+    → broken header (map placeless lines) earlier w s ≡ broken header lines earlier w s
 broken_bare header lines earlier w s =
-    ap (λ (o : Order). first_broken (order_rules o (move_of s) ++ option_map_or (act_rules header w) (act_of header (map placeless lines) s) [])) (order_bare header lines (moves earlier))
-    ∙ ap (λ (rs : List (Rule × Bool)). first_broken (rs ++ option_map_or (act_rules header w) (act_of header (map placeless lines) s) [])) (rules_bare (order_of header lines (moves earlier)) s.moment (move_of s).take)
-    ∙ ap (λ (act : Option (Stamped tcp_shape)). first_broken (order_rules (order_of header lines (moves earlier)) (move_of s) ++ option_map_or (act_rules header w) act [])) (act_bare header lines s.moment s.label s.span)
+    ap (λ (o : Order). first_broken
+    (order_rules o (move_of s) ++ option_map_or (act_rules header w) (act_of header (map placeless lines) s)
+    [])) (order_bare header lines (moves earlier))
+    ∙ ap (λ (rs : List (Rule × Bool)).
+    first_broken (rs ++ option_map_or (act_rules header w) (act_of header (map placeless lines) s) []))
+    (rules_bare (order_of header lines (moves earlier)) s.moment (move_of s).take)
+    ∙ ap (λ (act : Option (Stamped tcp_shape)).
+    first_broken (order_rules (order_of header lines (moves earlier)) (move_of s)
+    ++ option_map_or (act_rules header w) act [])) (act_bare header lines s.moment s.label s.span)
 
 left_bare : (left : List (ℕ × Line)) (steps : List Step) → verdict_left (map bare left) steps ≡ verdict_left left steps
 left_bare [] steps = refl
 left_bare (e ∷ left) steps = refl
 
-verdict_bare : (header : Header) (lines : List Line) (earlier : List Step) (w : World tcp_shape) (steps : List Step) → verdict_from header (map placeless lines) earlier w steps ≡ verdict_from header lines earlier w steps
+verdict_bare : (header : Header) (lines : List Line) (earlier : List Step) (w : World tcp_shape) (steps : List Step)
+    → verdict_from header (map placeless lines) earlier w steps ≡ verdict_from header lines earlier w steps
 verdict_bare header lines earlier w [] =
-    ap (λ (left : List (ℕ × Line)). verdict_left left earlier) (unplaced_bare header lines (moves earlier)) ∙ left_bare (unplaced header lines (moves earlier)) earlier
+    ap (λ (left : List (ℕ × Line)). verdict_left left earlier) (unplaced_bare header lines (moves earlier))
+    ∙ left_bare (unplaced header lines (moves earlier)) earlier
 verdict_bare header lines earlier w (s ∷ steps) =
-    ap (λ (r : Option Rule). refused_or r earlier s (verdict_from header (map placeless lines) (earlier ++ s ∷ []) (next_world header (map placeless lines) w s) steps)) (broken_bare header lines earlier w s)
-    ∙ ap (λ (act : Option (Stamped tcp_shape)). refused_or (broken header lines earlier w s) earlier s (verdict_from header (map placeless lines) (earlier ++ s ∷ []) (option_map_or (act_after header w) act w) steps)) (act_bare header lines s.moment s.label s.span)
-    ∙ ap (λ (v : Verdict). refused_or (broken header lines earlier w s) earlier s v) (verdict_bare header lines (earlier ++ s ∷ []) (next_world header lines w s) steps)
+    ap (λ (r : Option Rule). refused_or r earlier s
+    (verdict_from header (map placeless lines) (earlier ++ s ∷ [])
+    (next_world header (map placeless lines) w s) steps)) (broken_bare header lines earlier w s)
+    ∙ ap (λ (act : Option (Stamped tcp_shape)).
+    refused_or (broken header lines earlier w s) earlier s
+    (verdict_from header (map placeless lines) (earlier ++ s ∷ [])
+    (option_map_or (act_after header w) act w) steps)) (act_bare header lines s.moment s.label s.span)
+    ∙ ap (λ (v : Verdict). refused_or (broken header lines earlier w s) earlier s v)
+    (verdict_bare header lines (earlier ++ s ∷ []) (next_world header lines w s) steps)
 
 -- traces that are the same but for the places of their lines have one verdict
 pub spans_apart : (t u : Trace) (w : Witness) → without_spans t ≡ without_spans u → verdict t w ≡ verdict u w

@@ -31,7 +31,9 @@ moves_bare : (steps : List Step) → moves (map bare steps) ≡ moves steps
 moves_bare [] = refl
 moves_bare (s ∷ steps) = ap (λ (ms : List Move). move_of s ∷ ms) (moves_bare steps)
 
-count_from : (test : Label NamedLine → Bool) (n : ℕ) (steps : List Step) → fold (λ a s. a + (if test s.label then 1 else 0)) n (map bare steps) ≡ fold (λ a s. a + (if test s.label then 1 else 0)) n steps
+count_from : (test : Label NamedLine → Bool) (n : ℕ) (steps : List Step)
+    → fold (λ a s. a + (if test s.label then 1 else 0)) n (map bare steps)
+    ≡ fold (λ a s. a + (if test s.label then 1 else 0)) n steps
 count_from test n [] = refl
 count_from test n (s ∷ steps) = count_from test (n + (if test s.label then 1 else 0)) steps
 
@@ -42,22 +44,39 @@ left_bare : (left : List (ℕ × Line)) (steps : List Step) → verdict_left lef
 left_bare [] steps = rw (count_bare takes_line steps, count_bare (λ label. not (takes_line label)) steps) refl
 left_bare (e ∷ left) steps = refl
 
-refused_bare : (rule : Option Rule) (earlier : List Step) (s : Step) (rest : Verdict) → refused_or rule (map bare earlier) (bare s) rest ≡ refused_or rule earlier s rest
+refused_bare : (rule : Option Rule) (earlier : List Step) (s : Step) (rest : Verdict)
+    → refused_or rule (map bare earlier) (bare s) rest ≡ refused_or rule earlier s rest
 refused_bare None earlier s rest = refl
 refused_bare (Some rule) earlier s rest = rw (length-map earlier bare) refl
 
-verdict_bare : (header : Header) (lines : List Line) (earlier : List Step) (w : World tcp_shape) (steps : List Step) → verdict_from header lines (map bare earlier) w (map bare steps) ≡ verdict_from header lines earlier w steps
+verdict_bare : (header : Header) (lines : List Line) (earlier : List Step) (w : World tcp_shape) (steps : List Step)
+    → verdict_from header lines (map bare earlier) w (map bare steps) ≡ verdict_from header lines earlier w steps
 verdict_bare header lines earlier w [] =
-    ap (λ (ms : List Move). verdict_left (unplaced header lines ms) (map bare earlier)) (moves_bare earlier) ∙ left_bare (unplaced header lines (moves earlier)) earlier
+    ap (λ (ms : List Move). verdict_left (unplaced header lines ms) (map bare earlier)) (moves_bare earlier)
+    ∙ left_bare (unplaced header lines (moves earlier)) earlier
 verdict_bare header lines earlier w (s ∷ steps) =
-    ap (λ (ms : List Move). refused_or (first_broken (order_rules (order_of header lines ms) (move_of s) ++ option_map_or (act_rules header w) (act_of header lines (bare s)) [])) (map bare earlier) (bare s) (verdict_from header lines (map bare earlier ++ bare s ∷ []) (next_world header lines w (bare s)) (map bare steps))) (moves_bare earlier)
+    ap (λ (ms : List Move). refused_or
+    (first_broken (order_rules (order_of header lines ms) (move_of s)
+    ++ option_map_or (act_rules header w) (act_of header lines (bare s)) [])) (map bare earlier) (bare s)
+    (verdict_from header lines (map bare earlier ++ bare s ∷ []) (next_world header lines w (bare s))
+    (map bare steps))) (moves_bare earlier)
     ∙ acts s.label
-    ∙ refused_bare (broken header lines earlier w s) earlier s (verdict_from header lines (map bare earlier ++ bare s ∷ []) (next_world header lines w s) (map bare steps))
-    ∙ ap (λ (es : List Step). refused_or (broken header lines earlier w s) earlier s (verdict_from header lines es (next_world header lines w s) (map bare steps))) (sym (map-append bare earlier (s ∷ [])))
-    ∙ ap (λ (v : Verdict). refused_or (broken header lines earlier w s) earlier s v) (verdict_bare header lines (earlier ++ s ∷ []) (next_world header lines w s) steps)
+    ∙ refused_bare (broken header lines earlier w s) earlier s
+    (verdict_from header lines (map bare earlier ++ bare s ∷ []) (next_world header lines w s) (map bare steps))
+    ∙ ap (λ (es : List Step). refused_or (broken header lines earlier w s) earlier s
+    (verdict_from header lines es (next_world header lines w s) (map bare steps)))
+    (sym (map-append bare earlier (s ∷ [])))
+    ∙ ap (λ (v : Verdict). refused_or (broken header lines earlier w s) earlier s v)
+    (verdict_bare header lines (earlier ++ s ∷ []) (next_world header lines w s) steps)
   where
-    acts : (label : Label NamedLine) → refused_or (first_broken (order_rules (order_of header lines (moves earlier)) (move_of s) ++ option_map_or (act_rules header w) (act_of header lines (bare s)) [])) (map bare earlier) (bare s) (verdict_from header lines (map bare earlier ++ bare s ∷ []) (next_world header lines w (bare s)) (map bare steps))
-        ≡ refused_or (broken header lines earlier w s) (map bare earlier) (bare s) (verdict_from header lines (map bare earlier ++ bare s ∷ []) (next_world header lines w s) (map bare steps))
+    acts : (label : Label NamedLine)
+        → refused_or (first_broken (order_rules (order_of header lines (moves earlier)) (move_of s)
+        ++ option_map_or (act_rules header w) (act_of header lines (bare s)) [])) (map bare earlier) (bare s)
+        (verdict_from header lines (map bare earlier ++ bare s ∷ []) (next_world header lines w (bare s))
+        (map bare steps))
+        ≡ refused_or (broken header lines earlier w s) (map bare earlier) (bare s)
+        (verdict_from header lines (map bare earlier ++ bare s ∷ []) (next_world header lines w s)
+        (map bare steps))
     acts label = refl
 
 abbrev said_step : ℕ × Label NamedLine → Step
@@ -71,5 +90,7 @@ bare_said (s ∷ steps) = ap (λ (ss : List Step). bare s ∷ ss) (bare_said ste
 pub steps_apart : (t : Trace) (v w : Witness) → map without_span v.steps ≡ map without_span w.steps → verdict t v ≡ verdict t w
 steps_apart t v w same =
     sym (verdict_bare t.header t.lines [] (start (tcp t.header)) v.steps)
-    ∙ ap (λ (steps : List Step). verdict_from t.header t.lines [] (start (tcp t.header)) steps) (bare_said v.steps ∙ ap (λ (said : List (ℕ × Label NamedLine)). map said_step said) same ∙ sym (bare_said w.steps))
+    ∙ ap (λ (steps : List Step). verdict_from t.header t.lines [] (start (tcp t.header)) steps)
+    (bare_said v.steps ∙ ap (λ (said : List (ℕ × Label NamedLine)). map said_step said) same
+    ∙ sym (bare_said w.steps))
     ∙ verdict_bare t.header t.lines [] (start (tcp t.header)) w.steps

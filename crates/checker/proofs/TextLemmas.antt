@@ -50,8 +50,11 @@ texts_tell header (Some xs) (Some ys) None (Ok v) begins tells = absurd begins
 texts_tell header (Some xs) (Some ys) (Some l) (Ok v) begins (all, done, whole, steps, is) =
     let trace : trace_of xs ≡ Ok (record { header = header; lines = all }) = begins ∙ ap (with_header header) whole in
     let read : Result Witness TextFault = witness_for header.version ys in
-    let witness : read ≡ Ok (record { version = header.version; steps = done }) = whole_ok header.version ys done read refl (witness_steps header.version ys ∙ steps) in
-    ap (λ (u : Verdict). Ok u) is ∙ (ap (λ (w : Result Witness TextFault). judged (Ok (record { header = header; lines = all })) w) (sym witness) ∙ (λ i. judged (sym trace i) (witness_behind (sym trace i) ys)))
+    let witness : read ≡ Ok (record { version = header.version; steps = done }) =
+    whole_ok header.version ys done read refl (witness_steps header.version ys ∙ steps) in
+    ap (λ (u : Verdict). Ok u) is ∙ (ap
+    (λ (w : Result Witness TextFault). judged (Ok (record { header = header; lines = all })) w) (sym witness)
+    ∙ (λ i. judged (sym trace i) (witness_behind (sym trace i) ys)))
 texts_tell header None b lines (Err (faults.Trace f)) begins tells = tt
 texts_tell header (Some xs) None lines (Err (faults.Trace f)) begins tells = tt
 texts_tell header (Some xs) (Some ys) None (Err (faults.Trace f)) begins tells = absurd begins
@@ -64,24 +67,30 @@ texts_tell header (Some xs) (Some ys) None (Err (faults.Witness f)) begins tells
 texts_tell header (Some xs) (Some ys) (Some l) (Err (faults.Witness f)) begins tells =
     let trace : trace_of xs ≡ Ok (record { header = header; lines = tells.0.0 }) = begins ∙ ap (with_header header) tells.0.1 in
     let witness : witness_for header.version ys ≡ Err f = whole_err (witness_for header.version ys) f (witness_steps header.version ys ∙ tells.1) in
-    ap (λ (w : Result Witness TextFault). judged (Ok (record { header = header; lines = tells.0.0 })) w) (sym witness) ∙ (λ i. judged (sym trace i) (witness_behind (sym trace i) ys))
+    ap (λ (w : Result Witness TextFault). judged (Ok (record { header = header; lines = tells.0.0 })) w) (sym witness)
+    ∙ (λ i. judged (sym trace i) (witness_behind (sym trace i) ys))
 texts_tell header a b lines (Err faults.Read) begins tells = tt
 texts_tell header a b lines (Err faults.OutOfMemory) begins tells = tt
 
 -- the verdict is that on the trace and the witness that the texts stand for
-pub verdict_of : (r : Result Verdict CaseFault) (a b : Option (List ℕ)) (t : Trace) (w : Witness) → GivesTexts r a b → AreOf a b t w → IfOk r (λ v. v ≡ verdict t w)
+pub verdict_of : (r : Result Verdict CaseFault) (a b : Option (List ℕ)) (t : Trace) (w : Witness) → GivesTexts r a b
+    → AreOf a b t w → IfOk r (λ v. v ≡ verdict t w)
 verdict_of (Err e) a b t w gives are = tt
 verdict_of (Ok v) None b t w gives are = absurd are
 verdict_of (Ok v) (Some xs) None t w gives are = absurd are
 verdict_of (Ok v) (Some xs) (Some ys) t w gives are =
-    let h : Ok v ≡ Ok (verdict t w) = gives ∙ ((λ i. judged (are.0 i) (witness_behind (are.0 i) ys)) ∙ ap (λ (r : Result Witness TextFault). judged (Ok t) r) are.1) in
+    let h : Ok v ≡ Ok (verdict t w) =
+    gives ∙ ((λ i. judged (are.0 i) (witness_behind (are.0 i) ys))
+    ∙ ap (λ (r : Result Witness TextFault). judged (Ok t) r) are.1) in
     cc
 
 -- ---- readers of which nothing was read
 
-pub fresh_trace : {A : Type 0} (known : A → Option (List ℕ)) (s : Ahead A) (a : Counted A) → source_ahead s ≡ a → trace_ahead known s ≡ option_map trace_of (left_of known a)
+pub fresh_trace : {A : Type 0} (known : A → Option (List ℕ)) (s : Ahead A) (a : Counted A) → source_ahead s ≡ a
+    → trace_ahead known s ≡ option_map trace_of (left_of known a)
 fresh_trace known s a is = ap (λ (x : Counted _). option_map trace_of (left_of known x)) is
 
-pub fresh_steps : {B : Type 0} (known : B → Option (List ℕ)) (s : StepReader B) (v : Version) (b : Counted B) → version_of s ≡ v → number_read s ≡ None → source_of s ≡ b
+pub fresh_steps : {B : Type 0} (known : B → Option (List ℕ)) (s : StepReader B) (v : Version) (b : Counted B)
+    → version_of s ≡ v → number_read s ≡ None → source_of s ≡ b
     → steps_left known s ≡ option_map (steps_from v None) (rows_of (left_of known b))
 fresh_steps known s v b version none is = λ i. option_map (steps_from (version i) (none i)) (rows_of (left_of known (is i)))

@@ -29,7 +29,8 @@ use Rattle.checker.proofs.StreamTurns.{left_later, turn_goes, turn_refuses, turn
 -- ---- faults
 
 -- a fault of the trace comes first
-pub trace_first : (e : CaseFault) (lines : Option (Result (List Line) TextFault)) (steps : Option (Result (List Step) TextFault)) → TraceFails e lines → CaseFails e lines steps
+pub trace_first : (e : CaseFault) (lines : Option (Result (List Line) TextFault))
+    (steps : Option (Result (List Step) TextFault)) → TraceFails e lines → CaseFails e lines steps
 trace_first (faults.Trace f) lines steps fails = fails
 trace_first (faults.Witness f) lines steps fails = absurd fails
 trace_first faults.Read lines steps fails = tt
@@ -37,8 +38,10 @@ trace_first faults.OutOfMemory lines steps fails = tt
 
 -- ---- a turn that is done or refused
 
-pub turn_is : {A : Type 0} (known : A → Option (List ℕ)) (header : Header) (t : Option (Result (List Line) TextFault)) (s : Option (Result (List Step) TextFault)) (offered : List Line) (earlier : List Step)
-    (a b c d : Ahead A) (ahead next : Option (Result (List Step) TextFault)) (o n m : Order) (p q : Progress) (more : List Line) (step : Step) (broken : Option Rule) (r : StepOutcome)
+pub turn_is : {A : Type 0} (known : A → Option (List ℕ)) (header : Header) (t : Option (Result (List Line) TextFault))
+    (s : Option (Result (List Step) TextFault)) (offered : List Line) (earlier : List Step)
+    (a b c d : Ahead A) (ahead next : Option (Result (List Step) TextFault)) (o n m : Order) (p q : Progress)
+    (more : List Line) (step : Step) (broken : Option Rule) (r : StepOutcome)
     → SoFar header t (left_ahead known a) s ahead o p offered earlier → b ≡ a → Yields ahead next (Some step)
     → Passes (left_ahead known b) (left_ahead known c) more → n ≡ with_lines o more → IsAhead c → IfSome (line_ahead c) (λ line. step.moment < line.moment)
     → IfNone broken (IsDone n m p q step × (d ≡ c)) → IfSome broken (λ rule. IsRefused n p step (left_ahead known c) (left_ahead known d) rule)
@@ -50,14 +53,26 @@ turn_is known header t s offered earlier a b c d ahead next o n m p q more step 
       more,
       step,
       subst (λ (e : Ahead _). SoFar header t (left_ahead known e) s next m q (offered ++ more) (earlier ++ step ∷ [])) (sym done.1)
-          (turn_goes header t s (left_ahead known a) (left_ahead known c) ahead next o n p offered more earlier step f before is (left_later known c step.moment h late) m q took done.0),
+          (turn_goes header t s (left_ahead known a)
+          (left_ahead known c) ahead next o n p offered more earlier step f before is
+          (left_later known c step.moment h late) m q took done.0),
       refl,
     )
 turn_is known header t s offered earlier a b c d ahead next o n m p q more step (Some rule) r f same took passed is h late done refused said =
     let before = subst (λ (e : Ahead _). Passes (left_ahead known e) (left_ahead known c) more) same passed in
-    let through = turn_passes header t s (left_ahead known a) (left_ahead known c) ahead next o n p offered more earlier step f before is (left_later known c step.moment h late) (left_ahead known d) rule refused in
-    subst (AfterTurn header t (left_ahead known d) s ahead next m q offered earlier) (sym said)
-    (step, through.0, took, through.1, turn_refuses header t s (left_ahead known a) (left_ahead known c) ahead next o n p offered more earlier step f before is (left_later known c step.moment h late) (left_ahead known d) rule refused)
+    let through =
+    turn_passes header t s (left_ahead known a)
+    (left_ahead known c) ahead next o n p offered more earlier step f before is
+    (left_later known c step.moment h late) (left_ahead known d) rule refused in
+    subst (AfterTurn header t (left_ahead known d) s ahead next m q offered earlier) (sym said) (
+      step,
+      through.0,
+      took,
+      through.1,
+      turn_refuses header t s (left_ahead known a)
+          (left_ahead known c) ahead next o n p offered more earlier step f before is
+          (left_later known c step.moment h late) (left_ahead known d) rule refused,
+    )
 
 -- ---- what is kept where a step is done
 
@@ -69,12 +84,17 @@ step_kept o n mv (Some line) step is = subst (λ (q : Order). IsInStep q (Some l
     by_take None = step.1
     by_take (Some t) = All-filter (λ e. not (t.number == e.0)) (λ (e : ℕ × Line). e.1.moment ≤ line.moment) o.held step.1
 
-pub more_in_step : {A : Type 0} (c d : Ahead A) (n m : Order) (p q : Progress) (step : Step) (broken : Option Rule) (r : StepOutcome) → IsInStep n (line_ahead c) → IfNone broken (IsDone n m p q step × (d ≡ c))
-    → MatchOption broken (r ≡ turns.More (takes_line step.label)) (λ rule. r ≡ turns.Refused (line_named step.label) rule) → IsOnward r → IsInStep m (line_ahead d)
-more_in_step c d n m p q step None r before done said more = subst (λ (e : Ahead _). IsInStep m (line_ahead e)) (sym done.1) (step_kept n m (move_of step) (line_ahead c) before done.0.moved)
+pub more_in_step : {A : Type 0} (c d : Ahead A) (n m : Order) (p q : Progress) (step : Step) (broken : Option Rule)
+    (r : StepOutcome) → IsInStep n (line_ahead c) → IfNone broken (IsDone n m p q step × (d ≡ c))
+    → MatchOption broken (r ≡ turns.More (takes_line step.label))
+    (λ rule. r ≡ turns.Refused (line_named step.label) rule) → IsOnward r → IsInStep m (line_ahead d)
+more_in_step c d n m p q step None r before done said more =
+    subst (λ (e : Ahead _). IsInStep m (line_ahead e)) (sym done.1)
+    (step_kept n m (move_of step) (line_ahead c) before done.0.moved)
 more_in_step c d n m p q step (Some rule) r before done said more = absurd (subst IsOnward said more)
 
-pub more_steps : {A : Type 0} (c d : Ahead A) (n m : Order) (p q : Progress) (step : Step) (broken : Option Rule) (r : StepOutcome) → IfNone broken (IsDone n m p q step × (d ≡ c))
+pub more_steps : {A : Type 0} (c d : Ahead A) (n m : Order) (p q : Progress) (step : Step) (broken : Option Rule)
+    (r : StepOutcome) → IfNone broken (IsDone n m p q step × (d ≡ c))
     → MatchOption broken (r ≡ turns.More (takes_line step.label)) (λ rule. r ≡ turns.Refused (line_named step.label) rule) → IsOnward r → q.steps ≤ p.steps + 1
 more_steps c d n m p q step None r done said more =
     let same : q.steps ≡ (kept_progress n p step).steps = ap (λ (x : Progress). x.steps) done.0.acted in

@@ -26,20 +26,24 @@ use Rattle.checker.specs.Explains.{Explains, IsYes}
 -- no step breaks a rule, and each line is placed in the end
 abbrev pub IsClean : Header → List Line → List Step → World tcp_shape → List Step → Type 0
 IsClean header lines earlier w [] = unplaced header lines (moves earlier) ≡ []
-IsClean header lines earlier w (s ∷ steps) = (broken header lines earlier w s ≡ None) × IsClean header lines (earlier ++ s ∷ []) (next_world header lines w s) steps
+IsClean header lines earlier w (s ∷ steps) =
+    (broken header lines earlier w s ≡ None)
+    × IsClean header lines (earlier ++ s ∷ []) (next_world header lines w s) steps
 
 none_left : (left : List (ℕ × Line)) (steps : List Step) → IsYes (verdict_left left steps) → left ≡ []
 none_left [] steps said = refl
 none_left (e ∷ left) steps said = absurd said
 
-pub clean_from_yes : (header : Header) (lines : List Line) (earlier : List Step) (w : World tcp_shape) (steps : List Step) → IsYes (verdict_from header lines earlier w steps) → IsClean header lines earlier w steps
+pub clean_from_yes : (header : Header) (lines : List Line) (earlier : List Step) (w : World tcp_shape)
+    (steps : List Step) → IsYes (verdict_from header lines earlier w steps) → IsClean header lines earlier w steps
 clean_from_yes header lines earlier w [] said = none_left (unplaced header lines (moves earlier)) earlier said
 clean_from_yes header lines earlier w (s ∷ steps) said =
     by_rule (broken header lines earlier w s) refl said (λ rest. clean_from_yes header lines (earlier ++ s ∷ []) (next_world header lines w s) steps rest)
   where
     by_rule : (r : Option Rule) → broken header lines earlier w s ≡ r
         → IsYes (refused_or r earlier s (verdict_from header lines (earlier ++ s ∷ []) (next_world header lines w s) steps))
-        → (IsYes (verdict_from header lines (earlier ++ s ∷ []) (next_world header lines w s) steps) → IsClean header lines (earlier ++ s ∷ []) (next_world header lines w s) steps)
+        → (IsYes (verdict_from header lines (earlier ++ s ∷ []) (next_world header lines w s) steps)
+        → IsClean header lines (earlier ++ s ∷ []) (next_world header lines w s) steps)
         → IsClean header lines earlier w (s ∷ steps)
     by_rule None is said rest = (is, rest said)
     by_rule (Some rule) is said rest = absurd said
@@ -48,10 +52,13 @@ left_said : (left : List (ℕ × Line)) (steps : List Step) → left ≡ [] → 
 left_said [] steps e = tt
 left_said (x ∷ left) steps e = absurd cc
 
-yes_from_clean : (header : Header) (lines : List Line) (earlier : List Step) (w : World tcp_shape) (steps : List Step) → IsClean header lines earlier w steps → IsYes (verdict_from header lines earlier w steps)
+yes_from_clean : (header : Header) (lines : List Line) (earlier : List Step) (w : World tcp_shape) (steps : List Step)
+    → IsClean header lines earlier w steps → IsYes (verdict_from header lines earlier w steps)
 yes_from_clean header lines earlier w [] clean = left_said (unplaced header lines (moves earlier)) earlier clean
 yes_from_clean header lines earlier w (s ∷ steps) clean =
-    subst (λ (r : Option Rule). IsYes (refused_or r earlier s (verdict_from header lines (earlier ++ s ∷ []) (next_world header lines w s) steps))) (sym clean.0)
+    subst (λ (r : Option Rule). IsYes
+    (refused_or r earlier s (verdict_from header lines (earlier ++ s ∷ [])
+    (next_world header lines w s) steps))) (sym clean.0)
     (yes_from_clean header lines (earlier ++ s ∷ []) (next_world header lines w s) steps clean.1)
 
 pub moves_more : (earlier : List Step) (s : Step) → moves (earlier ++ s ∷ []) ≡ moves earlier ++ move_of s ∷ []
@@ -61,36 +68,47 @@ moves_more earlier s = map-append move_of earlier (s ∷ [])
 abbrev act_part : Header → World tcp_shape → Option (Stamped tcp_shape) → List (Rule × Bool)
 act_part header w act = option_map_or (act_rules header w) act []
 
-order_part : (header : Header) (lines : List Line) (earlier : List Step) (w : World tcp_shape) (steps : List Step) → IsClean header lines earlier w steps → IsOrderly header lines (moves earlier) (moves steps)
+order_part : (header : Header) (lines : List Line) (earlier : List Step) (w : World tcp_shape) (steps : List Step)
+    → IsClean header lines earlier w steps → IsOrderly header lines (moves earlier) (moves steps)
 order_part header lines earlier w [] clean = clean
 order_part header lines earlier w (s ∷ steps) clean = (
   (none_both (order_rules (order_of header lines (moves earlier)) (move_of s)) (act_part header w (act_of header lines s)) clean.0).0,
-  subst (λ (ms : List Move). IsOrderly header lines ms (moves steps)) (moves_more earlier s) (order_part header lines (earlier ++ s ∷ []) (next_world header lines w s) steps clean.1),
+  subst (λ (ms : List Move). IsOrderly header lines ms (moves steps)) (moves_more earlier s)
+      (order_part header lines (earlier ++ s ∷ []) (next_world header lines w s) steps clean.1),
 )
 
-run_more : (header : Header) (w : World tcp_shape) (act : Option (Stamped tcp_shape)) (rest : List (Stamped tcp_shape)) → first_broken (act_part header w act) ≡ None → Lawful (tcp header) (option_map_or (act_after header w) act w) rest → Lawful (tcp header) w (cons_option act rest)
+run_more : (header : Header) (w : World tcp_shape) (act : Option (Stamped tcp_shape)) (rest : List (Stamped tcp_shape))
+    → first_broken (act_part header w act) ≡ None → Lawful (tcp header) (option_map_or (act_after header w) act w) rest
+    → Lawful (tcp header) w (cons_option act rest)
 run_more header w None rest none run = run
 run_more header w (Some act) rest none run = (none, run)
 
-run_part : (header : Header) (lines : List Line) (earlier : List Step) (w : World tcp_shape) (steps : List Step) → IsClean header lines earlier w steps → Lawful (tcp header) w (stamped header lines steps)
+run_part : (header : Header) (lines : List Line) (earlier : List Step) (w : World tcp_shape) (steps : List Step)
+    → IsClean header lines earlier w steps → Lawful (tcp header) w (stamped header lines steps)
 run_part header lines earlier w [] clean = tt
 run_part header lines earlier w (s ∷ steps) clean =
     run_more header w (act_of header lines s) (stamped header lines steps)
     (none_both (order_rules (order_of header lines (moves earlier)) (move_of s)) (act_part header w (act_of header lines s)) clean.0).1
     (run_part header lines (earlier ++ s ∷ []) (next_world header lines w s) steps clean.1)
 
-run_none : (header : Header) (w : World tcp_shape) (act : Option (Stamped tcp_shape)) (rest : List (Stamped tcp_shape)) → Lawful (tcp header) w (cons_option act rest) → first_broken (act_part header w act) ≡ None
+run_none : (header : Header) (w : World tcp_shape) (act : Option (Stamped tcp_shape)) (rest : List (Stamped tcp_shape))
+    → Lawful (tcp header) w (cons_option act rest) → first_broken (act_part header w act) ≡ None
 run_none header w None rest run = refl
 run_none header w (Some act) rest run = run.0
 
-run_rest : (header : Header) (w : World tcp_shape) (act : Option (Stamped tcp_shape)) (rest : List (Stamped tcp_shape)) → Lawful (tcp header) w (cons_option act rest) → Lawful (tcp header) (option_map_or (act_after header w) act w) rest
+run_rest : (header : Header) (w : World tcp_shape) (act : Option (Stamped tcp_shape)) (rest : List (Stamped tcp_shape))
+    → Lawful (tcp header) w (cons_option act rest) → Lawful (tcp header) (option_map_or (act_after header w) act w) rest
 run_rest header w None rest run = run
 run_rest header w (Some act) rest run = run.1
 
-both_parts : (header : Header) (lines : List Line) (earlier : List Step) (w : World tcp_shape) (steps : List Step) → IsOrderly header lines (moves earlier) (moves steps) → Lawful (tcp header) w (stamped header lines steps) → IsClean header lines earlier w steps
+both_parts : (header : Header) (lines : List Line) (earlier : List Step) (w : World tcp_shape) (steps : List Step)
+    → IsOrderly header lines (moves earlier) (moves steps) → Lawful (tcp header) w (stamped header lines steps)
+    → IsClean header lines earlier w steps
 both_parts header lines earlier w [] orderly run = orderly
 both_parts header lines earlier w (s ∷ steps) orderly run = (
-  first_broken-append_none (order_rules (order_of header lines (moves earlier)) (move_of s)) (act_part header w (act_of header lines s)) orderly.0 ∙ run_none header w (act_of header lines s) (stamped header lines steps) run,
+  first_broken-append_none (order_rules (order_of header lines (moves earlier)) (move_of s))
+      (act_part header w (act_of header lines s)) orderly.0
+      ∙ run_none header w (act_of header lines s) (stamped header lines steps) run,
   both_parts header lines (earlier ++ s ∷ []) (next_world header lines w s) steps
       (subst (λ (ms : List Move). IsOrderly header lines ms (moves steps)) (sym (moves_more earlier s)) orderly.1)
       (run_rest header w (act_of header lines s) (stamped header lines steps) run),

@@ -1,5 +1,6 @@
 -- The one word that the command line takes and that names a subcommand is `check`.
-use Rattle.std.proofs.Common.{◌≡◌, ℕ, Bool, true, false, List, [], ◌∷◌, Option, None, Some, option_map, codes, refl, ap, ◌∙◌, sym, subst, length, map, nat_eq, Bor, inl, inr, arith, rules}
+use Rattle.std.proofs.Common.{◌≡◌, ℕ, Bool, true, false, List, [], ◌∷◌, Option, None, Some, option_map, codes, refl, ap}
+use Rattle.std.proofs.Common.{◌∙◌, sym, subst, length, map, nat_eq, Bor, inl, inr, arith, rules}
 use Rattle.std.proofs.lemmas.Bool.{eqb-true}
 use Rattle.std.proofs.lemmas.List.{length-map}
 use Rattle.std.proofs.lemmas.Slice.Eq.{bytes_eq-Decides}
@@ -54,12 +55,14 @@ no_name_of None name e named = cc
 no_name_of (Some p) name e named = cc
 
 -- words that are taken and name a subcommand are `check` where they are one
-only_check : (words : List Text) (name : Text) → fault_of tool words ≡ [] → option_map (λ p. p.0) (subcommand_of tool words) ≡ Some name → length words ≡ 1 → AsksCheck words
+only_check : (words : List Text) (name : Text) → fault_of tool words ≡ []
+    → option_map (λ p. p.0) (subcommand_of tool words) ≡ Some name → length words ≡ 1 → AsksCheck words
 only_check [] name taken named one = cc
 only_check (a ∷ b ∷ rest) name taken named one = absurd (omega (one, arith))
 only_check (word ∷ []) name taken named one = by_check (bytes_eq (codes "check") word) refl
   where
-    by_help : (b : Bool) → bytes_eq (codes "check") word ≡ false → bytes_eq (codes "segment") word ≡ false → bytes_eq (codes "help") word ≡ b → AsksCheck (word ∷ [])
+    by_help : (b : Bool) → bytes_eq (codes "check") word ≡ false → bytes_eq (codes "segment") word ≡ false
+        → bytes_eq (codes "help") word ≡ b → AsksCheck (word ∷ [])
     by_help true e f g = absurd (help_refused (subst (λ w. fault_of tool (w ∷ []) ≡ []) (same_text _ _ g) taken))
     by_help false e f g = absurd (no_name_of _ name (no_subcommand word e f g) named)
 

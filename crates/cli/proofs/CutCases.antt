@@ -1,5 +1,6 @@
 -- A text, cut behind each line that ends a case.
-use Rattle.std.proofs.Common.{◌≡◌, ◌+◌, ◌-◌, ◌<◌, ◌≤◌, ℕ, true, false, List, [], ◌∷◌, ◌++◌, length, take, drop, refl, sym, ap, ap₂, ◌∙◌, map, arith, append_assoc, length-append}
+use Rattle.std.proofs.Common.{◌≡◌, ◌+◌, ◌-◌, ◌<◌, ◌≤◌, ℕ, true, false, List, [], ◌∷◌, ◌++◌, length, take, drop, refl}
+use Rattle.std.proofs.Common.{sym, ap, ap₂, ◌∙◌, map, arith, append_assoc, length-append}
 use Rattle.std.proofs.Math.Seq.{take-add, take-append_seam, drop-append_seam}
 use Rattle.std.proofs.lemmas.List.{drop-drop, length-drop, length-take-le, map-append}
 use Rattle.std.specs.List.{concat}
@@ -31,7 +32,8 @@ pub map_pushed : {X Y : Type 0} (f : X → Y) (xs ys : List X) (x : X) (y : Y) �
 map_pushed f xs ys x y pushed is = ap (map f) pushed ∙ map-append f xs (x ∷ []) ∙ ap (λ last. map f xs ++ last ∷ []) is
 
 -- the next line is within the text
-pub cut_fits : (text : List ℕ) (start at : ℕ) (done : List (List ℕ)) (raw : List ℕ) (left : List (List ℕ)) → IsCutSoFar text start at done (raw ∷ left) → at + length raw ≤ length text
+pub cut_fits : (text : List ℕ) (start at : ℕ) (done : List (List ℕ)) (raw : List ℕ) (left : List (List ℕ))
+    → IsCutSoFar text start at done (raw ∷ left) → at + length raw ≤ length text
 cut_fits text start at done raw left c =
     let all = ap length c.rest in
     let long = length-drop at text in
@@ -55,7 +57,8 @@ line_more text start at raw left ordered rest =
 none_between : (text : List ℕ) (at : ℕ) → between text at at ≡ []
 none_between text at = let none : at - at ≡ 0 = omega arith in ap (λ (n : ℕ). take n (drop at text)) none
 
-pub cut_end : (text : List ℕ) (start at : ℕ) (done more : List (List ℕ)) (raw : List ℕ) (left : List (List ℕ)) → IsCutSoFar text start at done (raw ∷ left) → ends_case raw ≡ true
+pub cut_end : (text : List ℕ) (start at : ℕ) (done more : List (List ℕ)) (raw : List ℕ) (left : List (List ℕ))
+    → IsCutSoFar text start at done (raw ∷ left) → ends_case raw ≡ true
     → more ≡ done ++ between text start at ∷ [] → IsCutSoFar text (at + length raw) (at + length raw) more left
 cut_end text start at done more raw left c ends pushed = record {
   ordered = omega arith;
@@ -67,7 +70,8 @@ cut_end text start at done more raw left c ends pushed = record {
       ∙ append_assoc done (between text start at ∷ []) (cases_from [] left) ∙ so_far;
 }
 
-pub cut_more : (text : List ℕ) (start at : ℕ) (done : List (List ℕ)) (raw : List ℕ) (left : List (List ℕ)) → IsCutSoFar text start at done (raw ∷ left) → ends_case raw ≡ false
+pub cut_more : (text : List ℕ) (start at : ℕ) (done : List (List ℕ)) (raw : List ℕ) (left : List (List ℕ))
+    → IsCutSoFar text start at done (raw ∷ left) → ends_case raw ≡ false
     → IsCutSoFar text start (at + length raw) done left
 cut_more text start at done raw left c none = record {
   ordered = let ordered = c.ordered in omega arith;

@@ -1,5 +1,7 @@
 -- Words that begin with an option and its value do so in one way.
-use Rattle.std.proofs.Common.{◌↔◌, Bool, Option, not, Some, ap₂, rules, ◌≡◌, ◌⊎◌, ◌-◌, ◌≤◌, ℕ, true, false, List, [], ◌∷◌, ◌++◌, Bor, codes, inl, inr, refl, sym, subst, ap, ◌∙◌, arith, length, length-append, map, drop, take, get_or, slice_index_or}
+use Rattle.std.proofs.Common.{◌↔◌, Bool, Option, not, Some, ap₂, rules, ◌≡◌, ◌⊎◌, ◌-◌, ◌≤◌, ℕ, true, false, List, []}
+use Rattle.std.proofs.Common.{◌∷◌, ◌++◌, Bor, codes, inl, inr, refl, sym, subst, ap, ◌∙◌, arith, length, length-append}
+use Rattle.std.proofs.Common.{map, drop, take, get_or, slice_index_or}
 use Rattle.std.proofs.lemmas.List.{append_cancel_left}
 use Rattle.std.proofs.Math.Seq.{take-length}
 use Rattle.std.specs.Str.{bytes_eq}
@@ -31,7 +33,8 @@ begins_once option one two front back words (inr e) (inr f) =
     (append_cancel_left (option ++ codes "=") one two first, cc)
 
 -- where the second option doesn't follow the first and its value, the words aren't both
-pub not_second : (first one second : List ℕ) (front words : List (List ℕ)) → BeginsWith first one front words → ((two : List ℕ) → ¬ BeginsWith second two [] front)
+pub not_second : (first one second : List ℕ) (front words : List (List ℕ)) → BeginsWith first one front words
+    → ((two : List ℕ) → ¬ BeginsWith second two [] front)
     → (other two : List ℕ) → ¬ AreBoth first other second two words
 not_second first one second front words begins none other two (behind, at_first, at_second) =
     let same = begins_once first one other front behind words begins at_first in
@@ -46,9 +49,11 @@ behind_first x xs =
 pub apart : (words : List (Bor (List ℕ))) (option : List ℕ) (d e : Bor (List ℕ)) → 1 ≤ length words → 1 ≤ length (take (length words - 1) (drop 1 words))
     → (slice_index_or words 0 d).now ≡ option → is_dashed (slice_index_or (take (length words - 1) (drop 1 words)) 0 e).now ≡ false
     → BeginsWith option (slice_index_or (take (length words - 1) (drop 1 words)) 0 e).now
-    (map (λ word. word.now) (take (length (take (length words - 1) (drop 1 words)) - 1) (drop 1 (take (length words - 1) (drop 1 words))))) (map (λ word. word.now) words)
+    (map (λ word. word.now) (take (length (take (length words - 1) (drop 1 words)) - 1)
+    (drop 1 (take (length words - 1) (drop 1 words))))) (map (λ word. word.now) words)
 apart [] option d e some more is plain = absurd (omega (some, arith))
-apart (a ∷ []) option d e some more is plain = let none = subst (λ (xs : List (Bor (List ℕ))). 1 ≤ length xs) (behind_first a []) more in absurd (omega (none, arith))
+apart (a ∷ []) option d e some more is plain = let none =
+    subst (λ (xs : List (Bor (List ℕ))). 1 ≤ length xs) (behind_first a []) more in absurd (omega (none, arith))
 apart (a ∷ b ∷ rest) option d e some more is plain =
     let value = rw (behind_first a (b ∷ rest)) at plain in
     rw (behind_first a (b ∷ rest), behind_first b rest) (inl (ap (λ (w : List ℕ). w ∷ b.now ∷ map (λ word. word.now) rest) is, value))
@@ -75,7 +80,8 @@ witness_third value behind words (inl (e, plain)) = ap third e
 witness_third value behind words (inr e) = ap third e
 
 -- words begin with one of the two options alone
-one_alone : (one two : List ℕ) (front back words : List (List ℕ)) → BeginsWith (codes "--trace") one front words → BeginsWith (codes "--witness") two back words → ⊥
+one_alone : (one two : List ℕ) (front back words : List (List ℕ)) → BeginsWith (codes "--trace") one front words
+    → BeginsWith (codes "--witness") two back words → ⊥
 one_alone one two front back words t w =
     let is_t = trace_third one front words t in
     let is_w = witness_third two back words w in
@@ -87,10 +93,13 @@ pub asks_once : (words : List (List ℕ)) (trace witness other more : List ℕ) 
 asks_once words trace witness other more (front, e, here) (back, f, there) =
     let both : codes "check" ∷ front ≡ codes "check" ∷ back = sym e ∙ f in
     let same : front ≡ back = cc in
-    by_case (subst (λ (options : List (List ℕ)). AreBoth (codes "--trace") trace (codes "--witness") witness options ⊎ AreBoth (codes "--witness") witness (codes "--trace") trace options) same here) there
+    by_case (subst (λ (options : List (List ℕ)).
+    AreBoth (codes "--trace") trace (codes "--witness") witness options
+    ⊎ AreBoth (codes "--witness") witness (codes "--trace") trace options) same here) there
   where
     by_case : (AreBoth (codes "--trace") trace (codes "--witness") witness back ⊎ AreBoth (codes "--witness") witness (codes "--trace") trace back)
-        → (AreBoth (codes "--trace") other (codes "--witness") more back ⊎ AreBoth (codes "--witness") more (codes "--trace") other back) → (trace ≡ other) × (witness ≡ more)
+        → (AreBoth (codes "--trace") other (codes "--witness") more back
+        ⊎ AreBoth (codes "--witness") more (codes "--trace") other back) → (trace ≡ other) × (witness ≡ more)
     by_case (inl a) (inl b) = both_once (codes "--trace") trace witness (codes "--witness") other more back a b
     by_case (inr a) (inr b) = let same = both_once (codes "--witness") witness trace (codes "--trace") more other back a b in (same.1, same.0)
     by_case (inl a) (inr b) = absurd (one_alone _ _ _ _ _ a.1 b.1)
@@ -104,7 +113,8 @@ pub asks_behind : (words : List (Bor (List ℕ))) (d : Bor (List ℕ)) (trace wi
 asks_behind [] d trace witness some is both = absurd (omega (some, arith))
 asks_behind (a ∷ rest) d trace witness some is both = (
   map (λ word. word.now) (take (length (a ∷ rest) - 1) (drop 1 (a ∷ rest))),
-  ap (λ (w : List ℕ). w ∷ map (λ word. word.now) rest) is ∙ ap (λ (ws : List (Bor (List ℕ))). codes "check" ∷ map (λ word. word.now) ws) (sym (behind_first a rest)),
+  ap (λ (w : List ℕ). w ∷ map (λ word. word.now) rest) is
+      ∙ ap (λ (ws : List (Bor (List ℕ))). codes "check" ∷ map (λ word. word.now) ws) (sym (behind_first a rest)),
   both,
 )
 

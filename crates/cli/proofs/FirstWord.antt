@@ -4,7 +4,9 @@ use Rattle.clap.specs.Lexer.{long_of, short_of}
 use Rattle.std.specs.Str.{bytes_eq}
 use Rattle.std.specs.Prelude.{if◌then◌else◌}
 use Rattle.clap.specs.Words.{Text, Rule}
-use Rattle.clap.specs.Walk.{Held, Names, Outcome, Walk, after_flag, after_step, done, idle, long_or_other, nothing_held, plain, refused, short_or_plain, subcommand_met, subcommand_or_other, to_positional, trailing, waits, walk_from, walked}
+use Rattle.clap.specs.Walk.{Held, Names, Outcome, Walk, after_flag, after_step, done, idle, long_or_other, nothing_held}
+use Rattle.clap.specs.Walk.{plain, refused, short_or_plain, subcommand_met, subcommand_or_other, to_positional}
+use Rattle.clap.specs.Walk.{trailing, waits, walk_from, walked}
 
 -- where a walk begins
 abbrev pub start : Walk
@@ -42,6 +44,8 @@ stays c names word e =
     ∙ dashes_stay (bytes_eq word (45 ∷ 45 ∷ []))
   where
     dashes_stay : (b : Bool)
-        → (let met = (if b then (nothing_held, trailing 1) else long_or_other c idle word (long_of word) nothing_held) in (after_step c word start met.0 met.1).stopped) ≡ None
+        → (let met = (if b then (nothing_held, trailing 1)
+        else long_or_other c idle word (long_of word) nothing_held) in
+        (after_step c word start met.0 met.1).stopped) ≡ None
     dashes_stay true = refl
     dashes_stay false = word_stays c word nothing_held (long_of word)

@@ -1,5 +1,7 @@
 -- The answers to many cases: their lines, and the greatest of their statuses.
-use Rattle.std.proofs.Common.{◌≡◌, ◌≢◌, ◌+◌, ◌<◌, ◌≤◌, ◌⊎◌, ℕ, List, [], ◌∷◌, ◌++◌, length, get_or, take, Option, Result, Ok, Err, map, max, refl, sym, ap, ap₂, ◌∙◌, arith, append-nil, append_assoc, codes, inl, inr, subst, suc}
+use Rattle.std.proofs.Common.{◌≡◌, ◌≢◌, ◌+◌, ◌<◌, ◌≤◌, ◌⊎◌, ℕ, List, [], ◌∷◌, ◌++◌, length, get_or, take, Option}
+use Rattle.std.proofs.Common.{Result, Ok, Err, map, max, refl, sym, ap, ap₂, ◌∙◌, arith, append-nil, append_assoc}
+use Rattle.std.proofs.Common.{codes, inl, inr, subst, suc}
 use Rattle.std.specs.Io.KnownBytes.{Appends}
 use Rattle.std.proofs.lemmas.List.{take_more}
 use Rattle.std.proofs.lemmas.List.Recursion.{max_push}
@@ -19,7 +21,8 @@ abbrev Answers : Type 0
 Answers = List (Result Verdict CaseFault)
 
 -- one answer more
-pub greatest_more : (answers : Answers) (i : ℕ) (d : Result Verdict CaseFault) → i < length answers → greatest_status (take (i + 1) answers) ≡ max (greatest_status (take i answers)) (status_of (get_or answers i d))
+pub greatest_more : (answers : Answers) (i : ℕ) (d : Result Verdict CaseFault) → i < length answers
+    → greatest_status (take (i + 1) answers) ≡ max (greatest_status (take i answers)) (status_of (get_or answers i d))
 greatest_more answers i d within =
     ap greatest_status (take_more answers i d within) ∙ max_push greatest_status status_of refl (λ x xs. refl) (take i answers) (get_or answers i d)
 
@@ -28,7 +31,8 @@ lines_push [] answer = append-nil (line_of answer)
 lines_push (first ∷ answers) answer =
     ap (λ (xs : List ℕ). line_of first ++ xs) (lines_push answers answer) ∙ sym (append_assoc (line_of first) (lines_of_all answers) (line_of answer))
 
-pub lines_more : (answers : Answers) (i : ℕ) (d : Result Verdict CaseFault) → i < length answers → lines_of_all (take (i + 1) answers) ≡ lines_of_all (take i answers) ++ line_of (get_or answers i d)
+pub lines_more : (answers : Answers) (i : ℕ) (d : Result Verdict CaseFault) → i < length answers
+    → lines_of_all (take (i + 1) answers) ≡ lines_of_all (take i answers) ++ line_of (get_or answers i d)
 lines_more answers i d within = ap lines_of_all (take_more answers i d within) ∙ lines_push (take i answers) (get_or answers i d)
 
 -- ---- no answer to a case is a failed read
@@ -52,7 +56,8 @@ low_status text (Err faults.OutOfMemory) is = omega arith
 
 -- ---- all answers
 
-behind_first : (text : List ℕ) (cases : List (List ℕ)) (answer : Result Verdict CaseFault) (answers : Answers) → AnswersEach (text ∷ cases) (answer ∷ answers) → AnswersEach cases answers
+behind_first : (text : List ℕ) (cases : List (List ℕ)) (answer : Result Verdict CaseFault) (answers : Answers)
+    → AnswersEach (text ∷ cases) (answer ∷ answers) → AnswersEach cases answers
 behind_first text cases answer answers is = record { count = let all = is.count in omega (arith, all); each = λ i. is.each (suc i) }
 
 pub lowest : (cases : List (List ℕ)) (answers : Answers) → AnswersEach cases answers → greatest_status answers ≤ 4

@@ -10,7 +10,9 @@ use Rattle.cli.specs.ManyLaw.{AreCaseLines, CasesAreCutBack, lines_written}
 end_raw : IsRaw (codes "end\n")
 end_raw = (
   codes "end",
-  All-cons (λ b. b ≢ 10) 101 (110 ∷ 100 ∷ []) (λ e. omega arith) (All-cons (λ b. b ≢ 10) 110 (100 ∷ []) (λ e. omega arith) (All-cons (λ b. b ≢ 10) 100 [] (λ e. omega arith) (All-nil (λ b. b ≢ 10)))),
+  All-cons (λ b. b ≢ 10) 101 (110 ∷ 100 ∷ []) (λ e. omega arith)
+      (All-cons (λ b. b ≢ 10) 110 (100 ∷ []) (λ e. omega arith)
+      (All-cons (λ b. b ≢ 10) 100 [] (λ e. omega arith) (All-nil (λ b. b ≢ 10)))),
   (10 ∷ [], inl refl, refl),
 )
 
@@ -22,11 +24,15 @@ both_raw : (xs ys : List (List ℕ)) → AllByRecursion IsRaw xs → AllByRecurs
 both_raw [] ys front back = back
 both_raw (x ∷ xs) ys front back = (front.0, both_raw xs ys front.1 back)
 
-written_raw : (cases : List (List (List ℕ))) (rest : List (List ℕ)) → AllByRecursion AreCaseLines cases → AreCaseLines rest → AllByRecursion IsRaw (lines_written cases rest)
+written_raw : (cases : List (List (List ℕ))) (rest : List (List ℕ)) → AllByRecursion AreCaseLines cases
+    → AreCaseLines rest → AllByRecursion IsRaw (lines_written cases rest)
 written_raw [] rest are last = raw_lines rest last
-written_raw (lines ∷ cases) rest are last = both_raw lines (codes "end\n" ∷ lines_written cases rest) (raw_lines lines are.0) (end_raw, written_raw cases rest are.1 last)
+written_raw (lines ∷ cases) rest are last =
+    both_raw lines (codes "end\n" ∷ lines_written cases rest) (raw_lines lines are.0)
+    (end_raw, written_raw cases rest are.1 last)
 
-cut_lines : (before : List ℕ) (lines more : List (List ℕ)) → AreCaseLines lines → cases_from before (lines ++ codes "end\n" ∷ more) ≡ (before ++ concat lines) ∷ cases_from [] more
+cut_lines : (before : List ℕ) (lines more : List (List ℕ)) → AreCaseLines lines
+    → cases_from before (lines ++ codes "end\n" ∷ more) ≡ (before ++ concat lines) ∷ cases_from [] more
 cut_lines before [] more are = ap (λ (xs : List ℕ). xs ∷ cases_from [] more) (sym (append-nil before))
 cut_lines before (raw ∷ lines) more are =
     rw are.0.1 (cut_lines (before ++ raw) lines more are.1 ∙ ap (λ (xs : List ℕ). xs ∷ cases_from [] more) (append_assoc before raw (concat lines)))

@@ -1,5 +1,7 @@
 -- What `clap` reads behind the word `many`.
-use Rattle.std.proofs.Common.{◌≡◌, ◌==◌, ◌-◌, ◌&&◌, ℕ, Bool, true, false, not, List, [], ◌∷◌, ◌++◌, Option, None, Some, Result, Ok, Err, codes, drop, take, length, refl, sym, ap, ◌∙◌, subst, inl, inr, arith, rules, nat_eq, Bor, map}
+use Rattle.std.proofs.Common.{◌≡◌, ◌==◌, ◌-◌, ◌&&◌, ℕ, Bool, true, false, not, List, [], ◌∷◌, ◌++◌, Option, None, Some}
+use Rattle.std.proofs.Common.{Result, Ok, Err, codes, drop, take, length, refl, sym, ap, ◌∙◌, subst, inl, inr, arith}
+use Rattle.std.proofs.Common.{rules, nat_eq, Bor, map}
 use Rattle.std.specs.Prelude.{MatchOption}
 use Rattle.std.specs.List.{starts_with}
 use Rattle.std.specs.Str.{bytes_eq}
@@ -148,7 +150,14 @@ no_minus (x ∷ xs) numeral = by_case (nat_eq 45 x) refl
 
 -- such a text passes
 spelled_passes : (text : Text) (n : ℕ) → SpellsWorkers text n → passes text ≡ true
-spelled_passes text n s = Accepts-accepts false (Unsigned 1 64) text (s.numeral, let e = s.number in let most = s.most in omega (arith), let e = s.number in let least = s.least in omega arith, let e = s.number in let most = s.most in omega arith)
+spelled_passes text n s =
+    Accepts-accepts false (Unsigned 1 64) text (
+      s.numeral,
+      let e = s.number in let most = s.most in omega (arith),
+      let e = s.number in let least = s.least in
+          omega arith,
+      let e = s.number in let most = s.most in omega arith,
+    )
 
 -- and is taken
 pub asked_formed : (words : List Text) (n : ℕ) → AsksMany words n → is_many words ≡ true
@@ -173,7 +182,8 @@ pub formless : (words : List Text) (n : ℕ) → is_many words ≡ false → Ask
 formless words n none asks = let formed = asked_formed words n asks in cc
 
 -- words that are refused for another cause than memory ask for none
-pub refused_many : (words : List Text) (error : Error) (n : ℕ) → HasKind (fault_of many (drop 1 words)) error → (kind_of error ≡ OutOfMemory → ⊥) → AsksMany words n → ⊥
+pub refused_many : (words : List Text) (error : Error) (n : ℕ) → HasKind (fault_of many (drop 1 words)) error
+    → (kind_of error ≡ OutOfMemory → ⊥) → AsksMany words n → ⊥
 refused_many words error n has other asks = by_kind (subst (λ kinds. HasKind kinds error) (asked_taken words n asks) has)
   where
     by_kind : HasKind [] error → ⊥
@@ -191,7 +201,8 @@ asked_number E G words found asked only formed none rows reads =
     let passed = accepts-Accepts false (Unsigned 1 64) text (is.taken none) in
     by_case asked text is passed (reads text (one_text-rows found (codes "workers") ∙ ap (one_of (codes "workers")) rows ∙ is.value))
   where
-    by_case : (o : Option ℕ) (text : Text) → IsRead words text → IsUnsignedIn 1 64 text → ReadsOne G text o → MatchOption o ((n : ℕ) → ¬ AsksMany words n) (AsksMany words)
+    by_case : (o : Option ℕ) (text : Text) → IsRead words text → IsUnsignedIn 1 64 text → ReadsOne G text o
+        → MatchOption o ((n : ℕ) → ¬ AsksMany words n) (AsksMany words)
     by_case (Some n) text is passed read =
         let parsed = only text (Ok n) read in
         let low = passed.2 in

@@ -1,5 +1,7 @@
 -- Bytes that are not ASCII are no digits, and no more is a NUL.
-use Rattle.std.proofs.Common.{◌≡◌, ℕ, ◌+◌, ◌*◌, ◌%◌, ◌==◌, ◌≤◌, ◌<◌, Bool, true, false, List, [], ◌∷◌, ◌++◌, take, drop, set, get_or, length, map, if◌then◌else◌, Option, Some, None, Result, Ok, Err, refl, sym, ap, ◌∙◌, arith}
+use Rattle.std.proofs.Common.{◌≡◌, ℕ, ◌+◌, ◌*◌, ◌%◌, ◌==◌, ◌≤◌, ◌<◌, Bool, true, false, List, [], ◌∷◌, ◌++◌, take, drop}
+use Rattle.std.proofs.Common.{set, get_or, length, map, if◌then◌else◌, Option, Some, None, Result, Ok, Err, refl, sym}
+use Rattle.std.proofs.Common.{ap, ◌∙◌, arith}
 use Rattle.std.specs.Option.{option_map}
 use Rattle.std.proofs.lemmas.List.{append-nil, drop_all, get_or_default, length-map, take_all}
 use Rattle.std.proofs.lemmas.List.Edits.{map_over_more}
@@ -39,12 +41,15 @@ plain-pairs i [] = refl
 plain-pairs i (digit ∷ []) = refl
 plain-pairs i (high ∷ low ∷ rest) =
     rw (plain-digit high, plain-digit low)
-    (both (plain high) (plain low) high low i (hex_digit_value high) (hex_digit_value low) (decode_pairs (i + 2) (map plain rest)) (decode_pairs (i + 2) rest) (plain-pairs (i + 2) rest))
+    (both (plain high) (plain low) high low i (hex_digit_value high) (hex_digit_value low)
+    (decode_pairs (i + 2) (map plain rest)) (decode_pairs (i + 2) rest) (plain-pairs (i + 2) rest))
 
 plain-bytes : (text : List ℕ) → bytes_in (decode_of (map plain text)) ≡ bytes_in (decode_of text)
 plain-bytes text = rw (length-map text plain) (odd (length text % 2 == 1))
   where
-    odd : (is_odd : Bool) → bytes_in (if is_odd then Err OddLength else decode_pairs 0 (map plain text)) ≡ bytes_in (if is_odd then Err OddLength else decode_pairs 0 text)
+    odd : (is_odd : Bool)
+        → bytes_in (if is_odd then Err OddLength else decode_pairs 0 (map plain text))
+        ≡ bytes_in (if is_odd then Err OddLength else decode_pairs 0 text)
     odd true = refl
     odd false = plain-pairs 0 text
 
@@ -60,7 +65,8 @@ pub plain_segment : (text : List ℕ) → segment_in (map plain text) ≡ segmen
 plain_segment text = of_both (decode_of (map plain text)) ∙ ap of_some (plain-bytes text) ∙ sym (of_both (decode_of text))
 
 -- one byte more becomes plain
-pub plain_more : (xs ys : List ℕ) (i : ℕ) → i < length xs → i < length ys → ys ≡ map plain (take i xs) ++ drop i xs → set ys i (plain (get_or ys i 0)) ≡ map plain (take (i + 1) xs) ++ drop (i + 1) xs
+pub plain_more : (xs ys : List ℕ) (i : ℕ) → i < length xs → i < length ys → ys ≡ map plain (take i xs) ++ drop i xs
+    → set ys i (plain (get_or ys i 0)) ≡ map plain (take (i + 1) xs) ++ drop (i + 1) xs
 plain_more xs ys i h k e = map_over_more plain xs ys i (get_or ys i 0) h e (get_or_default ys i 0 (get_or ys i 0) k)
 
 pub all_plain : (i : ℕ) (xs : List ℕ) → length xs ≤ i → map plain (take i xs) ++ drop i xs ≡ map plain xs

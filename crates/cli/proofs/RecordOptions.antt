@@ -1,5 +1,7 @@
 -- What `clap` reads of an option of a recording.
-use Rattle.std.proofs.Common.{◌≡◌, ◌==◌, ◌≤◌, ◌<◌, ◌&&◌, ℕ, Bool, true, false, List, [], ◌∷◌, ◌++◌, Option, None, Some, Result, Ok, Err, codes, drop, take, length, refl, sym, ap, ◌∙◌, subst, inl, inr, arith, rules, nat_eq, if◌then◌else◌}
+use Rattle.std.proofs.Common.{◌≡◌, ◌==◌, ◌≤◌, ◌<◌, ◌&&◌, ℕ, Bool, true, false, List, [], ◌∷◌, ◌++◌, Option, None, Some}
+use Rattle.std.proofs.Common.{Result, Ok, Err, codes, drop, take, length, refl, sym, ap, ◌∙◌, subst, inl, inr, arith}
+use Rattle.std.proofs.Common.{rules, nat_eq, if◌then◌else◌}
 use Rattle.std.specs.Prelude.{MatchOption}
 use Rattle.std.specs.List.{starts_with}
 use Rattle.std.specs.Str.{bytes_eq}
@@ -92,7 +94,8 @@ pub record IsRead (s : Setting) (words : List Text) (text : Text) : Type 0 where
   pub taken : fault_of (app s) words ≡ [] → passes s text ≡ true
   pub value : one_of (name_of s) (matches_of (app s) words) ≡ Some text
 
-passes_by : (s : Setting) (text : Text) (words : List Text) → (passes s text ≡ false → fault_of (app s) words ≡ [] → ⊥) → fault_of (app s) words ≡ [] → passes s text ≡ true
+passes_by : (s : Setting) (text : Text) (words : List Text) → (passes s text ≡ false → fault_of (app s) words ≡ [] → ⊥)
+    → fault_of (app s) words ≡ [] → passes s text ≡ true
 passes_by s text words refused none = by_case (passes s text) refl
   where
     by_case : (b : Bool) → passes s text ≡ b → passes s text ≡ true
@@ -135,7 +138,8 @@ behind_front n front word e = ap (λ (xs : Text). xs ++ drop n word) e ∙ take-
 
 joined_is : (word : Text) (s : Setting) → joined word ≡ Some s → (text : Text) × (equals s ++ text ≡ word)
 joined_is word s is =
-    three (λ t. (text : Text) × (equals t ++ text ≡ word)) (starts_with nat_eq word (codes "--rounds=")) (starts_with nat_eq word (codes "--lose=")) (starts_with nat_eq word (codes "--format="))
+    three (λ t. (text : Text) × (equals t ++ text ≡ word)) (starts_with nat_eq word (codes "--rounds="))
+    (starts_with nat_eq word (codes "--lose=")) (starts_with nat_eq word (codes "--format="))
     (λ e. (drop 9 word, behind_front 9 (codes "--rounds=") word (same_text _ _ e)))
     (λ e. (drop 7 word, behind_front 7 (codes "--lose=") word (same_text _ _ e)))
     (λ e. (drop 9 word, behind_front 9 (codes "--format=") word (same_text _ _ e))) s is
@@ -155,11 +159,13 @@ counted n k None s is = cc
 counted n k (Some t) s is = let e : (t, n) ≡ (s, k) = cc in (ap (λ (p : Setting × ℕ). Some p.0) e, ap (λ (p : Setting × ℕ). p.1) e)
 
 -- what stands first is one word or two
-one_first : (word : Text) (o : Option Setting) (s : Setting) → (o ≡ Some s → (text : Text) × IsRead s (word ∷ []) text) → or_else (with_count 1 o) None ≡ Some (s, 1) → (text : Text) × IsRead s (word ∷ []) text
+one_first : (word : Text) (o : Option Setting) (s : Setting) → (o ≡ Some s → (text : Text) × IsRead s (word ∷ []) text)
+    → or_else (with_count 1 o) None ≡ Some (s, 1) → (text : Text) × IsRead s (word ∷ []) text
 one_first word None s reads is = cc
 one_first word (Some t) s reads is = let e : (t, 1) ≡ (s, 1) = cc in reads (ap (λ (p : Setting × ℕ). Some p.0) e)
 
-two_first : (word text : Text) (o : Option Setting) (s : Setting) → or_else (with_count 1 o) (apart (word ∷ text ∷ [])) ≡ Some (s, 2) → (t : Text) × IsRead s (word ∷ text ∷ []) t
+two_first : (word text : Text) (o : Option Setting) (s : Setting)
+    → or_else (with_count 1 o) (apart (word ∷ text ∷ [])) ≡ Some (s, 2) → (t : Text) × IsRead s (word ∷ text ∷ []) t
 two_first word text (Some t) s is = let bad : 1 ≡ 2 = (counted 1 2 (Some t) s is).1 in absurd (omega (bad, arith))
 two_first word text None s is = by_case (starts_with nat_eq text (codes "-")) refl
   where
@@ -221,7 +227,8 @@ told_taken s words n ([], inl form, is) = absurd (omega (is.numeral.0, arith))
 told_taken s words n (x ∷ xs, inl form, is) = rw form (apart_taken s x xs (minus_not x xs (no_minus (x ∷ xs) is.numeral)) (spelled_passes s (x ∷ xs) n is))
 
 -- words that are refused for another cause than memory tell no number
-pub refused_option : (s : Setting) (words : List Text) (error : Error) (n : ℕ) → HasKind (fault_of (app s) words) error → (kind_of error ≡ OutOfMemory → ⊥) → TellsNumber s words n → ⊥
+pub refused_option : (s : Setting) (words : List Text) (error : Error) (n : ℕ) → HasKind (fault_of (app s) words) error
+    → (kind_of error ≡ OutOfMemory → ⊥) → TellsNumber s words n → ⊥
 refused_option s words error n has other told = by_kind (subst (λ kinds. HasKind kinds error) (told_taken s words n told) has)
   where
     by_kind : HasKind [] error → ⊥
@@ -239,7 +246,8 @@ told_number E G s words found told only k formed whole none rows reads =
     let passed = accepts-Accepts false (Unsigned (least s) (most s)) text (is.taken none) in
     by_case told text is passed (reads text (one_text-rows found (name_of s) ∙ ap (one_of (name_of s)) rows ∙ is.value))
   where
-    by_case : (o : Option ℕ) (text : Text) → IsRead s words text → IsUnsignedIn (least s) (most s) text → ReadsOne G text o → MatchOption o ((n : ℕ) → ¬ TellsNumber s words n) (TellsNumber s words)
+    by_case : (o : Option ℕ) (text : Text) → IsRead s words text → IsUnsignedIn (least s) (most s) text
+        → ReadsOne G text o → MatchOption o ((n : ℕ) → ¬ TellsNumber s words n) (TellsNumber s words)
     by_case (Some n) text is passed read =
         let parsed = only text (Ok n) read in
         let low = passed.2 in

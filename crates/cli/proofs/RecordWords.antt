@@ -1,5 +1,7 @@
 -- The words that ask for a recording, option by option.
-use Rattle.std.proofs.Common.{◌≡◌, ◌==◌, ◌≤◌, ◌<◌, ◌++◌, ◌-◌, ℕ, suc, Bor, map, Bool, true, false, List, [], ◌∷◌, Option, None, Some, Result, Ok, Err, codes, drop, take, get_or, length, refl, sym, ap, ◌∙◌, subst, inl, inr, arith, nat_eq}
+use Rattle.std.proofs.Common.{◌≡◌, ◌==◌, ◌≤◌, ◌<◌, ◌++◌, ◌-◌, ℕ, suc, Bor, map, Bool, true, false, List, [], ◌∷◌}
+use Rattle.std.proofs.Common.{Option, None, Some, Result, Ok, Err, codes, drop, take, get_or, length, refl, sym, ap}
+use Rattle.std.proofs.Common.{◌∙◌, subst, inl, inr, arith, nat_eq}
 use Rattle.std.specs.Prelude.{IfOk, IfSome, MatchOption}
 use Rattle.std.specs.List.{starts_with}
 use Rattle.std.proofs.lemmas.Bool.{eqb-true}
@@ -137,9 +139,12 @@ head_of d [] = d
 
 told_once : (s : Setting) (words : List Text) (m n : ℕ) → TellsNumber s words m → TellsNumber s words n → m ≡ n
 told_once s words m n (text, inl form, a) (other, inl again, b) = same_number s text other m n (ap (second []) (sym form ∙ again)) a b
-told_once s words m n (text, inl form, a) (other, inr again, b) = let bad : 2 ≡ 1 = ap (λ (xs : List Text). length xs) (sym form ∙ again) in absurd (omega (bad, arith))
-told_once s words m n (text, inr form, a) (other, inl again, b) = let bad : 1 ≡ 2 = ap (λ (xs : List Text). length xs) (sym form ∙ again) in absurd (omega (bad, arith))
-told_once s words m n (text, inr form, a) (other, inr again, b) = same_number s text other m n (append_cancel_left (equals s) text other (ap (head_of []) (sym form ∙ again))) a b
+told_once s words m n (text, inl form, a) (other, inr again, b) = let bad : 2 ≡ 1 =
+    ap (λ (xs : List Text). length xs) (sym form ∙ again) in absurd (omega (bad, arith))
+told_once s words m n (text, inr form, a) (other, inl again, b) = let bad : 1 ≡ 2 =
+    ap (λ (xs : List Text). length xs) (sym form ∙ again) in absurd (omega (bad, arith))
+told_once s words m n (text, inr form, a) (other, inr again, b) =
+    same_number s text other m n (append_cancel_left (equals s) text other (ap (head_of []) (sym form ∙ again))) a b
 
 -- ---- the first option of those that ask
 
@@ -154,19 +159,27 @@ record Begins (s : Setting) (count : ℕ) (words : List Text) (told : GivenSetti
   not_each : plan.lose ≡ 1 → ⊥
   version : IsVersion (listed told.format ++ numbers_of Format ((s, number) ∷ options)) plan.version
 
-begins : (s : Setting) (count : ℕ) (words : List Text) (told : GivenSettings) (plan : Plan) → first_option words ≡ Some (s, count) → AsksRest told words plan → Begins s count words told plan
+begins : (s : Setting) (count : ℕ) (words : List Text) (told : GivenSettings) (plan : Plan)
+    → first_option words ≡ Some (s, count) → AsksRest told words plan → Begins s count words told plan
 begins s count words told plan found asks = go asks.options asks.each asks.rounds asks.lose asks.not_each asks.version
   where
-    go : (options : List (Setting × ℕ)) → TellEach options words → listed told.rounds ++ numbers_of Rounds options ≡ plan.rounds ∷ [] → listed told.lose ++ numbers_of Lose options ≡ plan.lose ∷ [] → (plan.lose ≡ 1 → ⊥)
+    go : (options : List (Setting × ℕ)) → TellEach options words
+        → listed told.rounds ++ numbers_of Rounds options ≡ plan.rounds ∷ []
+        → listed told.lose ++ numbers_of Lose options ≡ plan.lose ∷ [] → (plan.lose ≡ 1 → ⊥)
         → IsVersion (listed told.format ++ numbers_of Format options) plan.version → Begins s count words told plan
-    go [] none rounds lose not_each version = let bad : first_option [] ≡ Some (s, count) = subst (λ (ws : List Text). first_option ws ≡ Some (s, count)) none found in cc
+    go [] none rounds lose not_each version = let bad : first_option [] ≡ Some (s, count) =
+        subst (λ (ws : List Text). first_option ws ≡ Some (s, count)) none found in cc
     go ((t, n) ∷ options) (first, rest, whole, tells, each) rounds lose not_each version =
         let at : Some (t, length first) ≡ Some (s, count) = sym (told_first t first rest n tells) ∙ ap first_option (sym whole) ∙ found in
         let same : (t, length first) ≡ (s, count) = cc in
         let setting : t ≡ s = ap (λ (p : Setting × ℕ). p.0) same in
         let size : length first ≡ count = ap (λ (p : Setting × ℕ). p.1) same in
-        let front : first ≡ take count words = sym (take-append_seam first rest) ∙ ap (λ (ws : List Text). take (length first) ws) (sym whole) ∙ ap (λ (i : ℕ). take i words) size in
-        let back : rest ≡ drop count words = sym (drop-append_seam first rest) ∙ ap (λ (ws : List Text). drop (length first) ws) (sym whole) ∙ ap (λ (i : ℕ). drop i words) size in
+        let front : first ≡ take count words =
+        sym (take-append_seam first rest) ∙ ap (λ (ws : List Text). take (length first) ws) (sym whole)
+        ∙ ap (λ (i : ℕ). take i words) size in
+        let back : rest ≡ drop count words =
+        sym (drop-append_seam first rest) ∙ ap (λ (ws : List Text). drop (length first) ws) (sym whole)
+        ∙ ap (λ (i : ℕ). drop i words) size in
         record {
           number = n;
           options = options;
@@ -181,7 +194,9 @@ begins s count words told plan found asks = go asks.options asks.each asks.round
 -- ---- each way out
 
 -- no words are left
-pub none_left : (told : GivenSettings) (words : List Text) (asked : Option Plan) → words ≡ [] → MatchOption asked ((plan : Plan) → ¬ AsksPlan told plan) (AsksPlan told) → MatchOption asked ((plan : Plan) → ¬ AsksRest told words plan) (AsksRest told words)
+pub none_left : (told : GivenSettings) (words : List Text) (asked : Option Plan) → words ≡ []
+    → MatchOption asked ((plan : Plan) → ¬ AsksPlan told plan) (AsksPlan told)
+    → MatchOption asked ((plan : Plan) → ¬ AsksRest told words plan) (AsksRest told words)
 none_left told words asked none is = by_case asked is
   where
     numbers : (o : Option ℕ) (n : ℕ) → listed o ++ [] ≡ n ∷ [] → o ≡ Some n
@@ -199,7 +214,9 @@ none_left told words asked none is = by_case asked is
     to : (plan : Plan) → AsksRest told words plan → AsksPlan told plan
     to plan asks = go asks.options (subst (λ (ws : List Text). TellEach asks.options ws) none asks.each) asks.rounds asks.lose asks.not_each asks.version
       where
-        go : (options : List (Setting × ℕ)) → TellEach options [] → listed told.rounds ++ numbers_of Rounds options ≡ plan.rounds ∷ [] → listed told.lose ++ numbers_of Lose options ≡ plan.lose ∷ [] → (plan.lose ≡ 1 → ⊥)
+        go : (options : List (Setting × ℕ)) → TellEach options []
+            → listed told.rounds ++ numbers_of Rounds options ≡ plan.rounds ∷ []
+            → listed told.lose ++ numbers_of Lose options ≡ plan.lose ∷ [] → (plan.lose ≡ 1 → ⊥)
             → IsVersion (listed told.format ++ numbers_of Format options) plan.version → AsksPlan told plan
         go [] each rounds lose not_each version = record {
           rounds = numbers told.rounds plan.rounds rounds;
@@ -219,7 +236,8 @@ none_left told words asked none is = by_case asked is
       version = subst (λ (ns : List ℕ). IsVersion ns plan.version) (sym (plain told.format)) asks.version;
     }
 
-    by_case : (o : Option Plan) → MatchOption o ((plan : Plan) → ¬ AsksPlan told plan) (AsksPlan told) → MatchOption o ((plan : Plan) → ¬ AsksRest told words plan) (AsksRest told words)
+    by_case : (o : Option Plan) → MatchOption o ((plan : Plan) → ¬ AsksPlan told plan) (AsksPlan told)
+        → MatchOption o ((plan : Plan) → ¬ AsksRest told words plan) (AsksRest told words)
     by_case None is = λ plan asks. is plan (to plan asks)
     by_case (Some plan) is = from plan is
 
@@ -233,7 +251,9 @@ none_first told words plan none some asks = go asks.options asks.each
         none_some (option.0, length first) (sym none ∙ ap first_option whole ∙ told_first option.0 first rest option.1 tells)
 
 -- the option that stands first tells no number
-pub none_told : (told : GivenSettings) (words : List Text) (plan : Plan) (s : Setting) (count : ℕ) → first_option words ≡ Some (s, count) → ((n : ℕ) → ¬ TellsNumber s (take count words) n) → AsksRest told words plan → ⊥
+pub none_told : (told : GivenSettings) (words : List Text) (plan : Plan) (s : Setting) (count : ℕ)
+    → first_option words ≡ Some (s, count) → ((n : ℕ) → ¬ TellsNumber s (take count words) n) → AsksRest told words plan
+    → ⊥
 none_told told words plan s count found none asks = let b = begins s count words told plan found asks in none b.number b.tells
 
 two_numbers : (o : Option ℕ) (n k m : ℕ) (ns : List ℕ) → o ≡ Some n → listed o ++ k ∷ ns ≡ m ∷ [] → ⊥
@@ -253,7 +273,8 @@ two_versions (Some i) n k ns plan is e = longer (i ∷ k ∷ ns) (omega arith) p
     longer ns lt versions.FourHalf e = absurd e
 
 -- it told one before
-pub told_before : (told : GivenSettings) (words : List Text) (plan : Plan) (s : Setting) (count n : ℕ) → first_option words ≡ Some (s, count) → number_of s told ≡ Some n → AsksRest told words plan → ⊥
+pub told_before : (told : GivenSettings) (words : List Text) (plan : Plan) (s : Setting) (count n : ℕ)
+    → first_option words ≡ Some (s, count) → number_of s told ≡ Some n → AsksRest told words plan → ⊥
 told_before told words plan s count n found is asks = by_case s is (begins s count words told plan found asks)
   where
     by_case : (t : Setting) → number_of t told ≡ Some n → Begins t count words told plan → ⊥
@@ -262,8 +283,12 @@ told_before told words plan s count n found is asks = by_case s is (begins s cou
     by_case Format is b = two_versions told.format n b.number (numbers_of Format b.options) plan is b.version
 
 -- what is asked with its number told is what is asked
-pub told_more : (told : GivenSettings) (words : List Text) (s : Setting) (count n : ℕ) (asked : Option Plan) → first_option words ≡ Some (s, count) → TellsNumber s (take count words) n → take count words ++ drop count words ≡ words → number_of s told ≡ None
-    → MatchOption asked ((plan : Plan) → ¬ AsksRest (telling s n told) (drop count words) plan) (AsksRest (telling s n told) (drop count words)) → MatchOption asked ((plan : Plan) → ¬ AsksRest told words plan) (AsksRest told words)
+pub told_more : (told : GivenSettings) (words : List Text) (s : Setting) (count n : ℕ) (asked : Option Plan)
+    → first_option words ≡ Some (s, count) → TellsNumber s (take count words) n
+    → take count words ++ drop count words ≡ words → number_of s told ≡ None
+    → MatchOption asked ((plan : Plan) → ¬ AsksRest (telling s n told) (drop count words) plan)
+    (AsksRest (telling s n told) (drop count words))
+    → MatchOption asked ((plan : Plan) → ¬ AsksRest told words plan) (AsksRest told words)
 told_more told words s count n asked found tells whole fresh is = by_case asked is
   where
     moved : (o : Option ℕ) (ns : List ℕ) → o ≡ None → listed (Some n) ++ ns ≡ listed o ++ n ∷ ns
@@ -273,7 +298,8 @@ told_more told words s count n asked found tells whole fresh is = by_case asked 
     from : (plan : Plan) → AsksRest (telling s n told) (drop count words) plan → AsksRest told words plan
     from plan asks = go s tells fresh asks
       where
-        go : (t : Setting) → TellsNumber t (take count words) n → number_of t told ≡ None → AsksRest (telling t n told) (drop count words) plan → AsksRest told words plan
+        go : (t : Setting) → TellsNumber t (take count words) n → number_of t told ≡ None
+            → AsksRest (telling t n told) (drop count words) plan → AsksRest told words plan
         go Rounds tells fresh asks = record {
           options = (Rounds, n) ∷ asks.options;
           each = (take count words, drop count words, sym whole, tells, asks.each);
@@ -302,11 +328,15 @@ told_more told words s count n asked found tells whole fresh is = by_case asked 
     to : (plan : Plan) → AsksRest told words plan → AsksRest (telling s n told) (drop count words) plan
     to plan asks = go s tells fresh (begins s count words told plan found asks)
       where
-        go : (t : Setting) → TellsNumber t (take count words) n → number_of t told ≡ None → Begins t count words told plan → AsksRest (telling t n told) (drop count words) plan
+        go : (t : Setting) → TellsNumber t (take count words) n → number_of t told ≡ None
+            → Begins t count words told plan → AsksRest (telling t n told) (drop count words) plan
         go Rounds tells fresh b = record {
           options = b.options;
           each = b.each;
-          rounds = moved told.rounds (numbers_of Rounds b.options) fresh ∙ ap (λ (i : ℕ). listed told.rounds ++ i ∷ numbers_of Rounds b.options) (told_once Rounds _ n b.number tells b.tells) ∙ b.rounds;
+          rounds =
+              moved told.rounds (numbers_of Rounds b.options) fresh
+              ∙ ap (λ (i : ℕ). listed told.rounds ++ i ∷ numbers_of Rounds b.options)
+              (told_once Rounds _ n b.number tells b.tells) ∙ b.rounds;
           lose = b.lose;
           not_each = b.not_each;
           version = b.version;
@@ -315,7 +345,9 @@ told_more told words s count n asked found tells whole fresh is = by_case asked 
           options = b.options;
           each = b.each;
           rounds = b.rounds;
-          lose = moved told.lose (numbers_of Lose b.options) fresh ∙ ap (λ (i : ℕ). listed told.lose ++ i ∷ numbers_of Lose b.options) (told_once Lose _ n b.number tells b.tells) ∙ b.lose;
+          lose = moved told.lose (numbers_of Lose b.options) fresh
+              ∙ ap (λ (i : ℕ). listed told.lose ++ i ∷ numbers_of Lose b.options)
+              (told_once Lose _ n b.number tells b.tells) ∙ b.lose;
           not_each = b.not_each;
           version = b.version;
         }
@@ -325,25 +357,41 @@ told_more told words s count n asked found tells whole fresh is = by_case asked 
           rounds = b.rounds;
           lose = b.lose;
           not_each = b.not_each;
-          version = subst (λ (ns : List ℕ). IsVersion ns plan.version) (sym (moved told.format (numbers_of Format b.options) fresh ∙ ap (λ (i : ℕ). listed told.format ++ i ∷ numbers_of Format b.options) (told_once Format _ n b.number tells b.tells))) b.version;
+          version =
+              subst (λ (ns : List ℕ). IsVersion ns plan.version)
+              (sym (moved told.format (numbers_of Format b.options) fresh
+              ∙ ap (λ (i : ℕ). listed told.format ++ i ∷ numbers_of Format b.options)
+              (told_once Format _ n b.number tells b.tells))) b.version;
         }
 
-    by_case : (o : Option Plan) → MatchOption o ((plan : Plan) → ¬ AsksRest (telling s n told) (drop count words) plan) (AsksRest (telling s n told) (drop count words)) → MatchOption o ((plan : Plan) → ¬ AsksRest told words plan) (AsksRest told words)
+    by_case : (o : Option Plan)
+        → MatchOption o ((plan : Plan) → ¬ AsksRest (telling s n told) (drop count words) plan)
+        (AsksRest (telling s n told) (drop count words))
+        → MatchOption o ((plan : Plan) → ¬ AsksRest told words plan) (AsksRest told words)
     by_case None is = λ plan asks. is plan (to plan asks)
     by_case (Some plan) is = from plan is
 
-pub told_on : (told later : GivenSettings) (words behind : List Text) (s : Setting) (count n : ℕ) (o : Option GivenSettings) (asked : Option Plan) → first_option words ≡ Some (s, count) → TellsNumber s (take count words) n → (number_of s told ≡ None)
-    → o ≡ Some later → (number_of s told ≡ None → o ≡ Some (telling s n told)) → behind ≡ drop count words → MatchOption asked ((plan : Plan) → ¬ AsksRest later behind plan) (AsksRest later behind) → MatchOption asked ((plan : Plan) → ¬ AsksRest told words plan) (AsksRest told words)
+pub told_on : (told later : GivenSettings) (words behind : List Text) (s : Setting) (count n : ℕ)
+    (o : Option GivenSettings) (asked : Option Plan) → first_option words ≡ Some (s, count)
+    → TellsNumber s (take count words) n → (number_of s told ≡ None)
+    → o ≡ Some later → (number_of s told ≡ None → o ≡ Some (telling s n told)) → behind ≡ drop count words
+    → MatchOption asked ((plan : Plan) → ¬ AsksRest later behind plan) (AsksRest later behind)
+    → MatchOption asked ((plan : Plan) → ¬ AsksRest told words plan) (AsksRest told words)
 told_on told later words behind s count n o asked found tells fresh is telling_is back asks =
     let both : Some later ≡ Some (telling s n told) = sym is ∙ telling_is fresh in
     let same : later ≡ telling s n told = cc in
     told_more told words s count n asked found tells (take-append-drop count words) fresh
-    (subst (λ (t : GivenSettings). MatchOption asked ((plan : Plan) → ¬ AsksRest t (drop count words) plan) (AsksRest t (drop count words))) same (subst (λ (ws : List Text). MatchOption asked ((plan : Plan) → ¬ AsksRest later ws plan) (AsksRest later ws)) back asks))
+    (subst (λ (t : GivenSettings).
+    MatchOption asked ((plan : Plan) → ¬ AsksRest t (drop count words) plan) (AsksRest t (drop count words)))
+    same (subst (λ (ws : List Text).
+    MatchOption asked ((plan : Plan) → ¬ AsksRest later ws plan) (AsksRest later ws)) back asks))
 
 -- ---- all words
 
 pub all_words : (told : GivenSettings) (words : List Text) (asked : Option Plan) → told.rounds ≡ None → told.lose ≡ None → told.format ≡ None
-    → MatchOption asked ((plan : Plan) → ¬ AsksRest told words plan) (AsksRest told words) → MatchOption asked ((plan : Plan) → ¬ AsksRecord (codes "record" ∷ words) plan) (AsksRecord (codes "record" ∷ words))
+    → MatchOption asked ((plan : Plan) → ¬ AsksRest told words plan) (AsksRest told words)
+    → MatchOption asked ((plan : Plan) → ¬ AsksRecord (codes "record" ∷ words) plan)
+    (AsksRecord (codes "record" ∷ words))
 all_words told words asked a b c is = by_case asked is
   where
     front : (o : Option ℕ) (ns : List ℕ) → o ≡ None → listed o ++ ns ≡ ns
@@ -375,16 +423,23 @@ all_words told words asked a b c is = by_case asked is
       version = subst (λ (ns : List ℕ). IsVersion ns plan.version) (sym (front told.format _ c)) asks.version;
     }
 
-    by_case : (o : Option Plan) → MatchOption o ((plan : Plan) → ¬ AsksRest told words plan) (AsksRest told words) → MatchOption o ((plan : Plan) → ¬ AsksRecord (codes "record" ∷ words) plan) (AsksRecord (codes "record" ∷ words))
+    by_case : (o : Option Plan) → MatchOption o ((plan : Plan) → ¬ AsksRest told words plan) (AsksRest told words)
+        → MatchOption o ((plan : Plan) → ¬ AsksRecord (codes "record" ∷ words) plan)
+        (AsksRecord (codes "record" ∷ words))
     by_case None is = λ plan asks. is plan (to plan asks)
     by_case (Some plan) is = from plan is
 
-pub all_texts : (told : GivenSettings) (words : List (Bor Text)) (d : Bor Text) (rest : List Text) (asked : Option Plan) → 1 ≤ length words → (get_or words 0 d).now ≡ codes "record" → rest ≡ drop 1 (texts words) → told.rounds ≡ None → told.lose ≡ None → told.format ≡ None
-    → MatchOption asked ((plan : Plan) → ¬ AsksRest told rest plan) (AsksRest told rest) → MatchOption asked ((plan : Plan) → ¬ AsksRecord (texts words) plan) (AsksRecord (texts words))
+pub all_texts : (told : GivenSettings) (words : List (Bor Text)) (d : Bor Text) (rest : List Text) (asked : Option Plan)
+    → 1 ≤ length words → (get_or words 0 d).now ≡ codes "record" → rest ≡ drop 1 (texts words) → told.rounds ≡ None
+    → told.lose ≡ None → told.format ≡ None
+    → MatchOption asked ((plan : Plan) → ¬ AsksRest told rest plan) (AsksRest told rest)
+    → MatchOption asked ((plan : Plan) → ¬ AsksRecord (texts words) plan) (AsksRecord (texts words))
 all_texts told [] d rest asked some first back a b c is = absurd (omega (some, arith))
 all_texts told (word ∷ words) d rest asked some first back a b c is =
     subst (λ (w : Text). MatchOption asked ((plan : Plan) → ¬ AsksRecord (w ∷ texts words) plan) (AsksRecord (w ∷ texts words))) (sym first)
-    (all_words told (texts words) asked a b c (subst (λ (ws : List Text). MatchOption asked ((plan : Plan) → ¬ AsksRest told ws plan) (AsksRest told ws)) back is))
+    (all_words told (texts words) asked a b c
+    (subst (λ (ws : List Text). MatchOption asked ((plan : Plan) → ¬ AsksRest told ws plan) (AsksRest told ws))
+    back is))
 
 -- ---- words ask for one recording
 
@@ -403,7 +458,8 @@ told_alike [] [] words none again = refl
 told_alike [] (other ∷ others) words none (first, rest, whole, tells, each) = absurd (told_some other.0 first rest other.1 tells (sym whole ∙ none))
 told_alike (option ∷ options) [] words (first, rest, whole, tells, each) none = absurd (told_some option.0 first rest option.1 tells (sym whole ∙ none))
 told_alike ((s, m) ∷ options) ((t, n) ∷ others) words (first, rest, whole, tells, each) (front, back, all, also, more) =
-    let at : Some (s, length first) ≡ Some (t, length front) = sym (told_first s first rest m tells) ∙ ap first_option (sym whole ∙ all) ∙ told_first t front back n also in
+    let at : Some (s, length first) ≡ Some (t, length front) =
+    sym (told_first s first rest m tells) ∙ ap first_option (sym whole ∙ all) ∙ told_first t front back n also in
     let same : (s, length first) ≡ (t, length front) = cc in
     let setting : s ≡ t = ap (λ (p : Setting × ℕ). p.0) same in
     let size : length first ≡ length front = ap (λ (p : Setting × ℕ). p.1) same in
@@ -411,7 +467,9 @@ told_alike ((s, m) ∷ options) ((t, n) ∷ others) words (first, rest, whole, t
     let b = first_of words front back all in
     let fronts : first ≡ front = a.front ∙ ap (λ (n : ℕ). take n words) size ∙ sym b.front in
     let backs : rest ≡ back = a.back ∙ ap (λ (n : ℕ). drop n words) size ∙ sym b.back in
-    let number : m ≡ n = told_once t front m n (subst (λ (u : Setting). TellsNumber u front m) setting (subst (λ (ws : List Text). TellsNumber s ws m) fronts tells)) also in
+    let number : m ≡ n =
+    told_once t front m n (subst (λ (u : Setting). TellsNumber u front m) setting
+    (subst (λ (ws : List Text). TellsNumber s ws m) fronts tells)) also in
     let behind : options ≡ others = told_alike options others back (subst (λ (ws : List Text). TellEach options ws) backs each) more in
     ap (λ (u : Setting). (u, m) ∷ options) setting ∙ ap (λ (k : ℕ). (t, k) ∷ options) number ∙ ap (λ (os : List (Setting × ℕ)). (t, n) ∷ os) behind
 
@@ -439,7 +497,9 @@ one_list words p q a b =
 
 pub one_version : (words : List Text) (p q : Plan) → AsksRecord words p → AsksRecord words q → p.version ≡ q.version
 one_version words p q a b =
-    same_version (numbers_of Format b.options) p.version q.version (subst (λ (os : List (Setting × ℕ)). IsVersion (numbers_of Format os) p.version) (one_list words p q a b) a.version) b.version
+    same_version (numbers_of Format b.options) p.version q.version
+    (subst (λ (os : List (Setting × ℕ)). IsVersion (numbers_of Format os) p.version)
+    (one_list words p q a b) a.version) b.version
 
 pub one_count : (words : List Text) (p q : Plan) → AsksRecord words p → AsksRecord words q → p.rounds ≡ q.rounds
 one_count words p q a b =

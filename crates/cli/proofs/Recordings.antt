@@ -6,7 +6,8 @@ use Rattle.two_hosts.specs.Plans.{header_of}
 use Rattle.cli.specs.Recorded.{EndsRecord, WritesCase}
 
 -- two plans of as many rounds and of one version
-case_alike : (p q : Plan) (status : ℕ) (old new : Option (List ℕ)) → p.rounds ≡ q.rounds → p.version ≡ q.version → WritesCase p status old new → WritesCase q status old new
+case_alike : (p q : Plan) (status : ℕ) (old new : Option (List ℕ)) → p.rounds ≡ q.rounds → p.version ≡ q.version
+    → WritesCase p status old new → WritesCase q status old new
 case_alike p q status old new rounds same is = record {
   trace = is.trace;
   witness = is.witness;
@@ -18,6 +19,7 @@ case_alike p q status old new rounds same is = record {
   yes = is.yes;
 }
 
-pub ends_alike : (p q : Plan) (status : ℕ) (old new : Option (List ℕ)) → p.rounds ≡ q.rounds → p.version ≡ q.version → EndsRecord p status old new → EndsRecord q status old new
+pub ends_alike : (p q : Plan) (status : ℕ) (old new : Option (List ℕ)) → p.rounds ≡ q.rounds → p.version ≡ q.version
+    → EndsRecord p status old new → EndsRecord q status old new
 ends_alike p q status old new rounds same (inl (ended, is)) = inl (ended, case_alike p q status old new rounds same is)
 ends_alike p q status old new rounds same (inr memory) = inr memory

@@ -1,5 +1,6 @@
 -- The two words that the command line takes and that name the subcommand `segment` begin with it.
-use Rattle.std.proofs.Common.{◌≡◌, Bool, true, false, List, [], ◌∷◌, Option, None, Some, option_map, codes, refl, ap, ◌∙◌, sym, subst, ◌≢◌, arith, length, map, slice_index_or, Bor, inl, inr}
+use Rattle.std.proofs.Common.{◌≡◌, Bool, true, false, List, [], ◌∷◌, Option, None, Some, option_map, codes, refl, ap}
+use Rattle.std.proofs.Common.{◌∙◌, sym, subst, ◌≢◌, arith, length, map, slice_index_or, Bor, inl, inr}
 use Rattle.std.proofs.lemmas.List.{length-map}
 use Rattle.std.specs.Str.{bytes_eq}
 use Rattle.clap.specs.Words.{HasKind, Kinds, Rule, Text, fault_of, kind_of, subcommand_name_of, subcommand_of, subcommand_rows_of}
@@ -9,7 +10,8 @@ use Rattle.clap.specs.declared.parser.matches.ArgMatches.{ArgMatches}
 use Rattle.clap.specs.Kinds.{or_else}
 use Rattle.clap.specs.Faults.{entered_fault}
 use Rattle.clap.specs.Simple.{built, entered, names_of}
-use Rattle.clap.specs.Walk.{Held, Names, Step, Walk, after_step, arg_by_index, next, nothing_held, subcommand, stop_after, to_positional, trailing, value, walk_from, walked, walked_from, word_met}
+use Rattle.clap.specs.Walk.{Held, Names, Step, Walk, after_step, arg_by_index, next, nothing_held, subcommand}
+use Rattle.clap.specs.Walk.{stop_after, to_positional, trailing, value, walk_from, walked, walked_from, word_met}
 use Rattle.clap.proofs.OnLiterals.{clap_on_literals}
 use Rattle.cli.specs.CommandLine.{tool, is_dashed, AsksCheck, AsksSegment}
 use Rattle.cli.proofs.CheckAlone.{name_first, no_name, same_text}
@@ -51,11 +53,13 @@ or_else_back [] ys e = e
 or_else_back (x ∷ xs) ys e = cc
 
 -- words that are taken are taken by the subcommand that they name
-entered_taken : (words : List Text) → fault_of tool words ≡ [] → entered_fault (built tool) (stop_after (built tool).top.rules (names_of (built tool)) words) ≡ []
+entered_taken : (words : List Text) → fault_of tool words ≡ []
+    → entered_fault (built tool) (stop_after (built tool).top.rules (names_of (built tool)) words) ≡ []
 entered_taken words e = or_else_front _ _ (or_else_back _ _ e)
 
 -- a subcommand that is met at the last word is not `segment`, which lacks its argument there
-not_last : (o : Option (Text × List Text)) → IsLast o → entered_fault (built tool) o ≡ [] → option_map (λ p. p.0) (entered (built tool) o) ≡ Some (codes "segment") → ⊥
+not_last : (o : Option (Text × List Text)) → IsLast o → entered_fault (built tool) o ≡ []
+    → option_map (λ p. p.0) (entered (built tool) o) ≡ Some (codes "segment") → ⊥
 unfolding clap_on_literals
 not_last None short taken named = cc
 not_last (Some (name, rest)) short taken named = by_check (bytes_eq (codes "check") name) refl
@@ -98,14 +102,19 @@ segment_first first word taken named = by_check (bytes_eq (codes "check") first)
         let top = (built tool).top.rules in
         let names = names_of (built tool) in
         let stayed = stays top names first (no_name first e f g) in
-        absurd (not_last (stop_after top names (first ∷ word ∷ [])) (last top names (walked top names (walk_from nothing_held) first) word stayed) (entered_taken (first ∷ word ∷ []) taken) named)
+        absurd (not_last (stop_after top names (first ∷ word ∷ []))
+        (last top names (walked top names (walk_from nothing_held) first) word stayed)
+        (entered_taken (first ∷ word ∷ []) taken) named)
 
     by_segment : (b : Bool) → bytes_eq (codes "check") first ≡ false → bytes_eq (codes "segment") first ≡ b → first ≡ codes "segment"
     by_segment true e f = same_text _ _ f
     by_segment false e f = by_help (bytes_eq (codes "help") first) e f refl
 
     by_check : (b : Bool) → bytes_eq (codes "check") first ≡ b → first ≡ codes "segment"
-    by_check true e = absurd (differ (sym (check_named word) ∙ subst (λ w. option_map (λ p. p.0) (subcommand_of tool (w ∷ word ∷ [])) ≡ Some (codes "segment")) (same_text _ _ e) named))
+    by_check true e =
+        absurd (differ (sym (check_named word)
+        ∙ subst (λ w. option_map (λ p. p.0) (subcommand_of tool (w ∷ word ∷ [])) ≡ Some (codes "segment"))
+        (same_text _ _ e) named))
     by_check false e = by_segment (bytes_eq (codes "segment") first) e refl
 
 -- `segment` and a text that begins with no dash are taken
@@ -128,14 +137,16 @@ pub not_two : (words : List (Bor Text)) → length words ≢ 2 → (text : Text)
 not_two words other text asks = other (sym (length-map words (λ word. word.now)) ∙ ap length asks.0)
 
 -- the words that ask for a segment have its text behind
-pub text_behind : (words : List (Bor Text)) (d : Bor Text) (text : Text) → AsksSegment (map (λ word. word.now) words) text → (slice_index_or words 1 d).now ≡ text
+pub text_behind : (words : List (Bor Text)) (d : Bor Text) (text : Text)
+    → AsksSegment (map (λ word. word.now) words) text → (slice_index_or words 1 d).now ≡ text
 text_behind [] d text asks = cc (asks.0)
 text_behind (a ∷ []) d text asks = cc (asks.0)
 text_behind (a ∷ b ∷ []) d text asks = cc (asks.0)
 text_behind (a ∷ b ∷ x ∷ xs) d text asks = cc (asks.0)
 
 -- words with a dash before the second do not ask for a segment
-pub not_dashed : (words : List (Bor Text)) (d : Bor Text) → true ≡ is_dashed (slice_index_or words 1 d).now → (text : Text) → ¬ AsksSegment (map (λ word. word.now) words) text
+pub not_dashed : (words : List (Bor Text)) (d : Bor Text) → true ≡ is_dashed (slice_index_or words 1 d).now
+    → (text : Text) → ¬ AsksSegment (map (λ word. word.now) words) text
 not_dashed words d dashed text asks =
     let both : true ≡ false = dashed ∙ ap is_dashed (text_behind words d text asks) ∙ asks.1 in
     cc
@@ -169,7 +180,8 @@ other_name name differs named =
     cc
 
 -- words that ask for a segment are refused only where memory ran out
-pub segment_refused_at : (words : List Text) (text : Text) (error : Error) → HasKind (fault_of tool words) error → (kind_of error ≡ OutOfMemory → ⊥) → AsksSegment words text → ⊥
+pub segment_refused_at : (words : List Text) (text : Text) (error : Error) → HasKind (fault_of tool words) error
+    → (kind_of error ≡ OutOfMemory → ⊥) → AsksSegment words text → ⊥
 segment_refused_at words text error has other asks = by_kind (subst (λ kinds. HasKind kinds error) (ap (fault_of tool) asks.0 ∙ segment_taken text asks.1) has)
   where
     by_kind : HasKind [] error → ⊥

@@ -1,5 +1,6 @@
 -- Where the first LF of some bytes stands.
-use Rattle.std.proofs.Common.{◌≡◌, ◌<◌, ◌≤◌, ◌+◌, ◌==◌, true, sym, ap, ◌∙◌, arith, ℕ, List, [], ◌∷◌, ◌++◌, length, take, slice_index, get_or, get_or-take, eqb-true, eq-eqb}
+use Rattle.std.proofs.Common.{◌≡◌, ◌<◌, ◌≤◌, ◌+◌, ◌==◌, true, sym, ap, ◌∙◌, arith, ℕ, List, [], ◌∷◌, ◌++◌, length, take}
+use Rattle.std.proofs.Common.{slice_index, get_or, get_or-take, eqb-true, eq-eqb}
 use Rattle.std.proofs.lemmas.List.{take_more, get_or_default}
 use Rattle.std.proofs.lemmas.Grind.{common_steps}
 use Rattle.counted.specs.LineParts.{HasNoFeed, EndsAtFeed}
@@ -7,7 +8,8 @@ use Rattle.counted.specs.LineParts.{HasNoFeed, EndsAtFeed}
 byte_is : (b : ℕ) → (b == 10) ≡ true → b ≡ 10
 byte_is b h = eqb-true b 10 h
 
-none_before : (bytes : List ℕ) (m at : ℕ) → at ≤ length (take m bytes) → ((k : ℕ) → 0 ≤ k → k < at → (slice_index (take m bytes) k == 10) ≡ true → ⊥) → HasNoFeed (take at bytes)
+none_before : (bytes : List ℕ) (m at : ℕ) → at ≤ length (take m bytes)
+    → ((k : ℕ) → 0 ≤ k → k < at → (slice_index (take m bytes) k == 10) ≡ true → ⊥) → HasNoFeed (take at bytes)
 none_before bytes m at le none = λ k d lt is.
     let within : length (take m bytes) ≤ m = grind (arith, common_steps) in
     let long : length (take m bytes) ≤ length bytes = grind (arith, common_steps) in
@@ -17,7 +19,9 @@ none_before bytes m at le none = λ k d lt is.
     let same : get_or bytes k d ≡ get_or bytes k 0 = get_or_default bytes k d 0 (omega arith) in
     none k (omega arith) (omega arith) (eq-eqb _ _ (there ∙ sym same ∙ sym here ∙ is))
 
-pub feed_at : (bytes : List ℕ) (m at : ℕ) → at < length (take m bytes) → ((k : ℕ) → 0 ≤ k → k < at → (slice_index (take m bytes) k == 10) ≡ true → ⊥) → (slice_index (take m bytes) at == 10) ≡ true → EndsAtFeed (take (at + 1) bytes)
+pub feed_at : (bytes : List ℕ) (m at : ℕ) → at < length (take m bytes)
+    → ((k : ℕ) → 0 ≤ k → k < at → (slice_index (take m bytes) k == 10) ≡ true → ⊥)
+    → (slice_index (take m bytes) at == 10) ≡ true → EndsAtFeed (take (at + 1) bytes)
 feed_at bytes m at lt none is =
     let within : length (take m bytes) ≤ m = grind (arith, common_steps) in
     let long : length (take m bytes) ≤ length bytes = grind (arith, common_steps) in
@@ -25,5 +29,7 @@ feed_at bytes m at lt none is =
     let feed : get_or bytes at 0 ≡ 10 = sym there ∙ eqb-true _ _ is in
     (take at bytes, none_before bytes m at (omega arith) none, take_more bytes at 0 (omega arith) ∙ ap (λ (b : ℕ). take at bytes ++ b ∷ []) feed)
 
-pub no_feed : (bytes : List ℕ) (m : ℕ) → ((k : ℕ) → 0 ≤ k → k < length (take m bytes) → (slice_index (take m bytes) k == 10) ≡ true → ⊥) → HasNoFeed (take (length (take m bytes)) bytes)
+pub no_feed : (bytes : List ℕ) (m : ℕ)
+    → ((k : ℕ) → 0 ≤ k → k < length (take m bytes) → (slice_index (take m bytes) k == 10) ≡ true → ⊥)
+    → HasNoFeed (take (length (take m bytes)) bytes)
 no_feed bytes m none = none_before bytes m (length (take m bytes)) (omega arith) none

@@ -1,5 +1,7 @@
 -- A line that is read piece by piece.
-use Rattle.std.proofs.Common.{◌==◌, false, ◌≡◌, ◌≢◌, ◌<◌, ◌≤◌, ◌+◌, ◌⊎◌, inl, inr, refl, sym, ap, subst, ◌∙◌, arith, ℕ, zero, suc, List, [], ◌∷◌, ◌++◌, Option, None, Some, OnSome, length, take, drop, append_assoc, append-nil, length-append}
+use Rattle.std.proofs.Common.{◌==◌, false, ◌≡◌, ◌≢◌, ◌<◌, ◌≤◌, ◌+◌, ◌⊎◌, inl, inr, refl, sym, ap, subst, ◌∙◌, arith, ℕ}
+use Rattle.std.proofs.Common.{zero, suc, List, [], ◌∷◌, ◌++◌, Option, None, Some, OnSome, length, take, drop}
+use Rattle.std.proofs.Common.{append_assoc, append-nil, length-append}
 use Rattle.std.proofs.lemmas.List.Elements.{All-append, All-head, All-tail}
 use Rattle.std.specs.Io.{StartsWith}
 use Rattle.std.specs.Io.KnownBytes.{Consumes, IsAtEnd}
@@ -19,7 +21,9 @@ keeps_more most before front line more k =
       begins = λ some. let b = k.begins some in (b.0, b.1 ++ more, ap (λ (xs : List ℕ). xs ++ more) b.2, b.3);
     }
 
-pub more_so_far : (most before : ℕ) (line next : List ℕ) (a b c : Option (List ℕ)) → SoFar most before line a b → StartsWith next line → Consumes b c (drop (length line) next) → HasNoFeed (drop (length line) next) → SoFar most before next a c
+pub more_so_far : (most before : ℕ) (line next : List ℕ) (a b c : Option (List ℕ)) → SoFar most before line a b
+    → StartsWith next line → Consumes b c (drop (length line) next) → HasNoFeed (drop (length line) next)
+    → SoFar most before next a c
 more_so_far most before line next a b c s starts took none =
     let app : List ℕ = drop (length line) next in
     let is : next ≡ line ++ app = starts_with_rest next line starts in
@@ -35,7 +39,9 @@ last_is [] [] one none = absurd (omega arith)
 last_is [] (c ∷ rest) one none = (c, rest, refl, All-head (λ x. x ≢ 10) c rest none)
 last_is (x ∷ front) new one none = last_is front new one (All-tail (λ x. x ≢ 10) x (front ++ new) none)
 
-pub dropped_so_far : (most before n : ℕ) (line new : List ℕ) (a b : Option (List ℕ)) → SoFar most before line a b → most < length line → n + 1 ≡ length line → line ≡ take n line ++ new → length new ≡ 1 → SoFar most (before + n) new a b
+pub dropped_so_far : (most before n : ℕ) (line new : List ℕ) (a b : Option (List ℕ)) → SoFar most before line a b
+    → most < length line → n + 1 ≡ length line → line ≡ take n line ++ new → length new ≡ 1
+    → SoFar most (before + n) new a b
 dropped_so_far most before n line new a b s long count is one =
     let whole : s.0 ++ line ≡ (s.0 ++ take n line) ++ new = ap (λ (xs : List ℕ). s.0 ++ xs) is ∙ sym (append_assoc s.0 (take n line) new) in
     let none : HasNoFeed ((s.0 ++ take n line) ++ new) = subst HasNoFeed whole s.2 in
@@ -53,8 +59,10 @@ at_end None b c bs took end = tt
 at_end (Some xs) None c bs took end = absurd took
 at_end (Some xs) (Some ys) c bs took end = end
 
-pub line_ended : (most before : ℕ) (line next : List ℕ) (a b c : Option (List ℕ)) → SoFar most before line a b → StartsWith next line → Consumes b c (drop (length line) next)
-    → EndsAtFeed (drop (length line) next) ⊎ ((drop (length line) next ≡ []) × OnSome b (IsAtEnd c)) → 0 < before + length next → GivesLine most a c (Some before) next
+pub line_ended : (most before : ℕ) (line next : List ℕ) (a b c : Option (List ℕ)) → SoFar most before line a b
+    → StartsWith next line → Consumes b c (drop (length line) next)
+    → EndsAtFeed (drop (length line) next) ⊎ ((drop (length line) next ≡ []) × OnSome b (IsAtEnd c))
+    → 0 < before + length next → GivesLine most a c (Some before) next
 line_ended most before line next a b c s starts took ended some =
     let app : List ℕ = drop (length line) next in
     let is : next ≡ line ++ app = starts_with_rest next line starts in
@@ -84,7 +92,8 @@ not_zero zero h = absurd cc
 not_zero (suc n) h = omega arith
 
 -- nothing was read, and nothing is left
-pub none_read : (most : ℕ) (line next : List ℕ) (a b c : Option (List ℕ)) → SoFar most 0 line a b → StartsWith next line → Consumes b c (drop (length line) next)
+pub none_read : (most : ℕ) (line next : List ℕ) (a b c : Option (List ℕ)) → SoFar most 0 line a b → StartsWith next line
+    → Consumes b c (drop (length line) next)
     → EndsAtFeed (drop (length line) next) ⊎ ((drop (length line) next ≡ []) × OnSome b (IsAtEnd c)) → length next ≡ 0 → GivesLine most a c None next
 none_read most line next a b c s starts took ended none =
     let app : List ℕ = drop (length line) next in

@@ -46,7 +46,9 @@ use Rattle.spec_tcp_laws.proofs.Rules.{map_or_cases, not_false}
 use Rattle.endpoint_state.specs.Keeping.{IsSmallAct, IsSmallAnswer}
 use Rattle.endpoint_state.proofs.Lists.{all_modify, all_push, length_modify, length_push}
 use Rattle.endpoint_state.proofs.Forgets.{IsBounded, bounded, bounded_later, kept_later, all_kept_forgotten}
-use Rattle.endpoint_state.proofs.Effects.{after_shut_bounded, after_close_bounded, after_abort_bounded, orphaned_bounded, accepted_bounded, after_send_bounded, after_recv_bounded, after_making_bounded, after_expiry_bounded, after_recovery_bounded}
+use Rattle.endpoint_state.proofs.Effects.{after_shut_bounded, after_close_bounded, after_abort_bounded}
+use Rattle.endpoint_state.proofs.Effects.{orphaned_bounded, accepted_bounded, after_send_bounded, after_recv_bounded}
+use Rattle.endpoint_state.proofs.Effects.{after_making_bounded, after_expiry_bounded, after_recovery_bounded}
 use Rattle.endpoint_state.proofs.Segments.{read_small}
 use Rattle.endpoint_state.proofs.Takes.{child_bounded, endpoint_taken_bounded}
 
@@ -57,7 +59,12 @@ record IsBoundedBody (steps : ℕ) (b : HostTcp) : Type 0 where
   pub listeners : length b.listeners ≤ steps
 
 bounded_body : (steps : ℕ) (b : HostTcp) → IsKeptBody steps b → IsBoundedBody steps b
-bounded_body steps b k = record { bounded = All-weaker (IsKept steps) (IsBounded steps) (bounded steps) b.endpoints k.kept; endpoints = k.endpoints; listeners = k.listeners }
+bounded_body steps b k =
+    record {
+      bounded = All-weaker (IsKept steps) (IsBounded steps) (bounded steps) b.endpoints k.kept;
+      endpoints = k.endpoints;
+      listeners = k.listeners;
+    }
 
 kept_body_forgotten : (steps : ℕ) (b : HostTcp) → IsBoundedBody steps b → IsKeptBody steps (forget_body b)
 kept_body_forgotten steps b k =
@@ -86,7 +93,9 @@ body_later steps b k =
     record { bounded = all_later steps b.endpoints k.bounded; endpoints = omega arith; listeners = omega arith }
 
 -- the endpoint at a place changes
-place_bounded : (steps : ℕ) (b : HostTcp) (i : ℕ) (f : Endpoint → Endpoint) → ((e : Endpoint) → slice_get b.endpoints i ≡ Some e → IsBounded steps e → IsBounded (suc steps) (f e)) → IsBoundedBody steps b → IsBoundedBody (suc steps) (with_endpoint b i f)
+place_bounded : (steps : ℕ) (b : HostTcp) (i : ℕ) (f : Endpoint → Endpoint)
+    → ((e : Endpoint) → slice_get b.endpoints i ≡ Some e → IsBounded steps e → IsBounded (suc steps) (f e))
+    → IsBoundedBody steps b → IsBoundedBody (suc steps) (with_endpoint b i f)
 place_bounded steps b i f grows k =
     let same = length_modify f b.endpoints i in
     let endpoints = k.endpoints in
@@ -97,12 +106,16 @@ place_bounded steps b i f grows k =
       listeners = omega arith;
     }
 
-ports_bounded : (steps : ℕ) (b : HostTcp) (lport rport : ℕ) (f : Endpoint → Endpoint) → ((e : Endpoint) → IsBounded steps e → IsBounded (suc steps) (f e)) → IsBoundedBody steps b → IsBoundedBody (suc steps) (at_ports b lport rport f)
+ports_bounded : (steps : ℕ) (b : HostTcp) (lport rport : ℕ) (f : Endpoint → Endpoint)
+    → ((e : Endpoint) → IsBounded steps e → IsBounded (suc steps) (f e)) → IsBoundedBody steps b
+    → IsBoundedBody (suc steps) (at_ports b lport rport f)
 ports_bounded steps b lport rport f grows k =
-    map_or_cases (IsBoundedBody (suc steps)) (place_of b lport rport) b (λ i. with_endpoint b i f) (λ none. body_later steps b k) (λ i at. place_bounded steps b i f (λ e there. grows e) k)
+    map_or_cases (IsBoundedBody (suc steps)) (place_of b lport rport) b (λ i. with_endpoint b i f)
+    (λ none. body_later steps b k) (λ i at. place_bounded steps b i f (λ e there. grows e) k)
 
 -- an endpoint joins
-joins_bounded : (steps : ℕ) (b : HostTcp) (e : Endpoint) → IsBounded (suc steps) e → IsBoundedBody steps b → IsBoundedBody (suc steps) (record b { endpoints = b.endpoints ++ e ∷ [] })
+joins_bounded : (steps : ℕ) (b : HostTcp) (e : Endpoint) → IsBounded (suc steps) e → IsBoundedBody steps b
+    → IsBoundedBody (suc steps) (record b { endpoints = b.endpoints ++ e ∷ [] })
 joins_bounded steps b e new k =
     let listeners = k.listeners in
     record {
@@ -113,7 +126,9 @@ joins_bounded steps b e new k =
 
 -- 2. calls
 
-changed_bounded : (steps : ℕ) (b : HostTcp) (n : ℕ) (f : Endpoint → Endpoint) → ((e : Endpoint) → IsBounded steps e → IsBounded (suc steps) (f e)) → IsBoundedBody steps b → IsBoundedBody (suc steps) (change b n f)
+changed_bounded : (steps : ℕ) (b : HostTcp) (n : ℕ) (f : Endpoint → Endpoint)
+    → ((e : Endpoint) → IsBounded steps e → IsBounded (suc steps) (f e)) → IsBoundedBody steps b
+    → IsBoundedBody (suc steps) (change b n f)
 changed_bounded steps b n f grows k = by (thing_of b n)
   where
     by : (o : Option SocketTarget) → IsBoundedBody (suc steps) (option_map_or (change_thing b f) o b)
@@ -121,18 +136,28 @@ changed_bounded steps b n f grows k = by (thing_of b n)
     by (Some (ListenerAt l)) = body_later steps b k
     by (Some (EndpointAt i)) = place_bounded steps b i f (λ e there. grows e) k
 
-recv_bounded : (steps : ℕ) (b : HostTcp) (n most : ℕ) (bytes : List ℕ) → call_allows b (calls.Recv n most) (answers.Bytes bytes) ≡ true → IsBoundedBody steps b → IsBoundedBody (suc steps) (change b n (after_recv bytes))
+recv_bounded : (steps : ℕ) (b : HostTcp) (n most : ℕ) (bytes : List ℕ)
+    → call_allows b (calls.Recv n most) (answers.Bytes bytes) ≡ true → IsBoundedBody steps b
+    → IsBoundedBody (suc steps) (change b n (after_recv bytes))
 recv_bounded steps b n most bytes allowed k = by (thing_of b n) allowed
   where
-    by : (o : Option SocketTarget) → option_map_or (thing_allows b (calls.Recv n most) (answers.Bytes bytes)) o (is_bad_socket (answers.Bytes bytes)) ≡ true → IsBoundedBody (suc steps) (option_map_or (change_thing b (after_recv bytes)) o b)
+    by : (o : Option SocketTarget)
+        → option_map_or (thing_allows b (calls.Recv n most) (answers.Bytes bytes)) o
+        (is_bad_socket (answers.Bytes bytes)) ≡ true
+        → IsBoundedBody (suc steps) (option_map_or (change_thing b (after_recv bytes)) o b)
     by None h = body_later steps b k
     by (Some (ListenerAt l)) h = body_later steps b k
     by (Some (EndpointAt i)) h =
         place_bounded steps b i (after_recv bytes)
-        (λ e there. after_recv_bounded most bytes steps e (subst (λ (o : Option Endpoint). option_map_or (λ x. endpoint_allows x (calls.Recv n most) (answers.Bytes bytes)) o false ≡ true) there h))
+        (λ e there. after_recv_bounded most bytes steps e
+        (subst (λ (o : Option Endpoint).
+        option_map_or (λ x. endpoint_allows x (calls.Recv n most) (answers.Bytes bytes)) o false ≡ true) there
+        h))
         k
 
-gone_bounded : (steps : ℕ) (b : HostTcp) (n : ℕ) (f : Endpoint → Endpoint) → ((e : Endpoint) → IsBounded steps e → IsBounded (suc steps) (f e)) → IsBoundedBody steps b → IsBoundedBody (suc steps) (after_gone b n f)
+gone_bounded : (steps : ℕ) (b : HostTcp) (n : ℕ) (f : Endpoint → Endpoint)
+    → ((e : Endpoint) → IsBounded steps e → IsBounded (suc steps) (f e)) → IsBoundedBody steps b
+    → IsBoundedBody (suc steps) (after_gone b n f)
 gone_bounded steps b n f grows k = by (thing_of b n)
   where
     -- socket numbers are not spoken of
@@ -146,7 +171,10 @@ gone_bounded steps b n f grows k = by (thing_of b n)
         let endpoints = k.endpoints in
         let listeners = k.listeners in
         record {
-          bounded = All-map (IsBounded (suc steps)) (orphaned l) b.endpoints (All-weaker (IsBounded steps) (λ e. IsBounded (suc steps) (orphaned l e)) (orphaned_bounded steps l) b.endpoints k.bounded);
+          bounded =
+              All-map (IsBounded (suc steps)) (orphaned l) b.endpoints
+              (All-weaker (IsBounded steps) (λ e. IsBounded (suc steps) (orphaned l e))
+              (orphaned_bounded steps l) b.endpoints k.bounded);
           endpoints = omega arith;
           listeners = omega arith;
         }
@@ -156,7 +184,8 @@ gone_bounded steps b n f grows k = by (thing_of b n)
     by (Some (ListenerAt l)) = plain (without_listener b l) (orphans l)
     by (Some (EndpointAt i)) = plain (with_endpoint b i f) (place_bounded steps b i f (λ e there. grows e) k)
 
-accept_bounded : (steps : ℕ) (b : HostTcp) (n : ℕ) (o : Option SocketTarget) → IsBoundedBody steps b → IsBoundedBody (suc steps) (option_map_or (after_accept b n) o b)
+accept_bounded : (steps : ℕ) (b : HostTcp) (n : ℕ) (o : Option SocketTarget) → IsBoundedBody steps b
+    → IsBoundedBody (suc steps) (option_map_or (after_accept b n) o b)
 accept_bounded steps b n o k = by o
   where
     from : (l : ℕ) (queue : List ℕ) → IsBoundedBody (suc steps) (accepted_from b l n queue)
@@ -202,7 +231,8 @@ call_bounded p steps b (calls.Listen host port backlog) (answers.Given n) small 
     socket_bounded (suc steps) (record b { listeners = b.listeners ++ l ∷ [] }) _ refl refl (listened_bounded steps b l k)
 call_bounded p steps b (calls.Connect host lport rport) (answers.Given n) small allowed k =
     let e = new_endpoint lport rport None states.SynSent p in
-    socket_bounded (suc steps) (record b { endpoints = b.endpoints ++ e ∷ [] }) _ refl refl (joins_bounded steps b e (opened_bounded p lport rport (suc steps)) k)
+    socket_bounded (suc steps) (record b { endpoints = b.endpoints ++ e ∷ [] }) _ refl refl
+    (joins_bounded steps b e (opened_bounded p lport rport (suc steps)) k)
 call_bounded p steps b (calls.Accept h) (answers.Given n) small allowed k = accept_bounded steps b n (thing_of b h) k
 call_bounded p steps b (calls.Send h bytes) (answers.Given n) small allowed k =
     changed_bounded steps b h (after_send bytes n) (after_send_bounded bytes n small steps) k
@@ -217,35 +247,48 @@ call_bounded p steps b _ _ small allowed k = body_later steps b k
 length_joined : (b : HostTcp) (i : ℕ) (e : Endpoint) (m : Emission) → length (joined b i e m) ≡ length b.listeners
 length_joined b i e m = by (is_syn_received e.state && acknowledges_syn e m) e.listener
   where
-    by : (c : Bool) (o : Option ℕ) → length (if c then option_map_or (λ l. modify b.listeners l (λ x. record x { queue = x.queue ++ i ∷ [] })) o b.listeners else b.listeners) ≡ length b.listeners
+    by : (c : Bool) (o : Option ℕ)
+        → length (if c then option_map_or
+        (λ l. modify b.listeners l (λ x. record x { queue = x.queue ++ i ∷ [] })) o b.listeners else b.listeners)
+        ≡ length b.listeners
     by true None = refl
     by true (Some l) = length_modify (λ (x : Listener). record x { queue = x.queue ++ i ∷ [] }) b.listeners l
     by false o = refl
 
-taking_bounded : (h : Header) (how : TakeChoice) (m : Emission) (moment steps : ℕ) (b : HostTcp) (t : Taker) → m.ack < 2 ^ 63 → IsBoundedBody steps b → IsBoundedBody (suc steps) (after_taking h b how m moment t)
+taking_bounded : (h : Header) (how : TakeChoice) (m : Emission) (moment steps : ℕ) (b : HostTcp) (t : Taker)
+    → m.ack < 2 ^ 63 → IsBoundedBody steps b → IsBoundedBody (suc steps) (after_taking h b how m moment t)
 taking_bounded h how m moment steps b Nobody small k = body_later steps b k
 taking_bounded h how m moment steps b (AtListener l) small k =
     joins_bounded steps b (child (profile_of h) l how m moment) (child_bounded (profile_of h) l how m moment (suc steps)) k
 taking_bounded h how m moment steps b (AtEndpoint i e) small k =
     let read = as_read h.version e m in
-    let one = place_bounded steps b i (λ x. endpoint_taken h x how read moment) (λ x there. endpoint_taken_bounded h how read moment steps x (read_small h.version e m small)) k in
+    let one =
+    place_bounded steps b i (λ x. endpoint_taken h x how read moment)
+    (λ x there. endpoint_taken_bounded h how read moment steps x (read_small h.version e m small)) k in
     let same = length_joined b i e read in
     let listeners = k.listeners in
     record { bounded = one.bounded; endpoints = one.endpoints; listeners = omega arith }
 
 -- 4. all acts
 
-act_bounded : (h : Header) (me : Host) (moment steps : ℕ) (b : HostTcp) (act : Act) → IsSmallAct act → first_broken (act_rules h me moment b act) ≡ None → IsBoundedBody steps b → IsBoundedBody (suc steps) (act_after h me moment b act)
+act_bounded : (h : Header) (me : Host) (moment steps : ℕ) (b : HostTcp) (act : Act) → IsSmallAct act
+    → first_broken (act_rules h me moment b act) ≡ None → IsBoundedBody steps b
+    → IsBoundedBody (suc steps) (act_after h me moment b act)
 act_bounded h me moment steps b (Calls call answer) small permitted k =
     let all = none_all (act_rules h me moment b (Calls call answer)) permitted in
     call_bounded (profile_of h) steps b call answer small (not_false (call_allows b call answer) all.0) k
-act_bounded h me moment steps b (Makes m) small permitted k = ports_bounded steps b m.lport m.rport (λ e. after_making e m moment) (after_making_bounded m moment steps) k
+act_bounded h me moment steps b (Makes m) small permitted k =
+    ports_bounded steps b m.lport m.rport (λ e. after_making e m moment) (after_making_bounded m moment steps) k
 act_bounded h me moment steps b (Takes how m) small permitted k = taking_bounded h how m moment steps b (taker b m) small.ack k
 act_bounded h me moment steps b (Resets m) small permitted k = body_later steps b k
-act_bounded h me moment steps b (Expires x) small permitted k = ports_bounded steps b x.lport x.rport (λ e. after_expiry e x.expired moment) (after_expiry_bounded x.expired moment steps) k
+act_bounded h me moment steps b (Expires x) small permitted k =
+    ports_bounded steps b x.lport x.rport (λ e. after_expiry e x.expired moment)
+    (after_expiry_bounded x.expired moment steps) k
 act_bounded h me moment steps b (Recovers x) small permitted k =
     ports_bounded steps b x.lport x.rport (λ e. after_recovery e x.cwnd x.ssthresh moment) (after_recovery_bounded x.cwnd x.ssthresh moment steps) k
 
-pub body_keeps : (h : Header) (me : Host) (moment steps : ℕ) (b : HostTcp) (act : Act) → IsSmallAct act → first_broken (act_rules h me moment b act) ≡ None → IsKeptBody steps b → IsKeptBody (suc steps) (forget_body (act_after h me moment b act))
+pub body_keeps : (h : Header) (me : Host) (moment steps : ℕ) (b : HostTcp) (act : Act) → IsSmallAct act
+    → first_broken (act_rules h me moment b act) ≡ None → IsKeptBody steps b
+    → IsKeptBody (suc steps) (forget_body (act_after h me moment b act))
 body_keeps h me moment steps b act small permitted k =
     kept_body_forgotten (suc steps) (act_after h me moment b act) (act_bounded h me moment steps b act small permitted (bounded_body steps b k))

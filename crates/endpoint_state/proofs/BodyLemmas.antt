@@ -18,5 +18,7 @@ forgot_push [] e room is = ap (λ (x : Endpoint). x ∷ []) (sym is)
 forgot_push (x ∷ es) e room is = let here = forget_same x (first x es room).forgets in let rest = forgot_push es e (later x es room) is in cc
 
 -- the parts of a host
-pub body_is : (es es' : List Endpoint) (xs xs' : List Listener) (ss ss' : List (ℕ × Socket)) → es ≡ es' → xs ≡ xs' → ss ≡ ss' → (let b : HostTcp = record { endpoints = es; listeners = xs; sockets = ss } in b) ≡ record { endpoints = es'; listeners = xs'; sockets = ss' }
+pub body_is : (es es' : List Endpoint) (xs xs' : List Listener) (ss ss' : List (ℕ × Socket)) → es ≡ es' → xs ≡ xs'
+    → ss ≡ ss' → (let b : HostTcp = record { endpoints = es; listeners = xs; sockets = ss } in b)
+    ≡ record { endpoints = es'; listeners = xs'; sockets = ss' }
 body_is es es' xs xs' ss ss' e x s = rw (e, x, s) refl

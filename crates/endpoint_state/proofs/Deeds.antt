@@ -26,22 +26,30 @@ Host_ = HostState tcp_shape
 abbrev pub parts : HostTcp → List (ℕ × Made Emission) → List (ℕ × Emission) → List (ℕ × Option Emission) → Host_
 parts b made wire inbox = record { body = b; made = made; wire = wire; inbox = inbox }
 
-pub took : (hd : Header) (moment line : ℕ) (how : TakeChoice) (m : Emission) (h : Host_) (b new : HostTcp) (made : List (ℕ × Made Emission)) (wire : List (ℕ × Emission)) (inbox : List (ℕ × Option Emission))
+pub took : (hd : Header) (moment line : ℕ) (how : TakeChoice) (m : Emission) (h : Host_) (b new : HostTcp)
+    (made : List (ℕ × Made Emission)) (wire : List (ℕ × Emission)) (inbox : List (ℕ × Option Emission))
     → parts b made wire inbox ≡ h → waiting line h.inbox ≡ Some m → new ≡ forget_body (after_taking hd b how m moment (taker b m))
     → parts new made wire (inbox_settled line inbox) ≡ forget_host (taken_one hd moment line how h)
 took hd moment line how m h b new made wire inbox is waits new_is =
-    subst (λ (h : Host_). waiting line h.inbox ≡ Some m → parts new made wire (inbox_settled line inbox) ≡ forget_host (taken_one hd moment line how h)) is (λ waits. rw (waits, new_is) refl) waits
+    subst (λ (h : Host_). waiting line h.inbox ≡ Some m
+    → parts new made wire (inbox_settled line inbox) ≡ forget_host (taken_one hd moment line how h)) is
+    (λ waits. rw (waits, new_is) refl) waits
 
-pub answered : (line fresh : ℕ) (m : Emission) (h : Host_) (b : HostTcp) (made : List (ℕ × Made Emission)) (wire : List (ℕ × Emission)) (inbox : List (ℕ × Option Emission))
+pub answered : (line fresh : ℕ) (m : Emission) (h : Host_) (b : HostTcp) (made : List (ℕ × Made Emission))
+    (wire : List (ℕ × Emission)) (inbox : List (ℕ × Option Emission))
     → parts b made wire inbox ≡ h → waiting line h.inbox ≡ Some m
     → parts b (insert_entry nat_eq made fresh (unsent (reset_of m))) wire (inbox_settled line inbox) ≡ answered_one line fresh h
 answered line fresh m h b made wire inbox is waits =
-    subst (λ (h : Host_). waiting line h.inbox ≡ Some m → parts b (insert_entry nat_eq made fresh (unsent (reset_of m))) wire (inbox_settled line inbox) ≡ answered_one line fresh h) is
+    subst (λ (h : Host_). waiting line h.inbox ≡ Some m
+    → parts b (insert_entry nat_eq made fresh (unsent (reset_of m))) wire (inbox_settled line inbox)
+    ≡ answered_one line fresh h) is
     (λ waits. rw waits refl) waits
 
 -- the endpoint at that place makes a segment
-pub made_is : (me : Host) (moment fresh place : ℕ) (plan : SegmentPlan) (m : Emission) (h : Host_) (b new : HostTcp) (made after : List (ℕ × Made Emission)) (wire : List (ℕ × Emission)) (inbox : List (ℕ × Option Emission))
-    → parts b made wire inbox ≡ h → place_of b plan.lport plan.rport ≡ Some place → option_map (λ e. emission_of (record { host = me; number = place }) e plan) (slice_get b.endpoints place) ≡ Some m
+pub made_is : (me : Host) (moment fresh place : ℕ) (plan : SegmentPlan) (m : Emission) (h : Host_) (b new : HostTcp)
+    (made after : List (ℕ × Made Emission)) (wire : List (ℕ × Emission)) (inbox : List (ℕ × Option Emission))
+    → parts b made wire inbox ≡ h → place_of b plan.lport plan.rport ≡ Some place
+    → option_map (λ e. emission_of (record { host = me; number = place }) e plan) (slice_get b.endpoints place) ≡ Some m
     → new ≡ forget_body (with_endpoint b place (λ e. after_making e plan moment)) → after ≡ insert_entry nat_eq made fresh (unsent m)
     → parts new after wire inbox ≡ forget_host (made_one me moment fresh plan h)
 made_is me moment fresh place plan m h b new made after wire inbox is at makes new_is after_is =

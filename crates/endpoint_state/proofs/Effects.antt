@@ -26,7 +26,15 @@ use Rattle.endpoint_state.proofs.Forgets.{IsBounded, bounded_later}
 
 shut : (steps : ℕ) (e : Endpoint) → IsBounded steps e → IsBounded steps (shut_down e)
 shut steps e b =
-    record { snd_una = b.snd_una; counts = b.counts; unanswered_expiries = b.unanswered_expiries; backoffs = b.backoffs; accepted = b.accepted; met = λ sent closed. absurd cc; unmet = λ sent. absurd cc }
+    record {
+      snd_una = b.snd_una;
+      counts = b.counts;
+      unanswered_expiries = b.unanswered_expiries;
+      backoffs = b.backoffs;
+      accepted = b.accepted;
+      met = λ sent closed. absurd cc;
+      unmet = λ sent. absurd cc;
+    }
 
 ended_sent : (s : State) → is_syn_sent (ended_state s) ≡ is_syn_sent s
 ended_sent states.Established = refl
@@ -53,16 +61,40 @@ shut_sending steps e b =
 -- the sending was ended, and nothing else
 ending : (steps : ℕ) (e : Endpoint) → IsBounded steps e → IsBounded steps (record e { stream = record e.stream { ended = true } })
 ending steps e b =
-    record { snd_una = b.snd_una; counts = b.counts; unanswered_expiries = b.unanswered_expiries; backoffs = b.backoffs; accepted = b.accepted; met = b.met; unmet = b.unmet }
+    record {
+      snd_una = b.snd_una;
+      counts = b.counts;
+      unanswered_expiries = b.unanswered_expiries;
+      backoffs = b.backoffs;
+      accepted = b.accepted;
+      met = b.met;
+      unmet = b.unmet;
+    }
 
 -- what changes here is not spoken of
 closing : (steps : ℕ) (e : Endpoint) → IsBounded steps e → IsBounded steps (record e { closed = true })
 closing steps e b =
-    record { snd_una = b.snd_una; counts = b.counts; unanswered_expiries = b.unanswered_expiries; backoffs = b.backoffs; accepted = b.accepted; met = b.met; unmet = b.unmet }
+    record {
+      snd_una = b.snd_una;
+      counts = b.counts;
+      unanswered_expiries = b.unanswered_expiries;
+      backoffs = b.backoffs;
+      accepted = b.accepted;
+      met = b.met;
+      unmet = b.unmet;
+    }
 
 due : (steps : ℕ) (e : Endpoint) (c : Bool) → IsBounded steps e → IsBounded steps (record e { reset_due = c })
 due steps e c b =
-    record { snd_una = b.snd_una; counts = b.counts; unanswered_expiries = b.unanswered_expiries; backoffs = b.backoffs; accepted = b.accepted; met = b.met; unmet = b.unmet }
+    record {
+      snd_una = b.snd_una;
+      counts = b.counts;
+      unanswered_expiries = b.unanswered_expiries;
+      backoffs = b.backoffs;
+      accepted = b.accepted;
+      met = b.met;
+      unmet = b.unmet;
+    }
 
 either : (steps : ℕ) (c : Bool) (x y : Endpoint) → IsBounded steps x → IsBounded steps y → IsBounded steps (if c then x else y)
 either steps true x y p q = p
@@ -82,7 +114,15 @@ orphan_bounded steps l e b = either steps (option_map_or (λ holder. holder == l
 
 adopted_bounded : (steps : ℕ) (e : Endpoint) → IsBounded steps e → IsBounded steps (record e { listener = None })
 adopted_bounded steps e b =
-    record { snd_una = b.snd_una; counts = b.counts; unanswered_expiries = b.unanswered_expiries; backoffs = b.backoffs; accepted = b.accepted; met = b.met; unmet = b.unmet }
+    record {
+      snd_una = b.snd_una;
+      counts = b.counts;
+      unanswered_expiries = b.unanswered_expiries;
+      backoffs = b.backoffs;
+      accepted = b.accepted;
+      met = b.met;
+      unmet = b.unmet;
+    }
 
 pub after_shut_bounded : (steps : ℕ) (e : Endpoint) → IsBounded steps e → IsBounded (suc steps) (after_shut e)
 after_shut_bounded steps e b = bounded_later steps (after_shut e) (shut_sending steps e b)
@@ -105,7 +145,15 @@ after_send_bounded bytes n small steps e b =
     let both = length-append e.stream.accepted (take n bytes) in
     let some = length-take n bytes in
     let old = b.accepted in
-    record { snd_una = b.snd_una; counts = later.counts; unanswered_expiries = later.unanswered_expiries; backoffs = later.backoffs; accepted = omega arith; met = b.met; unmet = b.unmet }
+    record {
+      snd_una = b.snd_una;
+      counts = later.counts;
+      unanswered_expiries = later.unanswered_expiries;
+      backoffs = later.backoffs;
+      accepted = omega arith;
+      met = b.met;
+      unmet = b.unmet;
+    }
 
 third_false : (b c : Bool) → (b && c && false) ≡ true → ⊥
 third_false true true e = cc
@@ -119,7 +167,8 @@ empty_gives e most (x ∷ bytes) none h =
     third_false (nat_le 1 (length (x ∷ bytes))) (nat_le (length (x ∷ bytes)) most)
     (subst (λ r. recv_allows (record e { stream = record e.stream { receive = r } }) most (answers.Bytes (x ∷ bytes)) ≡ true) none h)
 
-pub after_recv_bounded : (most : ℕ) (bytes : List ℕ) (steps : ℕ) (e : Endpoint) → recv_allows e most (answers.Bytes bytes) ≡ true → IsBounded steps e → IsBounded (suc steps) (after_recv bytes e)
+pub after_recv_bounded : (most : ℕ) (bytes : List ℕ) (steps : ℕ) (e : Endpoint)
+    → recv_allows e most (answers.Bytes bytes) ≡ true → IsBounded steps e → IsBounded (suc steps) (after_recv bytes e)
 after_recv_bounded most bytes steps e allowed b =
     let later = bounded_later steps e b in
     record {
@@ -136,31 +185,77 @@ after_recv_bounded most bytes steps e allowed b =
 
 made_bounded : (m : SegmentPlan) (moment steps : ℕ) (e : Endpoint) → IsBounded steps e → IsBounded steps (endpoint_made e m moment)
 made_bounded m moment steps e b =
-    record { snd_una = b.snd_una; counts = b.counts; unanswered_expiries = b.unanswered_expiries; backoffs = b.backoffs; accepted = b.accepted; met = b.met; unmet = b.unmet }
+    record {
+      snd_una = b.snd_una;
+      counts = b.counts;
+      unanswered_expiries = b.unanswered_expiries;
+      backoffs = b.backoffs;
+      accepted = b.accepted;
+      met = b.met;
+      unmet = b.unmet;
+    }
 
 pub after_making_bounded : (m : SegmentPlan) (moment steps : ℕ) (e : Endpoint) → IsBounded steps e → IsBounded (suc steps) (after_making e m moment)
 after_making_bounded m moment steps e b =
     let made = made_bounded m moment steps e b in
     let gone : Endpoint = record (shut_down (endpoint_made e m moment)) { reset_due = false } in
     bounded_later steps (after_making e m moment)
-    (either steps m.flags.rst gone (endpoint_made e m moment) (due steps (shut_down (endpoint_made e m moment)) false (shut steps (endpoint_made e m moment) made)) made)
+    (either steps m.flags.rst gone (endpoint_made e m moment)
+    (due steps (shut_down (endpoint_made e m moment)) false (shut steps (endpoint_made e m moment) made)) made)
 
 pub after_expiry_bounded : (x : Expired) (moment steps : ℕ) (e : Endpoint) → IsBounded steps e → IsBounded (suc steps) (after_expiry e x moment)
 after_expiry_bounded (Rto growth) moment steps e b =
     let later = bounded_later steps e b in
     let unanswered_expiries = b.unanswered_expiries in
     let backoffs = b.backoffs in
-    record { snd_una = b.snd_una; counts = counts_stay e.control (timeout_signal e) (at_moment e moment) growth.cwnd growth.ssthresh steps e.stream.snd_una e.stream.snd_una b.counts (omega arith); unanswered_expiries = omega arith; backoffs = omega arith; accepted = later.accepted; met = b.met; unmet = b.unmet }
+    record {
+      snd_una = b.snd_una;
+      counts =
+          counts_stay e.control (timeout_signal e)
+          (at_moment e moment) growth.cwnd growth.ssthresh steps e.stream.snd_una e.stream.snd_una b.counts
+          (omega arith);
+      unanswered_expiries = omega arith;
+      backoffs = omega arith;
+      accepted = later.accepted;
+      met = b.met;
+      unmet = b.unmet;
+    }
 after_expiry_bounded Persist moment steps e b =
     let later = bounded_later steps e b in
     let unanswered_expiries = b.unanswered_expiries in
-    record { snd_una = b.snd_una; counts = later.counts; unanswered_expiries = omega arith; backoffs = later.backoffs; accepted = later.accepted; met = b.met; unmet = b.unmet }
+    record {
+      snd_una = b.snd_una;
+      counts = later.counts;
+      unanswered_expiries = omega arith;
+      backoffs = later.backoffs;
+      accepted = later.accepted;
+      met = b.met;
+      unmet = b.unmet;
+    }
 after_expiry_bounded Msl2 moment steps e b = bounded_later steps (shut_down e) (shut steps e b)
 after_expiry_bounded Giveup moment steps e b =
     let later = bounded_later steps (shut_down e) (shut steps e b) in
-    record { snd_una = b.snd_una; counts = later.counts; unanswered_expiries = later.unanswered_expiries; backoffs = later.backoffs; accepted = later.accepted; met = later.met; unmet = later.unmet }
+    record {
+      snd_una = b.snd_una;
+      counts = later.counts;
+      unanswered_expiries = later.unanswered_expiries;
+      backoffs = later.backoffs;
+      accepted = later.accepted;
+      met = later.met;
+      unmet = later.unmet;
+    }
 
 pub after_recovery_bounded : (cwnd ssthresh moment steps : ℕ) (e : Endpoint) → IsBounded steps e → IsBounded (suc steps) (after_recovery e cwnd ssthresh moment)
 after_recovery_bounded cwnd ssthresh moment steps e b =
     let later = bounded_later steps e b in
-    record { snd_una = b.snd_una; counts = counts_stay e.control (recovery_signal e ssthresh) (at_moment e moment) cwnd ssthresh steps e.stream.snd_una e.stream.snd_una b.counts (omega arith); unanswered_expiries = later.unanswered_expiries; backoffs = later.backoffs; accepted = later.accepted; met = b.met; unmet = b.unmet }
+    record {
+      snd_una = b.snd_una;
+      counts =
+          counts_stay e.control (recovery_signal e ssthresh)
+          (at_moment e moment) cwnd ssthresh steps e.stream.snd_una e.stream.snd_una b.counts (omega arith);
+      unanswered_expiries = later.unanswered_expiries;
+      backoffs = later.backoffs;
+      accepted = later.accepted;
+      met = b.met;
+      unmet = b.unmet;
+    }

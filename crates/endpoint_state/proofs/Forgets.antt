@@ -26,19 +26,44 @@ pub record IsBounded (steps : ℕ) (e : Endpoint) : Type 0 where
 
 pub bounded : (steps : ℕ) (e : Endpoint) → IsKept steps e → IsBounded steps e
 bounded steps e k =
-    record { snd_una = k.snd_una; counts = k.counts; unanswered_expiries = k.unanswered_expiries; backoffs = k.backoffs; accepted = k.accepted; met = k.met; unmet = k.unmet }
+    record {
+      snd_una = k.snd_una;
+      counts = k.counts;
+      unanswered_expiries = k.unanswered_expiries;
+      backoffs = k.backoffs;
+      accepted = k.accepted;
+      met = k.met;
+      unmet = k.unmet;
+    }
 
 pub bounded_later : (steps : ℕ) (e : Endpoint) → IsBounded steps e → IsBounded (suc steps) e
 bounded_later steps e b =
     let unanswered_expiries = b.unanswered_expiries in
     let backoffs = b.backoffs in
     let accepted = b.accepted in
-    record { snd_una = b.snd_una; counts = counts_later e.control steps e.stream.snd_una b.counts; unanswered_expiries = omega arith; backoffs = omega arith; accepted = omega arith; met = b.met; unmet = b.unmet }
+    record {
+      snd_una = b.snd_una;
+      counts = counts_later e.control steps e.stream.snd_una b.counts;
+      unanswered_expiries = omega arith;
+      backoffs = omega arith;
+      accepted = omega arith;
+      met = b.met;
+      unmet = b.unmet;
+    }
 
 pub kept_later : (steps : ℕ) (e : Endpoint) → IsKept steps e → IsKept (suc steps) e
 kept_later steps e k =
     let b = bounded_later steps e (bounded steps e k) in
-    record { snd_una = b.snd_una; counts = b.counts; unanswered_expiries = b.unanswered_expiries; backoffs = b.backoffs; accepted = b.accepted; forgets = k.forgets; met = b.met; unmet = b.unmet }
+    record {
+      snd_una = b.snd_una;
+      counts = b.counts;
+      unanswered_expiries = b.unanswered_expiries;
+      backoffs = b.backoffs;
+      accepted = b.accepted;
+      forgets = k.forgets;
+      met = b.met;
+      unmet = b.unmet;
+    }
 
 pub is_forgotten : (e : Endpoint) → IsForgotten (forget_endpoint e)
 is_forgotten e = record {
@@ -64,4 +89,6 @@ kept_forgotten steps e b =
     }
 
 pub all_kept_forgotten : (steps : ℕ) (es : List Endpoint) → All (IsBounded steps) es → All (IsKept steps) (map forget_endpoint es)
-all_kept_forgotten steps es h = All-map (IsKept steps) forget_endpoint es (All-weaker (IsBounded steps) (λ e. IsKept steps (forget_endpoint e)) (kept_forgotten steps) es h)
+all_kept_forgotten steps es h =
+    All-map (IsKept steps) forget_endpoint es
+    (All-weaker (IsBounded steps) (λ e. IsKept steps (forget_endpoint e)) (kept_forgotten steps) es h)

@@ -1,5 +1,6 @@
 -- The indexes stay what they have to be, as endpoints and listeners are added and change.
-use Rattle.std.proofs.Common.{◌≡◌, ℕ, zero, suc, ◌+◌, Bool, true, false, cond, List, [], ◌∷◌, ◌++◌, length, Option, None, Some, refl, sym, ap, ◌∙◌, subst, arith, rules}
+use Rattle.std.proofs.Common.{◌≡◌, ℕ, zero, suc, ◌+◌, Bool, true, false, cond, List, [], ◌∷◌, ◌++◌, length, Option}
+use Rattle.std.proofs.Common.{None, Some, refl, sym, ap, ◌∙◌, subst, arith, rules}
 use Rattle.std.proofs.Math.Nat.{zero-add, add-zero}
 use Rattle.std.proofs.lemmas.Bool.Decides.{nat_tests}
 use Rattle.std.proofs.lemmas.Option.{same_Some}
@@ -16,12 +17,17 @@ use Rattle.std.specs.Ordering.{nat_cmp}
 use Rattle.std.specs.Option.{option_map_or}
 
 -- one more at the end
-last_push : {X : Type 0} (test : X → Bool) (k : ℕ) (found : Option ℕ) (xs : List X) (x : X) → last_from test k found (xs ++ x ∷ []) ≡ (if test x then Some (k + length xs) else last_from test k found xs)
+last_push : {X : Type 0} (test : X → Bool) (k : ℕ) (found : Option ℕ) (xs : List X) (x : X)
+    → last_from test k found (xs ++ x ∷ []) ≡ (if test x then Some (k + length xs) else last_from test k found xs)
 last_push test k found [] x = ap (λ (n : ℕ). if test x then Some n else found) (sym (add-zero k))
-last_push {X} test k found (y ∷ ys) x = last_push test (suc k) (if test y then Some k else found) ys x ∙ ap (λ (n : ℕ). if test x then Some n else last_from test (suc k) (if test y then Some k else found) ys) (omega arith)
+last_push {X} test k found (y ∷ ys) x =
+    last_push test (suc k) (if test y then Some k else found) ys x
+    ∙ ap (λ (n : ℕ). if test x then Some n else last_from test (suc k) (if test y then Some k else found) ys)
+    (omega arith)
 
 -- one changes, and passes the test as before
-last_modify : {X : Type 0} (test : X → Bool) (k : ℕ) (found : Option ℕ) (xs : List X) (i : ℕ) (f : X → X) → ((x : X) → test (f x) ≡ test x) → last_from test k found (modify xs i f) ≡ last_from test k found xs
+last_modify : {X : Type 0} (test : X → Bool) (k : ℕ) (found : Option ℕ) (xs : List X) (i : ℕ) (f : X → X)
+    → ((x : X) → test (f x) ≡ test x) → last_from test k found (modify xs i f) ≡ last_from test k found xs
 last_modify test k found [] i f same = refl
 last_modify test k found (x ∷ xs) zero f same = ap (λ (b : Bool). last_from test (suc k) (if b then Some k else found) xs) (same x)
 last_modify test k found (x ∷ xs) (suc i) f same = last_modify test (suc k) (if test x then Some k else found) xs i f same
@@ -38,15 +44,28 @@ module _ (find : ℕ → ℕ → Option ℕ) (child : ℕ → ℕ → Bool) (es 
       → ((l : ℕ) → e.listener ≡ Some l → child' l n ≡ true)
       → IsIndexed find' child' (es ++ e ∷ [])
   indexed_push find' child' e n last found kept added = record {
-    ports = λ l r. found l r ∙ ap (λ (m : ℕ). cond (has_ports l r e) (Some m) (find l r)) last ∙ ap (λ (o : Option ℕ). cond (has_ports l r e) (Some (length es)) o) (index.ports l r) ∙ sym (last_push (has_ports l r) 0 None es e ∙ ap (λ (n : ℕ). if has_ports l r e then Some n else last_from (has_ports l r) 0 None es) (zero-add (length es)));
-    children = λ i l x at is. all_push (λ i x. (l : ℕ) → x.listener ≡ Some l → child' l i ≡ true) es e (λ i x at l is. kept l i (index.children i l x at is)) (λ l is. subst (λ (m : ℕ). child' l m ≡ true) last (added l is)) i x at l is;
+    ports =
+        λ l r. found l r ∙ ap (λ (m : ℕ). cond (has_ports l r e) (Some m) (find l r)) last
+        ∙ ap (λ (o : Option ℕ). cond (has_ports l r e) (Some (length es)) o) (index.ports l r)
+        ∙ sym (last_push (has_ports l r) 0 None es e
+        ∙ ap (λ (n : ℕ). if has_ports l r e then Some n else last_from (has_ports l r) 0 None es)
+        (zero-add (length es)));
+    children =
+        λ i l x at is. all_push (λ i x. (l : ℕ) → x.listener ≡ Some l → child' l i ≡ true) es e
+        (λ i x at l is. kept l i (index.children i l x at is))
+        (λ l is. subst (λ (m : ℕ). child' l m ≡ true) last (added l is)) i x at l is;
   }
 
   -- an endpoint changes, and keeps its ports and its listener
-  pub indexed_modify : (i : ℕ) (f : Endpoint → Endpoint) → ((l r : ℕ) (e : Endpoint) → has_ports l r (f e) ≡ has_ports l r e) → ((l : ℕ) (e : Endpoint) → (f e).listener ≡ Some l → e.listener ≡ Some l) → IsIndexed find child (modify es i f)
+  pub indexed_modify : (i : ℕ) (f : Endpoint → Endpoint)
+      → ((l r : ℕ) (e : Endpoint) → has_ports l r (f e) ≡ has_ports l r e)
+      → ((l : ℕ) (e : Endpoint) → (f e).listener ≡ Some l → e.listener ≡ Some l) → IsIndexed find child (modify es i f)
   indexed_modify i f ports listener = record {
     ports = λ l r. index.ports l r ∙ sym (last_modify (has_ports l r) 0 None es i f (ports l r));
-    children = λ j l x at is. all_modify (λ j x. (l : ℕ) → x.listener ≡ Some l → child l j ≡ true) f es i (λ j x at l is. index.children j l x at is) (λ x at l is. index.children i l x at (listener l x is)) j x at l is;
+    children =
+        λ j l x at is. all_modify (λ j x. (l : ℕ) → x.listener ≡ Some l → child l j ≡ true) f es i
+        (λ j x at l is. index.children j l x at is)
+        (λ x at l is. index.children i l x at (listener l x is)) j x at l is;
   }
 
 -- a pair of ports is found where both are the same
@@ -76,11 +95,16 @@ at_number : (k n : ℕ) → is_at (nat_cmp k) n ≡ nat_eq k n
 at_number k n = search rules
 
 -- a list of children gives way to one that has as many and perhaps more
-module _ (old new : List (ℕ × Vec ℕ Global)) (key : ℕ) (w : Vec ℕ Global) (found : (q : ℕ) → lookup (is_at (nat_cmp q)) new ≡ cond (is_at (nat_cmp key) q) (Some w) (lookup (is_at (nat_cmp q)) old)) where
-  pub child_kept : ((v : Vec ℕ Global) → lookup (is_at (nat_cmp key)) old ≡ Some v → (i : ℕ) → stands_in i v.items ≡ true → stands_in i w.items ≡ true) → (l i : ℕ) → is_child_in old l i ≡ true → is_child_in new l i ≡ true
+module _ (old new : List (ℕ × Vec ℕ Global)) (key : ℕ) (w : Vec ℕ Global)
+    (found : (q : ℕ) → lookup (is_at (nat_cmp q)) new
+    ≡ cond (is_at (nat_cmp key) q) (Some w) (lookup (is_at (nat_cmp q)) old)) where
+  pub child_kept : ((v : Vec ℕ Global) → lookup (is_at (nat_cmp key)) old ≡ Some v → (i : ℕ)
+      → stands_in i v.items ≡ true → stands_in i w.items ≡ true) → (l i : ℕ) → is_child_in old l i ≡ true
+      → is_child_in new l i ≡ true
   child_kept more l i is = rw (found l, at_number key l) (by (nat_eq key l) refl)
     where
-      before : key ≡ l → (o : Option (Vec ℕ Global)) → lookup (is_at (nat_cmp l)) old ≡ o → option_map_or (λ v. stands_in i v.items) o false ≡ true → stands_in i w.items ≡ true
+      before : key ≡ l → (o : Option (Vec ℕ Global)) → lookup (is_at (nat_cmp l)) old ≡ o
+          → option_map_or (λ v. stands_in i v.items) o false ≡ true → stands_in i w.items ≡ true
       before same None at is = absurd cc
       before same (Some v) at is = more v (subst (λ (n : ℕ). lookup (is_at (nat_cmp n)) old ≡ Some v) (sym same) at) i is
 
@@ -92,7 +116,8 @@ module _ (old new : List (ℕ × Vec ℕ Global)) (key : ℕ) (w : Vec ℕ Globa
   child_added i stands = rw (found key, at_number key key, nat_same key) stands
 
   -- a place is added to a list that was there
-  pub child_more : (v : Vec ℕ Global) (i : ℕ) → lookup (is_at (nat_cmp key)) old ≡ Some v → w.items ≡ v.items ++ i ∷ [] → ((l j : ℕ) → is_child_in old l j ≡ true → is_child_in new l j ≡ true) × (is_child_in new key i ≡ true)
+  pub child_more : (v : Vec ℕ Global) (i : ℕ) → lookup (is_at (nat_cmp key)) old ≡ Some v → w.items ≡ v.items ++ i ∷ []
+      → ((l j : ℕ) → is_child_in old l j ≡ true → is_child_in new l j ≡ true) × (is_child_in new key i ≡ true)
   child_more v i at is =
       let more : (u : Vec ℕ Global) → lookup (is_at (nat_cmp key)) old ≡ Some u → (j : ℕ) → stands_in j u.items ≡ true → stands_in j w.items ≡ true =
       λ u at' j stands. rw is (stands_push j i v.items (subst (λ (x : Vec ℕ Global). stands_in j x.items ≡ true) (same_Some u v (sym at' ∙ at)) stands)) in

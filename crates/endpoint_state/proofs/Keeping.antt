@@ -18,7 +18,8 @@ use Rattle.verdict.specs.Rules.{first_broken}
 use Rattle.verdict.specs.declared.rule.Rule.TheVariants as rules
 use Rattle.verdict.proofs.RuleLemmas.{none_both}
 use Rattle.spec_network.specs.Tables.{Both, Made, gone_out, on, pick, settled, unsent, waiting}
-use Rattle.spec_network.specs.Hosts.{HostState, World, Turn, Idle, Called, Answered, Deed, Does, Expires, Makes, Sends, Gets, Hears, Takes, Drops, Answers, Step, Begin, Finish, Effect, At, turn_of}
+use Rattle.spec_network.specs.Hosts.{HostState, World, Turn, Idle, Called, Answered, Deed, Does, Expires, Makes, Sends}
+use Rattle.spec_network.specs.Hosts.{Gets, Hears, Takes, Drops, Answers, Step, Begin, Finish, Effect, At, turn_of}
 use Rattle.spec_network.specs.HostRules.{Permitted, aim_of, call_rules, deed_rules, effect_rules, fresh_rules, just}
 use Rattle.spec_network.specs.HostSteps.{act_made, after, call_after, deed_after, effect_after, empty_host, makes, start}
 use Rattle.spec_tcp.specs.declared.endpoint.Emission.{Emission}
@@ -67,7 +68,12 @@ forgotten_body : (steps : ℕ) (b : HostTcp) → IsKeptBody steps b → IsKeptBo
 forgotten_body steps b k =
     let same = length-map b.endpoints forget_endpoint in
     let endpoints = k.endpoints in
-    record { kept = all_kept_forgotten steps b.endpoints (All-weaker (IsKept steps) (IsBounded steps) (bounded steps) b.endpoints k.kept); endpoints = omega arith; listeners = k.listeners }
+    record {
+      kept = all_kept_forgotten steps b.endpoints
+          (All-weaker (IsKept steps) (IsBounded steps) (bounded steps) b.endpoints k.kept);
+      endpoints = omega arith;
+      listeners = k.listeners;
+    }
 
 -- one step more, in which nothing happens to what the calls see
 idle_body : (steps : ℕ) (b : HostTcp) → IsKeptBody steps b → IsKeptBody (suc steps) (forget_body b)
@@ -80,22 +86,37 @@ idle_host : (steps : ℕ) (h : HostState tcp_shape) → IsKeptHost steps h → I
 idle_host steps h k = record { body = idle_body steps h.body k.body; tables = small_tables (forget_body h.body) h k.tables }
 
 module _ (hd : Header) (me : Host) (moment steps : ℕ) (h : HostState tcp_shape) (k : IsKeptHost steps h) where
-  act_kept : (act : Act) → IsSmallAct act → first_broken (act_rules hd me moment h.body act) ≡ None → IsKeptBody (suc steps) (forget_body (act_after hd me moment h.body act))
+  act_kept : (act : Act) → IsSmallAct act → first_broken (act_rules hd me moment h.body act) ≡ None
+      → IsKeptBody (suc steps) (forget_body (act_after hd me moment h.body act))
   act_kept act small permitted = body_keeps hd me moment steps h.body act small permitted k.body
 
   -- the tables stay
-  body_kept : (act : Act) → IsSmallAct act → first_broken (act_rules hd me moment h.body act) ≡ None → IsKeptHost (suc steps) (forget_host (record h { body = act_after hd me moment h.body act }))
-  body_kept act small permitted = record { body = act_kept act small permitted; tables = record { made = k.tables.made; wire = k.tables.wire; inbox = k.tables.inbox } }
+  body_kept : (act : Act) → IsSmallAct act → first_broken (act_rules hd me moment h.body act) ≡ None
+      → IsKeptHost (suc steps) (forget_host (record h { body = act_after hd me moment h.body act }))
+  body_kept act small permitted =
+      record {
+        body = act_kept act small permitted;
+        tables = record { made = k.tables.made; wire = k.tables.wire; inbox = k.tables.inbox };
+      }
 
   makes_kept : (fresh : ℕ) (making : SegmentPlan) → IsSmallDeed me h (Makes making) → first_broken (act_rules hd me moment h.body (acts.Makes making)) ≡ None
       → IsKeptHost (suc steps) (forget_host (deed_after (tcp hd) me moment fresh [] h (Makes making)))
   makes_kept fresh making small permitted = record {
     body = act_kept (acts.Makes making) tt permitted;
-    tables = record { made = made_small h.made fresh (act_makes me h.body (acts.Makes making)) small k.tables.made; wire = k.tables.wire; inbox = k.tables.inbox };
+    tables =
+        record {
+          made = made_small h.made fresh (act_makes me h.body (acts.Makes making)) small k.tables.made;
+          wire = k.tables.wire;
+          inbox = k.tables.inbox;
+        };
   }
 
   sends_kept : (line number : ℕ) (wire : Wire) (o : Option (Made Emission)) → IfSome o (λ m. IsSmallEmission m.emission)
-      → IsKeptHost (suc steps) (forget_host (record h { made = on o h.made (λ m. insert_entry nat_eq h.made number (gone_out m)); wire = on o h.wire (λ m. insert_entry nat_eq h.wire line (sent moment wire m.emission)) }))
+      → IsKeptHost (suc steps) (forget_host
+      (record h {
+        made = on o h.made (λ m. insert_entry nat_eq h.made number (gone_out m));
+        wire = on o h.wire (λ m. insert_entry nat_eq h.wire line (sent moment wire m.emission));
+      }))
   sends_kept line number wire None small = idle_host steps h k
   sends_kept line number wire (Some m) small = record {
     body = idle_body steps h.body k.body;
@@ -106,7 +127,9 @@ module _ (hd : Header) (me : Host) (moment steps : ℕ) (h : HostState tcp_shape
     };
   }
 
-  gets_kept : (line : ℕ) (o : Option Emission) → IfSome o IsSmallEmission → IsKeptHost (suc steps) (forget_host (record h { inbox = on o h.inbox (λ e. insert_entry nat_eq h.inbox line (Some e)) }))
+  gets_kept : (line : ℕ) (o : Option Emission) → IfSome o IsSmallEmission
+      → IsKeptHost (suc steps) (forget_host
+      (record h { inbox = on o h.inbox (λ e. insert_entry nat_eq h.inbox line (Some e)) }))
   gets_kept line None small = idle_host steps h k
   gets_kept line (Some m) small = record {
     body = idle_body steps h.body k.body;
@@ -120,29 +143,49 @@ module _ (hd : Header) (me : Host) (moment steps : ℕ) (h : HostState tcp_shape
     tables = record { made = k.tables.made; wire = k.tables.wire; inbox = settled_small line h.inbox k.tables.inbox };
   }
 
-  takes_kept : (line : ℕ) (how : TakeChoice) (o : Option Emission) → waiting line h.inbox ≡ o → first_broken (on o (just rules.Inbox true) (λ m. act_rules hd me moment h.body (acts.Takes how m))) ≡ None
-      → IsKeptHost (suc steps) (forget_host (record h { body = on o h.body (λ m. act_after hd me moment h.body (acts.Takes how m)); inbox = on o h.inbox (λ m. settled line h.inbox) }))
+  takes_kept : (line : ℕ) (how : TakeChoice) (o : Option Emission) → waiting line h.inbox ≡ o
+      → first_broken (on o (just rules.Inbox true) (λ m. act_rules hd me moment h.body (acts.Takes how m))) ≡ None
+      → IsKeptHost (suc steps) (forget_host
+      (record h {
+        body = on o h.body (λ m. act_after hd me moment h.body (acts.Takes how m));
+        inbox = on o h.inbox (λ m. settled line h.inbox);
+      }))
   takes_kept line how None waits permitted = idle_host steps h k
   takes_kept line how (Some m) waits permitted = record {
     body = act_kept (acts.Takes how m) (waiting_small h line m k.tables waits) permitted;
     tables = record { made = k.tables.made; wire = k.tables.wire; inbox = settled_small line h.inbox k.tables.inbox };
   }
 
-  answers_kept : (fresh line : ℕ) (o : Option Emission) → first_broken (on o (just rules.Inbox true) (λ m. act_rules hd me moment h.body (acts.Resets m))) ≡ None
-      → IsKeptHost (suc steps) (forget_host (record h { body = on o h.body (λ m. act_after hd me moment h.body (acts.Resets m)); made = on o h.made (λ m. act_made (tcp hd) me moment fresh h (acts.Resets m)); inbox = on o h.inbox (λ m. settled line h.inbox) }))
+  answers_kept : (fresh line : ℕ) (o : Option Emission)
+      → first_broken (on o (just rules.Inbox true) (λ m. act_rules hd me moment h.body (acts.Resets m))) ≡ None
+      → IsKeptHost (suc steps) (forget_host
+      (record h {
+        body = on o h.body (λ m. act_after hd me moment h.body (acts.Resets m));
+        made = on o h.made (λ m. act_made (tcp hd) me moment fresh h (acts.Resets m));
+        inbox = on o h.inbox (λ m. settled line h.inbox);
+      }))
   answers_kept fresh line None permitted = idle_host steps h k
   answers_kept fresh line (Some m) permitted = record {
     body = act_kept (acts.Resets m) tt permitted;
-    tables = record { made = made_small h.made fresh (Some (reset_of m)) (resets_small m) k.tables.made; wire = k.tables.wire; inbox = settled_small line h.inbox k.tables.inbox };
+    tables =
+        record {
+          made = made_small h.made fresh (Some (reset_of m)) (resets_small m) k.tables.made;
+          wire = k.tables.wire;
+          inbox = settled_small line h.inbox k.tables.inbox;
+        };
   }
 
-  deed_kept : (fresh : ℕ) (far : List (ℕ × Emission)) (d : Deed tcp_shape) → All (λ x. IsSmallEmission x.1) far → IsSmallDeed me h d → first_broken (deed_rules (tcp hd) me moment far h d) ≡ None
+  deed_kept : (fresh : ℕ) (far : List (ℕ × Emission)) (d : Deed tcp_shape) → All (λ x. IsSmallEmission x.1) far
+      → IsSmallDeed me h d → first_broken (deed_rules (tcp hd) me moment far h d) ≡ None
       → IsKeptHost (suc steps) (forget_host (deed_after (tcp hd) me moment fresh far h d))
   deed_kept fresh far (Does x) others small permitted = body_kept (acts.Recovers x) tt permitted
   deed_kept fresh far (Expires line x) others small permitted = body_kept (acts.Expires x) tt permitted
   deed_kept fresh far (Makes making) others small permitted = makes_kept fresh making small permitted
-  deed_kept fresh far (Sends line number wire) others small permitted = sends_kept line number wire (lookup (nat_eq number) h.made) (All-lookup (λ (m : Made Emission). IsSmallEmission m.emission) (nat_eq number) h.made k.tables.made)
-  deed_kept fresh far (Gets line copied wire) others small permitted = gets_kept line (lookup (nat_eq copied) far) (All-lookup IsSmallEmission (nat_eq copied) far others)
+  deed_kept fresh far (Sends line number wire) others small permitted =
+      sends_kept line number wire (lookup (nat_eq number) h.made)
+      (All-lookup (λ (m : Made Emission). IsSmallEmission m.emission) (nat_eq number) h.made k.tables.made)
+  deed_kept fresh far (Gets line copied wire) others small permitted =
+      gets_kept line (lookup (nat_eq copied) far) (All-lookup IsSmallEmission (nat_eq copied) far others)
   deed_kept fresh far (Hears line wire) others small permitted = gets_kept line (Some (heard moment wire)) (heard_small moment wire)
   deed_kept fresh far (Takes line how) others small permitted = takes_kept line how (waiting line h.inbox) refl permitted
   deed_kept fresh far (Drops line) others small permitted = drops_kept line (waiting line h.inbox)
@@ -152,7 +195,12 @@ module _ (hd : Header) (me : Host) (moment steps : ℕ) (h : HostState tcp_shape
 
 pub kept_start : (h : Header) → IsKeptWorld 0 (start (tcp h))
 kept_start h =
-    let tables : AreSmall (empty_host (tcp h)) = record { made = All-nil (λ (x : ℕ × Made Emission). IsSmallEmission x.1.emission); wire = All-nil (λ (x : ℕ × Emission). IsSmallEmission x.1); inbox = All-nil (λ (x : ℕ × Option Emission). IsSmallArrival x.1) } in
+    let tables : AreSmall (empty_host (tcp h)) =
+    record {
+      made = All-nil (λ (x : ℕ × Made Emission). IsSmallEmission x.1.emission);
+      wire = All-nil (λ (x : ℕ × Emission). IsSmallEmission x.1);
+      inbox = All-nil (λ (x : ℕ × Option Emission). IsSmallArrival x.1);
+    } in
     let host : IsKeptHost 0 (empty_host (tcp h)) = record { body = starts_kept; tables = tables } in
     record { zero = host; one = host; count = omega arith }
 
@@ -166,9 +214,15 @@ module _ (h : Header) (moment steps : ℕ) (w : World tcp_shape) (k : IsKeptWorl
 
   -- no host changes
   turn_kept : (threads : List (ℕ × Turn tcp_shape)) → Kept (record w { threads = threads })
-  turn_kept threads = record { zero = idle_host steps w.hosts.zero k.zero; one = idle_host steps w.hosts.one k.one; count = count_later steps w.count false k.count }
+  turn_kept threads =
+      record {
+        zero = idle_host steps w.hosts.zero k.zero;
+        one = idle_host steps w.hosts.one k.one;
+        count = count_later steps w.count false k.count;
+      }
 
-  deed_at : (host : Host) (d : Deed tcp_shape) → IsSmallDeed host (pick w.hosts host) d → Permitted (tcp h) moment w (At host d) → Kept (after (tcp h) moment w (At host d))
+  deed_at : (host : Host) (d : Deed tcp_shape) → IsSmallDeed host (pick w.hosts host) d
+      → Permitted (tcp h) moment w (At host d) → Kept (after (tcp h) moment w (At host d))
   deed_at Zero d small permitted = record {
     zero = deed_kept h Zero moment steps w.hosts.zero k.zero (suc w.count) w.hosts.one.wire d k.one.tables.wire small permitted;
     one = idle_host steps w.hosts.one k.one;
@@ -180,26 +234,36 @@ module _ (h : Header) (moment steps : ℕ) (w : World tcp_shape) (k : IsKeptWorl
     count = count_later steps w.count (makes (tcp h) d) k.count;
   }
 
-  call_at : (call : Call) (answer : Answer) (threads : List (ℕ × Turn tcp_shape)) (o : Option Host) → IsSmallAnswer answer → first_broken (call_rules (tcp h) moment w.hosts call answer o) ≡ None
+  call_at : (call : Call) (answer : Answer) (threads : List (ℕ × Turn tcp_shape)) (o : Option Host)
+      → IsSmallAnswer answer → first_broken (call_rules (tcp h) moment w.hosts call answer o) ≡ None
       → Kept (record { hosts = call_after (tcp h) moment w.hosts (acts.Calls call answer) o; threads = threads; count = w.count })
   call_at call answer threads None small permitted = turn_kept threads
   call_at call answer threads (Some Zero) small permitted = record {
-    zero = body_kept h Zero moment steps w.hosts.zero k.zero (acts.Calls call answer) small (none_both (fresh_rules (tcp h) w.hosts (gives call answer)) (act_rules h Zero moment w.hosts.zero.body (acts.Calls call answer)) permitted).1;
+    zero = body_kept h Zero moment steps w.hosts.zero k.zero (acts.Calls call answer) small
+        (none_both (fresh_rules (tcp h) w.hosts (gives call answer))
+        (act_rules h Zero moment w.hosts.zero.body (acts.Calls call answer)) permitted).1;
     one = idle_host steps w.hosts.one k.one;
     count = count_later steps w.count false k.count;
   }
   call_at call answer threads (Some One) small permitted = record {
     zero = idle_host steps w.hosts.zero k.zero;
-    one = body_kept h One moment steps w.hosts.one k.one (acts.Calls call answer) small (none_both (fresh_rules (tcp h) w.hosts (gives call answer)) (act_rules h One moment w.hosts.one.body (acts.Calls call answer)) permitted).1;
+    one = body_kept h One moment steps w.hosts.one k.one (acts.Calls call answer) small
+        (none_both (fresh_rules (tcp h) w.hosts (gives call answer))
+        (act_rules h One moment w.hosts.one.body (acts.Calls call answer)) permitted).1;
     count = count_later steps w.count false k.count;
   }
 
-  effect_at : (t : ℕ) (answer : Answer) (u : Turn tcp_shape) → IsSmallAnswer answer → first_broken (effect_rules (tcp h) moment w.hosts u answer) ≡ None → Kept (effect_after (tcp h) moment w t answer u)
+  effect_at : (t : ℕ) (answer : Answer) (u : Turn tcp_shape) → IsSmallAnswer answer
+      → first_broken (effect_rules (tcp h) moment w.hosts u answer) ≡ None
+      → Kept (effect_after (tcp h) moment w t answer u)
   effect_at t answer Idle small permitted = turn_kept w.threads
-  effect_at t answer (Called call) small permitted = call_at call answer (insert_entry nat_eq w.threads t (Answered answer)) (aim_of (tcp h) w.hosts (aim call)) small permitted
+  effect_at t answer (Called call) small permitted =
+      call_at call answer (insert_entry nat_eq w.threads t (Answered answer))
+      (aim_of (tcp h) w.hosts (aim call)) small permitted
   effect_at t answer (Answered given) small permitted = turn_kept w.threads
 
-pub kept_after : (h : Header) (moment steps : ℕ) (w : World tcp_shape) (step : Step tcp_shape) → IsSmallStep w step → Permitted (tcp h) moment w step → IsKeptWorld steps w
+pub kept_after : (h : Header) (moment steps : ℕ) (w : World tcp_shape) (step : Step tcp_shape) → IsSmallStep w step
+    → Permitted (tcp h) moment w step → IsKeptWorld steps w
     → IsKeptWorld (suc steps) (forget (after (tcp h) moment w step))
 kept_after h moment steps w (Begin line t call) small permitted k = turn_kept h moment steps w k (insert_entry nat_eq w.threads t (Called call))
 kept_after h moment steps w (Finish line t answer) small permitted k = turn_kept h moment steps w k (insert_entry nat_eq w.threads t Idle)
@@ -214,10 +278,24 @@ ready steps h few k =
 
 -- 4. a segment that is brought is small, and stands on a wire
 
-wire_kept : (steps : ℕ) (h : HostState tcp_shape) (line : ℕ) (m : Emission) → IsSmallEmission m → IsKeptHost steps h → IsKeptHost steps (record h { wire = insert_entry nat_eq h.wire line m })
-wire_kept steps h line m small k = record { body = k.body; tables = record { made = k.tables.made; wire = all_insert IsSmallEmission h.wire line m small k.tables.wire; inbox = k.tables.inbox } }
+wire_kept : (steps : ℕ) (h : HostState tcp_shape) (line : ℕ) (m : Emission) → IsSmallEmission m → IsKeptHost steps h
+    → IsKeptHost steps (record h { wire = insert_entry nat_eq h.wire line m })
+wire_kept steps h line m small k =
+    record {
+      body = k.body;
+      tables =
+          record {
+            made = k.tables.made;
+            wire = all_insert IsSmallEmission h.wire line m small k.tables.wire;
+            inbox = k.tables.inbox;
+          };
+    }
 
-pub brought_kept : (steps : ℕ) (hosts new : Both (HostState tcp_shape)) (threads : List (ℕ × Turn tcp_shape)) (count : ℕ) (host : Host) (line : ℕ) (m : Emission) → IsSmallEmission m → new ≡ hosts_brought hosts host line m
-    → IsKeptWorld steps (record { hosts = hosts; threads = threads; count = count }) → IsKeptWorld steps (record { hosts = new; threads = threads; count = count })
-brought_kept steps hosts new threads count Zero line m small is k = rw is (record { zero = wire_kept steps hosts.zero line m small k.zero; one = k.one; count = k.count })
-brought_kept steps hosts new threads count One line m small is k = rw is (record { zero = k.zero; one = wire_kept steps hosts.one line m small k.one; count = k.count })
+pub brought_kept : (steps : ℕ) (hosts new : Both (HostState tcp_shape)) (threads : List (ℕ × Turn tcp_shape))
+    (count : ℕ) (host : Host) (line : ℕ) (m : Emission) → IsSmallEmission m → new ≡ hosts_brought hosts host line m
+    → IsKeptWorld steps (record { hosts = hosts; threads = threads; count = count })
+    → IsKeptWorld steps (record { hosts = new; threads = threads; count = count })
+brought_kept steps hosts new threads count Zero line m small is k =
+    rw is (record { zero = wire_kept steps hosts.zero line m small k.zero; one = k.one; count = k.count })
+brought_kept steps hosts new threads count One line m small is k =
+    rw is (record { zero = k.zero; one = wire_kept steps hosts.one line m small k.one; count = k.count })

@@ -32,9 +32,13 @@ pub keeps_same : (e : Endpoint) → Keeps e e
 keeps_same e = record { lport = refl; rport = refl; listener = λ l is. is }
 
 -- the index stays, where one endpoint changes so
-pub indexed_changed : (find : ℕ → ℕ → Option ℕ) (child : ℕ → ℕ → Bool) (es : List Endpoint) → IsIndexed find child es → All HasRoom es → (i : ℕ) (f : Endpoint → Endpoint) → ((e : Endpoint) → Keeps e (f e)) → IsIndexed find child (changed es i f)
+pub indexed_changed : (find : ℕ → ℕ → Option ℕ) (child : ℕ → ℕ → Bool) (es : List Endpoint) → IsIndexed find child es
+    → All HasRoom es → (i : ℕ) (f : Endpoint → Endpoint) → ((e : Endpoint) → Keeps e (f e))
+    → IsIndexed find child (changed es i f)
 indexed_changed find child es index room i f keeps = rw (modify_forgets es i f room)
-    (indexed_modify find child es index i (λ e. forget_endpoint (f e)) (λ l r e. ap (λ (p : ℕ). nat_eq p l && nat_eq (f e).rport r) (keeps e).lport ∙ ap (λ (p : ℕ). nat_eq e.lport l && nat_eq p r) (keeps e).rport) (λ l e is. (keeps e).listener l is))
+    (indexed_modify find child es index i (λ e. forget_endpoint (f e))
+    (λ l r e. ap (λ (p : ℕ). nat_eq p l && nat_eq (f e).rport r) (keeps e).lport
+    ∙ ap (λ (p : ℕ). nat_eq e.lport l && nat_eq p r) (keeps e).rport) (λ l e is. (keeps e).listener l is))
 
 pub keeps_made : (e : Endpoint) (m : SegmentPlan) (moment : ℕ) → Keeps e (after_making e m moment)
 keeps_made e m moment = by m.flags.rst
@@ -83,7 +87,11 @@ pub keeps_accepted : (e : Endpoint) → Keeps e (record e { listener = None })
 keeps_accepted e = record { lport = refl; rport = refl; listener = λ l is. absurd (none-some l is) }
 
 -- the endpoint read at a place, changed and written back, is found as before
-pub indexed_at : (find : ℕ → ℕ → Option ℕ) (child : ℕ → ℕ → Bool) (es now : List Endpoint) (i : ℕ) (x y : Endpoint) (f : Endpoint → Endpoint) → IsIndexed find child es → es ≡ now → All HasRoom now → i < length es → x ≡ get_or es i x → y ≡ forget_endpoint (f x)
+pub indexed_at : (find : ℕ → ℕ → Option ℕ) (child : ℕ → ℕ → Bool) (es now : List Endpoint) (i : ℕ) (x y : Endpoint)
+    (f : Endpoint → Endpoint) → IsIndexed find child es → es ≡ now → All HasRoom now → i < length es
+    → x ≡ get_or es i x → y ≡ forget_endpoint (f x)
     → ((e : Endpoint) → Keeps e (f e)) → IsIndexed find child (slice_set es i y)
 indexed_at find child es now i x y f index is room within read new keeps =
-    rw (changed_at es now i x y f is room within read new) (indexed_changed find child now (subst (λ (es : List Endpoint). IsIndexed find child es) is index) room i f keeps)
+    rw (changed_at es now i x y f is room within read new)
+    (indexed_changed find child now
+    (subst (λ (es : List Endpoint). IsIndexed find child es) is index) room i f keeps)

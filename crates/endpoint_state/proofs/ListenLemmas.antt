@@ -1,5 +1,6 @@
 -- The index of ports tells what a look at each listener would, and stays so.
-use Rattle.std.proofs.Common.{◌≡◌, ℕ, zero, suc, ◌+◌, ◌&&◌, Bool, true, false, cond, List, [], ◌∷◌, ◌++◌, length, Option, None, Some, refl, sym, ap, ◌∙◌, subst, arith, true≢false}
+use Rattle.std.proofs.Common.{◌≡◌, ℕ, zero, suc, ◌+◌, ◌&&◌, Bool, true, false, cond, List, [], ◌∷◌, ◌++◌, length}
+use Rattle.std.proofs.Common.{Option, None, Some, refl, sym, ap, ◌∙◌, subst, arith, true≢false}
 use Rattle.std.proofs.Math.Nat.{zero-add, add-zero}
 use Rattle.std.proofs.lemmas.Bool.Decides.{nat_tests}
 use Rattle.std.proofs.lemmas.Option.{none-some, same_Some}
@@ -11,9 +12,12 @@ use Rattle.spec_tcp.specs.declared.endpoint.Listener.{Listener}
 use Rattle.spec_tcp.specs.HostTcp.{last_from, listens_on}
 use Rattle.endpoint_state.specs.Indexes.{IsListening}
 
-last_none : {X : Type 0} (test : X → Bool) (k : ℕ) (found : Option ℕ) (xs : List X) → ((j : ℕ) (y : X) → slice_get xs j ≡ Some y → test y ≡ false) → last_from test k found xs ≡ found
+last_none : {X : Type 0} (test : X → Bool) (k : ℕ) (found : Option ℕ) (xs : List X)
+    → ((j : ℕ) (y : X) → slice_get xs j ≡ Some y → test y ≡ false) → last_from test k found xs ≡ found
 last_none test k found [] fails = refl
-last_none test k found (x ∷ xs) fails = last_none test (suc k) (if test x then Some k else found) xs (λ j y at. fails (suc j) y at) ∙ ap (λ (b : Bool). if b then Some k else found) (fails 0 x refl)
+last_none test k found (x ∷ xs) fails =
+    last_none test (suc k) (if test x then Some k else found) xs (λ j y at. fails (suc j) y at)
+    ∙ ap (λ (b : Bool). if b then Some k else found) (fails 0 x refl)
 
 or_true : (b : Bool) → (b ≡ true → false ≡ true) → b ≡ false
 or_true true h = absurd (true≢false (sym (h refl)))
@@ -24,7 +28,8 @@ last_only : {X : Type 0} (test : X → Bool) (k : ℕ) (found : Option ℕ) (xs 
 last_only test k found [] i x at is one = absurd (none-some x at)
 last_only {X} test k found (y ∷ ys) zero x at is one =
     let here : test y ≡ true = subst (λ (z : X). test z ≡ true) (sym (same_Some y x at)) is in
-    last_none test (suc k) (if test y then Some k else found) ys (λ j z there. or_true (test z) (λ passes. absurd (let e = one (suc j) z there passes in omega arith)))
+    last_none test (suc k) (if test y then Some k else found) ys
+    (λ j z there. or_true (test z) (λ passes. absurd (let e = one (suc j) z there passes in omega arith)))
     ∙ ap (λ (b : Bool). if b then Some k else found) here ∙ ap (λ (n : ℕ). Some n) (sym (add-zero k))
 last_only {X} test k found (y ∷ ys) (suc i) x at is one =
     last_only test (suc k) (if test y then Some k else found) ys i x at is (λ j z there passes. let e = one (suc j) z there passes in omega arith)
@@ -41,7 +46,8 @@ get_last : {X : Type 0} (xs : List X) (x : X) → slice_get (xs ++ x ∷ []) (le
 get_last [] x = refl
 get_last (y ∷ ys) x = get_last ys x
 
-someand_modify : {X : Type 0} (P : X → Type 0) (f : X → X) → ((x : X) → P x → P (f x)) → (xs : List X) (i j : ℕ) → IsSomeAnd (slice_get xs j) P → IsSomeAnd (slice_get (modify xs i f) j) P
+someand_modify : {X : Type 0} (P : X → Type 0) (f : X → X) → ((x : X) → P x → P (f x)) → (xs : List X) (i j : ℕ)
+    → IsSomeAnd (slice_get xs j) P → IsSomeAnd (slice_get (modify xs i f) j) P
 someand_modify P f keeps [] i j h = h
 someand_modify P f keeps (x ∷ xs) zero zero h = keeps x h
 someand_modify P f keeps (x ∷ xs) zero (suc j) h = h
@@ -64,7 +70,8 @@ module _ (find : ℕ → Option ℕ) (xs : List Listener) (index : IsListening f
   open_port p i x known at opened =
       let port : x.port ≡ p = port_at p i x known at in
       let passes : listens_on p x ≡ true = grind (arith, nat_tests, opened, port) in
-      last_only (listens_on p) 0 None xs i x at passes (λ j y there is. same_Some j i (sym (leads p j y there is) ∙ known)) ∙ ap (λ (n : ℕ). Some n) (zero-add i)
+      last_only (listens_on p) 0 None xs i x at passes
+      (λ j y there is. same_Some j i (sym (leads p j y there is) ∙ known)) ∙ ap (λ (n : ℕ). Some n) (zero-add i)
 
   -- to one that was closed
   pub closed_port : (p i : ℕ) (x : Listener) → find p ≡ Some i → slice_get xs i ≡ Some x → x.is_open ≡ false → last_from (listens_on p) 0 None xs ≡ None
@@ -108,14 +115,17 @@ module _ (find : ℕ → Option ℕ) (xs : List Listener) (index : IsListening f
           at_port (Some y) at port = rw (get_append xs (x ∷ []) i y at) port
 
   -- one changes, keeps its port and isn't opened again
-  pub listening_modify : (i : ℕ) (f : Listener → Listener) → ((x : Listener) → (f x).port ≡ x.port) → ((x : Listener) → (f x).is_open ≡ true → x.is_open ≡ true) → IsListening find (modify xs i f)
+  pub listening_modify : (i : ℕ) (f : Listener → Listener) → ((x : Listener) → (f x).port ≡ x.port)
+      → ((x : Listener) → (f x).is_open ≡ true → x.is_open ≡ true) → IsListening find (modify xs i f)
   listening_modify i f ports opens = record {
-    live = all_modify (λ j y. y.is_open ≡ true → find y.port ≡ Some j) f xs i index.live (λ x at opened. subst (λ (q : ℕ). find q ≡ Some i) (sym (ports x)) (index.live i x at (opens x opened)));
+    live = all_modify (λ j y. y.is_open ≡ true → find y.port ≡ Some j) f xs i index.live
+        (λ x at opened. subst (λ (q : ℕ). find q ≡ Some i) (sym (ports x)) (index.live i x at (opens x opened)));
     port = λ p j known. someand_modify (λ y. y.port ≡ p) f (λ x is. ports x ∙ is) xs i j (index.port p j known);
   }
 
   -- also where memory may have run out
-  pub listening_tried : {A E : Type 0} (r : Result A E) (new : List Listener) (i : ℕ) (f : Listener → Listener) → ((x : Listener) → (f x).port ≡ x.port) → ((x : Listener) → (f x).is_open ≡ true → x.is_open ≡ true)
+  pub listening_tried : {A E : Type 0} (r : Result A E) (new : List Listener) (i : ℕ) (f : Listener → Listener)
+      → ((x : Listener) → (f x).port ≡ x.port) → ((x : Listener) → (f x).is_open ≡ true → x.is_open ≡ true)
       → OnOk r (new ≡ modify xs i f) → OnErr r (new ≡ xs) → IsListening find new
   listening_tried (Ok y) new i f ports opens ok err = rw ok (listening_modify i f ports opens)
   listening_tried (Err y) new i f ports opens ok err = rw err index

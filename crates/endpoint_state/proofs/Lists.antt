@@ -12,7 +12,8 @@ all_tail P x xs h = λ k d few. h (suc k) d (omega arith)
 pub all_head : {X : Type 0} (P : X → Type 0) (x : X) (xs : List X) → All P (x ∷ xs) → P x
 all_head P x xs h = h 0 x (omega arith)
 
-pub all_modify : {X : Type 0} (P Q : X → Type 0) (f : X → X) (xs : List X) (i : ℕ) → ((x : X) → P x → Q x) → ((x : X) → slice_get xs i ≡ Some x → P x → Q (f x)) → All P xs → All Q (modify xs i f)
+pub all_modify : {X : Type 0} (P Q : X → Type 0) (f : X → X) (xs : List X) (i : ℕ) → ((x : X) → P x → Q x)
+    → ((x : X) → slice_get xs i ≡ Some x → P x → Q (f x)) → All P xs → All Q (modify xs i f)
 all_modify P Q f [] i weaker new h = All-nil Q
 all_modify P Q f (x ∷ xs) zero weaker new h =
     All-cons Q (f x) xs (new x refl (all_head P x xs h)) (λ k d few. weaker _ (all_tail P x xs h k d few))

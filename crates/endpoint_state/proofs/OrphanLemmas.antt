@@ -1,5 +1,6 @@
 -- The children of a listener that is gone: to abort those that the index knows is to abort all that are its own.
-use Rattle.std.proofs.Common.{◌≡◌, ℕ, zero, suc, ◌<◌, length, get_or, Bool, true, false, List, [], ◌∷◌, Option, None, Some, map, nat_eq, ◌||◌, refl, sym, ap, subst, ◌∙◌, arith, true≢false}
+use Rattle.std.proofs.Common.{◌≡◌, ℕ, zero, suc, ◌<◌, length, get_or, Bool, true, false, List, [], ◌∷◌, Option, None}
+use Rattle.std.proofs.Common.{Some, map, nat_eq, ◌||◌, refl, sym, ap, subst, ◌∙◌, arith, true≢false}
 use Rattle.std.specs.Prelude.{if◌then◌else◌, slice_get, slice_set, Vec}
 use Rattle.std.specs.declared.alloc.Global.{Global}
 use Rattle.std.specs.Map.{lookup}
@@ -46,21 +47,41 @@ room_orphaned l e room = by (is_of l e)
     by : (b : Bool) → HasRoom (if b then after_abort e else e)
     by false = room
     by true =
-        record { snd_una = room.snd_una; counts = room.counts; unanswered_expiries = room.unanswered_expiries; backoffs = room.backoffs; accepted = room.accepted; forgets = record { accepted = room.forgets.accepted; received = room.forgets.received; made = room.forgets.made }; met = λ sent closed. absurd (true≢false closed); unmet = λ sent. absurd (true≢false (sym sent)) }
+        record {
+          snd_una = room.snd_una;
+          counts = room.counts;
+          unanswered_expiries = room.unanswered_expiries;
+          backoffs = room.backoffs;
+          accepted = room.accepted;
+          forgets = record {
+            accepted = room.forgets.accepted;
+            received = room.forgets.received;
+            made = room.forgets.made;
+          };
+          met = λ sent closed. absurd (true≢false closed);
+          unmet = λ sent. absurd (true≢false (sym sent));
+        }
 
 pub all_modified : {X : Type 0} (P : X → Type 0) (f : X → X) → ((x : X) → P x → P (f x)) → (xs : List X) (i : ℕ) → All P xs → All P (modify xs i f)
 all_modified P f keeps [] i all = all
 all_modified P f keeps (x ∷ xs) zero all = All-cons P (f x) xs (keeps x (all 0 x (omega arith))) (λ k d within. all (suc k) d (omega arith))
-all_modified P f keeps (x ∷ xs) (suc i) all = All-cons P x (modify xs i f) (all 0 x (omega arith)) (all_modified P f keeps xs i (λ k d within. all (suc k) d (omega arith)))
+all_modified P f keeps (x ∷ xs) (suc i) all =
+    All-cons P x (modify xs i f) (all 0 x (omega arith))
+    (all_modified P f keeps xs i (λ k d within. all (suc k) d (omega arith)))
 
 -- forgetting has nothing to do then
 pub orphans_forgotten : (l : ℕ) (es : List Endpoint) → All HasRoom es → map forget_endpoint (map (orphaned l) es) ≡ map (orphaned l) es
 orphans_forgotten l [] room = refl
-orphans_forgotten l (e ∷ es) room = let here = forget_same (orphaned l e) (room_orphaned l e (first e es room)).forgets in let rest = orphans_forgotten l es (later e es room) in cc
+orphans_forgotten l (e ∷ es) room = let here =
+    forget_same (orphaned l e) (room_orphaned l e (first e es room)).forgets in
+    let rest = orphans_forgotten l es (later e es room) in cc
 
 -- one child in its place
-pub orphaned_at : (l : ℕ) (es : List Endpoint) (i : ℕ) (x y : Endpoint) → All HasRoom es → i < length es → x ≡ get_or es i x → y ≡ forget_endpoint (orphaned l x) → slice_set es i y ≡ modify es i (orphaned l)
-orphaned_at l es i x y room within read is = modified_at es i x y (orphaned l) within read (is ∙ forget_same (orphaned l x) (room_orphaned l x (subst HasRoom (sym read) (room i x within))).forgets)
+pub orphaned_at : (l : ℕ) (es : List Endpoint) (i : ℕ) (x y : Endpoint) → All HasRoom es → i < length es
+    → x ≡ get_or es i x → y ≡ forget_endpoint (orphaned l x) → slice_set es i y ≡ modify es i (orphaned l)
+orphaned_at l es i x y room within read is =
+    modified_at es i x y (orphaned l) within read
+    (is ∙ forget_same (orphaned l x) (room_orphaned l x (subst HasRoom (sym read) (room i x within))).forgets)
 
 map_modify : {X : Type 0} (f : X → X) → ((x : X) → f (f x) ≡ f x) → (xs : List X) (i : ℕ) → map f (modify xs i f) ≡ map f xs
 map_modify f again [] i = refl
@@ -80,9 +101,13 @@ stands_apart : (i c : ℕ) (cs : List ℕ) → nat_eq i c ≡ false → stands_i
 stands_apart i c cs other out = rw other out
 
 -- whoever is not at one of the places is left as it is
-each_is_all : (l : ℕ) (cs : List ℕ) (es : List Endpoint) → ((i : ℕ) (e : Endpoint) → slice_get es i ≡ Some e → stands_in i cs ≡ false → orphaned l e ≡ e) → orphan_each l cs es ≡ map (orphaned l) es
+each_is_all : (l : ℕ) (cs : List ℕ) (es : List Endpoint)
+    → ((i : ℕ) (e : Endpoint) → slice_get es i ≡ Some e → stands_in i cs ≡ false → orphaned l e ≡ e)
+    → orphan_each l cs es ≡ map (orphaned l) es
 each_is_all l [] es left = map_same (orphaned l) es (λ i e at. left i e at refl)
-each_is_all l (c ∷ cs) es left = each_is_all l cs (modify es c (orphaned l)) (λ i e at out. by i e at out (nat_eq i c) refl) ∙ map_modify (orphaned l) (orphaned_again l) es c
+each_is_all l (c ∷ cs) es left =
+    each_is_all l cs (modify es c (orphaned l)) (λ i e at out. by i e at out (nat_eq i c) refl)
+    ∙ map_modify (orphaned l) (orphaned_again l) es c
   where
     kept : (i : ℕ) (e : Endpoint) → slice_get (modify es c (orphaned l)) i ≡ Some e → stands_in i (c ∷ cs) ≡ false → orphaned l e ≡ e
     kept = all_modify (λ i e. stands_in i (c ∷ cs) ≡ false → orphaned l e ≡ e) (orphaned l) es c left (λ x at out. orphaned_again l x)
@@ -100,7 +125,9 @@ module _ (find : ℕ → ℕ → Option ℕ) (child : ℕ → ℕ → Bool) (es 
     where
       by : (i : ℕ) (e : Endpoint) → slice_get es i ≡ Some e → stands_in i cs ≡ false → (o : Option ℕ) → e.listener ≡ o → orphaned l e ≡ e
       by i e at out None is = ap (λ (o : Option ℕ). if option_map_or (λ holder. nat_eq holder l) o false then after_abort e else e) is
-      by i e at out (Some k) is = ap (λ (o : Option ℕ). if option_map_or (λ holder. nat_eq holder l) o false then after_abort e else e) is ∙ by_holder (nat_eq k l) refl
+      by i e at out (Some k) is =
+          ap (λ (o : Option ℕ). if option_map_or (λ holder. nat_eq holder l) o false then after_abort e else e) is
+          ∙ by_holder (nat_eq k l) refl
         where
           by_holder : (b : Bool) → nat_eq k l ≡ b → (if b then after_abort e else e) ≡ e
           by_holder false other = refl
@@ -108,9 +135,13 @@ module _ (find : ℕ → ℕ → Option ℕ) (child : ℕ → ℕ → Bool) (es 
               let one : k ≡ l = grind (arith, nat_tests, same) in
               absurd (true≢false (sym (known i (index.children i l e at (subst (λ (n : ℕ). e.listener ≡ Some n) one is))) ∙ out))
 
-pub indexed_orphans : (find : ℕ → ℕ → Option ℕ) (child : ℕ → ℕ → Bool) (l : ℕ) (cs : List ℕ) (es : List Endpoint) → IsIndexed find child es → IsIndexed find child (orphan_each l cs es)
+pub indexed_orphans : (find : ℕ → ℕ → Option ℕ) (child : ℕ → ℕ → Bool) (l : ℕ) (cs : List ℕ) (es : List Endpoint)
+    → IsIndexed find child es → IsIndexed find child (orphan_each l cs es)
 indexed_orphans find child l [] es index = index
-indexed_orphans find child l (c ∷ cs) es index = indexed_orphans find child l cs (modify es c (orphaned l)) (indexed_modify find child es index c (orphaned l) (λ p r e. ports p r e (is_of l e)) (λ k e is. listener k e (is_of l e) is))
+indexed_orphans find child l (c ∷ cs) es index =
+    indexed_orphans find child l cs (modify es c (orphaned l))
+    (indexed_modify find child es index c (orphaned l) (λ p r e. ports p r e (is_of l e))
+    (λ k e is. listener k e (is_of l e) is))
   where
     ports : (p r : ℕ) (e : Endpoint) (b : Bool) → has_ports p r (if b then after_abort e else e) ≡ has_ports p r e
     ports p r e true = refl
@@ -120,8 +151,10 @@ indexed_orphans find child l (c ∷ cs) es index = indexed_orphans find child l 
     listener k e true is = is
     listener k e false is = is
 
-pub child_known : (entries : List (ℕ × Vec ℕ Global)) (l : ℕ) (v : Vec ℕ Global) (i : ℕ) → lookup (is_at (nat_cmp l)) entries ≡ Some v → is_child_in entries l i ≡ true → stands_in i v.items ≡ true
+pub child_known : (entries : List (ℕ × Vec ℕ Global)) (l : ℕ) (v : Vec ℕ Global) (i : ℕ)
+    → lookup (is_at (nat_cmp l)) entries ≡ Some v → is_child_in entries l i ≡ true → stands_in i v.items ≡ true
 child_known entries l v i at is = sym (ap (λ (o : Option (Vec ℕ Global)). option_map_or (λ w. stands_in i w.items) o false) at) ∙ is
 
-pub no_child : (entries : List (ℕ × Vec ℕ Global)) (l i : ℕ) → lookup (is_at (nat_cmp l)) entries ≡ None → is_child_in entries l i ≡ true → stands_in i [] ≡ true
+pub no_child : (entries : List (ℕ × Vec ℕ Global)) (l i : ℕ) → lookup (is_at (nat_cmp l)) entries ≡ None
+    → is_child_in entries l i ≡ true → stands_in i [] ≡ true
 no_child entries l i at is = sym (ap (λ (o : Option (Vec ℕ Global)). option_map_or (λ w. stands_in i w.items) o false) at) ∙ is

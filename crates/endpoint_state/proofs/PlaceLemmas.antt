@@ -48,5 +48,10 @@ take_push ns n = by (length (ns ++ n ∷ []) - 1) (omega (arith, length-append n
     by k is = rw is (take-append_seam ns (n ∷ []))
 
 -- a child that joined last leaves again
-pub left_again : (xs : List Listener) (i child : ℕ) → modify (modify xs i (λ x. let y : Listener = record x { queue = x.queue ++ child ∷ [] } in y)) i (λ x. let y : Listener = record x { queue = take (length x.queue - 1) x.queue } in y) ≡ xs
-left_again xs i child = modify_back (λ x. let y : Listener = record x { queue = x.queue ++ child ∷ [] } in y) (λ x. let y : Listener = record x { queue = take (length x.queue - 1) x.queue } in y) (λ x. ap (λ (q : List ℕ). let y : Listener = record x { queue = q } in y) (take_push x.queue child)) xs i
+pub left_again : (xs : List Listener) (i child : ℕ)
+    → modify (modify xs i (λ x. let y : Listener = record x { queue = x.queue ++ child ∷ [] } in y)) i
+    (λ x. let y : Listener = record x { queue = take (length x.queue - 1) x.queue } in y) ≡ xs
+left_again xs i child =
+    modify_back (λ x. let y : Listener = record x { queue = x.queue ++ child ∷ [] } in y)
+    (λ x. let y : Listener = record x { queue = take (length x.queue - 1) x.queue } in y)
+    (λ x. ap (λ (q : List ℕ). let y : Listener = record x { queue = q } in y) (take_push x.queue child)) xs i

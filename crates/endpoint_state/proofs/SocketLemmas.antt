@@ -1,5 +1,6 @@
 -- What calls do at a host, put together from its parts.
-use Rattle.std.proofs.Common.{◌≡◌, ◌≤◌, ℕ, zero, suc, Bool, true, false, ◌&&◌, List, [], ◌∷◌, ◌++◌, Option, None, Some, length, drop, nat_eq, refl, sym, ap, subst, ◌∙◌, arith, true≢false}
+use Rattle.std.proofs.Common.{◌≡◌, ◌≤◌, ℕ, zero, suc, Bool, true, false, ◌&&◌, List, [], ◌∷◌, ◌++◌, Option, None, Some}
+use Rattle.std.proofs.Common.{length, drop, nat_eq, refl, sym, ap, subst, ◌∙◌, arith, true≢false}
 use Rattle.std.specs.Prelude.{slice_get, nat_le}
 use Rattle.std.specs.List.{All}
 use Rattle.std.specs.Option.{option_map_or}
@@ -44,23 +45,32 @@ queue_at b l x at = ap (λ (o : Option Listener). option_map_or (λ y. y.queue) 
 
 -- the first child is accepted
 pub accepted_first : (b : HostTcp) (l n child : ℕ) (es : List Endpoint) (xs : List Listener) (ss : List (ℕ × Socket)) → slice_get (queue_of b l) 0 ≡ Some child
-    → es ≡ changed b.endpoints child (λ e. record e { listener = None }) → xs ≡ modify b.listeners l without_first → ss ≡ insert_entry nat_eq b.sockets n (record { thing = EndpointAt child; live = true })
+    → es ≡ changed b.endpoints child (λ e. record e { listener = None }) → xs ≡ modify b.listeners l without_first
+    → ss ≡ insert_entry nat_eq b.sockets n (record { thing = EndpointAt child; live = true })
     → (let a : HostTcp = record { endpoints = es; listeners = xs; sockets = ss } in a) ≡ forget_body (accepted_from b l n (queue_of b l))
 accepted_first b l n child es xs ss first e x s = by (queue_of b l) refl first
   where
-    by : (q : List ℕ) → queue_of b l ≡ q → slice_get q 0 ≡ Some child → (let a : HostTcp = record { endpoints = es; listeners = xs; sockets = ss } in a) ≡ forget_body (accepted_from b l n q)
+    by : (q : List ℕ) → queue_of b l ≡ q → slice_get q 0 ≡ Some child
+        → (let a : HostTcp = record { endpoints = es; listeners = xs; sockets = ss } in a)
+        ≡ forget_body (accepted_from b l n q)
     by [] is first = absurd (none-some child first)
     by (c ∷ q) is first =
         let same : c ≡ child = same_Some c child first in
         let listeners : modify b.listeners l without_first ≡ modify b.listeners l (λ x. record x { queue = q }) =
-        modify_alike without_first (λ x. record x { queue = q }) b.listeners l (λ x at. ap (λ (ns : List ℕ). let y : Listener = record x { queue = drop 1 ns } in y) (sym (queue_at b l x at) ∙ is)) in
-        subst (λ (k : ℕ). (let a : HostTcp = record { endpoints = es; listeners = xs; sockets = ss } in a) ≡ forget_body (accepted_from b l n (k ∷ q))) (sym same)
+        modify_alike without_first (λ x. record x { queue = q }) b.listeners l
+        (λ x at. ap (λ (ns : List ℕ). let y : Listener = record x { queue = drop 1 ns } in y)
+        (sym (queue_at b l x at) ∙ is)) in
+        subst (λ (k : ℕ). (let a : HostTcp = record { endpoints = es; listeners = xs; sockets = ss } in a)
+        ≡ forget_body (accepted_from b l n (k ∷ q))) (sym same)
         (body_is es _ xs _ ss _ e (x ∙ listeners) s)
 
 -- an endpoint that is opened has nothing to discard
 pub opened : (p : Profile) (b : HostTcp) (n lport rport : ℕ) → All HasRoom b.endpoints
     → with_socket (record b { endpoints = b.endpoints ++ new_endpoint lport rport None states.SynSent p ∷ [] }) n (EndpointAt (length b.endpoints))
-    ≡ forget_body (with_socket (record b { endpoints = b.endpoints ++ new_endpoint lport rport None states.SynSent p ∷ [] }) n (EndpointAt (length b.endpoints)))
+    ≡ forget_body (with_socket (record b {
+      endpoints = b.endpoints ++ new_endpoint lport rport None states.SynSent p ∷ [];
+    }) n
+    (EndpointAt (length b.endpoints)))
 opened p b n lport rport room =
     body_is _ _ b.listeners b.listeners _ _ (forgot_push b.endpoints (new_endpoint lport rport None states.SynSent p) room refl) refl refl
 
@@ -80,6 +90,11 @@ both false b is = absurd (true≢false (sym is))
 -- bytes that a `recv` may give wait
 pub allowed_wait : (b : HostTcp) (n most : ℕ) (bytes : List ℕ) → call_allows b (calls.Recv n most) (answers.Bytes bytes) ≡ true → AreWaiting b n bytes
 allowed_wait b n most bytes allowed i e named at =
-    let one : thing_allows b (calls.Recv n most) (answers.Bytes bytes) (EndpointAt i) ≡ true = sym (ap (λ (o : Option SocketTarget). option_map_or (thing_allows b (calls.Recv n most) (answers.Bytes bytes)) o (is_bad_socket (answers.Bytes bytes))) named) ∙ allowed in
-    let two : endpoint_allows e (calls.Recv n most) (answers.Bytes bytes) ≡ true = sym (ap (λ (o : Option Endpoint). option_map_or (λ x. endpoint_allows x (calls.Recv n most) (answers.Bytes bytes)) o false) at) ∙ one in
+    let one : thing_allows b (calls.Recv n most) (answers.Bytes bytes) (EndpointAt i) ≡ true =
+    sym (ap (λ (o : Option SocketTarget).
+    option_map_or (thing_allows b (calls.Recv n most) (answers.Bytes bytes)) o
+    (is_bad_socket (answers.Bytes bytes))) named) ∙ allowed in
+    let two : endpoint_allows e (calls.Recv n most) (answers.Bytes bytes) ≡ true =
+    sym (ap (λ (o : Option Endpoint).
+    option_map_or (λ x. endpoint_allows x (calls.Recv n most) (answers.Bytes bytes)) o false) at) ∙ one in
     starts_within bytes (waiting e.stream.receive) (both (nat_le 1 (length bytes) && nat_le (length bytes) most) (starts bytes (waiting e.stream.receive)) two)

@@ -43,11 +43,18 @@ stays s = record { sent = refl; closed = λ h. h }
 acknowledged_stays : (s : State) (e : Endpoint) (m : Emission) → Stays s (acknowledged s e m)
 acknowledged_stays states.SynReceived e m =
     stays_either (acknowledges_syn e m) states.SynReceived (if e.stream.ended then states.FinWait1 else states.Established) states.SynReceived
-    (stays_either e.stream.ended states.SynReceived states.FinWait1 states.Established (record { sent = refl; closed = λ h. refl }) (record { sent = refl; closed = λ h. refl }))
+    (stays_either e.stream.ended states.SynReceived states.FinWait1 states.Established
+    (record { sent = refl; closed = λ h. refl }) (record { sent = refl; closed = λ h. refl }))
     (stays states.SynReceived)
-acknowledged_stays states.FinWait1 e m = stays_either (fin_acknowledged e m) states.FinWait1 states.FinWait2 states.FinWait1 (record { sent = refl; closed = λ h. refl }) (stays states.FinWait1)
-acknowledged_stays states.Closing e m = stays_either (fin_acknowledged e m) states.Closing states.TimeWait states.Closing (record { sent = refl; closed = λ h. refl }) (stays states.Closing)
-acknowledged_stays states.LastAck e m = stays_either (fin_acknowledged e m) states.LastAck states.Closed states.LastAck (record { sent = refl; closed = λ h. refl }) (stays states.LastAck)
+acknowledged_stays states.FinWait1 e m =
+    stays_either (fin_acknowledged e m) states.FinWait1 states.FinWait2 states.FinWait1
+    (record { sent = refl; closed = λ h. refl }) (stays states.FinWait1)
+acknowledged_stays states.Closing e m =
+    stays_either (fin_acknowledged e m) states.Closing states.TimeWait states.Closing
+    (record { sent = refl; closed = λ h. refl }) (stays states.Closing)
+acknowledged_stays states.LastAck e m =
+    stays_either (fin_acknowledged e m) states.LastAck states.Closed states.LastAck
+    (record { sent = refl; closed = λ h. refl }) (stays states.LastAck)
 acknowledged_stays states.SynSent e m = stays states.SynSent
 acknowledged_stays states.Closed e m = stays states.Closed
 acknowledged_stays states.Listen e m = stays states.Listen
@@ -85,7 +92,9 @@ acked_in_other_states : (e : Endpoint) (m : Emission) → IsAcked e.stream.snd_u
 acked_in_other_states e m = by (acknowledges_syn e m) (is_new_ack e m) (is_duplicate e m)
   where
     by : (syn new again : Bool)
-        → IsAcked e.stream.snd_una (max e.stream.snd_una m.ack) (if syn then SynAcked e.control.values.smss e.syn_lost else if new then NewAck (acked e m) else if again then Duplicate else Other)
+        → IsAcked e.stream.snd_una (max e.stream.snd_una m.ack)
+        (if syn then SynAcked e.control.values.smss e.syn_lost else if new then NewAck (acked e m) else if again
+        then Duplicate else Other)
     by true new again = omega arith
     by false true again = omega arith
     by false false true = omega arith
@@ -95,7 +104,8 @@ acked_at_syn : (e : Endpoint) (m : Emission) → IsAcked e.stream.snd_una (snd_u
 acked_at_syn e m = by (not (m.flags.syn && not m.flags.rst)) m.flags.ack
   where
     by : (other ack : Bool)
-        → IsAcked e.stream.snd_una (if ack then max e.stream.snd_una 1 else e.stream.snd_una) (if other then Other else if ack then SynAcked (told_smss m.mss) e.syn_lost else Syn (told_smss m.mss))
+        → IsAcked e.stream.snd_una (if ack then max e.stream.snd_una 1 else e.stream.snd_una)
+        (if other then Other else if ack then SynAcked (told_smss m.mss) e.syn_lost else Syn (told_smss m.mss))
     by true true = omega arith
     by true false = omega arith
     by false true = omega arith
@@ -113,16 +123,21 @@ zero_or false n steps h = omega arith
 
 -- 3. segments
 
-taken_bounded : (h : Header) (how : TakeChoice) (m : Emission) (moment steps : ℕ) (e : Endpoint) → m.ack < 2 ^ 63 → is_syn_sent e.state ≡ false → IsBounded steps e → IsBounded (suc steps) (taken h e how m moment)
+taken_bounded : (h : Header) (how : TakeChoice) (m : Emission) (moment steps : ℕ) (e : Endpoint) → m.ack < 2 ^ 63
+    → is_syn_sent e.state ≡ false → IsBounded steps e → IsBounded (suc steps) (taken h e how m moment)
 taken_bounded h how m moment steps e small unsent b =
     let later = bounded_later steps e b in
     let snd_una = b.snd_una in
     let state = taken_stays e how m in
-    let front = next_put_all e.stream.receive.taken (kept_start e m) (body_kept e.stream.receive.taken (kept_start e m) (kept_bytes e how m) (keeps_fin e how m)) in
+    let front =
+    next_put_all e.stream.receive.taken (kept_start e m)
+    (body_kept e.stream.receive.taken (kept_start e m) (kept_bytes e how m) (keeps_fin e how m)) in
     record {
       snd_una = omega arith;
       counts =
-          counts_stay e.control (signal_of e m) (at_moment e moment) how.cwnd e.control.values.ssthresh steps e.stream.snd_una (max e.stream.snd_una m.ack) b.counts (acked_taken e m unsent);
+          counts_stay e.control (signal_of e m)
+          (at_moment e moment) how.cwnd e.control.values.ssthresh steps e.stream.snd_una
+          (max e.stream.snd_una m.ack) b.counts (acked_taken e m unsent);
       unanswered_expiries = omega arith;
       backoffs = zero_or (is_new_ack e m) e.backoffs steps b.backoffs;
       accepted = later.accepted;
@@ -137,7 +152,9 @@ met_bounded h how m moment steps e sent b =
     record {
       snd_una = below m.flags.ack;
       counts =
-          counts_stay e.control (signal_of e m) (at_moment e moment) how.cwnd e.control.values.ssthresh steps e.stream.snd_una (snd_una_after_syn e m) b.counts (acked_met e m sent);
+          counts_stay e.control (signal_of e m)
+          (at_moment e moment) how.cwnd e.control.values.ssthresh steps e.stream.snd_una
+          (snd_una_after_syn e m) b.counts (acked_met e m sent);
       unanswered_expiries = omega arith;
       backoffs = zero_or m.flags.ack e.backoffs steps b.backoffs;
       accepted = later.accepted;
@@ -156,9 +173,20 @@ met_bounded h how m moment steps e sent b =
 reset_bounded : (how : TakeChoice) (moment steps : ℕ) (e : Endpoint) → IsBounded steps e → IsBounded (suc steps) (was_reset e how moment)
 reset_bounded how moment steps e b =
     let later = bounded_later steps e b in
-    record { snd_una = b.snd_una; counts = counts_stay e.control Other (at_moment e moment) how.cwnd e.control.values.ssthresh steps e.stream.snd_una e.stream.snd_una b.counts (omega arith); unanswered_expiries = omega arith; backoffs = later.backoffs; accepted = later.accepted; met = λ sent closed. absurd cc; unmet = λ sent. absurd cc }
+    record {
+      snd_una = b.snd_una;
+      counts =
+          counts_stay e.control Other (at_moment e moment) how.cwnd e.control.values.ssthresh steps e.stream.snd_una
+          e.stream.snd_una b.counts (omega arith);
+      unanswered_expiries = omega arith;
+      backoffs = later.backoffs;
+      accepted = later.accepted;
+      met = λ sent closed. absurd cc;
+      unmet = λ sent. absurd cc;
+    }
 
-pub endpoint_taken_bounded : (h : Header) (how : TakeChoice) (m : Emission) (moment steps : ℕ) (e : Endpoint) → m.ack < 2 ^ 63 → IsBounded steps e → IsBounded (suc steps) (endpoint_taken h e how m moment)
+pub endpoint_taken_bounded : (h : Header) (how : TakeChoice) (m : Emission) (moment steps : ℕ) (e : Endpoint)
+    → m.ack < 2 ^ 63 → IsBounded steps e → IsBounded (suc steps) (endpoint_taken h e how m moment)
 endpoint_taken_bounded h how m moment steps e small b = by m.flags.rst (is_syn_sent e.state) refl
   where
     by : (r s : Bool) → is_syn_sent e.state ≡ s

@@ -18,7 +18,9 @@ earlier_is es thread n link o h = by_test (list_any (λ e. nat_lt e.0 n && e.1.t
   where
     by_test : (b : Bool) → list_any (λ e. nat_lt e.0 n && e.1.thread == thread) (lines_of es) ≡ b → is_some (option_and_then (waiting_at es) link) ≡ b
     by_test true is =
-        let found : (p : ℕ) × (w : Waiting) × (waiting_at es p ≡ Some w) × (nat_lt p n && w.line.thread == thread ≡ true) = found_any (λ e. nat_lt e.0 n && e.1.thread == thread) es o is in
+        let found : (p : ℕ) × (w : Waiting) × (waiting_at es p ≡ Some w)
+        × (nat_lt p n && w.line.thread == thread ≡ true) =
+        found_any (λ e. nat_lt e.0 n && e.1.thread == thread) es o is in
         let low : found.0 < n = grind (arith, nat_tests, found.3) in
         let same : found.1.line.thread ≡ thread = grind (arith, nat_tests, found.3) in
         let there : (p : ℕ) × (v : Waiting) × (link ≡ Some p) × (found.0 ≤ p) × (waiting_at es p ≡ Some v) = h.last found.0 found.1 found.2 same low in
@@ -35,7 +37,8 @@ earlier_is es thread n link o h = by_test (list_any (λ e. nat_lt e.0 n && e.1.t
                 let low : p < n = h.below p at in
                 let same : w.line.thread ≡ thread = h.own p w at here in
                 let passes : nat_lt p n && w.line.thread == thread ≡ true = grind (arith, nat_tests, low, same) in
-                let found : list_any (λ e. nat_lt e.0 n && e.1.thread == thread) (lines_of es) ≡ true = any_at (λ e. nat_lt e.0 n && e.1.thread == thread) p w es here passes in
+                let found : list_any (λ e. nat_lt e.0 n && e.1.thread == thread) (lines_of es) ≡ true =
+                any_at (λ e. nat_lt e.0 n && e.1.thread == thread) p w es here passes in
                 absurd cc
 
 pub none_earlier : (es : List (ℕ × Waiting)) (n : ℕ) (w : Waiting) → waiting_at es n ≡ Some w

@@ -1,5 +1,6 @@
 -- The entries of the lines that wait: one more at the end, one fewer, what is found in them, and the first overdue.
-use Rattle.std.proofs.Common.{◌≡◌, ℕ, ◌<◌, ◌≤◌, ◌+◌, Bool, true, false, not, nat_lt, List, [], ◌∷◌, ◌++◌, suc, refl, sym, ap, ◌∙◌, subst, arith, rules, Less, Some, None}
+use Rattle.std.proofs.Common.{◌≡◌, ℕ, ◌<◌, ◌≤◌, ◌+◌, Bool, true, false, not, nat_lt, List, [], ◌∷◌, ◌++◌, suc, refl}
+use Rattle.std.proofs.Common.{sym, ap, ◌∙◌, subst, arith, rules, Less, Some, None}
 use Rattle.std.proofs.lemmas.Bool.Decides.{nat_tests}
 use Rattle.std.specs.Prelude.{nat_eq, filter, All, is_some, slice_get}
 use Rattle.std.specs.List.{AllByRecursion, list_any, find}
@@ -19,16 +20,19 @@ use Rattle.interval_order.specs.Waits.{lines_of, waiting_at}
 
 module _ {X : Type 0} where
   -- a number above all others goes last, and the numbers rise still
-  front_more : (n k : ℕ) (v : X) (es : List (ℕ × X)) → n < k → AllByRecursion (λ m. nat_cmp n m ≡ Less) (keys_of es) → AllByRecursion (λ m. nat_cmp n m ≡ Less) (keys_of (es ++ (k, v) ∷ []))
+  front_more : (n k : ℕ) (v : X) (es : List (ℕ × X)) → n < k → AllByRecursion (λ m. nat_cmp n m ≡ Less) (keys_of es)
+      → AllByRecursion (λ m. nat_cmp n m ≡ Less) (keys_of (es ++ (k, v) ∷ []))
   front_more n k v [] low h = (sym (nat_cmp_is n k Less low), tt)
   front_more n k v (e ∷ es) low h = (h.0, front_more n k v es low h.1)
 
-  rise_more : (es : List (ℕ × X)) (k : ℕ) (v : X) → AllByRecursion (λ n. n < k) (keys_of es) → IsStrictlySortedBy nat_cmp (keys_of es) → IsStrictlySortedBy nat_cmp (keys_of (es ++ (k, v) ∷ []))
+  rise_more : (es : List (ℕ × X)) (k : ℕ) (v : X) → AllByRecursion (λ n. n < k) (keys_of es)
+      → IsStrictlySortedBy nat_cmp (keys_of es) → IsStrictlySortedBy nat_cmp (keys_of (es ++ (k, v) ∷ []))
   unfolding IsStrictlySortedBy
   rise_more [] k v low h = (tt, tt)
   rise_more (e ∷ es) k v low h = (front_more e.0 k v es low.0 h.0, rise_more es k v low.1 h.1)
 
-  pub rising_more : (es : List (ℕ × X)) (k : ℕ) (v : X) → All (λ n. n < k) (keys_of es) → IsStrictlySortedBy nat_cmp (keys_of es) → IsStrictlySortedBy nat_cmp (keys_of (es ++ (k, v) ∷ []))
+  pub rising_more : (es : List (ℕ × X)) (k : ℕ) (v : X) → All (λ n. n < k) (keys_of es)
+      → IsStrictlySortedBy nat_cmp (keys_of es) → IsStrictlySortedBy nat_cmp (keys_of (es ++ (k, v) ∷ []))
   rising_more es k v low h = rise_more es k v (recursion_from_All (λ n. n < k) (keys_of es) low) h
 
   -- it is found, and what was found before is found still
@@ -43,7 +47,8 @@ module _ {X : Type 0} where
   found_still q k v [] away = let apart : nat_eq q k ≡ false = grind (arith, nat_tests, away) in rw apart refl
   found_still q k v (e ∷ es) away = by_test (found_still q k v es away) (nat_eq q e.0) refl
     where
-      by_test : lookup (nat_eq q) (es ++ (k, v) ∷ []) ≡ lookup (nat_eq q) es → (b : Bool) → nat_eq q e.0 ≡ b → lookup (nat_eq q) (e ∷ es ++ (k, v) ∷ []) ≡ lookup (nat_eq q) (e ∷ es)
+      by_test : lookup (nat_eq q) (es ++ (k, v) ∷ []) ≡ lookup (nat_eq q) es → (b : Bool) → nat_eq q e.0 ≡ b
+          → lookup (nat_eq q) (e ∷ es ++ (k, v) ∷ []) ≡ lookup (nat_eq q) (e ∷ es)
       by_test rest true is = rw is refl
       by_test rest false is = rw is rest
 
@@ -52,7 +57,8 @@ module _ {X : Type 0} where
   keys_kept keep [] = refl
   keys_kept keep (e ∷ es) = by_test (keys_kept keep es) (keep e.0) refl
     where
-      by_test : filter keep (keys_of es) ≡ keys_of (filter (λ e. keep e.0) es) → (b : Bool) → keep e.0 ≡ b → filter keep (keys_of (e ∷ es)) ≡ keys_of (filter (λ e. keep e.0) (e ∷ es))
+      by_test : filter keep (keys_of es) ≡ keys_of (filter (λ e. keep e.0) es) → (b : Bool) → keep e.0 ≡ b
+          → filter keep (keys_of (e ∷ es)) ≡ keys_of (filter (λ e. keep e.0) (e ∷ es))
       by_test rest true is = rw is (ap (λ (ns : List ℕ). e.0 ∷ ns) rest)
       by_test rest false is = rw is rest
 
@@ -75,7 +81,8 @@ pub line_is : (n : ℕ) (es : List (ℕ × Waiting)) → lookup (nat_eq n) (line
 line_is n es = lookup-map_values (λ (w : Waiting). w.line) (nat_eq n) es
 
 -- an entry that passes is found
-pub any_at : (test : ℕ × Line → Bool) (p : ℕ) (w : Waiting) (es : List (ℕ × Waiting)) → waiting_at es p ≡ Some w → test (p, w.line) ≡ true → list_any test (lines_of es) ≡ true
+pub any_at : (test : ℕ × Line → Bool) (p : ℕ) (w : Waiting) (es : List (ℕ × Waiting)) → waiting_at es p ≡ Some w
+    → test (p, w.line) ≡ true → list_any test (lines_of es) ≡ true
 any_at test p w [] at passes = absurd cc
 any_at test p w (e ∷ es) at passes = by_test (λ h. any_at test p w es h passes) (nat_eq p e.0) refl
   where
@@ -158,6 +165,7 @@ pub any_is_found : {X : Type 0} (f : X → ℕ) (test : X → Bool) (xs : List X
 any_is_found f test [] = refl
 any_is_found f test (x ∷ xs) = by_test (any_is_found f test xs) (test x) refl
   where
-    by_test : is_some (option_map f (find test xs)) ≡ list_any test xs → (b : Bool) → test x ≡ b → is_some (option_map f (find test (x ∷ xs))) ≡ list_any test (x ∷ xs)
+    by_test : is_some (option_map f (find test xs)) ≡ list_any test xs → (b : Bool) → test x ≡ b
+        → is_some (option_map f (find test (x ∷ xs))) ≡ list_any test (x ∷ xs)
     by_test rest true is = rw is refl
     by_test rest false is = rw is rest

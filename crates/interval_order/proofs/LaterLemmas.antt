@@ -1,5 +1,7 @@
 -- Lines that come behind those that were offered: they matter to no step before their moment that doesn't take them.
-use Rattle.std.proofs.Common.{◌≡◌, ℕ, ◌+◌, ◌<◌, ◌≤◌, suc, if◌then◌else◌, Bool, true, false, cond, not, ◌&&◌, ◌||◌, ◌==◌, nat_lt, nat_le, List, [], ◌∷◌, ◌++◌, length, refl, ap, sym, ◌∙◌, arith, Option, Some, None, length-append}
+use Rattle.std.proofs.Common.{◌≡◌, ℕ, ◌+◌, ◌<◌, ◌≤◌, suc, if◌then◌else◌, Bool, true, false, cond, not, ◌&&◌, ◌||◌, ◌==◌}
+use Rattle.std.proofs.Common.{nat_lt, nat_le, List, [], ◌∷◌, ◌++◌, length, refl, ap, sym, ◌∙◌, arith, Option, Some}
+use Rattle.std.proofs.Common.{None, length-append}
 use Rattle.std.proofs.lemmas.Bool.Decides.{nat_tests}
 use Rattle.std.proofs.lemmas.List.Folds.{list_any-append}
 use Rattle.std.proofs.lemmas.List.Elements.{filter-append}
@@ -64,7 +66,8 @@ lookup_beyond n next (y ∷ ys) le =
     let apart : nat_eq n next ≡ false = grind (arith, nat_tests, le) in
     rw apart (lookup_beyond n (next + 1) ys (omega arith))
 
-lookup_here : {X : Type 0} (next : ℕ) (before : List X) (y : X) (after : List X) → lookup (nat_eq (next + length before)) (enumerate_from next (before ++ y ∷ after)) ≡ Some y
+lookup_here : {X : Type 0} (next : ℕ) (before : List X) (y : X) (after : List X)
+    → lookup (nat_eq (next + length before)) (enumerate_from next (before ++ y ∷ after)) ≡ Some y
 lookup_here next [] y after = let same : nat_eq (next + 0) next ≡ true = grind (arith, nat_tests) in rw same refl
 lookup_here next (x ∷ before) y after =
     let apart : nat_eq (next + suc (length before)) next ≡ false = grind (arith, nat_tests) in
@@ -72,17 +75,20 @@ lookup_here next (x ∷ before) y after =
     rw apart (ap (λ (n : ℕ). lookup (nat_eq n) (enumerate_from (next + 1) (before ++ y ∷ after))) on ∙ lookup_here (next + 1) before y after)
 
 -- a line that was offered is where it was
-pub line_at-front : (header : Header) (lines more : List Line) (n : ℕ) → n < first_event_line header + length lines → line_at header (lines ++ more) n ≡ line_at header lines n
+pub line_at-front : (header : Header) (lines more : List Line) (n : ℕ) → n < first_event_line header + length lines
+    → line_at header (lines ++ more) n ≡ line_at header lines n
 line_at-front header lines more n lt =
     ap (λ (es : List (ℕ × Line)). lookup (nat_eq n) es) (enumerate_append (first_event_line header) lines more)
-    ∙ lookup_append (nat_eq n) (numbered header lines) (enumerate_from (first_event_line header + length lines) more) (lookup_below n (first_event_line header + length lines) more lt)
+    ∙ lookup_append (nat_eq n) (numbered header lines) (enumerate_from (first_event_line header + length lines) more)
+    (lookup_below n (first_event_line header + length lines) more lt)
 
 pub line_at-beyond : (header : Header) (lines : List Line) (n : ℕ) → first_event_line header + length lines ≤ n → line_at header lines n ≡ None
 line_at-beyond header lines n le = lookup_beyond n (first_event_line header) lines le
 
 -- ---- the order with more lines
 
-kept : (next : ℕ) (earlier : List Move) (more : List Line) → TakesBelow next earlier → filter (λ e. not (is_placed earlier e.0)) (enumerate_from next more) ≡ enumerate_from next more
+kept : (next : ℕ) (earlier : List Move) (more : List Line) → TakesBelow next earlier
+    → filter (λ e. not (is_placed earlier e.0)) (enumerate_from next more) ≡ enumerate_from next more
 kept next earlier [] below = refl
 kept next earlier (line ∷ more) below =
     let here : is_placed earlier next ≡ false = below next (omega arith) in
@@ -147,14 +153,21 @@ offered_same o more n lt =
     rw (one, two) refl
 
 -- what comes later matters to no hidden step
-pub passing_same : (o : Order) (more : List Line) (moment : ℕ) → AreLater moment more → order_rules (with_lines o more) (passing moment) ≡ order_rules o (passing moment)
+pub passing_same : (o : Order) (more : List Line) (moment : ℕ) → AreLater moment more
+    → order_rules (with_lines o more) (passing moment) ≡ order_rules o (passing moment)
 passing_same o more moment later = rw (overdue_same o moment more later) refl
 
 -- nor to a step that takes a line which was offered
-pub taking_same : (o : Order) (more : List Line) (moment n extras : ℕ) → AreLater moment more → n < o.next → order_rules (with_lines o more) (taking moment n extras) ≡ order_rules o (taking moment n extras)
+pub taking_same : (o : Order) (more : List Line) (moment n extras : ℕ) → AreLater moment more → n < o.next
+    → order_rules (with_lines o more) (taking moment n extras) ≡ order_rules o (taking moment n extras)
 taking_same o more moment n extras later lt =
     let le : n ≤ o.next = omega arith in
-    λ i. (rules.LineRange, not (offered_same o more n lt i) || option_map_or (λ line. not (extras == extras_of o.header.version line.event)) (held_same o more n lt i) false)
+    λ i. (
+      rules.LineRange,
+      not (offered_same o more n lt i)
+          || option_map_or (λ line. not (extras == extras_of o.header.version line.event))
+          (held_same o more n lt i) false,
+    )
     ∷ (rules.LineAgain, offered_same o more n lt i && is_none (held_same o more n lt i))
     ∷ (rules.ThreadOrder, option_map_or (λ line. earlier_same o more n line.thread le i) (held_same o more n lt i) false)
     ∷ (rules.MomentFalls, moment_falls o moment)
@@ -175,14 +188,16 @@ not_held n next (e ∷ es) below le =
     let apart : nat_eq n e.0 ≡ false = grind (arith, nat_tests, lt, le) in
     rw apart (not_held n next es below.1 le)
 
-all_earlier : (n next thread : ℕ) (es : List (ℕ × Line)) → KeysBelow next es → next ≤ n → list_any (λ e. nat_lt e.0 n && e.1.thread == thread) es ≡ list_any (λ e. e.1.thread == thread) es
+all_earlier : (n next thread : ℕ) (es : List (ℕ × Line)) → KeysBelow next es → next ≤ n
+    → list_any (λ e. nat_lt e.0 n && e.1.thread == thread) es ≡ list_any (λ e. e.1.thread == thread) es
 all_earlier n next thread [] below le = refl
 all_earlier n next thread (e ∷ es) below le =
     let lt : e.0 < next = below.0 in
     let before : nat_lt e.0 n ≡ true = grind (arith, nat_tests, lt, le) in
     rw before (ap (λ (b : Bool). e.1.thread == thread || b) (all_earlier n next thread es below.1 le))
 
-among_entries : (next thread n : ℕ) (lines : List Line) → next + length lines ≤ n → list_any (λ e. nat_lt e.0 n && e.1.thread == thread) (enumerate_from next lines) ≡ is_among thread lines
+among_entries : (next thread n : ℕ) (lines : List Line) → next + length lines ≤ n
+    → list_any (λ e. nat_lt e.0 n && e.1.thread == thread) (enumerate_from next lines) ≡ is_among thread lines
 among_entries next thread n [] le = refl
 among_entries next thread n (line ∷ lines) le =
     let before : nat_lt next n ≡ true = grind (arith, nat_tests, le) in
@@ -194,14 +209,18 @@ earlier_late o between after line thread below =
     list_any-append (λ e. nat_lt e.0 (o.next + length between) && e.1.thread == thread) o.held (enumerate_from o.next (between ++ line ∷ after))
     ∙ (λ i. all_earlier (o.next + length between) o.next thread o.held below (omega arith) i || further i)
   where
-    further : list_any (λ e. nat_lt e.0 (o.next + length between) && e.1.thread == thread) (enumerate_from o.next (between ++ line ∷ after)) ≡ is_among thread between
+    further : list_any (λ e. nat_lt e.0 (o.next + length between) && e.1.thread == thread)
+        (enumerate_from o.next (between ++ line ∷ after)) ≡ is_among thread between
     further =
         ap (list_any (λ (e : ℕ × Line). nat_lt e.0 (o.next + length between) && e.1.thread == thread)) (enumerate_append o.next between (line ∷ after))
-        ∙ list_any-append (λ (e : ℕ × Line). nat_lt e.0 (o.next + length between) && e.1.thread == thread) (enumerate_from o.next between) (enumerate_from (o.next + length between) (line ∷ after))
+        ∙ list_any-append (λ (e : ℕ × Line). nat_lt e.0 (o.next + length between) && e.1.thread == thread)
+        (enumerate_from o.next between) (enumerate_from (o.next + length between) (line ∷ after))
         ∙ or_false _ _ (none_earlier (o.next + length between) thread (o.next + length between) (line ∷ after) (omega arith))
         ∙ among_entries o.next thread (o.next + length between) between (omega arith)
 
-least : (a b c d : Bool) → first_broken ((rules.LineRange, a) ∷ (rules.LineAgain, false) ∷ (rules.ThreadOrder, b) ∷ (rules.MomentFalls, c) ∷ (rules.MomentOff, true) ∷ (rules.Overdue, d) ∷ [])
+least : (a b c d : Bool)
+    → first_broken ((rules.LineRange, a) ∷ (rules.LineAgain, false) ∷ (rules.ThreadOrder, b) ∷ (rules.MomentFalls, c)
+    ∷ (rules.MomentOff, true) ∷ (rules.Overdue, d) ∷ [])
     ≡ Some (if a then rules.LineRange else if b then rules.ThreadOrder else if c then rules.MomentFalls else rules.MomentOff)
 least true b c d = refl
 least false true c d = refl
@@ -209,8 +228,10 @@ least false false true d = refl
 least false false false d = refl
 
 -- it breaks one of four rules, since its line's moment is not reached
-pub late_is : (o : Order) (between after : List Line) (line : Line) (moment extras : ℕ) → KeysBelow o.next o.held → first_event_line o.header ≤ o.next → moment < line.moment
-    → first_broken (order_rules (with_lines o (between ++ line ∷ after)) (taking moment (o.next + length between) extras)) ≡ Some (late_rule o between line extras moment)
+pub late_is : (o : Order) (between after : List Line) (line : Line) (moment extras : ℕ) → KeysBelow o.next o.held
+    → first_event_line o.header ≤ o.next → moment < line.moment
+    → first_broken (order_rules (with_lines o (between ++ line ∷ after))
+    (taking moment (o.next + length between) extras)) ≡ Some (late_rule o between line extras moment)
 late_is o between after line moment extras below first late =
     (λ i. first_broken ((rules.LineRange, not (offered i) || option_map_or (λ line. not (extras == extras_of o.header.version line.event)) (held i) false)
     ∷ (rules.LineAgain, offered i && is_none (held i))
@@ -226,7 +247,9 @@ late_is o between after line moment extras below first late =
     ∷ (rules.MomentOff, not_reached i || nat_lt (line.moment + o.header.skew) moment)
     ∷ (rules.Overdue, has_overdue (with_lines o (between ++ line_here ∷ after)) moment)
     ∷ []))
-    ∙ least (not (extras == extras_of o.header.version line.event)) (waits o line.thread || is_among line.thread between) (moment_falls o moment) (has_overdue (with_lines o (between ++ line_here ∷ after)) moment)
+    ∙ least (not (extras == extras_of o.header.version line.event))
+    (waits o line.thread || is_among line.thread between) (moment_falls o moment)
+    (has_overdue (with_lines o (between ++ line_here ∷ after)) moment)
   where
     line_here : Line
     line_here = line
@@ -245,14 +268,17 @@ late_is o between after line moment extras below first late =
 
     held : held_line (with_lines o (between ++ line ∷ after)) (o.next + length between) ≡ Some line
     held =
-        lookup_past (nat_eq (o.next + length between)) o.held (enumerate_from o.next (between ++ line ∷ after)) (not_held (o.next + length between) o.next o.held below (omega arith))
+        lookup_past (nat_eq (o.next + length between)) o.held (enumerate_from o.next (between ++ line ∷ after))
+        (not_held (o.next + length between) o.next o.held below (omega arith))
         ∙ lookup_here o.next between line after
 
 -- a step that takes no event line breaks the first rule, whatever else it breaks
-pub beyond_is : (o : Order) (moment n extras : ℕ) (rest : List (Rule × Bool)) → is_offered o n ≡ false → first_broken (order_rules o (taking moment n extras) ++ rest) ≡ Some rules.LineRange
+pub beyond_is : (o : Order) (moment n extras : ℕ) (rest : List (Rule × Bool)) → is_offered o n ≡ false
+    → first_broken (order_rules o (taking moment n extras) ++ rest) ≡ Some rules.LineRange
 beyond_is o moment n extras rest is = rw is refl
 
-pub not_offered : (header : Header) (lines : List Line) (earlier : List Move) (n : ℕ) → first_event_line header + length lines ≤ n → is_offered (order_of header lines earlier) n ≡ false
+pub not_offered : (header : Header) (lines : List Line) (earlier : List Move) (n : ℕ)
+    → first_event_line header + length lines ≤ n → is_offered (order_of header lines earlier) n ≡ false
 not_offered header lines earlier n le =
     let past : nat_lt n (first_event_line header + length lines) ≡ false = grind (arith, nat_tests, le) in
     ap (λ (b : Bool). nat_le (first_event_line header) n && b) past ∙ neither (nat_le (first_event_line header) n)
@@ -278,15 +304,20 @@ below_filtered next test (e ∷ es) h = by_test (test e) (below_filtered next te
     by_test true rest = (h.0, rest)
     by_test false rest = rest
 
-pub order_below : (header : Header) (lines : List Line) (earlier : List Move) → KeysBelow (first_event_line header + length lines) (unplaced header lines earlier)
+pub order_below : (header : Header) (lines : List Line) (earlier : List Move)
+    → KeysBelow (first_event_line header + length lines) (unplaced header lines earlier)
 order_below header lines earlier = below_filtered _ (λ e. not (is_placed earlier e.0)) (numbered header lines) (below_numbered (first_event_line header) lines)
 
 -- a step that takes a line which stands behind those offered, and whose moment is not reached, breaks one of four rules
-pub late_line : (header : Header) (lines between after : List Line) (line : Line) (earlier : List Move) (moment extras : ℕ) → TakesBelow (first_event_line header + length lines) earlier → moment < line.moment
-    → first_broken (order_rules (order_of header (lines ++ (between ++ line ∷ after)) earlier) (taking moment (first_event_line header + length lines + length between) extras))
+pub late_line : (header : Header) (lines between after : List Line) (line : Line) (earlier : List Move)
+    (moment extras : ℕ) → TakesBelow (first_event_line header + length lines) earlier → moment < line.moment
+    → first_broken (order_rules (order_of header (lines ++ (between ++ line ∷ after)) earlier)
+    (taking moment (first_event_line header + length lines + length between) extras))
     ≡ Some (late_rule (order_of header lines earlier) between line extras moment)
 late_line header lines between after line earlier moment extras below late =
-    ap (λ (o : Order). first_broken (order_rules o (taking moment (first_event_line header + length lines + length between) extras))) (order_with header lines (between ++ line ∷ after) earlier below)
+    ap (λ (o : Order). first_broken
+    (order_rules o (taking moment (first_event_line header + length lines + length between) extras)))
+    (order_with header lines (between ++ line ∷ after) earlier below)
     ∙ late_is (order_of header lines earlier) between after line moment extras (order_below header lines earlier) (omega arith) late
 
 -- ---- how many lines a window holds
@@ -294,14 +325,18 @@ late_line header lines between after line earlier moment extras below late =
 abbrev weight : Bool → ℕ
 weight b = cond b 1 0
 
-kept_few : (test : ℕ × Line → Bool) (q : Line → Bool) (n : ℕ) (lines : List Line) → AllByRecursion (λ e. q e.1 ≡ true) (filter test (enumerate_from n lines)) → length (filter test (enumerate_from n lines)) ≤ count_by q lines
+kept_few : (test : ℕ × Line → Bool) (q : Line → Bool) (n : ℕ) (lines : List Line)
+    → AllByRecursion (λ e. q e.1 ≡ true) (filter test (enumerate_from n lines))
+    → length (filter test (enumerate_from n lines)) ≤ count_by q lines
 kept_few test q n [] h = omega arith
 kept_few test q n (line ∷ lines) h = by_test (test (n, line)) (kept_few test q (n + 1) lines) h
   where
     more : count_by q (line ∷ lines) ≡ cond (q line) 1 0 + count_by q lines
     more = sum_by-cons (λ x. cond (q x) 1 0) line lines
 
-    by_test : (b : Bool) → (AllByRecursion (λ e. q e.1 ≡ true) (filter test (enumerate_from (n + 1) lines)) → length (filter test (enumerate_from (n + 1) lines)) ≤ count_by q lines)
+    by_test : (b : Bool)
+        → (AllByRecursion (λ e. q e.1 ≡ true) (filter test (enumerate_from (n + 1) lines))
+        → length (filter test (enumerate_from (n + 1) lines)) ≤ count_by q lines)
         → AllByRecursion (λ e. q e.1 ≡ true) (cond b ((n, line) ∷ filter test (enumerate_from (n + 1) lines)) (filter test (enumerate_from (n + 1) lines)))
         → length (cond b ((n, line) ∷ filter test (enumerate_from (n + 1) lines)) (filter test (enumerate_from (n + 1) lines))) ≤ count_by q (line ∷ lines)
     by_test true rest h =
@@ -310,7 +345,8 @@ kept_few test q n (line ∷ lines) h = by_test (test (n, line)) (kept_few test q
         omega (arith, few, one, more)
     by_test false rest h = let few = rest h in omega (arith, few, more)
 
-all_current : (o : Order) (moment : ℕ) (es : List (ℕ × Line)) → list_any (is_overdue o moment) es ≡ false → AllByRecursion (λ e. e.1.moment ≤ moment) es → AllByRecursion (λ e. is_current o.header moment e.1 ≡ true) es
+all_current : (o : Order) (moment : ℕ) (es : List (ℕ × Line)) → list_any (is_overdue o moment) es ≡ false
+    → AllByRecursion (λ e. e.1.moment ≤ moment) es → AllByRecursion (λ e. is_current o.header moment e.1 ≡ true) es
 all_current o moment [] none h = tt
 all_current o moment (e ∷ es) none h =
     let parts = either (nat_lt (e.1.moment + o.header.skew) moment) (list_any (is_overdue o moment) es) none in
@@ -324,7 +360,8 @@ all_current o moment (e ∷ es) none h =
     either false b is = (refl, is)
     either true b is = absurd cc
 
-timed : (o : Order) (moment : ℕ) (es : List (ℕ × Line)) → list_any (is_overdue o moment) es ≡ false → AllByRecursion (λ e. e.1.moment ≤ moment) es → AllByRecursion (λ e. IsTimed o.header moment e.1) es
+timed : (o : Order) (moment : ℕ) (es : List (ℕ × Line)) → list_any (is_overdue o moment) es ≡ false
+    → AllByRecursion (λ e. e.1.moment ≤ moment) es → AllByRecursion (λ e. IsTimed o.header moment e.1) es
 timed o moment [] none h = tt
 timed o moment (e ∷ es) none h =
     let parts = either (nat_lt (e.1.moment + o.header.skew) moment) (list_any (is_overdue o moment) es) none in
@@ -346,16 +383,20 @@ pub gone_line : (n : ℕ) (es : List (ℕ × Line)) → lookup (nat_eq n) (filte
 gone_line n [] = refl
 gone_line n (e ∷ es) = by_test (n == e.0) refl (gone_line n es)
   where
-    by_test : (b : Bool) → (n == e.0) ≡ b → lookup (nat_eq n) (filter (λ x. not (n == x.0)) es) ≡ None → lookup (nat_eq n) (filter (λ x. not (n == x.0)) (e ∷ es)) ≡ None
+    by_test : (b : Bool) → (n == e.0) ≡ b → lookup (nat_eq n) (filter (λ x. not (n == x.0)) es) ≡ None
+        → lookup (nat_eq n) (filter (λ x. not (n == x.0)) (e ∷ es)) ≡ None
     by_test true is rest = rw is rest
     by_test false is rest = let away : nat_eq n e.0 ≡ false = is in rw (is, away) rest
 
 -- where none of the lines that wait is overdue or later, they are at most as many as the trace has of that time
-pub held_few : (header : Header) (lines : List Line) (earlier : List Move) (moment : ℕ) → has_overdue (order_of header lines earlier) moment ≡ false → All (λ e. e.1.moment ≤ moment) (unplaced header lines earlier)
+pub held_few : (header : Header) (lines : List Line) (earlier : List Move) (moment : ℕ)
+    → has_overdue (order_of header lines earlier) moment ≡ false
+    → All (λ e. e.1.moment ≤ moment) (unplaced header lines earlier)
     → length (unplaced header lines earlier) ≤ count_by (is_current header moment) lines
 held_few header lines earlier moment none below =
     kept_few (λ e. not (is_placed earlier e.0)) (is_current header moment) (first_event_line header) lines
-    (all_current (order_of header lines earlier) moment (unplaced header lines earlier) none (recursion_from_All (λ e. e.1.moment ≤ moment) (unplaced header lines earlier) below))
+    (all_current (order_of header lines earlier) moment (unplaced header lines earlier) none
+    (recursion_from_All (λ e. e.1.moment ≤ moment) (unplaced header lines earlier) below))
 
 -- ---- the rule of a late line, by what a window keeps
 

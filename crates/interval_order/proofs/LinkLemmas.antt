@@ -39,7 +39,8 @@ module _ (k : ℕ) (old new : ℕ → Option Waiting) (others : (q : ℕ) → (q
         (found.0, found.1, found.2, found.3, others found.0 (λ is. unlinked m w at same found is) ∙ found.4);
   }
     where
-      unlinked : (m : ℕ) (w : Waiting) → new m ≡ Some w → w.line.thread ≡ thread → (found : (p : ℕ) × (u : Waiting) × (link ≡ Some p) × (m ≤ p) × (old p ≡ Some u)) → found.0 ≡ k → ⊥
+      unlinked : (m : ℕ) (w : Waiting) → new m ≡ Some w → w.line.thread ≡ thread
+          → (found : (p : ℕ) × (u : Waiting) × (link ≡ Some p) × (m ≤ p) × (old p ≡ Some u)) → found.0 ≡ k → ⊥
       unlinked m w at same found is =
           let stood : old k ≡ Some found.1 = subst (λ (q : ℕ). old q ≡ Some found.1) is found.4 in
           let equal : found.1 ≡ v = cc in
@@ -70,11 +71,14 @@ module _ (k : ℕ) (old new : ℕ → Option Waiting) (others : (q : ℕ) → (q
       was p w under at = sym (others p (λ is. omega arith)) ∙ at
 
   -- a link to a thread's lines below k leads to those below k + 1 where the line k is of another thread
-  leads_past : (v : Waiting) → new k ≡ Some v → (thread : ℕ) (link : Option ℕ) → (thread ≡ v.line.thread → ⊥) → Leads old thread k link → Leads new thread (k + 1) link
+  leads_past : (v : Waiting) → new k ≡ Some v → (thread : ℕ) (link : Option ℕ) → (thread ≡ v.line.thread → ⊥)
+      → Leads old thread k link → Leads new thread (k + 1) link
   leads_past v here thread link apart h = record {
     below = λ p is. let under : p < k = h.below p is in omega arith;
     own = more.own;
-    last = λ m w at same low. more.last m w at same (let away : m ≡ k → ⊥ = (λ is. apart (sym same ∙ ap (λ (u : Waiting). u.line.thread) (theirs v here m w at is))) in omega arith);
+    last = λ m w at same low. more.last m w at same
+        (let away : m ≡ k → ⊥ = (λ is.
+        apart (sym same ∙ ap (λ (u : Waiting). u.line.thread) (theirs v here m w at is))) in omega arith);
   }
     where
       more : Leads new thread k link
@@ -101,7 +105,9 @@ module _ (k : ℕ) (old new : ℕ → Option Waiting) (others : (q : ℕ) → (q
       by_place : (n : ℕ) (w : Waiting) → new n ≡ Some w → (n ≡ k) ⊎ (n ≡ k → ⊥) → Leads new w.line.thread n w.previous
       by_place n w at (inl is) =
           let equal : v ≡ w = sym (theirs v here n w at is) in
-          let mine : Leads new v.line.thread k v.previous = leads_with v.line.thread k v.previous (omega arith) (subst (Leads old v.line.thread k) (sym before) (h.all v.line.thread)) in
+          let mine : Leads new v.line.thread k v.previous =
+          leads_with v.line.thread k v.previous (omega arith)
+          (subst (Leads old v.line.thread k) (sym before) (h.all v.line.thread)) in
           let placed : Leads new v.line.thread n v.previous = subst (λ (q : ℕ). Leads new v.line.thread q v.previous) (sym is) mine in
           subst (λ (u : Waiting). Leads new u.line.thread n u.previous) equal placed
       by_place n w at (inr away) =

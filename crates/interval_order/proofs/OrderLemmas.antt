@@ -1,5 +1,6 @@
 -- How the order grows, by a line and by a step.
-use Rattle.std.proofs.Common.{◌≡◌, ℕ, ◌+◌, suc, Bool, true, false, cond, not, ◌&&◌, ◌||◌, List, [], ◌∷◌, ◌++◌, length, refl, sym, ap, ◌∙◌, arith, Option, Some, None, length-append}
+use Rattle.std.proofs.Common.{◌≡◌, ℕ, ◌+◌, suc, Bool, true, false, cond, not, ◌&&◌, ◌||◌, List, [], ◌∷◌, ◌++◌, length}
+use Rattle.std.proofs.Common.{refl, sym, ap, ◌∙◌, arith, Option, Some, None, length-append}
 use Rattle.std.proofs.lemmas.Bool.Decides.{nat_tests}
 use Rattle.std.proofs.lemmas.List.Folds.{list_any-append}
 use Rattle.std.proofs.lemmas.Map.Entries.{lookup-filter-keys}
@@ -47,9 +48,12 @@ all_kept : {X : Type 0} → (xs : List X) → filter (λ _. not false) xs ≡ xs
 all_kept [] = refl
 all_kept {X} (x ∷ xs) = ap (λ (ys : List X). x ∷ ys) (all_kept xs)
 
-held_more : (header : Header) (lines : List Line) (earlier : List Move) (moment : ℕ) (take : Option Take) → held_after (unplaced header lines earlier) take ≡ unplaced header lines (earlier ++ record { moment = moment; take = take } ∷ [])
+held_more : (header : Header) (lines : List Line) (earlier : List Move) (moment : ℕ) (take : Option Take)
+    → held_after (unplaced header lines earlier) take
+    ≡ unplaced header lines (earlier ++ record { moment = moment; take = take } ∷ [])
 held_more header lines earlier moment (Some t) =
-    filter_both (λ e. not (nat_eq t.number e.0)) (λ e. not (is_placed earlier e.0)) (λ e. not (is_placed (earlier ++ record { moment = moment; take = Some t } ∷ []) e.0))
+    filter_both (λ e. not (nat_eq t.number e.0)) (λ e. not (is_placed earlier e.0))
+    (λ e. not (is_placed (earlier ++ record { moment = moment; take = Some t } ∷ []) e.0))
     (λ e. placed_more earlier (record { moment = moment; take = Some t }) e.0) (numbered header lines)
 held_more header lines earlier moment None =
     sym (all_kept (unplaced header lines earlier))
@@ -57,7 +61,8 @@ held_more header lines earlier moment None =
     (λ e. placed_more earlier (record { moment = moment; take = None }) e.0) (numbered header lines)
 
 -- the order after one more step
-pub order_more : (header : Header) (lines : List Line) (earlier : List Move) (s : Move) → order_after (order_of header lines earlier) s ≡ order_of header lines (earlier ++ s ∷ [])
+pub order_more : (header : Header) (lines : List Line) (earlier : List Move) (s : Move)
+    → order_after (order_of header lines earlier) s ≡ order_of header lines (earlier ++ s ∷ [])
 order_more header lines earlier s = λ i. record {
   header = header;
   next = first_event_line header + length lines;
@@ -66,7 +71,13 @@ order_more header lines earlier s = λ i. record {
 }
 
 -- before any step
-pub order_first : (header : Header) (lines : List Line) → order_of header lines [] ≡ record { header = header; next = first_event_line header + length lines; held = numbered header lines; last = 0 }
+pub order_first : (header : Header) (lines : List Line)
+    → order_of header lines [] ≡ record {
+      header = header;
+      next = first_event_line header + length lines;
+      held = numbered header lines;
+      last = 0;
+    }
 order_first header lines = λ i. record { header = header; next = first_event_line header + length lines; held = all_kept (numbered header lines) i; last = 0 }
 
 -- the order of one more line, before any step
@@ -80,9 +91,11 @@ line_more header lines line =
     one_more = omega (arith, length-append lines (line ∷ []))
 
 -- a line is held where it is the trace's and no step took it
-pub held_is : (header : Header) (lines : List Line) (earlier : List Move) (n : ℕ) → held_line (order_of header lines earlier) n ≡ cond (not (is_placed earlier n)) (line_at header lines n) None
+pub held_is : (header : Header) (lines : List Line) (earlier : List Move) (n : ℕ)
+    → held_line (order_of header lines earlier) n ≡ cond (not (is_placed earlier n)) (line_at header lines n) None
 held_is header lines earlier n =
-    lookup-filter-keys (nat_eq n) (λ k. not (is_placed earlier k)) (not (is_placed earlier n)) (λ k e. ap (λ (m : ℕ). not (is_placed earlier m)) (same k e)) (numbered header lines)
+    lookup-filter-keys (nat_eq n) (λ k. not (is_placed earlier k)) (not (is_placed earlier n))
+    (λ k e. ap (λ (m : ℕ). not (is_placed earlier m)) (same k e)) (numbered header lines)
   where
     same : (k : ℕ) → nat_eq n k ≡ true → k ≡ n
     same k e = grind (arith, nat_tests)

@@ -1,5 +1,7 @@
 -- Steps that break no rule of order, and leave no line, are a placement.
-use Rattle.std.proofs.Common.{◌≡◌, ℕ, ◌<◌, ◌≤◌, ◌+◌, suc, zero, Bool, true, false, cond, not, ◌&&◌, ◌||◌, List, [], ◌∷◌, ◌++◌, length, take, refl, sym, ap, ◌∙◌, subst, arith, Option, Some, None, append_assoc, append-nil, inl, inr}
+use Rattle.std.proofs.Common.{◌≡◌, ℕ, ◌<◌, ◌≤◌, ◌+◌, suc, zero, Bool, true, false, cond, not, ◌&&◌, ◌||◌, List, [], ◌∷◌}
+use Rattle.std.proofs.Common.{◌++◌, length, take, refl, sym, ap, ◌∙◌, subst, arith, Option, Some, None, append_assoc}
+use Rattle.std.proofs.Common.{append-nil, inl, inr}
 use Rattle.std.proofs.lemmas.Grind.{common_steps}
 use Rattle.std.proofs.lemmas.Bool.Decides.{nat_tests}
 use Rattle.std.specs.Prelude.{nat_eq, nat_lt, slice_get}
@@ -18,7 +20,9 @@ use Rattle.interval_order.proofs.OrderLemmas.{held_is, last_more}
 -- no step breaks a rule of order, and each line is placed in the end
 abbrev pub IsOrderly : Header → List Line → List Move → List Move → Type 0
 IsOrderly header lines earlier [] = unplaced header lines earlier ≡ []
-IsOrderly header lines earlier (s ∷ moves) = (first_broken (order_rules (order_of header lines earlier) s) ≡ None) × IsOrderly header lines (earlier ++ s ∷ []) moves
+IsOrderly header lines earlier (s ∷ moves) =
+    (first_broken (order_rules (order_of header lines earlier) s) ≡ None)
+    × IsOrderly header lines (earlier ++ s ∷ []) moves
 
 -- at each place no rule is broken
 orderly_at : (header : Header) (lines : List Line) (earlier moves : List Move) → IsOrderly header lines earlier moves
@@ -30,7 +34,8 @@ orderly_at header lines earlier (t ∷ moves) orderly zero s here =
 orderly_at header lines earlier (t ∷ moves) orderly (suc i) s here =
     rw (← append_assoc earlier (t ∷ []) (take i moves)) (orderly_at header lines (earlier ++ t ∷ []) moves orderly.1 i s here)
 
-orderly_end : (header : Header) (lines : List Line) (earlier moves : List Move) → IsOrderly header lines earlier moves → unplaced header lines (earlier ++ moves) ≡ []
+orderly_end : (header : Header) (lines : List Line) (earlier moves : List Move) → IsOrderly header lines earlier moves
+    → unplaced header lines (earlier ++ moves) ≡ []
 orderly_end header lines earlier [] orderly = rw append-nil orderly
 orderly_end header lines earlier (t ∷ moves) orderly =
     rw (← append_assoc earlier (t ∷ []) moves) (orderly_end header lines (earlier ++ t ∷ []) moves orderly.1)
@@ -82,7 +87,9 @@ held o moment n extras ok = by_held (held_line o n) refl
         let time : (nat_lt moment line.moment || nat_lt (line.moment + o.header.skew) moment) ≡ false = rw is at ok.on_time in
         let low : nat_lt moment line.moment ≡ false = left (nat_lt moment line.moment) (nat_lt (line.moment + o.header.skew) moment) time in
         let high : nat_lt (line.moment + o.header.skew) moment ≡ false = right (nat_lt moment line.moment) (nat_lt (line.moment + o.header.skew) moment) time in
-        let count : nat_eq extras (extras_of o.header.version line.event) ≡ true = not_not (nat_eq extras (extras_of o.header.version line.event)) (right (not (is_offered o n)) (not (nat_eq extras (extras_of o.header.version line.event))) range) in
+        let count : nat_eq extras (extras_of o.header.version line.event) ≡ true =
+        not_not (nat_eq extras (extras_of o.header.version line.event))
+        (right (not (is_offered o n)) (not (nat_eq extras (extras_of o.header.version line.event))) range) in
         record {
           line = line;
           here = is;
@@ -95,7 +102,8 @@ record Fresh (header : Header) (lines : List Line) (earlier : List Move) (n : �
   fresh : is_placed earlier n ≡ false
   here : line_at header lines n ≡ Some line
 
-fresh : (header : Header) (lines : List Line) (earlier : List Move) (n : ℕ) (line : Line) → held_line (order_of header lines earlier) n ≡ Some line → Fresh header lines earlier n line
+fresh : (header : Header) (lines : List Line) (earlier : List Move) (n : ℕ) (line : Line)
+    → held_line (order_of header lines earlier) n ≡ Some line → Fresh header lines earlier n line
 fresh header lines earlier n line is = by_test (is_placed earlier n) refl
   where
     by_test : (b : Bool) → is_placed earlier n ≡ b → Fresh header lines earlier n line
@@ -134,7 +142,12 @@ place_before (t ∷ moves) zero n e = absurd cc
 place_before (t ∷ moves) (suc j) n e = by_take t.take refl (λ rest. place_before moves j n rest)
   where
     later : TakenBefore moves j n → TakenBefore (t ∷ moves) (suc j) n
-    later b = record { place = suc b.place; before = omega (arith, b.before); at_place = record { moment = b.at_place.moment; extras = b.at_place.extras; here = b.at_place.here } }
+    later b =
+        record {
+          place = suc b.place;
+          before = omega (arith, b.before);
+          at_place = record { moment = b.at_place.moment; extras = b.at_place.extras; here = b.at_place.here };
+        }
 
     by_take : (k : Option Take) → t.take ≡ k → (is_placed (take j moves) n ≡ true → TakenBefore moves j n) → TakenBefore (t ∷ moves) (suc j) n
     by_take None is rest = later (rest (ap (λ (k : Option Take). takes n (record { moment = t.moment; take = k }) || is_placed (take j moves) n) (sym is) ∙ e))
@@ -143,9 +156,20 @@ place_before (t ∷ moves) (suc j) n e = by_take t.take refl (λ rest. place_bef
         by_test : (b : Bool) → nat_eq k.number n ≡ b → TakenBefore (t ∷ moves) (suc j) n
         by_test true same =
             let same' : k.number ≡ n = grind (arith, nat_tests, same) in
-            record { place = 0; before = omega arith; at_place = record { moment = t.moment; extras = k.extras; here = ap (λ (q : Option Take). Some (record { moment = t.moment; take = q })) is ∙ ap (λ (m : ℕ). Some (taking t.moment m k.extras)) same' } }
+            record {
+              place = 0;
+              before = omega arith;
+              at_place = record {
+                moment = t.moment;
+                extras = k.extras;
+                here = ap (λ (q : Option Take). Some (record { moment = t.moment; take = q })) is
+                    ∙ ap (λ (m : ℕ). Some (taking t.moment m k.extras)) same';
+              };
+            }
         by_test false same =
-            later (rest (sym (ap (λ (q : Option Take). takes n (record { moment = t.moment; take = q }) || is_placed (take j moves) n) is ∙ ap (λ (b : Bool). b || is_placed (take j moves) n) same) ∙ e))
+            later (rest (sym (ap (λ (q : Option Take).
+            takes n (record { moment = t.moment; take = q }) || is_placed (take j moves) n) is
+            ∙ ap (λ (b : Bool). b || is_placed (take j moves) n) same) ∙ e))
 
 -- moments of what follows are at least this, and don't fall
 abbrev IsRising : ℕ → List Move → Type 0
@@ -171,7 +195,8 @@ rising_first last (s ∷ moves) r (suc j) t there =
     let rest : s.moment ≤ t.moment = rising_first s.moment moves r.1 j t there in
     omega (arith, r.0)
 
-rising_at : (last : ℕ) (moves : List Move) → IsRising last moves → (i j : ℕ) (s t : Move) → slice_get moves i ≡ Some s → slice_get moves j ≡ Some t → i < j → s.moment ≤ t.moment
+rising_at : (last : ℕ) (moves : List Move) → IsRising last moves → (i j : ℕ) (s t : Move) → slice_get moves i ≡ Some s
+    → slice_get moves j ≡ Some t → i < j → s.moment ≤ t.moment
 rising_at last [] r i j s t here there lt = absurd cc
 rising_at last (u ∷ moves) r i zero s t here there lt = absurd (omega arith)
 rising_at last (u ∷ moves) r zero (suc j) s t here there lt =
@@ -237,12 +262,16 @@ module _ (header : Header) (lines : List Line) (moves : List Move) (orderly : Is
           take_whole : (ss : List Move) → take (length ss) ss ≡ ss
           take_whole ss = grind (arith, common_steps)
       by_test false placed =
-          let none : lookup (nat_eq n) (unplaced header lines moves) ≡ None = ap (λ (es : List (ℕ × Line)). lookup (nat_eq n) es) (orderly_end header lines [] moves orderly) in
-          let some : lookup (nat_eq n) (unplaced header lines moves) ≡ Some line = held_is header lines moves n ∙ ap (λ (b : Bool). cond (not b) (line_at header lines n) None) placed ∙ is in
+          let none : lookup (nat_eq n) (unplaced header lines moves) ≡ None =
+          ap (λ (es : List (ℕ × Line)). lookup (nat_eq n) es) (orderly_end header lines [] moves orderly) in
+          let some : lookup (nat_eq n) (unplaced header lines moves) ≡ Some line =
+          held_is header lines moves n ∙ ap (λ (b : Bool). cond (not b) (line_at header lines n) None) placed
+          ∙ is in
           let h : None ≡ Some line = sym none ∙ some in
           absurd cc
 
-  threads : (m n i j : ℕ) (a b : Line) → line_at header lines m ≡ Some a → line_at header lines n ≡ Some b → a.thread ≡ b.thread → m < n → TakesAt moves i m → TakesAt moves j n → i < j
+  threads : (m n i j : ℕ) (a b : Line) → line_at header lines m ≡ Some a → line_at header lines n ≡ Some b
+      → a.thread ≡ b.thread → m < n → TakesAt moves i m → TakesAt moves j n → i < j
   threads m n i j a b is_a is_b thread lt take_m take_n = by_test (is_placed (take j moves) m) refl
     where
       by_test : (x : Bool) → is_placed (take j moves) m ≡ x → i < j
@@ -254,9 +283,13 @@ module _ (header : Header) (lines : List Line) (moves : List Move) (orderly : Is
           let line : Line = (held_at j n take_n).line in
           let found : Some line ≡ Some b = sym (fresh_at j n take_n).here ∙ is_b in
           let same : line ≡ b = cc in
-          let there : held_line (order_of header lines (take j moves)) m ≡ Some a = held_is header lines (take j moves) m ∙ ap (λ (x : Bool). cond (not x) (line_at header lines m) None) placed ∙ is_a in
+          let there : held_line (order_of header lines (take j moves)) m ≡ Some a =
+          held_is header lines (take j moves) m
+          ∙ ap (λ (x : Bool). cond (not x) (line_at header lines m) None) placed ∙ is_a in
           let pass : (nat_lt m n && nat_eq a.thread line.thread) ≡ true = grind (arith, nat_tests, ap (λ (l : Line). l.thread) same) in
-          let any : has_earlier (order_of header lines (take j moves)) n line.thread ≡ true = lookup_any (unplaced header lines (take j moves)) m a (λ e. nat_lt e.0 n && nat_eq e.1.thread line.thread) there pass in
+          let any : has_earlier (order_of header lines (take j moves)) n line.thread ≡ true =
+          lookup_any (unplaced header lines (take j moves)) m a
+          (λ e. nat_lt e.0 n && nat_eq e.1.thread line.thread) there pass in
           let h : true ≡ false = sym any ∙ (held_at j n take_n).in_order in
           absurd cc
 
@@ -271,7 +304,8 @@ module _ (header : Header) (lines : List Line) (moves : List Move) (orderly : Is
 
 -- the law of the interval order
 pub precedes_stands_before : (header : Header) (lines : List Line) (moves : List Move) → Placed header lines moves
-    → (m n i j : ℕ) (a b : Line) → line_at header lines m ≡ Some a → line_at header lines n ≡ Some b → Precedes header m a n b → TakesAt moves i m → TakesAt moves j n → i < j
+    → (m n i j : ℕ) (a b : Line) → line_at header lines m ≡ Some a → line_at header lines n ≡ Some b
+    → Precedes header m a n b → TakesAt moves i m → TakesAt moves j n → i < j
 precedes_stands_before header lines moves p m n i j a b is_a is_b (inl order) take_m take_n = p.threads m n i j a b is_a is_b order.0 order.1 take_m take_n
 precedes_stands_before header lines moves p m n i j a b is_a is_b (inr apart) take_m take_n =
     let first = p.timely m i take_m in
@@ -281,8 +315,14 @@ precedes_stands_before header lines moves p m n i j a b is_a is_b (inr apart) ta
     let moment_a : first.0.moment ≡ a.moment = cc in
     let moment_b : second.0.moment ≡ b.moment = cc in
     let gap : take_m.moment < take_n.moment = omega (arith, first.2.until, second.2.since) in
-    let above : j < i → ⊥ = λ lt. (let h : take_n.moment ≤ take_m.moment = p.rising j i (taking take_n.moment n take_n.extras) (taking take_m.moment m take_m.extras) take_n.here take_m.here lt in omega arith) in
-    let same : i ≡ j → ⊥ = λ e. (let h : take_m.moment ≡ take_n.moment = same_step i j (taking take_m.moment m take_m.extras) (taking take_n.moment n take_n.extras) e take_m.here take_n.here in omega arith) in
+    let above : j < i → ⊥ =
+    λ lt. (let h : take_n.moment ≤ take_m.moment =
+    p.rising j i (taking take_n.moment n take_n.extras)
+    (taking take_m.moment m take_m.extras) take_n.here take_m.here lt in omega arith) in
+    let same : i ≡ j → ⊥ =
+    λ e. (let h : take_m.moment ≡ take_n.moment =
+    same_step i j (taking take_m.moment m take_m.extras)
+    (taking take_n.moment n take_n.extras) e take_m.here take_n.here in omega arith) in
     omega arith
   where
     same_step : (i j : ℕ) (s t : Move) → i ≡ j → slice_get moves i ≡ Some s → slice_get moves j ≡ Some t → s.moment ≡ t.moment

@@ -1,5 +1,6 @@
 -- The steps of a placement break no rule of order, and leave no line.
-use Rattle.std.proofs.Common.{◌≡◌, ℕ, ◌<◌, ◌≤◌, ◌+◌, suc, zero, Bool, true, false, cond, not, ◌&&◌, List, [], ◌∷◌, ◌++◌, length, take, refl, sym, ap, ◌∙◌, arith, Option, Some, None, append_assoc, append-nil}
+use Rattle.std.proofs.Common.{◌≡◌, ℕ, ◌<◌, ◌≤◌, ◌+◌, suc, zero, Bool, true, false, cond, not, ◌&&◌, List, [], ◌∷◌, ◌++◌}
+use Rattle.std.proofs.Common.{length, take, refl, sym, ap, ◌∙◌, arith, Option, Some, None, append_assoc, append-nil}
 use Rattle.std.proofs.lemmas.Grind.{common_steps}
 use Rattle.std.proofs.lemmas.Bool.Decides.{nat_tests}
 use Rattle.std.specs.Prelude.{nat_eq, nat_lt, nat_le, filter, slice_get}
@@ -46,7 +47,9 @@ found keep p k (x ∷ xs) any = by_test (keep k) refl (p (k, x)) refl (λ a. fou
         let apart : nat_eq f.number k ≡ false = (let up : k + 1 ≤ f.number = f.above in grind (arith, nat_tests)) in
         record { number = f.number; line = f.line; here = rw apart f.here; kept = f.kept; passes = f.passes; above = omega (arith, f.above) }
 
-    by_test : (b : Bool) → keep k ≡ b → (c : Bool) → p (k, x) ≡ c → (list_any p (filter (λ e. keep e.0) (enumerate_from (k + 1) xs)) ≡ true → Found keep p (k + 1) xs) → Found keep p k (x ∷ xs)
+    by_test : (b : Bool) → keep k ≡ b → (c : Bool) → p (k, x) ≡ c
+        → (list_any p (filter (λ e. keep e.0) (enumerate_from (k + 1) xs)) ≡ true → Found keep p (k + 1) xs)
+        → Found keep p k (x ∷ xs)
     by_test true is true at rest =
         let self : nat_eq k k ≡ true = grind (arith, nat_tests) in
         record { number = k; line = x; here = rw self refl; kept = is; passes = at; above = omega arith }
@@ -57,7 +60,9 @@ in_bounds : (k n : ℕ) (xs : List Line) (line : Line) → lookup (nat_eq n) (en
 in_bounds k n [] line h = absurd cc
 in_bounds k n (x ∷ xs) line h = by_test (nat_eq n k) refl (λ r. in_bounds (k + 1) n xs line r)
   where
-    by_test : (b : Bool) → nat_eq n k ≡ b → (lookup (nat_eq n) (enumerate_from (k + 1) xs) ≡ Some line → (k + 1 ≤ n) × (n < k + 1 + length xs)) → (k ≤ n) × (n < k + suc (length xs))
+    by_test : (b : Bool) → nat_eq n k ≡ b
+        → (lookup (nat_eq n) (enumerate_from (k + 1) xs) ≡ Some line → (k + 1 ≤ n) × (n < k + 1 + length xs))
+        → (k ≤ n) × (n < k + suc (length xs))
     by_test true is rest =
         let same : n ≡ k = grind (arith, nat_tests, is) in
         (omega arith, omega arith)
@@ -124,7 +129,9 @@ module _ (header : Header) (lines : List Line) (moves : List Move) (p : Placed h
 
   not_below : (i : ℕ) (s : Move) → slice_get moves i ≡ Some s → moment_falls (order_of header lines (take i moves)) s.moment ≡ false
   not_below i s here =
-      let le : last_moment (take i moves) ≤ s.moment = last_bound (take i moves) s.moment (λ j t there. (let f = in_front moves i j t there in p.rising j i t s f.there here f.before)) in
+      let le : last_moment (take i moves) ≤ s.moment =
+      last_bound (take i moves) s.moment
+      (λ j t there. (let f = in_front moves i j t there in p.rising j i t s f.there here f.before)) in
       grind (arith, nat_tests, le)
 
   none_late : (i : ℕ) (s : Move) → slice_get moves i ≡ Some s → has_overdue (order_of header lines (take i moves)) s.moment ≡ false
@@ -135,7 +142,8 @@ module _ (header : Header) (lines : List Line) (moves : List Move) (p : Placed h
           let h : Some s ≡ Some t = sym here ∙ ap (λ (k : ℕ). slice_get moves k) q ∙ there in
           cc
 
-      by_test : (b : Bool) → has_overdue (order_of header lines (take i moves)) s.moment ≡ b → has_overdue (order_of header lines (take i moves)) s.moment ≡ false
+      by_test : (b : Bool) → has_overdue (order_of header lines (take i moves)) s.moment ≡ b
+          → has_overdue (order_of header lines (take i moves)) s.moment ≡ false
       by_test false is = is
       by_test true is =
           let f = found (λ n. not (is_placed (take i moves) n)) (λ x. nat_lt (x.1.moment + header.skew) s.moment) (first_event_line header) lines is in
@@ -148,17 +156,22 @@ module _ (header : Header) (lines : List Line) (moves : List Move) (p : Placed h
           let early : f.line.moment + header.skew < s.moment = grind (arith, nat_tests, f.passes) in
           let up : i < taken.0 → s.moment ≤ taken.1.moment = λ lt. p.rising i taken.0 s (taking taken.1.moment f.number taken.1.extras) here taken.1.here lt in
           let no_later : i < taken.0 → ⊥ = λ lt. (let h : s.moment ≤ taken.1.moment = up lt in omega arith) in
-          let no_same : i ≡ taken.0 → ⊥ = λ q. (let h : s.moment ≡ taken.1.moment = same_step i taken.0 s (taking taken.1.moment f.number taken.1.extras) q here taken.1.here in omega arith) in
+          let no_same : i ≡ taken.0 → ⊥ =
+          λ q. (let h : s.moment ≡ taken.1.moment =
+          same_step i taken.0 s (taking taken.1.moment f.number taken.1.extras) q here taken.1.here in
+          omega arith) in
           absurd (omega arith)
 
-  none_earlier : (i n : ℕ) (line : Line) → line_at header lines n ≡ Some line → TakesAt moves i n → has_earlier (order_of header lines (take i moves)) n line.thread ≡ false
+  none_earlier : (i n : ℕ) (line : Line) → line_at header lines n ≡ Some line → TakesAt moves i n
+      → has_earlier (order_of header lines (take i moves)) n line.thread ≡ false
   none_earlier i n line is_line t = by_test (has_earlier (order_of header lines (take i moves)) n line.thread) refl
     where
       both : (a b : Bool) → (a && b) ≡ true → (a ≡ true) × (b ≡ true)
       both true b q = (refl, q)
       both false b q = absurd cc
 
-      by_test : (b : Bool) → has_earlier (order_of header lines (take i moves)) n line.thread ≡ b → has_earlier (order_of header lines (take i moves)) n line.thread ≡ false
+      by_test : (b : Bool) → has_earlier (order_of header lines (take i moves)) n line.thread ≡ b
+          → has_earlier (order_of header lines (take i moves)) n line.thread ≡ false
       by_test false is = is
       by_test true is =
           let f = found (λ m. not (is_placed (take i moves) m)) (λ x. nat_lt x.0 n && nat_eq x.1.thread line.thread) (first_event_line header) lines is in
@@ -170,15 +183,29 @@ module _ (header : Header) (lines : List Line) (moves : List Move) (p : Placed h
           let later : i ≤ taken.0 = not_before i taken.0 f.number taken.1 f.kept in
           absurd (omega arith)
 
-  order_ok : (i moment : ℕ) (k : Option Take) → slice_get moves i ≡ Some (record { moment = moment; take = k }) → first_broken (order_rules (order_of header lines (take i moves)) (record { moment = moment; take = k })) ≡ None
+  order_ok : (i moment : ℕ) (k : Option Take) → slice_get moves i ≡ Some (record { moment = moment; take = k })
+      → first_broken (order_rules (order_of header lines (take i moves)) (record { moment = moment; take = k })) ≡ None
   order_ok i moment None here =
-      all_none (order_rules (order_of header lines (take i moves)) (record { moment = moment; take = None }))
-      (refl, (refl, (refl, (not_below i (record { moment = moment; take = None }) here, (refl, (none_late i (record { moment = moment; take = None }) here, tt))))))
+      all_none (order_rules (order_of header lines (take i moves)) (record { moment = moment; take = None })) (
+        refl,
+        (
+          refl,
+          (
+            refl,
+            (
+              not_below i (record { moment = moment; take = None }) here,
+              (refl, (none_late i (record { moment = moment; take = None }) here, tt)),
+            ),
+          ),
+        ),
+      )
   order_ok i moment (Some k) here =
       let t : TakesAt moves i k.number = record { moment = moment; extras = k.extras; here = here } in
       let time = p.timely k.number i t in
       let bounds = in_bounds (first_event_line header) k.number lines time.0 time.1 in
-      let offered : (nat_le (first_event_line header) k.number && nat_lt k.number (first_event_line header + length lines)) ≡ true = grind (arith, nat_tests, bounds.0, bounds.1) in
+      let offered : (nat_le (first_event_line header) k.number
+      && nat_lt k.number (first_event_line header + length lines)) ≡ true =
+      grind (arith, nat_tests, bounds.0, bounds.1) in
       take_ok (order_of header lines (take i moves)) moment k.number k.extras time.0 offered
       (held_is header lines (take i moves) k.number ∙ ap (λ (b : Bool). cond (not b) (line_at header lines k.number) None) (is_fresh i k.number t) ∙ time.1)
       time.2 (none_earlier i k.number time.0 time.1 t)
@@ -198,9 +225,13 @@ module _ (header : Header) (lines : List Line) (moves : List Move) (p : Placed h
       by_left : (l : List (ℕ × Line)) → unplaced header lines moves ≡ l → unplaced header lines moves ≡ []
       by_left [] is = is
       by_left (x ∷ l) is =
-          let f = found (λ n. not (is_placed moves n)) (λ _. true) (first_event_line header) lines (ap (λ (es : List (ℕ × Line)). list_any (λ _. true) es) is) in
+          let f =
+          found (λ n. not (is_placed moves n)) (λ _. true) (first_event_line header) lines
+          (ap (λ (es : List (ℕ × Line)). list_any (λ _. true) es) is) in
           let taken = p.every f.number f.line f.here in
-          let there : is_placed (take (length moves) moves) f.number ≡ true = placed_at taken.0 (length moves) f.number taken.1 (within moves taken.0 (taking taken.1.moment f.number taken.1.extras) taken.1.here) in
+          let there : is_placed (take (length moves) moves) f.number ≡ true =
+          placed_at taken.0 (length moves) f.number taken.1
+          (within moves taken.0 (taking taken.1.moment f.number taken.1.extras) taken.1.here) in
           let there' : is_placed moves f.number ≡ true = ap (λ (ss : List Move). is_placed ss f.number) (sym whole) ∙ there in
           let h : false ≡ true = ap not (sym there') ∙ f.kept in
           absurd cc

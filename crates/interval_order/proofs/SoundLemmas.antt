@@ -1,5 +1,6 @@
 -- What a window keeps true stays true with one line more, and with the first of its thread placed.
-use Rattle.std.proofs.Common.{◌≡◌, ℕ, ◌<◌, ◌≤◌, ◌+◌, true, false, cond, ◌&&◌, ◌==◌, nat_lt, List, [], ◌∷◌, ◌++◌, ◌-◌, not, length, get_or, Option, Some, None, sym, ap, subst, arith}
+use Rattle.std.proofs.Common.{◌≡◌, ℕ, ◌<◌, ◌≤◌, ◌+◌, true, false, cond, ◌&&◌, ◌==◌, nat_lt, List, [], ◌∷◌, ◌++◌, ◌-◌}
+use Rattle.std.proofs.Common.{not, length, get_or, Option, Some, None, sym, ap, subst, arith}
 use Rattle.std.proofs.lemmas.Bool.Decides.{nat_tests}
 use Rattle.std.specs.Prelude.{nat_eq, filter, All}
 use Rattle.std.specs.List.{list_any}
@@ -20,12 +21,15 @@ use Rattle.interval_order.proofs.EntryLemmas.{rising_more, found_last, found_sti
 use Rattle.interval_order.proofs.LinkLemmas.{linked_with, linked_without}
 
 -- a line whose moment is not below that of any other goes last
-rising_with : (es : List (ℕ × Waiting)) (k : ℕ) (v : Waiting) → All (λ e. e.1.moment ≤ v.line.moment) (lines_of es) → IsNonDecreasingBy (λ e. e.1.line.moment) es
+rising_with : (es : List (ℕ × Waiting)) (k : ℕ) (v : Waiting) → All (λ e. e.1.moment ≤ v.line.moment) (lines_of es)
+    → IsNonDecreasingBy (λ e. e.1.line.moment) es
     → IsNonDecreasingBy (λ e. e.1.line.moment) (es ++ (k, v) ∷ [])
 rising_with es k v all rising = IsNonDecreasingBy-push (λ e. e.1.line.moment) es (k, v) rising
     (λ d some.
     let low : length es - 1 < length es = omega arith in
-    let last : (get_or (lines_of es) (length es - 1) (d.0, d.1.line)).1.moment ≤ v.line.moment = all (length es - 1) (d.0, d.1.line) (rw (length-map {B = ℕ × Line} es (λ (e : ℕ × Waiting). (e.0, e.1.line))) low) in
+    let last : (get_or (lines_of es) (length es - 1) (d.0, d.1.line)).1.moment ≤ v.line.moment =
+    all (length es - 1) (d.0, d.1.line)
+    (rw (length-map {B = ℕ × Line} es (λ (e : ℕ × Waiting). (e.0, e.1.line))) low) in
     rw (get_or-map {B = ℕ × Line} (λ (e : ℕ × Waiting). (e.0, e.1.line)) es (length es - 1) d) at last)
 
 -- the order with one line more, by the line's own number
@@ -72,7 +76,9 @@ pub sound_without : (es : List (ℕ × Waiting)) (next n : ℕ) (latest : ℕ �
     → IsSound next (filter (λ e. not (nat_eq n e.0)) es) latest
 sound_without es next n latest v h here none = record {
   below = subst (All (λ k. k < next)) (keys_kept (λ k. not (nat_eq n k)) es) (All-filter (λ k. not (nat_eq n k)) (λ k. k < next) (keys_of es) h.below);
-  ordered = subst (IsStrictlySortedBy nat_cmp) (keys_kept (λ k. not (nat_eq n k)) es) (IsStrictlySortedBy-filter nat_cmp (λ k. not (nat_eq n k)) (keys_of es) h.ordered);
+  ordered =
+      subst (IsStrictlySortedBy nat_cmp) (keys_kept (λ k. not (nat_eq n k)) es)
+      (IsStrictlySortedBy-filter nat_cmp (λ k. not (nat_eq n k)) (keys_of es) h.ordered);
   rising = IsNonDecreasingBy-filter (λ e. e.1.line.moment) (λ e. not (nat_eq n e.0)) es h.rising;
   linked = linked_without n (waiting_at es) (waiting_at (filter (λ e. not (nat_eq n e.0)) es)) others gone v here first next latest h.linked;
 }
@@ -86,5 +92,6 @@ sound_without es next n latest v h here none = record {
     first : (m : ℕ) (w : Waiting) → waiting_at es m ≡ Some w → w.line.thread ≡ v.line.thread → m < n → ⊥
     first m w at same low =
         let passes : nat_lt m n && w.line.thread == v.line.thread ≡ true = grind (arith, nat_tests, low, same) in
-        let found : list_any (λ e. nat_lt e.0 n && e.1.thread == v.line.thread) (lines_of es) ≡ true = any_at (λ e. nat_lt e.0 n && e.1.thread == v.line.thread) m w es at passes in
+        let found : list_any (λ e. nat_lt e.0 n && e.1.thread == v.line.thread) (lines_of es) ≡ true =
+        any_at (λ e. nat_lt e.0 n && e.1.thread == v.line.thread) m w es at passes in
         cc

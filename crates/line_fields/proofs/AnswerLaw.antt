@@ -47,7 +47,9 @@ IsGiven a ws = (n : ℕ) × (a ≡ answers.Given n) × (n ≤ 4294967295) × (ws
 reads_given : IsLastReader given_field IsGiven
 reads_given =
     reads_as Nothing given_field _ IsGiven
-    (reads_then Nothing (number_field 0 4294967295) (IsNumberField 0 4294967295) (λ n r. Ok (answers.Given n, r)) (λ n a ws. (a ≡ answers.Given n) × (ws ≡ [])) (reads_number 0 4294967295 (omega arith)) (λ n. reads_done Nothing (answers.Given n)))
+    (reads_then Nothing (number_field 0 4294967295) (IsNumberField 0 4294967295) (λ n r. Ok (answers.Given n, r))
+    (λ n a ws. (a ≡ answers.Given n) × (ws ≡ [])) (reads_number 0 4294967295 (omega arith))
+    (λ n. reads_done Nothing (answers.Given n)))
     (λ a ws d. (d.0, d.4.0, d.3.1, d.5 ∙ ap (λ (us : List (List ℕ)). us ++ d.2) d.3.2 ∙ ap (λ (vs : List (List ℕ)). decimal d.0 ∷ vs) d.4.1))
     (λ a ws s. (s.0, decimal s.0 ∷ [], [], (omega arith, s.2, refl), (s.1, refl), s.3))
 
@@ -57,8 +59,16 @@ IsData a ws = (bytes : List ℕ) × (t : List ℕ) × (a ≡ answers.Bytes bytes
 reads_data : IsReader data_field IsData
 reads_data =
     reads_as Any data_field _ IsData
-    (reads_then Any (hex_field 65535) (IsHexField 65535) (λ b r. Ok (answers.Bytes b, r)) (λ b a ws. (a ≡ answers.Bytes b) × (ws ≡ [])) (reads_hex 65535) (λ b. reads_done Any (answers.Bytes b)))
-    (λ a ws d. (d.0, d.3.0, d.4.0, (d.3.1.0.1, d.3.1.1), d.3.1.0.0, d.5 ∙ ap (λ (us : List (List ℕ)). us ++ d.2) d.3.2 ∙ ap (λ (vs : List (List ℕ)). d.3.0 ∷ vs) d.4.1))
+    (reads_then Any (hex_field 65535) (IsHexField 65535) (λ b r. Ok (answers.Bytes b, r))
+    (λ b a ws. (a ≡ answers.Bytes b) × (ws ≡ [])) (reads_hex 65535) (λ b. reads_done Any (answers.Bytes b)))
+    (λ a ws d. (
+      d.0,
+      d.3.0,
+      d.4.0,
+      (d.3.1.0.1, d.3.1.1),
+      d.3.1.0.0,
+      d.5 ∙ ap (λ (us : List (List ℕ)). us ++ d.2) d.3.2 ∙ ap (λ (vs : List (List ℕ)). d.3.0 ∷ vs) d.4.1,
+    ))
     (λ a ws s. (s.0, s.1 ∷ [], [], (s.1, ((s.4, s.3.0), s.3.1), refl), (s.2, refl), s.5))
 
 abbrev IsStateAnswer : Answer → List (List ℕ) → Type 0
@@ -67,7 +77,9 @@ IsStateAnswer a ws = (s : State) × (a ≡ answers.State s) × (ws ≡ state_nam
 reads_state : IsReader state_field IsStateAnswer
 reads_state =
     reads_as Any state_field _ IsStateAnswer
-    (reads_then Any (kind_field state_name all_states) (λ s ws. ws ≡ state_name s ∷ []) (λ s r. Ok (answers.State s, r)) (λ s a ws. (a ≡ answers.State s) × (ws ≡ [])) (reads_kind state_name all_states states_named) (λ s. reads_done Any (answers.State s)))
+    (reads_then Any (kind_field state_name all_states) (λ s ws. ws ≡ state_name s ∷ []) (λ s r. Ok (answers.State s, r))
+    (λ s a ws. (a ≡ answers.State s) × (ws ≡ [])) (reads_kind state_name all_states states_named)
+    (λ s. reads_done Any (answers.State s)))
     (λ a ws d. (d.0, d.4.0, d.5 ∙ ap (λ (us : List (List ℕ)). us ++ d.2) d.3 ∙ ap (λ (vs : List (List ℕ)). state_name d.0 ∷ vs) d.4.1))
     (λ a ws s. (s.0, state_name s.0 ∷ [], [], refl, (s.1, refl), s.2))
 
@@ -79,8 +91,11 @@ abbrev Behind : AnswerWord → Rest → Answer × Rest → Type 0
 Behind k r x = IsBehind answer_word answer_tail IsAnswer k r x.0 x.1
 
 -- an answer whose fields all stand as they are
-known : (k : AnswerWord) (r : Rest) (x : Answer × Rest) (a : Answer) (us ts : List (List ℕ)) → x.0 ≡ a → IsAnswer a → answer_word a ≡ k → AreWritten (answer_tail a) ts → us ≡ ts → texts r ≡ us ++ texts x.1 → Behind k r x
-known k r x a us ts same fits first written are e = is_known answer_word answer_tail IsAnswer k r x.1 x.0 a us same fits first (subst (λ (vs : List (List ℕ)). AreWritten (answer_tail a) vs) (sym are) written) e
+known : (k : AnswerWord) (r : Rest) (x : Answer × Rest) (a : Answer) (us ts : List (List ℕ)) → x.0 ≡ a → IsAnswer a
+    → answer_word a ≡ k → AreWritten (answer_tail a) ts → us ≡ ts → texts r ≡ us ++ texts x.1 → Behind k r x
+known k r x a us ts same fits first written are e =
+    is_known answer_word answer_tail IsAnswer k r x.1 x.0 a us same fits first
+    (subst (λ (vs : List (List ℕ)). AreWritten (answer_tail a) vs) (sym are) written) e
 
 abbrev read_as : Answer → Rest → Result (Answer × Rest) TextFault
 read_as a r = Ok (a, r)
@@ -96,8 +111,10 @@ behind_takes words.Done r x e =
       | inl none ↦ known words.Done r x answers.Done p.0 [] none.0 tt refl tt none.1 p.2
       | inr given ↦ known words.Done r x (answers.Given given.0) p.0 (decimal given.0 ∷ []) given.1 given.2 refl (refl, tt) given.3 p.2
     ]
-behind_takes words.Data r x e = let p = reads_data.takes r x e in let s = p.1 in known words.Data r x (answers.Bytes s.0) p.0 (s.1 ∷ []) s.2 s.3 refl (s.4, tt) s.5 p.2
-behind_takes words.State r x e = let p = reads_state.takes r x e in let s = p.1 in known words.State r x (answers.State s.0) p.0 (state_name s.0 ∷ []) s.1 tt refl (refl, tt) s.2 p.2
+behind_takes words.Data r x e = let p = reads_data.takes r x e in let s = p.1 in
+    known words.Data r x (answers.Bytes s.0) p.0 (s.1 ∷ []) s.2 s.3 refl (s.4, tt) s.5 p.2
+behind_takes words.State r x e = let p = reads_state.takes r x e in let s = p.1 in
+    known words.State r x (answers.State s.0) p.0 (state_name s.0 ∷ []) s.1 tt refl (refl, tt) s.2 p.2
 behind_takes words.Again r x e = alone answers.Again r x tt tt e
 behind_takes words.Eof r x e = alone answers.Eof r x tt tt e
 behind_takes words.Closed r x e = alone answers.Closed r x tt tt e
@@ -115,10 +132,13 @@ Gets a r more = (rest : Rest) × (answer_behind (answer_word a) r ≡ Ok (a, res
 bare : (r : Rest) (us more : List (List ℕ)) → AreWritten [] us → texts r ≡ us ++ more → texts r ≡ more
 bare r us more none e = e ∙ ap (λ (vs : List (List ℕ)). vs ++ more) (plains_are [] us none)
 
-behind_again : (a : Answer) (r : Rest) (us more : List (List ℕ)) → Nothing more → IsAnswer a → AreWritten (answer_tail a) us → texts r ≡ us ++ more → Gets a r more
+behind_again : (a : Answer) (r : Rest) (us more : List (List ℕ)) → Nothing more → IsAnswer a
+    → AreWritten (answer_tail a) us → texts r ≡ us ++ more → Gets a r more
 behind_again answers.Done r us more last fits w e = reads_ok.again r answers.Done us more last (inl (refl, plains_are [] us w)) e
-behind_again (answers.Given n) r us more last fits w e = reads_ok.again r (answers.Given n) us more last (inr (n, refl, fits, plains_are (decimal n ∷ []) us w)) e
-behind_again (answers.Bytes b) r us more last fits w e = let h = hex_is [] b us w in reads_data.again r (answers.Bytes b) us more tt (b, h.0, refl, fits, h.1, h.2) e
+behind_again (answers.Given n) r us more last fits w e =
+    reads_ok.again r (answers.Given n) us more last (inr (n, refl, fits, plains_are (decimal n ∷ []) us w)) e
+behind_again (answers.Bytes b) r us more last fits w e = let h = hex_is [] b us w in
+    reads_data.again r (answers.Bytes b) us more tt (b, h.0, refl, fits, h.1, h.2) e
 behind_again (answers.State s) r us more last fits w e = reads_state.again r (answers.State s) us more tt (s, refl, plains_are (state_name s ∷ []) us w) e
 behind_again answers.Again r us more last fits w e = (r, refl, bare r us more w e)
 behind_again answers.Eof r us more last fits w e = (r, refl, bare r us more w e)

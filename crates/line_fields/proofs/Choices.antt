@@ -56,7 +56,8 @@ IsBehind head tail Fits k r a rest = (us : List (List ℕ)) × Fits a × (head a
 pub reads_choice : {K A : Type 0} (F : List (List ℕ) → Type 0) (name : K → List ℕ) (kinds : List K) → AreNamed name kinds
     → (behind : K → Rest → Result (A × Rest) TextFault) (head : A → K) (tail : A → List Piece) (Fits : A → Type 0)
     → ((k : K) (r : Rest) (x : A × Rest) → behind k r ≡ Ok x → IsBehind head tail Fits k r x.0 x.1)
-    → ((a : A) (r : Rest) (us more : List (List ℕ)) → F more → Fits a → AreWritten (tail a) us → texts r ≡ us ++ more → (rest : Rest) × (behind (head a) r ≡ Ok (a, rest)) × (texts rest ≡ more))
+    → ((a : A) (r : Rest) (us more : List (List ℕ)) → F more → Fits a → AreWritten (tail a) us → texts r ≡ us ++ more
+    → (rest : Rest) × (behind (head a) r ≡ Ok (a, rest)) × (texts rest ≡ more))
     → IsReaderBefore F (λ r. kind_field name kinds r >>= λ k. behind k.0 k.1) (λ a ws. Fits a × AreWritten (plain (name (head a)) ∷ tail a) ws)
 reads_choice F name kinds named behind head tail Fits behind_takes behind_again = record {
   takes = λ r x e.

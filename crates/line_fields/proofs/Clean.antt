@@ -23,7 +23,9 @@ wide text clean = All-weaker (λ b. 32 < b) (λ b. 32 ≤ b) (λ b h. omega arit
 joined_wide : (ws : List (List ℕ)) → AllByRecursion IsClean ws → All (λ b. 32 ≤ b) (joined ws)
 joined_wide [] clean = All-nil (λ b. 32 ≤ b)
 joined_wide (w ∷ []) clean = wide w clean.0
-joined_wide (w ∷ v ∷ ws) clean = All-append (λ b. 32 ≤ b) w (32 ∷ joined (v ∷ ws)) (wide w clean.0) (All-cons (λ b. 32 ≤ b) 32 (joined (v ∷ ws)) (omega arith) (joined_wide (v ∷ ws) clean.1))
+joined_wide (w ∷ v ∷ ws) clean =
+    All-append (λ b. 32 ≤ b) w (32 ∷ joined (v ∷ ws)) (wide w clean.0)
+    (All-cons (λ b. 32 ≤ b) 32 (joined (v ∷ ws)) (omega arith) (joined_wide (v ∷ ws) clean.1))
 
 pub joined_no_return : (ws : List (List ℕ)) → AllByRecursion IsClean ws → NoReturn (joined ws)
 joined_no_return ws clean some e = let high = joined_wide ws clean (length (joined ws) - 1) 0 (omega arith) in omega arith

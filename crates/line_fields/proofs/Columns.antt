@@ -19,7 +19,8 @@ place_is bytes (Some k) h =
     let below : k < length bytes = h.0.high in
     position_or_len_is is_space bytes k 0 (omega arith) (λ i lt. false_from_ne_true (is_space (get_or bytes i 0)) (h.0.before i (omega arith) lt)) (λ lt. h.1)
 place_is bytes None h =
-    position_or_len_is is_space bytes (length bytes) 0 (omega arith) (λ i lt. false_from_ne_true (is_space (get_or bytes i 0)) (h i (omega arith) lt)) (λ lt. absurd (omega arith))
+    position_or_len_is is_space bytes (length bytes) 0 (omega arith)
+    (λ i lt. false_from_ne_true (is_space (get_or bytes i 0)) (h i (omega arith) lt)) (λ lt. absurd (omega arith))
 
 words_left-within : (line at : ℕ) (text : List ℕ) → at ≤ length text → words_left line at text ≡ words_from line at (slice_split is_space (drop at text))
 words_left-within line at text le = let test = le-leb at (length text) le in rw test refl
@@ -38,26 +39,35 @@ words_left-next line at text k le e =
     elim (cases_lt k (length (drop at text))) [
       | inl more ↦
           let cut : slice_split is_space (drop at text) ≡ take k (drop at text) ∷ slice_split is_space (drop (k + 1) (drop at text)) =
-          slice_split_first is_space (drop at text) 0 (omega arith) ∙ ap (λ (n : ℕ). take n (drop at text) ∷ slice_split is_space (drop (n + 1) (drop at text))) e in
+          slice_split_first is_space (drop at text) 0 (omega arith)
+          ∙ ap (λ (n : ℕ). take n (drop at text) ∷ slice_split is_space (drop (n + 1) (drop at text))) e in
           let after : drop (k + 1) (drop at text) ≡ drop (at + k + 1) text = drop-drop (k + 1) at text ∙ ap (λ (n : ℕ). drop n text) (omega arith) in
           words_left-within line at text le ∙ ap (words_from line at) cut
-          ∙ ap (λ (n : ℕ). record { text = take k (drop at text); line = line; start = at; stop = at + n } ∷ words_from line (at + n + 1) (slice_split is_space (drop (k + 1) (drop at text)))) one
-          ∙ ap (λ (xs : List ℕ). record { text = take k (drop at text); line = line; start = at; stop = at + k } ∷ words_from line (at + k + 1) (slice_split is_space xs)) after
-          ∙ ap (λ (ws : List Word). record { text = take k (drop at text); line = line; start = at; stop = at + k } ∷ ws) (sym (words_left-within line (at + k + 1) text (omega arith)))
+          ∙ ap (λ (n : ℕ). record { text = take k (drop at text); line = line; start = at; stop = at + n }
+          ∷ words_from line (at + n + 1) (slice_split is_space (drop (k + 1) (drop at text)))) one
+          ∙ ap (λ (xs : List ℕ). record { text = take k (drop at text); line = line; start = at; stop = at + k }
+          ∷ words_from line (at + k + 1) (slice_split is_space xs)) after
+          ∙ ap (λ (ws : List Word). record { text = take k (drop at text); line = line; start = at; stop = at + k }
+          ∷ ws) (sym (words_left-within line (at + k + 1) text (omega arith)))
       | inr all ↦
           let whole : drop at text ≡ take k (drop at text) = sym (take_all k (drop at text) all) in
           let cut : slice_split is_space (drop at text) ≡ take k (drop at text) ∷ [] =
-          slice_split_none is_space (drop at text) (λ i d lt. fails_before_first is_space (drop at text) i d (omega arith)) ∙ ap (λ (xs : List ℕ). xs ∷ []) whole in
+          slice_split_none is_space (drop at text)
+          (λ i d lt. fails_before_first is_space (drop at text) i d (omega arith))
+          ∙ ap (λ (xs : List ℕ). xs ∷ []) whole in
           words_left-within line at text le ∙ ap (words_from line at) cut
           ∙ ap (λ (n : ℕ). record { text = take k (drop at text); line = line; start = at; stop = at + n } ∷ []) one
-          ∙ ap (λ (ws : List Word). record { text = take k (drop at text); line = line; start = at; stop = at + k } ∷ ws) (sym (words_left-past line (at + k + 1) text (omega arith)))
+          ∙ ap (λ (ws : List Word). record { text = take k (drop at text); line = line; start = at; stop = at + k }
+          ∷ ws) (sym (words_left-past line (at + k + 1) text (omega arith)))
     ]
 
 -- a field ends at the first space
 pub ends_at : (bytes : List ℕ) (k : ℕ) → k ≤ length bytes → ((i : ℕ) → i < k → get_or bytes i 0 ≡ 32 → ⊥) → (k < length bytes → get_or bytes k 0 ≡ 32)
     → position_or_len is_space bytes ≡ k
 ends_at bytes k le before here =
-    position_or_len_is is_space bytes k 0 le (λ i lt. false_from_ne_true (is_space (get_or bytes i 0)) (λ yes. before i lt (eqb-true _ _ yes))) (λ lt. eq-eqb _ _ (here lt))
+    position_or_len_is is_space bytes k 0 le
+    (λ i lt. false_from_ne_true (is_space (get_or bytes i 0)) (λ yes. before i lt (eqb-true _ _ yes)))
+    (λ lt. eq-eqb _ _ (here lt))
 
 pub ends_within : (bytes : List ℕ) → position_or_len is_space bytes ≤ length bytes
 ends_within bytes = let short = prefix_len-le-length (λ (b : ℕ). not (is_space b)) bytes in omega arith
@@ -69,10 +79,18 @@ pub next_is : (line at : ℕ) (text rest field : List ℕ) (k : ℕ) → at ≤ 
 next_is line at text rest field k le e k-is field-is =
     let place : position_or_len is_space (drop at text) ≡ k = ap (position_or_len is_space) (sym e) ∙ sym k-is in
     let same : take k (drop at text) ≡ field = ap (take k) (sym e) ∙ sym field-is in
-    words_left-next line at text k le place ∙ ap (λ (f : List ℕ). record { text = f; line = line; start = at; stop = at + k } ∷ words_left line (at + k + 1) text) same
+    words_left-next line at text k le place
+    ∙ ap (λ (f : List ℕ). record { text = f; line = line; start = at; stop = at + k }
+    ∷ words_left line (at + k + 1) text) same
 
 nothing_left : (line at : ℕ) (text : List ℕ) → at ≤ length text → words_left line at text ≡ [] → ⊥
 nothing_left line at text le none = let one = words_left-next line at text (position_or_len is_space (drop at text)) le refl in cc
 
-pub is_empty_is : (line at : ℕ) (text : List ℕ) → (IsTrue (nat_lt (length text) at) → words_left line at text ≡ []) × (words_left line at text ≡ [] → IsTrue (nat_lt (length text) at))
-is_empty_is line at text = (λ yes. words_left-past line at text (ltb-true _ _ yes), λ none. elim (cases_lt (length text) at) [ inl lt ↦ lt-ltb _ _ lt | inr le ↦ absurd (nothing_left line at text le none) ])
+pub is_empty_is : (line at : ℕ) (text : List ℕ)
+    → (IsTrue (nat_lt (length text) at) → words_left line at text ≡ [])
+    × (words_left line at text ≡ [] → IsTrue (nat_lt (length text) at))
+is_empty_is line at text = (
+  λ yes. words_left-past line at text (ltb-true _ _ yes),
+  λ none. elim (cases_lt (length text) at)
+      [ inl lt ↦ lt-ltb _ _ lt | inr le ↦ absurd (nothing_left line at text le none) ],
+)

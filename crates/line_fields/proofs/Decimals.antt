@@ -132,7 +132,8 @@ number_value-in least most n w fits e low high =
     rw (some, value, same, above, below) refl
 
 -- nothing within the limits is spelled so
-pub number_value-out : (least most : ℕ) (w : Word) → 0 < length w.text → ((n : ℕ) → least ≤ n → n ≤ most → w.text ≡ decimal n → ⊥) → number_value least most w ≡ Err (fault_at Number w)
+pub number_value-out : (least most : ℕ) (w : Word) → 0 < length w.text
+    → ((n : ℕ) → least ≤ n → n ≤ most → w.text ≡ decimal n → ⊥) → number_value least most w ≡ Err (fault_at Number w)
 unfolding number_value
 number_value-out least most w filled none =
     let some = some_test (length w.text) filled in

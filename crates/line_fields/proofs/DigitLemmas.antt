@@ -1,5 +1,7 @@
 -- The value of a digit in hex, and of two.
-use Rattle.std.proofs.Common.{◌≡◌, ℕ, zero, suc, ◌+◌, ◌-◌, ◌*◌, ◌%◌, ◌<◌, ◌≤◌, true, nat_eq, nat_le, List, length, take, drop, get_or, None, Some, Result, Ok, Err, refl, sym, ap, ap₂, ◌∙◌, unwrap_or, slice_index_or, slice_index, slice_set, inl, inr, arith}
+use Rattle.std.proofs.Common.{◌≡◌, ℕ, zero, suc, ◌+◌, ◌-◌, ◌*◌, ◌%◌, ◌<◌, ◌≤◌, true, nat_eq, nat_le, List, length, take}
+use Rattle.std.proofs.Common.{drop, get_or, None, Some, Result, Ok, Err, refl, sym, ap, ap₂, ◌∙◌, unwrap_or}
+use Rattle.std.proofs.Common.{slice_index_or, slice_index, slice_set, inl, inr, arith}
 use Rattle.std.specs.Result.{result_ok}
 use Rattle.std.proofs.lemmas.Bool.{agree_below_at, cases_lt, eqb-true, leb-true}
 use Rattle.std.proofs.lemmas.List.{set-get_or}
@@ -39,7 +41,9 @@ pub none_written : (text bytes : List ℕ) (i : ℕ) → length text ≡ 2 * len
     → decode_pairs 0 text ≡ prepend (take i bytes) (decode_pairs (2 * i) (drop (2 * i) text)) → result_ok (decode_of text) ≡ None
 none_written text bytes i twice lt is so_far = by_case _ refl is
   where
-    by_case : (r : Result ℕ FromHexError) → pair_value (slice_index text (2 * i)) (slice_index text (2 * i + 1)) (2 * i) ≡ r → None ≡ result_ok r → result_ok (decode_of text) ≡ None
+    by_case : (r : Result ℕ FromHexError)
+        → pair_value (slice_index text (2 * i)) (slice_index text (2 * i + 1)) (2 * i) ≡ r → None ≡ result_ok r
+        → result_ok (decode_of text) ≡ None
     by_case (Ok x) e none = cc
     by_case (Err bad) e none = ap result_ok (decode_of-even text (even text bytes twice) ∙ decode_err text bytes i bad (omega arith) e so_far)
 

@@ -1,5 +1,6 @@
 -- A line and its end.
-use Rattle.std.proofs.Common.{◌≡◌, ◌<◌, ◌-◌, ℕ, List, [], ◌∷◌, ◌++◌, Bool, true, false, length, get_or, take, suc, ◌⊎◌, append_assoc, refl, sym, ap, ◌∙◌, arith, inl, inr, ◌&&◌}
+use Rattle.std.proofs.Common.{◌≡◌, ◌<◌, ◌-◌, ℕ, List, [], ◌∷◌, ◌++◌, Bool, true, false, length, get_or, take, suc, ◌⊎◌}
+use Rattle.std.proofs.Common.{append_assoc, refl, sym, ap, ◌∙◌, arith, inl, inr, ◌&&◌}
 use Rattle.std.specs.Prelude.{nat_lt, ◌==◌}
 use Rattle.std.proofs.lemmas.Bool.{and_parts, eqb-true, ltb-true, lt-ltb, eq-eqb, false_from_ne_true}
 use Rattle.std.proofs.Math.Seq.{get_or-append_seam, take-suc, take-length}
@@ -45,7 +46,9 @@ no_cr_pushed text = let p = pushed text 13 in let t = test_yes (text ++ 13 ∷ [
 
 no_cr_other : (text : List ℕ) → (0 < length text → get_or text (length text - 1) 0 ≡ 13 → ⊥) → no_cr text ≡ text
 no_cr_other text never =
-    let t : (nat_lt 0 (length text) && (get_or text (length text - 1) 0 == 13)) ≡ false = false_from_ne_true _ (λ h. let parts = and_parts _ _ h in never (ltb-true _ _ parts.0) (eqb-true _ _ parts.1)) in
+    let t : (nat_lt 0 (length text) && (get_or text (length text - 1) 0 == 13)) ≡ false =
+    false_from_ne_true _ (λ h. let parts = and_parts _ _ h in
+    never (ltb-true _ _ parts.0) (eqb-true _ _ parts.1)) in
     rw t refl
 
 without_feed : (text : List ℕ) → without_terminator (text ++ 10 ∷ []) ≡ no_cr text
@@ -58,8 +61,10 @@ ending_again raw text never h = elim h.1 [
       let e : raw ≡ text ++ 10 ∷ [] = h.2 ∙ ap (λ (x : List ℕ). text ++ x) feed in
       (ap without_terminator e ∙ without_feed text ∙ no_cr_other text never, ap is_ended e ∙ test_yes (text ++ 10 ∷ []) text 10 (pushed text 10))
   | inr both ↦
-      let e : raw ≡ (text ++ 13 ∷ []) ++ 10 ∷ [] = h.2 ∙ ap (λ (x : List ℕ). text ++ x) both ∙ sym (append_assoc text (13 ∷ []) (10 ∷ [])) in
-      (ap without_terminator e ∙ without_feed (text ++ 13 ∷ []) ∙ no_cr_pushed text, ap is_ended e ∙ test_yes ((text ++ 13 ∷ []) ++ 10 ∷ []) (text ++ 13 ∷ []) 10 (pushed (text ++ 13 ∷ []) 10))
+      let e : raw ≡ (text ++ 13 ∷ []) ++ 10 ∷ [] = h.2 ∙ ap (λ (x : List ℕ). text ++ x) both ∙ sym (append_assoc text (13 ∷ []) (10 ∷ [])) in (
+        ap without_terminator e ∙ without_feed (text ++ 13 ∷ []) ∙ no_cr_pushed text,
+        ap is_ended e ∙ test_yes ((text ++ 13 ∷ []) ++ 10 ∷ []) (text ++ 13 ∷ []) 10 (pushed (text ++ 13 ∷ []) 10),
+      )
 ]
 
 -- a line that has its end is its text and that end
@@ -70,9 +75,15 @@ ending_taken raw h =
     let plain : without_terminator raw ≡ no_cr (take (length raw - 1) raw) = rw h refl in
     elim (cases_bool (nat_lt 0 (length (take (length raw - 1) raw)) && (get_or (take (length raw - 1) raw) (length (take (length raw - 1) raw) - 1) 0 == 13))) [
       | inl yes_cr ↦
-          let f : take (length raw - 1) raw ≡ take (length (take (length raw - 1) raw) - 1) (take (length raw - 1) raw) ++ 13 ∷ [] = tested (take (length raw - 1) raw) 13 yes_cr in
-          let cut : no_cr (take (length raw - 1) raw) ≡ take (length (take (length raw - 1) raw) - 1) (take (length raw - 1) raw) = rw yes_cr refl in
-          (13 ∷ 10 ∷ [], inr refl, e ∙ ap (λ (x : List ℕ). x ++ 10 ∷ []) f ∙ append_assoc _ (13 ∷ []) (10 ∷ []) ∙ ap (λ (x : List ℕ). x ++ 13 ∷ 10 ∷ []) (sym (plain ∙ cut)))
+          let f : take (length raw - 1) raw
+          ≡ take (length (take (length raw - 1) raw) - 1) (take (length raw - 1) raw) ++ 13 ∷ [] =
+          tested (take (length raw - 1) raw) 13 yes_cr in
+          let cut : no_cr (take (length raw - 1) raw) ≡ take (length (take (length raw - 1) raw) - 1) (take (length raw - 1) raw) = rw yes_cr refl in (
+            13 ∷ 10 ∷ [],
+            inr refl,
+            e ∙ ap (λ (x : List ℕ). x ++ 10 ∷ []) f ∙ append_assoc _ (13 ∷ []) (10 ∷ [])
+                ∙ ap (λ (x : List ℕ). x ++ 13 ∷ 10 ∷ []) (sym (plain ∙ cut)),
+          )
       | inr no_cr_here ↦
           let cut : no_cr (take (length raw - 1) raw) ≡ take (length raw - 1) raw = rw no_cr_here refl in
           (10 ∷ [], inl refl, e ∙ ap (λ (x : List ℕ). x ++ 10 ∷ []) (sym (plain ∙ cut)))

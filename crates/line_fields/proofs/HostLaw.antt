@@ -46,11 +46,16 @@ pub reads_host : (v : Version) → IsReader (host_field v) (IsHostField v)
 unfolding host_field
 reads_host v =
     reads_as Any (host_field v) _ (IsHostField v)
-    (reads_then Any (number_field 0 (greatest_host v)) (IsNumberField 0 (greatest_host v)) (λ n r. Ok (host_of n, r)) (λ n h ws. (h ≡ host_of n) × (ws ≡ [])) (reads_number 0 (greatest_host v) (few_hosts v)) (λ n. reads_done Any (host_of n)))
+    (reads_then Any (number_field 0 (greatest_host v)) (IsNumberField 0 (greatest_host v)) (λ n r. Ok (host_of n, r))
+    (λ n h ws. (h ≡ host_of n) × (ws ≡ [])) (reads_number 0 (greatest_host v) (few_hosts v))
+    (λ n. reads_done Any (host_of n)))
     (λ h ws d.
     let back = ap host_number d.4.0 ∙ named_back v d.0 d.3.1 in
-    let within = d.3.1 in
-    (omega (arith, back, within), d.5 ∙ ap (λ (us : List (List ℕ)). us ++ d.2) d.3.2 ∙ ap (λ (vs : List (List ℕ)). decimal d.0 ∷ vs) d.4.1 ∙ ap (λ (n : ℕ). decimal n ∷ []) (sym back)))
+    let within = d.3.1 in (
+      omega (arith, back, within),
+      d.5 ∙ ap (λ (us : List (List ℕ)). us ++ d.2) d.3.2
+          ∙ ap (λ (vs : List (List ℕ)). decimal d.0 ∷ vs) d.4.1 ∙ ap (λ (n : ℕ). decimal n ∷ []) (sym back),
+    ))
     (λ h ws s. (host_number h, decimal (host_number h) ∷ [], [], (omega arith, s.0, refl), (sym (host_back h), refl), s.1))
 
 pub host_clean : (h : Host) → IsClean (decimal (host_number h))

@@ -13,7 +13,8 @@ module _ {S A : Type 0} (read : S → List ℕ → Result A TextFault) (after : 
   abbrev pub left_in : S → Option (List (List ℕ)) → Option (Result (List A) TextFault)
   left_in state rows = option_map (read_lines read after state) rows
 
-  pub yields_item : (state : S) (a b : Option (List (List ℕ))) (raw : List ℕ) (item : A) → TakesRow a b raw → read state raw ≡ Ok item → Yields (left_in state a) (left_in (after state item) b) (Some item)
+  pub yields_item : (state : S) (a b : Option (List (List ℕ))) (raw : List ℕ) (item : A) → TakesRow a b raw
+      → read state raw ≡ Ok item → Yields (left_in state a) (left_in (after state item) b) (Some item)
   unfolding read_lines
   yields_item state None b raw item t is = tt
   yields_item state (Some raws) None raw item t is = absurd t
@@ -26,7 +27,8 @@ module _ {S A : Type 0} (read : S → List ℕ → Result A TextFault) (after : 
   yields_none state (Some raws) (Some rest) h = (rw h.0 refl, rw h.1 refl)
 
   -- a fault of a line is the fault of what is left
-  pub fails_line : (state : S) (a b : Option (List (List ℕ))) (raw : List ℕ) (e : TextFault) → TakesRow a b raw → Fails e.kind e (read state raw) → FailsLeft e (left_in state a)
+  pub fails_line : (state : S) (a b : Option (List (List ℕ))) (raw : List ℕ) (e : TextFault) → TakesRow a b raw
+      → Fails e.kind e (read state raw) → FailsLeft e (left_in state a)
   unfolding read_lines
   fails_line state None b raw e t fails = tt
   fails_line state (Some raws) None raw e t fails = absurd t

@@ -19,7 +19,8 @@ use Rattle.line_fields.proofs.Joined.{texts-words_of, join-split, split-join}
 use Rattle.line_fields.proofs.Clean.{joined_no_return, joined_no_feed}
 use Rattle.line_fields.proofs.Endings.{ending_taken, ending_again}
 
-guard_text : (a b c : Bool) (x y z : TextFault) (r s : List ℕ) → cond a (Err x) (cond b (Err y) (cond c (Err z) (Ok r))) ≡ Ok s → (a ≡ false) × (b ≡ false) × (c ≡ false) × (r ≡ s)
+guard_text : (a b c : Bool) (x y z : TextFault) (r s : List ℕ)
+    → cond a (Err x) (cond b (Err y) (cond c (Err z) (Ok r))) ≡ Ok s → (a ≡ false) × (b ≡ false) × (c ≡ false) × (r ≡ s)
 guard_text true b c x y z r s e = absurd cc
 guard_text false true c x y z r s e = absurd cc
 guard_text false false true x y z r s e = absurd cc
@@ -35,7 +36,9 @@ unfolding line_text
 text_takes number raw text e =
     let own : List ℕ = without_terminator raw in
     let g = guard_text (nat_lt 140000 (length (without_terminator raw))) (not (is_ended raw)) (nat_lt 10000000 number)
-    (record { kind = LineTooLong; span = whole_line number (without_terminator raw) }) (record { kind = Cut; span = whole_line number (without_terminator raw) }) (record { kind = TooManyLines; span = whole_line number (without_terminator raw) })
+    (record { kind = LineTooLong; span = whole_line number (without_terminator raw) })
+    (record { kind = Cut; span = whole_line number (without_terminator raw) })
+    (record { kind = TooManyLines; span = whole_line number (without_terminator raw) })
     (without_terminator raw) text e in
     subst (λ (t : List ℕ). IsLine number t raw) g.3 (record { ends = ending_taken raw (not_not _ g.1); short = ltb-false _ _ g.0; count = ltb-false _ _ g.2 })
 
@@ -99,7 +102,8 @@ fields_again number raw w ws clean line =
     (ap (λ (x : Result (List ℕ) TextFault). x >>= rests number) read, texts-words_of number (joined (w ∷ ws)) ∙ split-join w ws clean)
 
 -- the same of fields of which there is one at least
-pub fields_read : (number : ℕ) (raw : List ℕ) (ts : List (List ℕ)) (w : List ℕ) (ws : List (List ℕ)) → ts ≡ w ∷ ws → AllByRecursion IsClean ts → IsLine number (joined ts) raw
+pub fields_read : (number : ℕ) (raw : List ℕ) (ts : List (List ℕ)) (w : List ℕ) (ws : List (List ℕ)) → ts ≡ w ∷ ws
+    → AllByRecursion IsClean ts → IsLine number (joined ts) raw
     → (line_rest number raw ≡ Ok (rest_of number (joined ts))) × (texts (rest_of number (joined ts)) ≡ ts)
 fields_read number raw [] w ws some clean line = absurd cc
 fields_read number raw (t ∷ ts) w ws some clean line = fields_again number raw t ts clean line

@@ -16,11 +16,13 @@ with_front front read = read >>= λ items. Ok (front ++ items)
 abbrev all_of : {A : Type 0} → List A → Result (List A) TextFault
 all_of items = Ok items
 
-pub regroup : {A : Type 0} (front : List A) (item : A) (read : Result (List A) TextFault) → with_front front (read >>= λ items. Ok (item ∷ items)) ≡ with_front (front ++ item ∷ []) read
+pub regroup : {A : Type 0} (front : List A) (item : A) (read : Result (List A) TextFault)
+    → with_front front (read >>= λ items. Ok (item ∷ items)) ≡ with_front (front ++ item ∷ []) read
 regroup {A = A} front item (Ok x) = ap (λ (items : List A). all_of items) (simp append_assoc)
 regroup front item (Err e) = refl
 
-pub Fails-map : {A B : Type 0} (kind : FaultKind) (e : TextFault) (x : Result A TextFault) (y : Result B TextFault) → (x ≡ Err e → y ≡ Err e) → Fails kind e x → Fails kind e y
+pub Fails-map : {A B : Type 0} (kind : FaultKind) (e : TextFault) (x : Result A TextFault) (y : Result B TextFault)
+    → (x ≡ Err e → y ≡ Err e) → Fails kind e x → Fails kind e y
 Fails-map kinds.Header e x y f h = f h
 Fails-map kinds.Field e x y f h = f h
 Fails-map kinds.Number e x y f h = f h
@@ -46,7 +48,8 @@ spelled_takes read after R law state [] items e = subst (λ xs. AreSpelled R aft
 spelled_takes {A = A} read after R law state (raw ∷ raws) items e =
     let a = bind_ok (read state raw) (λ x. read_lines read after (after state x) raws >>= λ xs. Ok (x ∷ xs)) items e in
     let b = bind_ok (read_lines read after (after state a.0) raws) (λ xs. Ok (a.0 ∷ xs)) items a.2 in
-    subst (λ (xs : List A). AreSpelled R after state xs (raw ∷ raws)) (ok_is (a.0 ∷ b.0) items b.2) (law.takes state raw a.0 a.1, spelled_takes read after R law (after state a.0) raws b.0 b.1)
+    subst (λ (xs : List A). AreSpelled R after state xs (raw ∷ raws)) (ok_is (a.0 ∷ b.0) items b.2)
+    (law.takes state raw a.0 a.1, spelled_takes read after R law (after state a.0) raws b.0 b.1)
 
 pub spelled_again : {S A : Type 0} (read : S → List ℕ → Result A TextFault) (after : S → A → S) (R : S → A → List ℕ → Type 0) → IsLineReader read R
     → (state : S) (items : List A) (raws : List (List ℕ)) → AreSpelled R after state items raws → read_lines read after state raws ≡ Ok items

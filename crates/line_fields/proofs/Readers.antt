@@ -1,5 +1,6 @@
 -- Readers of fields, with the spelling of what they read, and readers that are made of others.
-use Rattle.std.proofs.Common.{◌≡◌, ◌≤◌, ◌<◌, ◌^◌, ◌⊎◌, ℕ, List, [], ◌∷◌, ◌++◌, Bool, true, false, cond, Result, Ok, Err, refl, sym, ap, subst, ◌∙◌, append_assoc, arith, inl, inr}
+use Rattle.std.proofs.Common.{◌≡◌, ◌≤◌, ◌<◌, ◌^◌, ◌⊎◌, ℕ, List, [], ◌∷◌, ◌++◌, Bool, true, false, cond, Result, Ok, Err}
+use Rattle.std.proofs.Common.{refl, sym, ap, subst, ◌∙◌, append_assoc, arith, inl, inr}
 use Rattle.std.specs.Prelude.{map}
 use Rattle.std.specs.Fmt.{decimal}
 use Rattle.std.specs.Str.Parse.{digits_value}
@@ -33,9 +34,12 @@ failed e = Err e
 pub fails_never : {A : Type 0} (e : TextFault) (x : A) → failed e ≡ Ok x → ⊥
 fails_never e x h = cc
 
-pub first_takes : (none : TextFault) (line stop : ℕ) (ws : List Word) (x : Word × Rest) → first_of none line stop ws ≡ Ok x → map (λ w. w.text) ws ≡ x.0.text ∷ texts x.1
+pub first_takes : (none : TextFault) (line stop : ℕ) (ws : List Word) (x : Word × Rest)
+    → first_of none line stop ws ≡ Ok x → map (λ w. w.text) ws ≡ x.0.text ∷ texts x.1
 first_takes none line stop [] x e = absurd cc
-first_takes none line stop (w ∷ ws) x e = subst (λ (y : Word × Rest). map (λ v. v.text) (w ∷ ws) ≡ y.0.text ∷ texts y.1) (ok_is (w, record { line = line; stop = stop; words = ws }) x e) refl
+first_takes none line stop (w ∷ ws) x e =
+    subst (λ (y : Word × Rest). map (λ v. v.text) (w ∷ ws) ≡ y.0.text ∷ texts y.1)
+    (ok_is (w, record { line = line; stop = stop; words = ws }) x e) refl
 
 pub first_again : (none : TextFault) (line stop : ℕ) (ws : List Word) (t : List ℕ) (more : List (List ℕ)) → map (λ w. w.text) ws ≡ t ∷ more
     → (x : Word × Rest) × (first_of none line stop ws ≡ Ok x) × (x.0.text ≡ t) × (texts x.1 ≡ more)
@@ -46,14 +50,16 @@ abbrev pub field_by : {A : Type 0} → (Word → Result A TextFault) → Rest �
 field_by value r = next_field r >>= λ w. value w.0 >>= λ a. Ok (a, w.1)
 
 -- one field
-pub reads_field : {A : Type 0} (value : Word → Result A TextFault) (V : A → List ℕ → Type 0) → IsValue value V → IsReader (field_by value) (λ a ws. (t : List ℕ) × V a t × (ws ≡ t ∷ []))
+pub reads_field : {A : Type 0} (value : Word → Result A TextFault) (V : A → List ℕ → Type 0) → IsValue value V
+    → IsReader (field_by value) (λ a ws. (t : List ℕ) × V a t × (ws ≡ t ∷ []))
 reads_field {A = A} value V law = record {
   takes = λ r x e.
       let b = bind_ok (next_field r) (λ w. value w.0 >>= λ a. Ok (a, w.1)) x e in
       let v = bind_ok (value b.0.0) (λ a. Ok (a, b.0.1)) x b.2 in
       let same = ok_is (v.0, b.0.1) x v.2 in
       let front = first_takes (missing r) r.line r.stop r.words b.0 b.1 in
-      subst (λ (y : A × Rest). (ws : List (List ℕ)) × ((t : List ℕ) × V y.0 t × (ws ≡ t ∷ [])) × (texts r ≡ ws ++ texts y.1)) same (b.0.0.text ∷ [], (b.0.0.text, law.takes b.0.0 v.0 v.1, refl), front);
+      subst (λ (y : A × Rest). (ws : List (List ℕ)) × ((t : List ℕ) × V y.0 t × (ws ≡ t ∷ []))
+      × (texts r ≡ ws ++ texts y.1)) same (b.0.0.text ∷ [], (b.0.0.text, law.takes b.0.0 v.0 v.1, refl), front);
   again = λ r a ws more any spelled e.
       let x = first_again (missing r) r.line r.stop r.words spelled.0 more (e ∙ ap (λ (us : List (List ℕ)). us ++ more) spelled.2) in
       let v = law.again x.0.0 a (subst (V a) (sym x.2) spelled.1) in
@@ -61,7 +67,9 @@ reads_field {A = A} value V law = record {
 }
 
 -- one reader after the other; what may follow is the second one's
-pub reads_then : {A B : Type 0} (F : List (List ℕ) → Type 0) (read : Rest → Result (A × Rest) TextFault) (R : A → List (List ℕ) → Type 0) (next : A → Rest → Result (B × Rest) TextFault) (S : A → B → List (List ℕ) → Type 0)
+pub reads_then : {A B : Type 0} (F : List (List ℕ) → Type 0) (read : Rest → Result (A × Rest) TextFault)
+    (R : A → List (List ℕ) → Type 0) (next : A → Rest → Result (B × Rest) TextFault)
+    (S : A → B → List (List ℕ) → Type 0)
     → IsReader read R → ((a : A) → IsReaderBefore F (next a) (S a))
     → IsReaderBefore F (λ r. read r >>= λ x. next x.0 x.1) (λ b ws. (a : A) × (us : List (List ℕ)) × (vs : List (List ℕ)) × R a us × S a b vs × (ws ≡ us ++ vs))
 reads_then F read R next S first second = record {
@@ -79,12 +87,15 @@ reads_then F read R next S first second = record {
 -- nothing more to read
 pub reads_done : {A : Type 0} (F : List (List ℕ) → Type 0) (a : A) → IsReaderBefore F (λ r. Ok (a, r)) (λ b ws. (b ≡ a) × (ws ≡ []))
 reads_done {A = A} F a = record {
-  takes = λ r x e. subst (λ (y : A × Rest). (ws : List (List ℕ)) × ((y.0 ≡ a) × (ws ≡ [])) × (texts r ≡ ws ++ texts y.1)) (ok_is (a, r) x e) ([], (refl, refl), refl);
+  takes =
+      λ r x e. subst (λ (y : A × Rest). (ws : List (List ℕ)) × ((y.0 ≡ a) × (ws ≡ [])) × (texts r ≡ ws ++ texts y.1))
+      (ok_is (a, r) x e) ([], (refl, refl), refl);
   again = λ r b ws more follows s e. (r, ap (λ (x : A). Ok (x, r)) (sym s.0), e ∙ ap (λ (us : List (List ℕ)). us ++ more) s.1);
 }
 
 -- the same spelling in other words
-pub reads_as : {A : Type 0} (F : List (List ℕ) → Type 0) (read : Rest → Result (A × Rest) TextFault) (R S : A → List (List ℕ) → Type 0) → IsReaderBefore F read R
+pub reads_as : {A : Type 0} (F : List (List ℕ) → Type 0) (read : Rest → Result (A × Rest) TextFault)
+    (R S : A → List (List ℕ) → Type 0) → IsReaderBefore F read R
     → ((a : A) (ws : List (List ℕ)) → R a ws → S a ws) → ((a : A) (ws : List (List ℕ)) → S a ws → R a ws) → IsReaderBefore F read S
 reads_as F read R S law there back = record {
   takes = λ r x e. let p = law.takes r x e in (p.0, there x.0 p.0 p.1, p.2);
@@ -117,9 +128,11 @@ unfolding no_more
 no_more_again r e = ap ended_by (no_words r.words e)
 
 or_end_takes : {A : Type 0} (a : A) (read : Rest → Result (A × Rest) TextFault) (S : A → List (List ℕ) → Type 0) → IsLastReader read S
-    → (ws : List Word) (r : Rest) (x : A × Rest) → r.words ≡ ws → or_end a read ws r ≡ Ok x → (us : List (List ℕ)) × (((x.0 ≡ a) × (us ≡ [])) ⊎ S x.0 us) × (texts r ≡ us ++ texts x.1)
+    → (ws : List Word) (r : Rest) (x : A × Rest) → r.words ≡ ws → or_end a read ws r ≡ Ok x
+    → (us : List (List ℕ)) × (((x.0 ≡ a) × (us ≡ [])) ⊎ S x.0 us) × (texts r ≡ us ++ texts x.1)
 or_end_takes {A = A} a read S law [] r x same e =
-    subst (λ (y : A × Rest). (us : List (List ℕ)) × (((y.0 ≡ a) × (us ≡ [])) ⊎ S y.0 us) × (texts r ≡ us ++ texts y.1)) (ok_is (a, r) x e) ([], inl (refl, refl), refl)
+    subst (λ (y : A × Rest). (us : List (List ℕ)) × (((y.0 ≡ a) × (us ≡ [])) ⊎ S y.0 us) × (texts r ≡ us ++ texts y.1))
+    (ok_is (a, r) x e) ([], inl (refl, refl), refl)
 or_end_takes a read S law (w ∷ ws) r x same e = let p = law.takes r x e in (p.0, inr p.1, p.2)
 
 or_end_some : {A : Type 0} (a : A) (read : Rest → Result (A × Rest) TextFault) (ws : List Word) (r : Rest) → (ws ≡ [] → ⊥) → or_end a read ws r ≡ read r
@@ -131,7 +144,8 @@ append_none [] vs e = refl
 append_none (u ∷ us) vs e = absurd cc
 
 -- a value where nothing is left, else what is read
-pub reads_or_end : {A : Type 0} (a : A) (read : Rest → Result (A × Rest) TextFault) (S : A → List (List ℕ) → Type 0) → IsLastReader read S → ((b : A) (ws : List (List ℕ)) → S b ws → ws ≡ [] → ⊥)
+pub reads_or_end : {A : Type 0} (a : A) (read : Rest → Result (A × Rest) TextFault) (S : A → List (List ℕ) → Type 0)
+    → IsLastReader read S → ((b : A) (ws : List (List ℕ)) → S b ws → ws ≡ [] → ⊥)
     → IsLastReader (λ r. or_end a read r.words r) (λ b ws. ((b ≡ a) × (ws ≡ [])) ⊎ S b ws)
 reads_or_end {A = A} a read S law some = record {
   takes = λ r x e. or_end_takes a read S law r.words r x refl e;
@@ -165,7 +179,11 @@ is_number_value least most fits = record {
       let g = guard_number _ _ (fault_at Field w) (fault_at Number w) (digits_value 10 w.text) n e in
       let parts = and_parts _ _ g.0 in
       let first = and_parts _ _ parts.0 in
-      subst (λ (m : ℕ). IsNumber least most m w.text) g.1 ((bytes_eq-Decides w.text (decimal (digits_value 10 w.text))).0 first.0, leb-true _ _ first.1, leb-true _ _ parts.1);
+      subst (λ (m : ℕ). IsNumber least most m w.text) g.1 (
+        (bytes_eq-Decides w.text (decimal (digits_value 10 w.text))).0 first.0,
+        leb-true _ _ first.1,
+        leb-true _ _ parts.1,
+      );
   again = λ w n v. number_value-in least most n w (omega (arith, v.2)) v.0 v.1 v.2;
 }
 

@@ -1,5 +1,7 @@
 -- What was read by pieces is a line of the text.
-use Rattle.std.proofs.Common.{◌≡◌, ◌≢◌, ◌<◌, ◌≤◌, ◌+◌, ◌-◌, ◌==◌, ◌&&◌, Bool, true, false, cond, inl, inr, refl, sym, ap, subst, ◌∙◌, arith, ℕ, suc, List, [], ◌∷◌, ◌++◌, Option, None, Some, length, get_or, take, drop, append-nil, length-append, Err, nat_lt}
+use Rattle.std.proofs.Common.{◌≡◌, ◌≢◌, ◌<◌, ◌≤◌, ◌+◌, ◌-◌, ◌==◌, ◌&&◌, Bool, true, false, cond, inl, inr, refl, sym}
+use Rattle.std.proofs.Common.{ap, subst, ◌∙◌, arith, ℕ, suc, List, [], ◌∷◌, ◌++◌, Option, None, Some, length, get_or}
+use Rattle.std.proofs.Common.{take, drop, append-nil, length-append, Err, nat_lt}
 use Rattle.std.proofs.lemmas.Bool.{lt-ltb, eqb-true, false_from_ne_true}
 use Rattle.std.proofs.lemmas.Grind.{common_steps}
 use Rattle.bstr.specs.Text.{lines_of, line_len, without_terminator, no_cr}
@@ -86,19 +88,25 @@ no_cr_both front kept some =
 -- what was kept has a byte before its LF
 text_both : (front : List ℕ) (c : ℕ) (rest : List ℕ) → c ≢ 10 → without_terminator (front ++ c ∷ rest) ≡ front ++ without_terminator (c ∷ rest)
 text_both front c rest other =
-    (λ i. cond (some_both front (c ∷ rest) (omega arith) i && last_at front (c ∷ rest) 0 (omega arith) i == 10) (no_cr (take_last front (c ∷ rest) (omega arith) i)) (front ++ c ∷ rest))
+    (λ i. cond (some_both front (c ∷ rest) (omega arith) i && last_at front (c ∷ rest) 0 (omega arith) i == 10)
+    (no_cr (take_last front (c ∷ rest) (omega arith) i)) (front ++ c ∷ rest))
     ∙ by_rest rest
   where
     by_test : (b : Bool) (r all : List ℕ) → 0 < length r → cond b (no_cr (front ++ r)) (front ++ all) ≡ front ++ cond b (no_cr r) all
     by_test true r all some = no_cr_both front r some
     by_test false r all some = refl
 
-    by_rest : (rest : List ℕ) → cond (nat_lt 0 (length (c ∷ rest)) && get_or (c ∷ rest) (length (c ∷ rest) - 1) 0 == 10) (no_cr (front ++ take (length (c ∷ rest) - 1) (c ∷ rest))) (front ++ c ∷ rest)
-        ≡ front ++ cond (nat_lt 0 (length (c ∷ rest)) && get_or (c ∷ rest) (length (c ∷ rest) - 1) 0 == 10) (no_cr (take (length (c ∷ rest) - 1) (c ∷ rest))) (c ∷ rest)
+    by_rest : (rest : List ℕ)
+        → cond (nat_lt 0 (length (c ∷ rest)) && get_or (c ∷ rest) (length (c ∷ rest) - 1) 0 == 10)
+        (no_cr (front ++ take (length (c ∷ rest) - 1) (c ∷ rest))) (front ++ c ∷ rest)
+        ≡ front ++ cond (nat_lt 0 (length (c ∷ rest)) && get_or (c ∷ rest) (length (c ∷ rest) - 1) 0 == 10)
+        (no_cr (take (length (c ∷ rest) - 1) (c ∷ rest))) (c ∷ rest)
     by_rest [] =
         let no : (c == 10) ≡ false = false_from_ne_true _ (λ h. other (eqb-true _ _ h)) in
         rw no refl
-    by_rest (r ∷ rs) = by_test (nat_lt 0 (length (c ∷ r ∷ rs)) && get_or (c ∷ r ∷ rs) (length (c ∷ r ∷ rs) - 1) 0 == 10) (take (length (c ∷ r ∷ rs) - 1) (c ∷ r ∷ rs)) (c ∷ r ∷ rs) (grind (arith, common_steps))
+    by_rest (r ∷ rs) =
+        by_test (nat_lt 0 (length (c ∷ r ∷ rs)) && get_or (c ∷ r ∷ rs) (length (c ∷ r ∷ rs) - 1) 0 == 10)
+        (take (length (c ∷ r ∷ rs) - 1) (c ∷ r ∷ rs)) (c ∷ r ∷ rs) (grind (arith, common_steps))
 
 -- an end has two bytes at most
 no_cr_short : (raw : List ℕ) → length raw ≤ length (no_cr raw) + 1
@@ -118,13 +126,15 @@ text_short raw = by_test (nat_lt 0 (length raw) && get_or raw (length raw - 1) 0
         omega (arith, one, len)
     by_test false = omega arith
 
-too_long_text : (number : ℕ) (raw : List ℕ) (n : ℕ) → length (without_terminator raw) ≡ n → 140000 < n → line_text number raw ≡ Err (record { kind = LineTooLong; span = record { line = number; start = 0; stop = n } })
+too_long_text : (number : ℕ) (raw : List ℕ) (n : ℕ) → length (without_terminator raw) ≡ n → 140000 < n
+    → line_text number raw ≡ Err (record { kind = LineTooLong; span = record { line = number; start = 0; stop = n } })
 unfolding line_text
 too_long_text number raw n is long =
     let t : nat_lt 140000 n ≡ true = lt-ltb _ _ long in
     rw (is, t) refl
 
-pub too_long : (a b : Option (List ℕ)) (kept text : List ℕ) (before number : ℕ) → GivesLine 140002 a b (Some before) kept → (before ≡ 0 → ⊥) → text ≡ without_terminator kept
+pub too_long : (a b : Option (List ℕ)) (kept text : List ℕ) (before number : ℕ)
+    → GivesLine 140002 a b (Some before) kept → (before ≡ 0 → ⊥) → text ≡ without_terminator kept
     → FailsAt (next_text number) (record { kind = LineTooLong; span = record { line = number; start = 0; stop = before + length text } }) (rows_of a)
 too_long None b kept text before number g some is = tt
 too_long (Some xs) None kept text before number g some is = absurd g.2.0
@@ -135,7 +145,9 @@ too_long (Some xs) (Some ys) kept text before number g some is =
     ap (λ (k : List ℕ). without_terminator (g.0 ++ k)) begins.2
     ∙ text_both g.0 begins.0 begins.1 begins.3
     ∙ ap (λ (k : List ℕ). g.0 ++ without_terminator k) (sym begins.2) ∙ ap (λ (t : List ℕ). g.0 ++ t) (sym is) in
-    let len : length (without_terminator (g.0 ++ kept)) ≡ before + length text = ap length whole ∙ length-append g.0 text ∙ ap (λ (n : ℕ). n + length text) g.1.count in
+    let len : length (without_terminator (g.0 ++ kept)) ≡ before + length text =
+    ap length whole ∙ length-append g.0 text ∙ ap (λ (n : ℕ). n + length text) g.1.count in
     let short = text_short kept in
     let same : length text ≡ length (without_terminator kept) = ap length is in
-    ap (next_text number) (loses (Some xs) (Some ys) (g.0 ++ kept) g.2) ∙ too_long_text number (g.0 ++ kept) (before + length text) len (omega (arith, past, short, same))
+    ap (next_text number) (loses (Some xs) (Some ys) (g.0 ++ kept) g.2)
+    ∙ too_long_text number (g.0 ++ kept) (before + length text) len (omega (arith, past, short, same))

@@ -1,5 +1,6 @@
 -- Fields and the texts that spell them.
-use Rattle.std.proofs.Common.{◌≡◌, ◌<◌, ◌≤◌, ◌+◌, ◌-◌, ℕ, Some, None, is_some, List, [], ◌∷◌, ◌++◌, Bool, true, false, cond, leb, ◌&&◌, length, Ok, refl, sym, ap, subst, ◌∙◌, arith}
+use Rattle.std.proofs.Common.{◌≡◌, ◌<◌, ◌≤◌, ◌+◌, ◌-◌, ℕ, Some, None, is_some, List, [], ◌∷◌, ◌++◌, Bool, true, false}
+use Rattle.std.proofs.Common.{cond, leb, ◌&&◌, length, Ok, refl, sym, ap, subst, ◌∙◌, arith}
 use Rattle.std.specs.Prelude.{map}
 use Rattle.std.specs.List.{AllByRecursion}
 use Rattle.std.proofs.lemmas.Bool.{and_parts, leb-true}
@@ -11,7 +12,8 @@ use Rattle.line_fields.specs.Spelling.{Piece, plain, hex, IsWritten, AreWritten,
 
 -- ---- fields that stand as they are
 
-pub first_plain : (text : List ℕ) (ps : List Piece) (ws : List (List ℕ)) → AreWritten (plain text ∷ ps) ws → (us : List (List ℕ)) × (ws ≡ text ∷ us) × AreWritten ps us
+pub first_plain : (text : List ℕ) (ps : List Piece) (ws : List (List ℕ)) → AreWritten (plain text ∷ ps) ws
+    → (us : List (List ℕ)) × (ws ≡ text ∷ us) × AreWritten ps us
 first_plain text ps [] h = absurd h
 first_plain text ps (w ∷ ws) h = (ws, ap (λ (t : List ℕ). t ∷ ws) h.0, h.1)
 
@@ -40,7 +42,8 @@ only_hex : (bytes : List ℕ) (ws : List (List ℕ)) → AreWritten (hex bytes �
 only_hex bytes [] h = absurd h
 only_hex bytes (t ∷ ws) h = (t, h.0, ap (λ (us : List (List ℕ)). t ∷ us) (none_written ws h.1))
 
-pub hex_is : (ts : List (List ℕ)) (bytes : List ℕ) (ws : List (List ℕ)) → AreWritten (plains ts ++ (hex bytes ∷ [])) ws → (t : List ℕ) × (decode_of t ≡ Ok bytes) × (ws ≡ ts ++ t ∷ [])
+pub hex_is : (ts : List (List ℕ)) (bytes : List ℕ) (ws : List (List ℕ)) → AreWritten (plains ts ++ (hex bytes ∷ [])) ws
+    → (t : List ℕ) × (decode_of t ≡ Ok bytes) × (ws ≡ ts ++ t ∷ [])
 hex_is [] bytes ws h = only_hex bytes ws h
 hex_is (u ∷ ts) bytes ws h =
     let w = first_plain u (plains ts ++ (hex bytes ∷ [])) ws h in
@@ -97,7 +100,9 @@ least : (a n b : ℕ) → (leb a n && leb n b) ≡ true → a ≤ n
 least a n b e = leb-true a n (and_parts (leb a n) (leb n b) e).0
 
 digit_clean : (c : ℕ) → is_hex_digit c ≡ true → 32 < c
-digit_clean c e = some_digit (leb 65 c && leb c 70) (leb 97 c && leb c 102) (leb 48 c && leb c 57) c (c - 55) (c - 87) (c - 48) (least 65 c 70) (least 97 c 102) (least 48 c 57) e
+digit_clean c e =
+    some_digit (leb 65 c && leb c 70) (leb 97 c && leb c 102) (leb 48 c && leb c 57) c (c - 55) (c - 87) (c - 48)
+    (least 65 c 70) (least 97 c 102) (least 48 c 57) e
 
 clean_text : (p : Piece) (t : List ℕ) → IsCleanPiece p → IsWritten p t → IsClean t
 clean_text (plain text) t clean h = subst IsClean (sym h) clean

@@ -27,8 +27,22 @@ same_parts a b m h o y = λ i. record {
 
 pub parts_same : (a b : Emission) → a ≡ b → SameMark a b × SameHead a b × SameOptions a b × SameBytes a b
 parts_same a b e = (
-  (ap (λ (x : Emission). x.sender) e, ap (λ (x : Emission). x.peer_at_send) e, ap (λ (x : Emission). x.pos) e, ap (λ (x : Emission). x.ack) e, ap (λ (x : Emission). x.is_reset_reply) e, ap (λ (x : Emission). x.moment) e),
-  (ap (λ (x : Emission). x.lport) e, ap (λ (x : Emission). x.rport) e, ap (λ (x : Emission). x.seq) e, ap (λ (x : Emission). x.ack_seq) e, ap (λ (x : Emission). x.flags) e, ap (λ (x : Emission). x.window) e),
+  (
+    ap (λ (x : Emission). x.sender) e,
+    ap (λ (x : Emission). x.peer_at_send) e,
+    ap (λ (x : Emission). x.pos) e,
+    ap (λ (x : Emission). x.ack) e,
+    ap (λ (x : Emission). x.is_reset_reply) e,
+    ap (λ (x : Emission). x.moment) e,
+  ),
+  (
+    ap (λ (x : Emission). x.lport) e,
+    ap (λ (x : Emission). x.rport) e,
+    ap (λ (x : Emission). x.seq) e,
+    ap (λ (x : Emission). x.ack_seq) e,
+    ap (λ (x : Emission). x.flags) e,
+    ap (λ (x : Emission). x.window) e,
+  ),
   (ap (λ (x : Emission). x.mss) e, ap (λ (x : Emission). x.shift) e, ap (λ (x : Emission). x.scaled) e, ap (λ (x : Emission). x.scale) e),
   (ap (λ (x : Emission). x.payload) e, ap (λ (x : Emission). x.bytes) e),
 )

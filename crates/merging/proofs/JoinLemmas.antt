@@ -1,5 +1,6 @@
 -- Two recordings beside each other, merged.
-use Rattle.std.proofs.Common.{◌≡◌, ℕ, ◌+◌, ◌-◌, ◌<◌, zero, suc, Bool, true, false, if◌then◌else◌, List, [], ◌∷◌, refl, sym, ap, ◌∙◌, subst, arith, Option, Some, None, ◌⊎◌, inl, inr}
+use Rattle.std.proofs.Common.{◌≡◌, ℕ, ◌+◌, ◌-◌, ◌<◌, zero, suc, Bool, true, false, if◌then◌else◌, List, [], ◌∷◌, refl}
+use Rattle.std.proofs.Common.{sym, ap, ◌∙◌, subst, arith, Option, Some, None, ◌⊎◌, inl, inr}
 use Rattle.std.specs.Prelude.{slice_get}
 use Rattle.std.proofs.lemmas.Option.{none-some, same_Some}
 use Rattle.case_forms.specs.declared.calls.Host.{Host}
@@ -25,19 +26,25 @@ steps_merged (x ∷ xs) ys = inner (in_order xs) (steps_merged xs) ys
     step_more (Do step) n = omega arith
     step_more (Bring f) n = omega arith
 
-    inner : (rest : List TcpEntry → List TcpEntry) → ((ys : List TcpEntry) → steps_in (rest ys) ≡ steps_in xs + steps_in ys) → (ys : List TcpEntry) → steps_in (in_order_with x rest ys) ≡ item_steps x.item (steps_in xs) + steps_in ys
+    inner : (rest : List TcpEntry → List TcpEntry)
+        → ((ys : List TcpEntry) → steps_in (rest ys) ≡ steps_in xs + steps_in ys) → (ys : List TcpEntry)
+        → steps_in (in_order_with x rest ys) ≡ item_steps x.item (steps_in xs) + steps_in ys
     inner rest is [] = let a = step_more x.item (steps_in (rest [])) in let b = step_more x.item (steps_in xs) in let e = is [] in omega (arith, a, b, e)
     inner rest is (y ∷ ys) = go (before x.key y.key) (inner rest is ys)
       where
-        go : (b : Bool) → steps_in (in_order_with x rest ys) ≡ item_steps x.item (steps_in xs) + steps_in ys → steps_in (if b then x ∷ rest (y ∷ ys) else y ∷ in_order_with x rest ys) ≡ item_steps x.item (steps_in xs) + item_steps y.item (steps_in ys)
-        go true more = let a = step_more x.item (steps_in (rest (y ∷ ys))) in let b = step_more x.item (steps_in xs) in let e = is (y ∷ ys) in omega (arith, a, b, e)
+        go : (b : Bool) → steps_in (in_order_with x rest ys) ≡ item_steps x.item (steps_in xs) + steps_in ys
+            → steps_in (if b then x ∷ rest (y ∷ ys) else y ∷ in_order_with x rest ys)
+            ≡ item_steps x.item (steps_in xs) + item_steps y.item (steps_in ys)
+        go true more = let a = step_more x.item (steps_in (rest (y ∷ ys))) in let b = step_more x.item (steps_in xs) in
+            let e = is (y ∷ ys) in omega (arith, a, b, e)
         go false more = let a = step_more y.item (steps_in (in_order_with x rest ys)) in let b = step_more y.item (steps_in ys) in omega (arith, a, b, more)
 
 pub small_merged : (xs ys : List TcpEntry) → AllSmall xs → AllSmall ys → AllSmall (in_order xs ys)
 small_merged [] ys p q = q
 small_merged (x ∷ xs) ys p q = inner (in_order xs) (λ ys q. small_merged xs ys p.1 q) ys q
   where
-    inner : (rest : List TcpEntry → List TcpEntry) → ((ys : List TcpEntry) → AllSmall ys → AllSmall (rest ys)) → (ys : List TcpEntry) → AllSmall ys → AllSmall (in_order_with x rest ys)
+    inner : (rest : List TcpEntry → List TcpEntry) → ((ys : List TcpEntry) → AllSmall ys → AllSmall (rest ys))
+        → (ys : List TcpEntry) → AllSmall ys → AllSmall (in_order_with x rest ys)
     inner rest is [] q = (p.0, is [] tt)
     inner rest is (y ∷ ys) q = go (before x.key y.key) (inner rest is ys q.1)
       where
@@ -47,14 +54,18 @@ small_merged (x ∷ xs) ys p q = inner (in_order xs) (λ ys q. small_merged xs y
 
 -- ---- keys of lines
 
-lined : (h : Header) (item : Item tcp_shape) → ((takes_line item ≡ false) × (item_line (tcp h) item ≡ None)) ⊎ ((m : ℕ) × (takes_line item ≡ true) × (item_line (tcp h) item ≡ Some m))
+lined : (h : Header) (item : Item tcp_shape)
+    → ((takes_line item ≡ false) × (item_line (tcp h) item ≡ None))
+    ⊎ ((m : ℕ) × (takes_line item ≡ true) × (item_line (tcp h) item ≡ Some m))
 lined h (Bring f) = inl (refl, refl)
 lined h (Do (Begin line t call)) = inr (line, refl, refl)
 lined h (Do (Finish line t answer)) = inr (line, refl, refl)
 lined h (Do (Effect t answer)) = inl (refl, refl)
 lined h (Do (At host d)) = deed d
   where
-    deed : (d : Deed tcp_shape) → ((takes_line (Do (At host d)) ≡ false) × (item_line (tcp h) (Do (At host d)) ≡ None)) ⊎ ((m : ℕ) × (takes_line (Do (At host d)) ≡ true) × (item_line (tcp h) (Do (At host d)) ≡ Some m))
+    deed : (d : Deed tcp_shape)
+        → ((takes_line (Do (At host d)) ≡ false) × (item_line (tcp h) (Do (At host d)) ≡ None))
+        ⊎ ((m : ℕ) × (takes_line (Do (At host d)) ≡ true) × (item_line (tcp h) (Do (At host d)) ≡ Some m))
     deed (Does x) = inl (refl, refl)
     deed (Expires line x) = inr (line, refl, refl)
     deed (Makes plan) = inl (refl, refl)
@@ -67,15 +78,20 @@ lined h (Do (At host d)) = deed d
 
 -- the first of numbered entries
 abbrev pub Front : Header → ℕ → TcpEntry → List TcpEntry → Type 0
-Front h n e es = ((takes_line e.item ≡ false) × (item_line (tcp h) e.item ≡ None) × Numbered (tcp h) n es) ⊎ ((takes_line e.item ≡ true) × (item_line (tcp h) e.item ≡ Some n) × Numbered (tcp h) (suc n) es)
+Front h n e es =
+    ((takes_line e.item ≡ false) × (item_line (tcp h) e.item ≡ None) × Numbered (tcp h) n es)
+    ⊎ ((takes_line e.item ≡ true) × (item_line (tcp h) e.item ≡ Some n) × Numbered (tcp h) (suc n) es)
 
 pub front : (h : Header) (n : ℕ) (e : TcpEntry) (es : List TcpEntry) → Numbered (tcp h) n (e ∷ es) → Front h n e es
 front h n e es num = go (lined h e.item)
   where
-    go : ((takes_line e.item ≡ false) × (item_line (tcp h) e.item ≡ None)) ⊎ ((m : ℕ) × (takes_line e.item ≡ true) × (item_line (tcp h) e.item ≡ Some m)) → Front h n e es
+    go : ((takes_line e.item ≡ false) × (item_line (tcp h) e.item ≡ None))
+        ⊎ ((m : ℕ) × (takes_line e.item ≡ true) × (item_line (tcp h) e.item ≡ Some m)) → Front h n e es
     go (inl g) = inl (g.0, g.1, subst (λ (o : Option ℕ). If o (Numbered (tcp h) n es) (λ line. (line ≡ n) × Numbered (tcp h) (suc n) es)) g.1 num)
     go (inr g) =
-        let f : (g.0 ≡ n) × Numbered (tcp h) (suc n) es = subst (λ (o : Option ℕ). If o (Numbered (tcp h) n es) (λ line. (line ≡ n) × Numbered (tcp h) (suc n) es)) g.2 num in
+        let f : (g.0 ≡ n) × Numbered (tcp h) (suc n) es =
+        subst (λ (o : Option ℕ). If o (Numbered (tcp h) n es) (λ line. (line ≡ n) × Numbered (tcp h) (suc n) es))
+        g.2 num in
         inr (g.1, g.2 ∙ ap (λ (m : ℕ). Some m) f.0, f.1)
 
 -- entries of that line have that key
@@ -96,23 +112,35 @@ key_there : (h : Header) (n j : ℕ) (k : Key) (ys : List TcpEntry) → Numbered
 key_there h n j k [] num at = tt
 key_there h n j k (y ∷ ys) num at = go (front h n y ys num) j at (λ m j num at. key_there h m j k ys num at)
   where
-    go : Front h n y ys → (j : ℕ) → slice_get (line_keys (y ∷ ys)) j ≡ Some k → ((m j : ℕ) → Numbered (tcp h) m ys → slice_get (line_keys ys) j ≡ Some k → HaveKey h (m + j) k ys) → HaveKey h (n + j) k (y ∷ ys)
-    go (inl g) j at rest = ((λ is. absurd (none-some (n + j) (sym g.1 ∙ is))), rest n j g.2 (sym (ap (λ (b : Bool). slice_get (if b then y.key ∷ line_keys ys else line_keys ys) j) g.0) ∙ at))
+    go : Front h n y ys → (j : ℕ) → slice_get (line_keys (y ∷ ys)) j ≡ Some k
+        → ((m j : ℕ) → Numbered (tcp h) m ys → slice_get (line_keys ys) j ≡ Some k → HaveKey h (m + j) k ys)
+        → HaveKey h (n + j) k (y ∷ ys)
+    go (inl g) j at rest = (
+      (λ is. absurd (none-some (n + j) (sym g.1 ∙ is))),
+      rest n j g.2 (sym (ap (λ (b : Bool). slice_get (if b then y.key ∷ line_keys ys else line_keys ys) j) g.0)
+          ∙ at),
+    )
     go (inr g) zero at rest =
         let same : y.key ≡ k = same_Some y.key k (sym (ap (λ (b : Bool). slice_get (if b then y.key ∷ line_keys ys else line_keys ys) zero) g.0) ∙ at) in
         ((λ is. same), none_below h (suc n) (n + zero) k ys g.2 (omega arith))
     go (inr g) (suc j) at rest =
         let z : suc n + j ≡ n + suc j = omega arith in (
           (λ is. let e : n ≡ n + suc j = same_Some n (n + suc j) (sym g.1 ∙ is) in absurd (omega arith)),
-          subst (λ (l : ℕ). HaveKey h l k ys) z (rest (suc n) j g.2 (sym (ap (λ (b : Bool). slice_get (if b then y.key ∷ line_keys ys else line_keys ys) (suc j)) g.0) ∙ at)),
+          subst (λ (l : ℕ). HaveKey h l k ys) z
+              (rest (suc n) j g.2 (sym (ap (λ (b : Bool).
+              slice_get (if b then y.key ∷ line_keys ys else line_keys ys) (suc j)) g.0) ∙ at)),
         )
 
 -- what is named stands on the other's wire
-pub named_sent : (h : Header) (o : Host) (first : ℕ) (ys : List TcpEntry) → Numbered (tcp h) first ys → (xs : List TcpEntry) → AllAbove xs → AllNamed first (line_keys ys) (pick (world_of h o ys).hosts o).wire xs → NamesSent h o xs ys
+pub named_sent : (h : Header) (o : Host) (first : ℕ) (ys : List TcpEntry) → Numbered (tcp h) first ys
+    → (xs : List TcpEntry) → AllAbove xs → AllNamed first (line_keys ys) (pick (world_of h o ys).hosts o).wire xs
+    → NamesSent h o xs ys
 named_sent h o first ys num [] above named = tt
 named_sent h o first ys num (x ∷ xs) above named = (go x.item above.0 named.0, named_sent h o first ys num xs above.1 named.1)
   where
-    go : (item : Item tcp_shape) → IsAbove x.key item → NamedItem first (line_keys ys) (pick (world_of h o ys).hosts o).wire item → NamesOne (tcp h) o (world_of h o ys) ys x.key item
+    go : (item : Item tcp_shape) → IsAbove x.key item
+        → NamedItem first (line_keys ys) (pick (world_of h o ys).hosts o).wire item
+        → NamesOne (tcp h) o (world_of h o ys) ys x.key item
     go (Do step) a n = tt
     go (Bring f) a n =
         let le = n.event in

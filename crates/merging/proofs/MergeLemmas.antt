@@ -51,7 +51,9 @@ pub record AreBeside (a b : Recorded) : Type 0 where
   pub named_zero : NamesAll a b
   pub named_one : NamesAll b a
 
-pub beside : (a b : Recorded) → (a.me ≡ Zero) × (b.me ≡ One) → a.header ≡ b.header → IsKept a.header a.me (first_event_line a.header) a.entries → IsKept b.header b.me (first_event_line b.header) b.entries
+pub beside : (a b : Recorded) → (a.me ≡ Zero) × (b.me ≡ One) → a.header ≡ b.header
+    → IsKept a.header a.me (first_event_line a.header) a.entries
+    → IsKept b.header b.me (first_event_line b.header) b.entries
     → steps_in a.entries + steps_in b.entries ≤ 100000000 → AllAbove a.entries × AllAbove b.entries → NamesAll a b → NamesAll b a → AreBeside a b
 beside a b hosts headers zero one few above p q = record {
   zero = hosts.0;
@@ -79,23 +81,31 @@ beside_small a b x =
     let first = first_small a.header.version in
     let second = first_small b.header.version in
     small_merged a.entries b.entries
-    (kept_small a.header a.me (first_event_line a.header) (first_event_line b.header) a.entries b.entries _ x.kept_zero (omega (arith, few, first)) (omega (arith, few, second)) x.named_zero)
-    (kept_small b.header b.me (first_event_line b.header) (first_event_line a.header) b.entries a.entries _ x.kept_one (omega (arith, few, second)) (omega (arith, few, first)) x.named_one)
+    (kept_small a.header a.me (first_event_line a.header) (first_event_line b.header) a.entries b.entries _ x.kept_zero
+    (omega (arith, few, first)) (omega (arith, few, second)) x.named_zero)
+    (kept_small b.header b.me (first_event_line b.header) (first_event_line a.header) b.entries a.entries _ x.kept_one
+    (omega (arith, few, second)) (omega (arith, few, first)) x.named_one)
 
 -- ---- two books
 
 abbrev pub Finished : Type 0
-Finished = (h : Header) (first : ℕ) (zeros ones : List TcpEntry) → IsKept h Zero first zeros → IsKept h One first ones → NamesSent h One zeros ones → NamesSent h Zero ones zeros → Books (tcp h) first zeros ones
+Finished = (h : Header) (first : ℕ) (zeros ones : List TcpEntry) → IsKept h Zero first zeros → IsKept h One first ones
+    → NamesSent h One zeros ones → NamesSent h Zero ones zeros → Books (tcp h) first zeros ones
 
 -- what a host's recording names, where the other's is of this host and has this header
-names_at : (h : Header) (o : Host) (mine others : Recorded) → others.header ≡ h → others.me ≡ o → NamesAll mine others → AllNamed (first_event_line h) (line_keys others.entries) (pick (world_of h o others.entries).hosts o).wire mine.entries
+names_at : (h : Header) (o : Host) (mine others : Recorded) → others.header ≡ h → others.me ≡ o → NamesAll mine others
+    → AllNamed (first_event_line h) (line_keys others.entries)
+    (pick (world_of h o others.entries).hosts o).wire mine.entries
 names_at h o mine others header me named =
     subst (λ (g : Header). AllNamed (first_event_line g) (line_keys others.entries) (pick (world_of g o others.entries).hosts o).wire mine.entries) header
-    (subst (λ (m : Host). AllNamed (first_event_line others.header) (line_keys others.entries) (pick (world_of others.header m others.entries).hosts m).wire mine.entries) me named)
+    (subst (λ (m : Host). AllNamed (first_event_line others.header) (line_keys others.entries)
+    (pick (world_of others.header m others.entries).hosts m).wire mine.entries) me named)
 
-kept_at : (h : Header) (o : Host) (r : Recorded) → r.header ≡ h → r.me ≡ o → IsKept r.header r.me (first_event_line r.header) r.entries → IsKept h o (first_event_line h) r.entries
+kept_at : (h : Header) (o : Host) (r : Recorded) → r.header ≡ h → r.me ≡ o
+    → IsKept r.header r.me (first_event_line r.header) r.entries → IsKept h o (first_event_line h) r.entries
 kept_at h o r header me kept =
-    subst (λ (g : Header). IsKept g o (first_event_line g) r.entries) header (subst (λ (m : Host). IsKept r.header m (first_event_line r.header) r.entries) me kept)
+    subst (λ (g : Header). IsKept g o (first_event_line g) r.entries) header
+    (subst (λ (m : Host). IsKept r.header m (first_event_line r.header) r.entries) me kept)
 
 pub beside_books : Finished → (a b : Recorded) → AreBeside a b → Books (tcp a.header) (first_event_line a.header) a.entries b.entries
 beside_books finished a b x =
@@ -103,7 +113,8 @@ beside_books finished a b x =
     let zero = kept_at a.header Zero a refl x.zero x.kept_zero in
     let one = kept_at a.header One b (sym x.headers) x.one x.kept_one in
     finished a.header (first_event_line a.header) a.entries b.entries zero one
-    (named_sent a.header One (first_event_line a.header) b.entries one.numbered a.entries x.above_zero (names_at a.header One a b (sym x.headers) x.one x.named_zero))
+    (named_sent a.header One (first_event_line a.header) b.entries one.numbered a.entries x.above_zero
+    (names_at a.header One a b (sym x.headers) x.one x.named_zero))
     (named_sent a.header Zero (first_event_line a.header) a.entries zero.numbered b.entries x.above_one (names_at a.header Zero b a refl x.zero x.named_one))
 
 -- ---- what is told
@@ -127,7 +138,9 @@ told_by t w zs os both version lines_is steps_is books =
     let first = first_event_line t.header in
     let xs = merged t.header (first_event_line t.header) zs os in
     let are = merged_is t.header zs os in
-    let rise : LinesRise (tcp h) first xs = (law (tcp h) (λ n. refl) first (keys.merge (tcp h) zs os) (told (tcp h) zs os (start (tcp h)) (start (tcp h)) first first books.0 books.1)).1 in
+    let rise : LinesRise (tcp h) first xs =
+    (law (tcp h) (λ n. refl) first (keys.merge (tcp h) zs os)
+    (told (tcp h) zs os (start (tcp h)) (start (tcp h)) first first books.0 books.1)).1 in
     let placed = is_placed_run (tcp h) (λ n. refl) h.skew first zs os books in
     let moments : MomentsRise (tcp h) 0 xs = placed.0.moments in
     let whole : AllWhole xs = run_whole h both (start (tcp h)) xs placed.1 in
@@ -137,7 +150,9 @@ told_by t w zs os both version lines_is steps_is books =
     record {
       trace = subst (λ (ls : List Line). IsRecorded first 0 ls) (sym lines_eq) (recorded_in h both first 0 xs whole rise moments);
       version = sym version;
-      takes = subst (λ (ls : List Line). AllTakeWell h ls w.steps) (sym lines_eq) (subst (λ (ss : List witness.Step). AllTakeWell h (lines_said xs) ss) (sym steps_eq) from.1);
+      takes =
+          subst (λ (ls : List Line). AllTakeWell h ls w.steps) (sym lines_eq)
+          (subst (λ (ss : List witness.Step). AllTakeWell h (lines_said xs) ss) (sym steps_eq) from.1);
       steps_are = ap (λ (ls : List Line). stamped h ls w.steps) lines_eq ∙ ap (λ (ss : List witness.Step). stamped h (lines_said xs) ss) steps_eq ∙ from.0;
       lines_are = ap (map line_told) lines_eq ∙ lines_are h both xs whole;
     }

@@ -1,5 +1,6 @@
 -- The order of entries and their new numbers are those of the definitions.
-use Rattle.std.proofs.Common.{◌≡◌, ℕ, ◌+◌, ◌-◌, ◌<◌, ◌≤◌, zero, suc, Bool, true, false, if◌then◌else◌, List, [], ◌∷◌, ◌++◌, length, refl, sym, ap, ◌∙◌, subst, arith, Option, Some, append_assoc, append-nil}
+use Rattle.std.proofs.Common.{◌≡◌, ℕ, ◌+◌, ◌-◌, ◌<◌, ◌≤◌, zero, suc, Bool, true, false, if◌then◌else◌, List, [], ◌∷◌}
+use Rattle.std.proofs.Common.{◌++◌, length, refl, sym, ap, ◌∙◌, subst, arith, Option, Some, append_assoc, append-nil}
 use Rattle.std.specs.Prelude.{nat_lt, slice_get, unwrap_or}
 use Rattle.std.proofs.lemmas.Bool.Decides.{nat_tests}
 use Rattle.case_forms.specs.declared.calls.Host.{Host}
@@ -14,7 +15,8 @@ use Rattle.spec_merge.specs.Keys.{before}
 use Rattle.spec_merge.specs.Merging.{Names, mine, nth, pass, heads, line_turns, make_turns, names_of, item_makes, restep, steps_of, with_step}
 use Rattle.spec_merge.specs.Recordings.{TcpEntry}
 use Rattle.spec_merge.proofs.Counting.{nth_heads}
-use Rattle.merging.specs.Numbers.{Turns, Counts, no_turns, no_counts, with_turn_if, turns_of, number_in, counted, counted_one, takes_line, makes_segment, names_in}
+use Rattle.merging.specs.Numbers.{Turns, Counts, no_turns, no_counts, with_turn_if, turns_of, number_in, counted}
+use Rattle.merging.specs.Numbers.{counted_one, takes_line, makes_segment, names_in}
 use Rattle.merging.specs.Order.{in_order, in_order_with}
 use Rattle.merging.specs.Saying.{all_renumbered, renumbered, with_renumbered}
 
@@ -24,12 +26,15 @@ pub order_is : (h : Header) (xs ys : List TcpEntry) → in_order xs ys ≡ keys.
 order_is h [] ys = refl
 order_is h (x ∷ xs) ys = inner (in_order xs) (order_is h xs) ys
   where
-    inner : (rest : List TcpEntry → List TcpEntry) → ((ys : List TcpEntry) → rest ys ≡ keys.merge (tcp h) xs ys) → (ys : List TcpEntry) → in_order_with x rest ys ≡ keys.merge_with (tcp h) x (keys.merge (tcp h) xs) ys
+    inner : (rest : List TcpEntry → List TcpEntry) → ((ys : List TcpEntry) → rest ys ≡ keys.merge (tcp h) xs ys)
+        → (ys : List TcpEntry) → in_order_with x rest ys ≡ keys.merge_with (tcp h) x (keys.merge (tcp h) xs) ys
     inner rest is [] = ap (λ (es : List TcpEntry). x ∷ es) (is [])
     inner rest is (y ∷ ys) = go (before x.key y.key) (inner rest is ys)
       where
         go : (b : Bool) → in_order_with x rest ys ≡ keys.merge_with (tcp h) x (keys.merge (tcp h) xs) ys
-            → (if b then x ∷ rest (y ∷ ys) else y ∷ in_order_with x rest ys) ≡ (if b then x ∷ keys.merge (tcp h) xs (y ∷ ys) else y ∷ keys.merge_with (tcp h) x (keys.merge (tcp h) xs) ys)
+            → (if b then x ∷ rest (y ∷ ys) else y ∷ in_order_with x rest ys)
+            ≡ (if b then x ∷ keys.merge (tcp h) xs (y ∷ ys)
+            else y ∷ keys.merge_with (tcp h) x (keys.merge (tcp h) xs) ys)
         go true more = ap (λ (es : List TcpEntry). x ∷ es) (is (y ∷ ys))
         go false more = ap (λ (es : List TcpEntry). y ∷ es) more
 
@@ -56,7 +61,9 @@ found_at h n [] j = omega arith
 found_at h n (m ∷ ms) j = go (mine h m) j (found_at h (n + 1) ms) (few_places h (n + 1) ms)
   where
     go : (b : Bool) (j : ℕ) → ((j : ℕ) → found h (n + 1) ms j ≡ n + 1 + nth h ms j) → length (places h (n + 1) ms) ≤ length ms
-        → unwrap_or (slice_get (if b then n ∷ places h (n + 1) ms else places h (n + 1) ms) j) (n + j + (suc (length ms) - length (if b then n ∷ places h (n + 1) ms else places h (n + 1) ms))) ≡ n + pass b (nth h ms) j
+        → unwrap_or (slice_get (if b then n ∷ places h (n + 1) ms else places h (n + 1) ms) j)
+        (n + j + (suc (length ms) - length (if b then n ∷ places h (n + 1) ms else places h (n + 1) ms)))
+        ≡ n + pass b (nth h ms) j
     go true zero rest le = omega arith
     go true (suc j) rest le =
         let e : n + suc j + (suc (length ms) - suc (length (places h (n + 1) ms))) ≡ n + 1 + j + (length ms - length (places h (n + 1) ms)) = omega arith in
@@ -77,7 +84,9 @@ heads_below h (suc k) ms (suc n) lt = ap suc (heads_below h k ms n (omega arith)
 abbrev turn_if : Bool → Host → List (Option Host) → List (Option Host)
 turn_if b g ms = if b then Some g ∷ ms else ms
 
-turn_more : (b : Bool) (t : Turns) (g h : Host) (ms : List (Option Host)) → turns_of (with_turn_if b t g) h ++ places h (with_turn_if b t g).next ms ≡ turns_of t h ++ places h t.next (turn_if b g ms)
+turn_more : (b : Bool) (t : Turns) (g h : Host) (ms : List (Option Host))
+    → turns_of (with_turn_if b t g) h ++ places h (with_turn_if b t g).next ms
+    ≡ turns_of t h ++ places h t.next (turn_if b g ms)
 turn_more false t g h ms = refl
 turn_more true t Zero Zero ms = append_assoc t.zero (t.next ∷ []) (places Zero (t.next + 1) ms)
 turn_more true t Zero One ms = refl
@@ -113,7 +122,10 @@ one_more b t u g ms all is c = subst (λ (xs : List (Option Host)). AreCounted t
 line_head : (h : Header) (x : TcpEntry) (xs : List TcpEntry) → line_turns (tcp h) (x ∷ xs) ≡ turn_if (takes_line x.item) x.key.host (line_turns (tcp h) xs)
 line_head h x xs = go x.item
   where
-    deed : (host : Host) (d : Deed tcp_shape) → on (item_line (tcp h) (Do (At host d))) (line_turns (tcp h) xs) (λ line. Some x.key.host ∷ line_turns (tcp h) xs) ≡ turn_if (takes_line (Do (At host d))) x.key.host (line_turns (tcp h) xs)
+    deed : (host : Host) (d : Deed tcp_shape)
+        → on (item_line (tcp h) (Do (At host d))) (line_turns (tcp h) xs)
+        (λ line. Some x.key.host ∷ line_turns (tcp h) xs)
+        ≡ turn_if (takes_line (Do (At host d))) x.key.host (line_turns (tcp h) xs)
     deed host (Does y) = refl
     deed host (Expires line y) = refl
     deed host (Makes plan) = refl
@@ -124,7 +136,9 @@ line_head h x xs = go x.item
     deed host (Drops line) = refl
     deed host (Answers line) = refl
 
-    go : (item : Item tcp_shape) → on (item_line (tcp h) item) (line_turns (tcp h) xs) (λ line. Some x.key.host ∷ line_turns (tcp h) xs) ≡ turn_if (takes_line item) x.key.host (line_turns (tcp h) xs)
+    go : (item : Item tcp_shape)
+        → on (item_line (tcp h) item) (line_turns (tcp h) xs) (λ line. Some x.key.host ∷ line_turns (tcp h) xs)
+        ≡ turn_if (takes_line item) x.key.host (line_turns (tcp h) xs)
     go (Bring f) = refl
     go (Do (Begin line t call)) = refl
     go (Do (Finish line t answer)) = refl
@@ -154,24 +168,31 @@ make_head h x xs = ap (λ (b : Bool). turn_if b x.key.host (make_turns (tcp h) x
 
 lines_counted : (h : Header) (c : Counts) (xs : List TcpEntry) → AreCounted c.lines (counted c xs).lines (line_turns (tcp h) xs)
 lines_counted h c [] = nothing_more c.lines
-lines_counted h c (x ∷ xs) = one_more (takes_line x.item) c.lines (counted c (x ∷ xs)).lines x.key.host (line_turns (tcp h) xs) (line_turns (tcp h) (x ∷ xs)) (line_head h x xs) (lines_counted h (counted_one c x) xs)
+lines_counted h c (x ∷ xs) =
+    one_more (takes_line x.item) c.lines (counted c (x ∷ xs)).lines x.key.host (line_turns (tcp h) xs)
+    (line_turns (tcp h) (x ∷ xs)) (line_head h x xs) (lines_counted h (counted_one c x) xs)
 
 mades_counted : (h : Header) (c : Counts) (xs : List TcpEntry) → AreCounted c.mades (counted c xs).mades (make_turns (tcp h) xs)
 mades_counted h c [] = nothing_more c.mades
-mades_counted h c (x ∷ xs) = one_more (makes_segment x.item) c.mades (counted c (x ∷ xs)).mades x.key.host (make_turns (tcp h) xs) (make_turns (tcp h) (x ∷ xs)) (make_head h x xs) (mades_counted h (counted_one c x) xs)
+mades_counted h c (x ∷ xs) =
+    one_more (makes_segment x.item) c.mades (counted c (x ∷ xs)).mades x.key.host (make_turns (tcp h) xs)
+    (make_turns (tcp h) (x ∷ xs)) (make_head h x xs) (mades_counted h (counted_one c x) xs)
 
 none_before : (first : ℕ) (g : Host) → turns_of (no_turns first) g ≡ []
 none_before first Zero = refl
 none_before first One = refl
 
 -- the new number of a host's thing is that of the definitions
-number_is : (first : ℕ) (u : Turns) (ms : List (Option Host)) → AreCounted (no_turns first) u ms → (g : Host) (n : ℕ) → number_in u g n ≡ nth g (heads first ms) n
+number_is : (first : ℕ) (u : Turns) (ms : List (Option Host)) → AreCounted (no_turns first) u ms → (g : Host) (n : ℕ)
+    → number_in u g n ≡ nth g (heads first ms) n
 number_is first u ms c g n = go (nat_lt n first) refl
   where
     own : turns_of u g ≡ places g first ms
     own = c.own g ∙ ap (λ (xs : List ℕ). xs ++ places g first ms) (none_before first g)
 
-    shape : number_in u g n ≡ (if nat_lt n first then n else unwrap_or (slice_get (places g first ms) (n - first)) (n + (first + length ms - first - length (places g first ms))))
+    shape : number_in u g n ≡ (if nat_lt n first then n
+        else unwrap_or (slice_get (places g first ms) (n - first))
+        (n + (first + length ms - first - length (places g first ms))))
     shape = rw (c.first, c.next, own) refl
 
     go : (b : Bool) → nat_lt n first ≡ b → number_in u g n ≡ nth g (heads first ms) n
@@ -180,8 +201,11 @@ number_is first u ms c g n = go (nat_lt n first) refl
         let le : first ≤ n = grind (arith, nat_tests) in
         let few = few_places g first ms in
         let back : first + (n - first) ≡ n = omega (arith, le) in
-        let behind : n + (first + length ms - first - length (places g first ms)) ≡ first + (n - first) + (length ms - length (places g first ms)) = omega (arith, le, few) in
-        shape ∙ rw is (ap (λ (d : ℕ). unwrap_or (slice_get (places g first ms) (n - first)) d) behind ∙ found_at g first ms (n - first) ∙ sym (nth_heads g first ms (n - first)) ∙ ap (nth g (heads first ms)) back)
+        let behind : n + (first + length ms - first - length (places g first ms))
+        ≡ first + (n - first) + (length ms - length (places g first ms)) = omega (arith, le, few) in
+        shape ∙ rw is (ap (λ (d : ℕ). unwrap_or (slice_get (places g first ms) (n - first)) d) behind
+        ∙ found_at g first ms (n - first) ∙ sym (nth_heads g first ms (n - first))
+        ∙ ap (nth g (heads first ms)) back)
 
 pub names_are : (h : Header) (first : ℕ) (xs : List TcpEntry) → names_in (counted (no_counts first) xs) ≡ names_of (tcp h) first xs
 names_are h first xs = λ i. record {
@@ -212,8 +236,11 @@ pub steps_are : (h : Header) (names : Names) (xs : List TcpEntry) → all_renumb
 steps_are h names [] = refl
 steps_are h names (x ∷ xs) = go x.item (steps_are h names xs)
   where
-    go : (item : Item tcp_shape) → all_renumbered names xs ≡ steps_of (tcp h) names xs → with_renumbered names x.key item (all_renumbered names xs) ≡ with_step (tcp h) names x.key item (steps_of (tcp h) names xs)
+    go : (item : Item tcp_shape) → all_renumbered names xs ≡ steps_of (tcp h) names xs
+        → with_renumbered names x.key item (all_renumbered names xs)
+        ≡ with_step (tcp h) names x.key item (steps_of (tcp h) names xs)
     go (Bring f) rest = rest
     go (Do s) rest =
-        ap (λ (t : Step tcp_shape). let y : Stamped tcp_shape = record { moment = x.key.moment; step = t } in y ∷ all_renumbered names xs) (renumbered_is h names x.key.host s)
+        ap (λ (t : Step tcp_shape). let y : Stamped tcp_shape = record { moment = x.key.moment; step = t } in
+        y ∷ all_renumbered names xs) (renumbered_is h names x.key.host s)
         ∙ ap (λ (ys : List (Stamped tcp_shape)). record { moment = x.key.moment; step = restep (tcp h) names x.key.host s } ∷ ys) rest

@@ -21,7 +21,8 @@ use Rattle.case_forms.specs.Versions.{is_half}
 use Rattle.verdict.specs.declared.rule.Rule.TheVariants as rules
 use Rattle.verdict.specs.Rules.{first_broken}
 use Rattle.spec_network.specs.Tables.{on, other, pick}
-use Rattle.spec_network.specs.Hosts.{Deed, Does, Expires, Makes, Sends, Gets, Hears, Takes, Drops, Answers, Step, Begin, Finish, Effect, At, Stamped, HostState, World}
+use Rattle.spec_network.specs.Hosts.{Deed, Does, Expires, Makes, Sends, Gets, Hears, Takes, Drops, Answers, Step, Begin}
+use Rattle.spec_network.specs.Hosts.{Finish, Effect, At, Stamped, HostState, World}
 use Rattle.spec_network.specs.HostRules.{Permitted, deed_rules, just}
 use Rattle.spec_network.specs.HostSteps.{Lawful, after}
 use Rattle.spec_tcp.specs.declared.endpoint.Emission.{Emission}
@@ -60,11 +61,48 @@ record IsLine (h : Header) (moment : ℕ) (step : Step tcp_shape) : Type 0 where
 abbrev looked_up : Extras → Option Line → Option (Step tcp_shape)
 looked_up x o = option_map step_of (option_map (λ t. labels.L t) (option_map_or (taken_of x) o None))
 
-expiry_line : (h : Header) (moment : ℕ) (host : Host) (line lport rport : ℕ) (e : Expired) → IsLine h moment (At host (Expires line (record { lport = lport; rport = rport; expired = e })))
-expiry_line h moment host line lport rport (expireds.Rto growth) = record { line = _; said = refl; number = refl; moment_is = refl; event = refl; act = λ find at. ap (looked_up (extras.Two growth.cwnd growth.ssthresh)) at; takes = λ lines at. (_, at, refl) }
-expiry_line h moment host line lport rport expireds.Persist = record { line = _; said = refl; number = refl; moment_is = refl; event = refl; act = λ find at. ap (looked_up extras.Bare) at; takes = λ lines at. (_, at, refl) }
-expiry_line h moment host line lport rport expireds.Msl2 = record { line = _; said = refl; number = refl; moment_is = refl; event = refl; act = λ find at. ap (looked_up extras.Bare) at; takes = λ lines at. (_, at, refl) }
-expiry_line h moment host line lport rport expireds.Giveup = record { line = _; said = refl; number = refl; moment_is = refl; event = refl; act = λ find at. ap (looked_up extras.Bare) at; takes = λ lines at. (_, at, refl) }
+expiry_line : (h : Header) (moment : ℕ) (host : Host) (line lport rport : ℕ) (e : Expired)
+    → IsLine h moment (At host (Expires line (record { lport = lport; rport = rport; expired = e })))
+expiry_line h moment host line lport rport (expireds.Rto growth) =
+    record {
+      line = _;
+      said = refl;
+      number = refl;
+      moment_is = refl;
+      event = refl;
+      act = λ find at. ap (looked_up (extras.Two growth.cwnd growth.ssthresh)) at;
+      takes = λ lines at. (_, at, refl);
+    }
+expiry_line h moment host line lport rport expireds.Persist =
+    record {
+      line = _;
+      said = refl;
+      number = refl;
+      moment_is = refl;
+      event = refl;
+      act = λ find at. ap (looked_up extras.Bare) at;
+      takes = λ lines at. (_, at, refl);
+    }
+expiry_line h moment host line lport rport expireds.Msl2 =
+    record {
+      line = _;
+      said = refl;
+      number = refl;
+      moment_is = refl;
+      event = refl;
+      act = λ find at. ap (looked_up extras.Bare) at;
+      takes = λ lines at. (_, at, refl);
+    }
+expiry_line h moment host line lport rport expireds.Giveup =
+    record {
+      line = _;
+      said = refl;
+      number = refl;
+      moment_is = refl;
+      event = refl;
+      act = λ find at. ap (looked_up extras.Bare) at;
+      takes = λ lines at. (_, at, refl);
+    }
 
 -- what comes in names the line that it copies
 abbrev pub IsWholeDeed : Deed tcp_shape → Type 0
@@ -92,7 +130,15 @@ module _ (h : Header) (both : is_half h.version ≡ false) where
   deed_is moment host (Expires line x) w = inr (expiry_line h moment host line x.lport x.rport x.expired)
   deed_is moment host (Makes plan) w = inl (record { said = refl; number = refl; event = refl; act = λ find. refl; takes = λ lines. tt })
   deed_is moment host (Sends line number wire) w =
-      inr (record { line = _; said = refl; number = refl; moment_is = refl; event = refl; act = λ find at. ap (looked_up (extras.One number)) at; takes = λ lines at. (_, at, refl) })
+      inr (record {
+        line = _;
+        said = refl;
+        number = refl;
+        moment_is = refl;
+        event = refl;
+        act = λ find at. ap (looked_up (extras.One number)) at;
+        takes = λ lines at. (_, at, refl);
+      })
   deed_is moment host (Gets line copied wire) w = inr (came_in moment host line copied wire)
   deed_is moment host (Hears line wire) w = absurd w
   deed_is moment host (Takes line choice) w = inl (record { said = refl; number = refl; event = refl; act = λ find. refl; takes = λ lines. tt })
@@ -101,14 +147,31 @@ module _ (h : Header) (both : is_half h.version ≡ false) where
 
   step_is : (moment : ℕ) (step : Step tcp_shape) → IsWhole step → IsHidden h moment step ⊎ IsLine h moment step
   step_is moment (Begin line t call) w =
-      inr (record { line = _; said = refl; number = refl; moment_is = refl; event = refl; act = λ find at. ap (looked_up extras.Bare) at; takes = λ lines at. (_, at, refl) })
+      inr (record {
+        line = _;
+        said = refl;
+        number = refl;
+        moment_is = refl;
+        event = refl;
+        act = λ find at. ap (looked_up extras.Bare) at;
+        takes = λ lines at. (_, at, refl);
+      })
   step_is moment (Finish line t answer) w =
-      inr (record { line = _; said = refl; number = refl; moment_is = refl; event = refl; act = λ find at. ap (looked_up extras.Bare) at; takes = λ lines at. (_, at, refl) })
+      inr (record {
+        line = _;
+        said = refl;
+        number = refl;
+        moment_is = refl;
+        event = refl;
+        act = λ find at. ap (looked_up extras.Bare) at;
+        takes = λ lines at. (_, at, refl);
+      })
   step_is moment (Effect t answer) w = inl (record { said = refl; number = refl; event = refl; act = λ find. refl; takes = λ lines. tt })
   step_is moment (At host d) w = deed_is moment host d w
 
   -- a line that is heard of a host that is not recorded is not permitted where both are
-  deed_whole : (host : Host) (moment : ℕ) (far : List (ℕ × Emission)) (x : HostState tcp_shape) (d : Deed tcp_shape) → first_broken (deed_rules (tcp h) host moment far x d) ≡ None → IsWholeDeed d
+  deed_whole : (host : Host) (moment : ℕ) (far : List (ℕ × Emission)) (x : HostState tcp_shape) (d : Deed tcp_shape)
+      → first_broken (deed_rules (tcp h) host moment far x d) ≡ None → IsWholeDeed d
   deed_whole host moment far x (Hears line wire) may =
       none-some rules.NoEmission (sym may ∙ ap (λ (b : Bool). first_broken (just rules.NoEmission (not b))) both)
   deed_whole host moment far x (Does y) may = tt
@@ -142,41 +205,66 @@ recorded_less n a b [] le r = tt
 recorded_less n a b (line ∷ lines) le r = (r.0, (let up : b ≤ line.moment = r.1 in omega (arith, le)), r.2)
 
 -- a line's step in front
-in_front : (h : Header) (n m : ℕ) (step : Step tcp_shape) (xs : List (Stamped tcp_shape)) → step_line (tcp h) step ≡ Some m → If (step_line (tcp h) step) (LinesRise (tcp h) n xs) (λ line. (line ≡ n) × LinesRise (tcp h) (suc n) xs) → (m ≡ n) × LinesRise (tcp h) (n + 1) xs
+in_front : (h : Header) (n m : ℕ) (step : Step tcp_shape) (xs : List (Stamped tcp_shape))
+    → step_line (tcp h) step ≡ Some m
+    → If (step_line (tcp h) step) (LinesRise (tcp h) n xs) (λ line. (line ≡ n) × LinesRise (tcp h) (suc n) xs)
+    → (m ≡ n) × LinesRise (tcp h) (n + 1) xs
 in_front h n m step xs is r =
-    let s : (m ≡ n) × LinesRise (tcp h) (suc n) xs = subst (λ (o : Option ℕ). If o (LinesRise (tcp h) n xs) (λ line. (line ≡ n) × LinesRise (tcp h) (suc n) xs)) is r in
+    let s : (m ≡ n) × LinesRise (tcp h) (suc n) xs =
+    subst (λ (o : Option ℕ). If o (LinesRise (tcp h) n xs) (λ line. (line ≡ n) × LinesRise (tcp h) (suc n) xs)) is
+    r in
     let z : suc n ≡ n + 1 = omega arith in
     (s.0, subst (λ (k : ℕ). LinesRise (tcp h) k xs) z s.1)
 
-not_in_front : (h : Header) (n : ℕ) (step : Step tcp_shape) (xs : List (Stamped tcp_shape)) → step_line (tcp h) step ≡ None → If (step_line (tcp h) step) (LinesRise (tcp h) n xs) (λ line. (line ≡ n) × LinesRise (tcp h) (suc n) xs) → LinesRise (tcp h) n xs
+not_in_front : (h : Header) (n : ℕ) (step : Step tcp_shape) (xs : List (Stamped tcp_shape))
+    → step_line (tcp h) step ≡ None
+    → If (step_line (tcp h) step) (LinesRise (tcp h) n xs) (λ line. (line ≡ n) × LinesRise (tcp h) (suc n) xs)
+    → LinesRise (tcp h) n xs
 not_in_front h n step xs is r = subst (λ (o : Option ℕ). If o (LinesRise (tcp h) n xs) (λ line. (line ≡ n) × LinesRise (tcp h) (suc n) xs)) is r
 
-pub recorded_in : (h : Header) → is_half h.version ≡ false → (n b : ℕ) (xs : List (Stamped tcp_shape)) → AllWhole xs → LinesRise (tcp h) n xs → MomentsRise (tcp h) b xs → IsRecorded n b (lines_said xs)
+pub recorded_in : (h : Header) → is_half h.version ≡ false → (n b : ℕ) (xs : List (Stamped tcp_shape)) → AllWhole xs
+    → LinesRise (tcp h) n xs → MomentsRise (tcp h) b xs → IsRecorded n b (lines_said xs)
 recorded_in h both n b [] w rise moments = tt
 recorded_in h both n b (x ∷ xs) w rise moments = go (step_is h both x.moment x.step w.0) (λ m r. recorded_in h both m x.moment xs w.1 r moments.1)
   where
-    go : IsHidden h x.moment x.step ⊎ IsLine h x.moment x.step → ((m : ℕ) → LinesRise (tcp h) m xs → IsRecorded m x.moment (lines_said xs)) → IsRecorded n b (lines_said (x ∷ xs))
+    go : IsHidden h x.moment x.step ⊎ IsLine h x.moment x.step
+        → ((m : ℕ) → LinesRise (tcp h) m xs → IsRecorded m x.moment (lines_said xs))
+        → IsRecorded n b (lines_said (x ∷ xs))
     go (inl k) rest =
         subst (λ (o : Option Line). IsRecorded n b (on o (lines_said xs) (λ line. line ∷ lines_said xs))) (sym k.said)
         (recorded_less n b x.moment (lines_said xs) moments.0 (rest n (not_in_front h n x.step xs k.number rise)))
     go (inr k) rest =
         let f = in_front h n k.line.number x.step xs k.number rise in
-        subst (λ (o : Option Line). IsRecorded n b (on o (lines_said xs) (λ line. line ∷ lines_said xs))) (sym k.said)
-        (f.0, (let le : b ≤ x.moment = moments.0 in let same : k.line.moment ≡ x.moment = k.moment_is in omega (arith, le, same)), subst (λ (m : ℕ). IsRecorded (n + 1) m (lines_said xs)) (sym k.moment_is) (rest (n + 1) f.1))
+        subst (λ (o : Option Line). IsRecorded n b (on o (lines_said xs) (λ line. line ∷ lines_said xs))) (sym k.said) (
+          f.0,
+          (let le : b ≤ x.moment = moments.0 in let same : k.line.moment ≡ x.moment = k.moment_is in
+              omega (arith, le, same)),
+          subst (λ (m : ℕ). IsRecorded (n + 1) m (lines_said xs)) (sym k.moment_is)
+              (rest (n + 1) f.1),
+        )
 
-pub lines_are : (h : Header) → is_half h.version ≡ false → (xs : List (Stamped tcp_shape)) → AllWhole xs → map line_told (lines_said xs) ≡ placing.lines_of (tcp h) xs
+pub lines_are : (h : Header) → is_half h.version ≡ false → (xs : List (Stamped tcp_shape)) → AllWhole xs
+    → map line_told (lines_said xs) ≡ placing.lines_of (tcp h) xs
 lines_are h both [] w = refl
 lines_are h both (x ∷ xs) w = go (step_is h both x.moment x.step w.0) (lines_are h both xs w.1)
   where
-    go : IsHidden h x.moment x.step ⊎ IsLine h x.moment x.step → map line_told (lines_said xs) ≡ placing.lines_of (tcp h) xs → map line_told (lines_said (x ∷ xs)) ≡ placing.lines_of (tcp h) (x ∷ xs)
+    go : IsHidden h x.moment x.step ⊎ IsLine h x.moment x.step
+        → map line_told (lines_said xs) ≡ placing.lines_of (tcp h) xs
+        → map line_told (lines_said (x ∷ xs)) ≡ placing.lines_of (tcp h) (x ∷ xs)
     go (inl k) rest =
         ap (λ (o : Option Line). map line_told (on o (lines_said xs) (λ line. line ∷ lines_said xs))) k.said ∙ rest
-        ∙ ap (λ (o : Option (placing.Event tcp_shape)). on o (placing.lines_of (tcp h) xs) (λ e. record { moment = x.moment; event = e } ∷ placing.lines_of (tcp h) xs)) (sym k.event)
+        ∙ ap (λ (o : Option (placing.Event tcp_shape)).
+        on o (placing.lines_of (tcp h) xs)
+        (λ e. record { moment = x.moment; event = e } ∷ placing.lines_of (tcp h) xs)) (sym k.event)
     go (inr k) rest =
         ap (λ (o : Option Line). map line_told (on o (lines_said xs) (λ line. line ∷ lines_said xs))) k.said
-        ∙ ap (λ (m : ℕ). let p : placing.Line tcp_shape = record { moment = m; event = event_told k.line.thread k.line.event } in p ∷ map line_told (lines_said xs)) k.moment_is
+        ∙ ap (λ (m : ℕ). let p : placing.Line tcp_shape =
+        record { moment = m; event = event_told k.line.thread k.line.event } in p ∷ map line_told (lines_said xs))
+        k.moment_is
         ∙ ap (λ (ls : List (placing.Line tcp_shape)). record { moment = x.moment; event = event_told k.line.thread k.line.event } ∷ ls) rest
-        ∙ ap (λ (o : Option (placing.Event tcp_shape)). on o (placing.lines_of (tcp h) xs) (λ e. record { moment = x.moment; event = e } ∷ placing.lines_of (tcp h) xs)) (sym k.event)
+        ∙ ap (λ (o : Option (placing.Event tcp_shape)).
+        on o (placing.lines_of (tcp h) xs)
+        (λ e. record { moment = x.moment; event = e } ∷ placing.lines_of (tcp h) xs)) (sym k.event)
 
 -- these lines are found among all
 abbrev Finds : Header → List Line → ℕ → List Line → Type 0
@@ -199,19 +287,39 @@ finds_rest h all n line lines finds m l at =
     let apart : nat_eq m n ≡ false = grind (arith, nat_tests) in
     finds m l (rw apart at)
 
-pub told_from : (h : Header) → is_half h.version ≡ false → (all : List Line) (n : ℕ) (xs : List (Stamped tcp_shape)) → AllWhole xs → LinesRise (tcp h) n xs → Finds h all n (lines_said xs) → (stamped h all (steps_said xs) ≡ xs) × AllTakeWell h all (steps_said xs)
+pub told_from : (h : Header) → is_half h.version ≡ false → (all : List Line) (n : ℕ) (xs : List (Stamped tcp_shape))
+    → AllWhole xs → LinesRise (tcp h) n xs → Finds h all n (lines_said xs)
+    → (stamped h all (steps_said xs) ≡ xs) × AllTakeWell h all (steps_said xs)
 told_from h both all n [] w rise finds = (refl, tt)
 told_from h both all n (x ∷ xs) w rise finds = go (step_is h both x.moment x.step w.0) (λ m r f. told_from h both all m xs w.1 r f)
   where
-    go : IsHidden h x.moment x.step ⊎ IsLine h x.moment x.step → ((m : ℕ) → LinesRise (tcp h) m xs → Finds h all m (lines_said xs) → (stamped h all (steps_said xs) ≡ xs) × AllTakeWell h all (steps_said xs))
+    go : IsHidden h x.moment x.step ⊎ IsLine h x.moment x.step
+        → ((m : ℕ) → LinesRise (tcp h) m xs → Finds h all m (lines_said xs)
+        → (stamped h all (steps_said xs) ≡ xs) × AllTakeWell h all (steps_said xs))
         → (stamped h all (steps_said (x ∷ xs)) ≡ x ∷ xs) × AllTakeWell h all (steps_said (x ∷ xs))
     go (inl k) rest =
-        let here : Finds h all n (lines_said xs) = subst (λ (o : Option Line). Finds h all n (on o (lines_said xs) (λ line. line ∷ lines_said xs))) k.said finds in
-        let more = rest n (not_in_front h n x.step xs k.number rise) here in
-        (ap (λ (o : Option (Step tcp_shape)). cons_option (option_map (λ step. record { moment = x.moment; step = step }) o) (stamped h all (steps_said xs))) (k.act (line_at h all)) ∙ ap (λ (ys : List (Stamped tcp_shape)). x ∷ ys) more.0, (k.takes all, more.1))
+        let here : Finds h all n (lines_said xs) =
+        subst (λ (o : Option Line). Finds h all n (on o (lines_said xs) (λ line. line ∷ lines_said xs))) k.said
+        finds in
+        let more = rest n (not_in_front h n x.step xs k.number rise) here in (
+          ap (λ (o : Option (Step tcp_shape)).
+              cons_option (option_map (λ step. record { moment = x.moment; step = step }) o)
+              (stamped h all (steps_said xs))) (k.act (line_at h all))
+              ∙ ap (λ (ys : List (Stamped tcp_shape)). x ∷ ys) more.0,
+          (k.takes all, more.1),
+        )
     go (inr k) rest =
         let f = in_front h n k.line.number x.step xs k.number rise in
-        let here : Finds h all n (k.line ∷ lines_said xs) = subst (λ (o : Option Line). Finds h all n (on o (lines_said xs) (λ line. line ∷ lines_said xs))) k.said finds in
+        let here : Finds h all n (k.line ∷ lines_said xs) =
+        subst (λ (o : Option Line). Finds h all n (on o (lines_said xs) (λ line. line ∷ lines_said xs))) k.said
+        finds in
         let more = rest (n + 1) f.1 (finds_rest h all n k.line (lines_said xs) here) in
-        let at : line_at h all k.line.number ≡ Some k.line = subst (λ (m : ℕ). line_at h all m ≡ Some k.line) (sym f.0) (finds_first h all n k.line (lines_said xs) here) in
-        (ap (λ (o : Option (Step tcp_shape)). cons_option (option_map (λ step. record { moment = x.moment; step = step }) o) (stamped h all (steps_said xs))) (k.act (line_at h all) at) ∙ ap (λ (ys : List (Stamped tcp_shape)). x ∷ ys) more.0, (k.takes all at, more.1))
+        let at : line_at h all k.line.number ≡ Some k.line =
+        subst (λ (m : ℕ). line_at h all m ≡ Some k.line) (sym f.0)
+        (finds_first h all n k.line (lines_said xs) here) in (
+          ap (λ (o : Option (Step tcp_shape)).
+              cons_option (option_map (λ step. record { moment = x.moment; step = step }) o)
+              (stamped h all (steps_said xs))) (k.act (line_at h all) at)
+              ∙ ap (λ (ys : List (Stamped tcp_shape)). x ∷ ys) more.0,
+          (k.takes all at, more.1),
+        )

@@ -20,7 +20,8 @@ told_merged : (v : Version) (xs ys : List TcpEntry) → AllTold v xs → AllTold
 told_merged v [] ys p q = q
 told_merged v (x ∷ xs) ys p q = inner (in_order xs) (λ ys q. told_merged v xs ys p.1 q) ys q
   where
-    inner : (rest : List TcpEntry → List TcpEntry) → ((ys : List TcpEntry) → AllTold v ys → AllTold v (rest ys)) → (ys : List TcpEntry) → AllTold v ys → AllTold v (in_order_with x rest ys)
+    inner : (rest : List TcpEntry → List TcpEntry) → ((ys : List TcpEntry) → AllTold v ys → AllTold v (rest ys))
+        → (ys : List TcpEntry) → AllTold v ys → AllTold v (in_order_with x rest ys)
     inner rest is [] q = (p.0, is [] tt)
     inner rest is (y ∷ ys) q = go (before x.key y.key) (inner rest is ys q.1)
       where
@@ -55,7 +56,8 @@ said_shifts v names (x ∷ xs) told = by x.item told.0 (said_shifts v names xs t
     by (Bring f) one more = more
 
 -- so do those of two hosts, merged
-pub both_shifts : (v w : Version) (first : ℕ) (zeros ones : List TcpEntry) (steps : List witness.Step) → w ≡ v → steps ≡ steps_said (both_renumbered first zeros ones)
+pub both_shifts : (v w : Version) (first : ℕ) (zeros ones : List TcpEntry) (steps : List witness.Step) → w ≡ v
+    → steps ≡ steps_said (both_renumbered first zeros ones)
     → AllTold v zeros → AllTold v ones → TellShifts w steps
 both_shifts v w first zeros ones steps version is p q =
     subst (λ (u : Version). TellShifts u steps) (sym version)

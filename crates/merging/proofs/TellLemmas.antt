@@ -19,7 +19,9 @@ use Rattle.merging.specs.Saying.{all_renumbered, event_said, extras_said, label_
 use Rattle.merging.specs.Saying.{renumbered, said, steps_said, thread_said, with_renumbered}
 
 -- what is said of a line that a step takes, part by part
-pub line_told : (names : Names) (host : Host) (moment : ℕ) (t : TakenLine) → line_said moment (renumbered names host (line_step t)) ≡ Some (said (names.line host (own_number t)) moment (thread_said t) (event_said t))
+pub line_told : (names : Names) (host : Host) (moment : ℕ) (t : TakenLine)
+    → line_said moment (renumbered names host (line_step t))
+    ≡ Some (said (names.line host (own_number t)) moment (thread_said t) (event_said t))
 line_told names host moment (taken.CallBegin line t call) = refl
 line_told names host moment (taken.CallEnd line t answer) = refl
 line_told names host moment (taken.Sent line at made wire) = refl
@@ -27,7 +29,9 @@ line_told names host moment (taken.Came line at copied wire) = refl
 line_told names host moment (taken.Heard line at wire) = refl
 line_told names host moment (taken.Expired line at ports e) = refl
 
-pub label_told : (names : Names) (host : Host) (t : TakenLine) → label_said (renumbered names host (line_step t)) ≡ labelled (names.line host (own_number t)) (extras_said names host t)
+pub label_told : (names : Names) (host : Host) (t : TakenLine)
+    → label_said (renumbered names host (line_step t))
+    ≡ labelled (names.line host (own_number t)) (extras_said names host t)
 label_told names host (taken.CallBegin line t call) = refl
 label_told names host (taken.CallEnd line t answer) = refl
 label_told names host (taken.Sent line at made wire) = refl
@@ -48,21 +52,31 @@ line_front : (o : Option Line) (ls : List Line) → on o ls (λ l. l ∷ ls) ≡
 line_front None ls = refl
 line_front (Some l) ls = refl
 
-lines_head : (names : Names) (e : TcpEntry) (es : List TcpEntry) → lines_said (all_renumbered names (e ∷ es)) ≡ lines_said (all_renumbered names (e ∷ [])) ++ lines_said (all_renumbered names es)
+lines_head : (names : Names) (e : TcpEntry) (es : List TcpEntry)
+    → lines_said (all_renumbered names (e ∷ es))
+    ≡ lines_said (all_renumbered names (e ∷ [])) ++ lines_said (all_renumbered names es)
 lines_head names e es = go e.item
   where
-    go : (item : Item tcp_shape) → lines_said (with_renumbered names e.key item (all_renumbered names es)) ≡ lines_said (with_renumbered names e.key item []) ++ lines_said (all_renumbered names es)
+    go : (item : Item tcp_shape)
+        → lines_said (with_renumbered names e.key item (all_renumbered names es))
+        ≡ lines_said (with_renumbered names e.key item []) ++ lines_said (all_renumbered names es)
     go (Do step) = line_front (line_said e.key.moment (renumbered names e.key.host step)) (lines_said (all_renumbered names es))
     go (Bring f) = refl
 
-steps_head : (names : Names) (e : TcpEntry) (es : List TcpEntry) → steps_said (all_renumbered names (e ∷ es)) ≡ steps_said (all_renumbered names (e ∷ [])) ++ steps_said (all_renumbered names es)
+steps_head : (names : Names) (e : TcpEntry) (es : List TcpEntry)
+    → steps_said (all_renumbered names (e ∷ es))
+    ≡ steps_said (all_renumbered names (e ∷ [])) ++ steps_said (all_renumbered names es)
 steps_head names e es = go e.item
   where
-    go : (item : Item tcp_shape) → steps_said (with_renumbered names e.key item (all_renumbered names es)) ≡ steps_said (with_renumbered names e.key item []) ++ steps_said (all_renumbered names es)
+    go : (item : Item tcp_shape)
+        → steps_said (with_renumbered names e.key item (all_renumbered names es))
+        ≡ steps_said (with_renumbered names e.key item []) ++ steps_said (all_renumbered names es)
     go (Do step) = refl
     go (Bring f) = refl
 
-pub lines_on : (names : Names) (whole told new : List Line) (e : TcpEntry) (left es : List TcpEntry) → told ++ lines_said (all_renumbered names left) ≡ whole → left ≡ e ∷ es → new ≡ told ++ lines_said (all_renumbered names (e ∷ []))
+pub lines_on : (names : Names) (whole told new : List Line) (e : TcpEntry) (left es : List TcpEntry)
+    → told ++ lines_said (all_renumbered names left) ≡ whole → left ≡ e ∷ es
+    → new ≡ told ++ lines_said (all_renumbered names (e ∷ []))
     → new ++ lines_said (all_renumbered names es) ≡ whole
 lines_on names whole told new e left es was is longer =
     ap (λ (ls : List Line). ls ++ lines_said (all_renumbered names es)) longer
@@ -71,7 +85,9 @@ lines_on names whole told new e left es was is longer =
     ∙ ap (λ (xs : List TcpEntry). told ++ lines_said (all_renumbered names xs)) (sym is)
     ∙ was
 
-pub steps_on : (names : Names) (whole told new : List witness.Step) (e : TcpEntry) (left es : List TcpEntry) → told ++ steps_said (all_renumbered names left) ≡ whole → left ≡ e ∷ es → new ≡ told ++ steps_said (all_renumbered names (e ∷ []))
+pub steps_on : (names : Names) (whole told new : List witness.Step) (e : TcpEntry) (left es : List TcpEntry)
+    → told ++ steps_said (all_renumbered names left) ≡ whole → left ≡ e ∷ es
+    → new ≡ told ++ steps_said (all_renumbered names (e ∷ []))
     → new ++ steps_said (all_renumbered names es) ≡ whole
 steps_on names whole told new e left es was is longer =
     ap (λ (ls : List witness.Step). ls ++ steps_said (all_renumbered names es)) longer
@@ -81,7 +97,9 @@ steps_on names whole told new e left es was is longer =
     ∙ was
 
 -- a step's line joins
-pub line_joined : (names : Names) (x : TcpEntry) (key : Key) (step : Step tcp_shape) (o : Option Line) (old new : List Line) → key ≡ x.key → Do step ≡ x.item → o ≡ line_said key.moment (renumbered names key.host step) → new ≡ old ++ on o [] (λ l. l ∷ [])
+pub line_joined : (names : Names) (x : TcpEntry) (key : Key) (step : Step tcp_shape) (o : Option Line)
+    (old new : List Line) → key ≡ x.key → Do step ≡ x.item → o ≡ line_said key.moment (renumbered names key.host step)
+    → new ≡ old ++ on o [] (λ l. l ∷ [])
     → new ≡ old ++ lines_said (all_renumbered names (x ∷ []))
 line_joined names x key step o old new same is said joined =
     joined ∙ ap (λ (p : Option Line). old ++ on p [] (λ l. l ∷ [])) said
@@ -109,7 +127,8 @@ turn_next true t Zero n one = let e = one refl in omega arith
 turn_next true t One n one = let e = one refl in omega arith
 
 -- one entry more was counted: there is room for what is left
-pub lines_room : (c d : Counts) (e : TcpEntry) (left es : List TcpEntry) (most : ℕ) → left ≡ e ∷ es → d ≡ counted_one c e → c.lines.next + steps_in left ≤ most → d.lines.next + steps_in es ≤ most
+pub lines_room : (c d : Counts) (e : TcpEntry) (left es : List TcpEntry) (most : ℕ) → left ≡ e ∷ es
+    → d ≡ counted_one c e → c.lines.next + steps_in left ≤ most → d.lines.next + steps_in es ≤ most
 lines_room c d e left es most is one room =
     let now = turn_next (takes_line e.item) c.lines e.key.host (item_steps e.item 0) (taking_steps e.item) in
     let there : d.lines.next ≡ (counted_one c e).lines.next = ap (λ (x : Counts). x.lines.next) one in
@@ -117,7 +136,8 @@ lines_room c d e left es most is one room =
     let all : steps_in left ≡ item_steps e.item (steps_in es) = ap steps_in is in
     omega (arith, now, there, more, all, room)
 
-pub mades_room : (c d : Counts) (e : TcpEntry) (left es : List TcpEntry) (most : ℕ) → left ≡ e ∷ es → d ≡ counted_one c e → c.mades.next + steps_in left ≤ most → d.mades.next + steps_in es ≤ most
+pub mades_room : (c d : Counts) (e : TcpEntry) (left es : List TcpEntry) (most : ℕ) → left ≡ e ∷ es
+    → d ≡ counted_one c e → c.mades.next + steps_in left ≤ most → d.mades.next + steps_in es ≤ most
 mades_room c d e left es most is one room =
     let now = turn_next (makes_segment e.item) c.mades e.key.host (item_steps e.item 0) (making_steps e.item) in
     let there : d.mades.next ≡ (counted_one c e).mades.next = ap (λ (x : Counts). x.mades.next) one in

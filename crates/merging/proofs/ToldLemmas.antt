@@ -1,5 +1,6 @@
 -- What says the steps of a placement and a run is explained.
-use Rattle.std.proofs.Common.{◌≡◌, ℕ, ◌+◌, ◌<◌, ◌≤◌, zero, suc, Bool, true, false, if◌then◌else◌, List, [], ◌∷◌, map, refl, sym, ap, ◌∙◌, subst, arith, Option, Some, None}
+use Rattle.std.proofs.Common.{◌≡◌, ℕ, ◌+◌, ◌<◌, ◌≤◌, zero, suc, Bool, true, false, if◌then◌else◌, List, [], ◌∷◌, map}
+use Rattle.std.proofs.Common.{refl, sym, ap, ◌∙◌, subst, arith, Option, Some, None}
 use Rattle.std.specs.Prelude.{nat_eq, slice_get}
 use Rattle.std.specs.List.{cons_option, enumerate_from}
 use Rattle.std.specs.Map.{lookup}
@@ -52,11 +53,15 @@ number_is k b n (x ∷ lines) line r at = go (nat_eq n k) refl (λ a. number_is 
         ap (λ (l : Line). l.number) (sym e) ∙ (r.0 ∙ sym same)
     go false is rest = rest (rw is at at)
 
-place_is : (k n : ℕ) (lines : List Line) (line : Line) → lookup (nat_eq n) (enumerate_from k lines) ≡ Some line → (i : ℕ) × (n ≡ k + i) × (slice_get lines i ≡ Some line)
+place_is : (k n : ℕ) (lines : List Line) (line : Line) → lookup (nat_eq n) (enumerate_from k lines) ≡ Some line
+    → (i : ℕ) × (n ≡ k + i) × (slice_get lines i ≡ Some line)
 place_is k n [] line at = absurd (none-some line at)
 place_is k n (x ∷ lines) line at = go (nat_eq n k) refl (λ a. place_is (k + 1) n lines line a)
   where
-    go : (t : Bool) → nat_eq n k ≡ t → (lookup (nat_eq n) (enumerate_from (k + 1) lines) ≡ Some line → (i : ℕ) × (n ≡ k + 1 + i) × (slice_get lines i ≡ Some line)) → (i : ℕ) × (n ≡ k + i) × (slice_get (x ∷ lines) i ≡ Some line)
+    go : (t : Bool) → nat_eq n k ≡ t
+        → (lookup (nat_eq n) (enumerate_from (k + 1) lines) ≡ Some line
+        → (i : ℕ) × (n ≡ k + 1 + i) × (slice_get lines i ≡ Some line))
+        → (i : ℕ) × (n ≡ k + i) × (slice_get (x ∷ lines) i ≡ Some line)
     go true is rest =
         let same : n ≡ k = grind (arith, nat_tests, is) in
         (zero, omega arith, rw is at at)
@@ -114,16 +119,25 @@ is_taken h line x count = go line.event x count
 abbrev found_act : ℕ → Option TakenLine → Option (Stamped tcp_shape)
 found_act moment found = option_map (λ step. record { moment = moment; step = step }) (option_map step_of (option_map (λ t. L t) found))
 
-line_act : (h : Header) (lines : List Line) (moment : ℕ) (named : NamedLine) (span : Span) (line : Line) (t : TakenLine) → line_at h lines named.number ≡ Some line → taken_of named.extras line ≡ Some t
+line_act : (h : Header) (lines : List Line) (moment : ℕ) (named : NamedLine) (span : Span) (line : Line) (t : TakenLine)
+    → line_at h lines named.number ≡ Some line → taken_of named.extras line ≡ Some t
     → act_of h lines (record { moment = moment; label = L named; span = span }) ≡ Some (record { moment = moment; step = line_step t })
-line_act h lines moment named span line t at taken = ap (λ (o : Option Line). found_act moment (option_map_or (taken_of named.extras) o None)) at ∙ ap (found_act moment) taken
+line_act h lines moment named span line t at taken =
+    ap (λ (o : Option Line). found_act moment (option_map_or (taken_of named.extras) o None)) at
+    ∙ ap (found_act moment) taken
 
 module _ (h : Header) (lines : List Line) where
   act_at : (s : Step) → TakesWell h lines s.label → (x : Stamped tcp_shape) × (act_of h lines s ≡ Some x) × (x.moment ≡ s.moment)
   act_at s well = go s.label well
     where
-      go : (l : Label NamedLine) → TakesWell h lines l → (x : Stamped tcp_shape) × (act_of h lines (record { moment = s.moment; label = l; span = s.span }) ≡ Some x) × (x.moment ≡ s.moment)
-      go (L named) w = let t = is_taken h w.0 named.extras w.2 in (record { moment = s.moment; step = line_step t.0 }, line_act h lines s.moment named s.span w.0 t.0 w.1 t.1, refl)
+      go : (l : Label NamedLine) → TakesWell h lines l
+          → (x : Stamped tcp_shape) × (act_of h lines (record { moment = s.moment; label = l; span = s.span }) ≡ Some x)
+          × (x.moment ≡ s.moment)
+      go (L named) w = let t = is_taken h w.0 named.extras w.2 in (
+        record { moment = s.moment; step = line_step t.0 },
+        line_act h lines s.moment named s.span w.0 t.0 w.1 t.1,
+        refl,
+      )
       go (D t answer) w = (_, refl, refl)
       go (M host plan) w = (_, refl, refl)
       go (T host line choice) w = (_, refl, refl)
@@ -133,20 +147,33 @@ module _ (h : Header) (lines : List Line) where
 
   module _ (b : ℕ) (r : IsRecorded (first_event_line h) b lines) where
     -- the act of a step that takes line n names line n
-    names_line : (s : Step) (x : Stamped tcp_shape) (n e : ℕ) → TakesWell h lines s.label → act_of h lines s ≡ Some x → take_of s.label ≡ Some (record { number = n; extras = e })
+    names_line : (s : Step) (x : Stamped tcp_shape) (n e : ℕ) → TakesWell h lines s.label → act_of h lines s ≡ Some x
+        → take_of s.label ≡ Some (record { number = n; extras = e })
         → (line : Line) × (step_line (tcp h) x.step ≡ Some n) × (line_at h lines n ≡ Some line) × (e ≡ extras_of h.version line.event)
     names_line s x n e well is takes = go s.label well is takes
       where
-        go : (l : Label NamedLine) → TakesWell h lines l → act_of h lines (record { moment = s.moment; label = l; span = s.span }) ≡ Some x → take_of l ≡ Some (record { number = n; extras = e })
+        go : (l : Label NamedLine) → TakesWell h lines l
+            → act_of h lines (record { moment = s.moment; label = l; span = s.span }) ≡ Some x
+            → take_of l ≡ Some (record { number = n; extras = e })
             → (line : Line) × (step_line (tcp h) x.step ≡ Some n) × (line_at h lines n ≡ Some line) × (e ≡ extras_of h.version line.event)
         go (L named) w is takes =
             let t = is_taken h w.0 named.extras w.2 in
-            let same : record { number = named.number; extras = extras_count named.extras } ≡ record { number = n; extras = e } = same_Some (let a : Take = record { number = named.number; extras = extras_count named.extras } in a) (record { number = n; extras = e }) takes in
+            let same : record { number = named.number; extras = extras_count named.extras }
+            ≡ record { number = n; extras = e } =
+            same_Some (let a : Take = record { number = named.number; extras = extras_count named.extras } in a)
+            (record { number = n; extras = e }) takes in
             let number : named.number ≡ n = ap (λ (t : Take). t.number) same in
             let count : extras_count named.extras ≡ e = ap (λ (t : Take). t.extras) same in
-            let act : record { moment = s.moment; step = line_step t.0 } ≡ x = same_Some (let a : Stamped tcp_shape = record { moment = s.moment; step = line_step t.0 } in a) x (sym (line_act h lines s.moment named s.span w.0 t.0 w.1 t.1) ∙ is) in
-            let own : w.0.number ≡ named.number = number_is (first_event_line h) b named.number lines w.0 r w.1 in
-            (w.0, ap (λ (y : Stamped tcp_shape). step_line (tcp h) y.step) (sym act) ∙ (t.2 ∙ ap (λ (k : ℕ). Some k) (own ∙ number)), subst (λ (k : ℕ). line_at h lines k ≡ Some w.0) number w.1, sym count ∙ w.2)
+            let act : record { moment = s.moment; step = line_step t.0 } ≡ x =
+            same_Some (let a : Stamped tcp_shape = record { moment = s.moment; step = line_step t.0 } in a) x
+            (sym (line_act h lines s.moment named s.span w.0 t.0 w.1 t.1) ∙ is) in
+            let own : w.0.number ≡ named.number = number_is (first_event_line h) b named.number lines w.0 r w.1 in (
+              w.0,
+              ap (λ (y : Stamped tcp_shape). step_line (tcp h) y.step) (sym act)
+                  ∙ (t.2 ∙ ap (λ (k : ℕ). Some k) (own ∙ number)),
+              subst (λ (k : ℕ). line_at h lines k ≡ Some w.0) number w.1,
+              sym count ∙ w.2,
+            )
         go (D t answer) w is takes = absurd (none-some _ takes)
         go (M host plan) w is takes = absurd (none-some _ takes)
         go (T host line choice) w is takes = absurd (none-some _ takes)
@@ -159,13 +186,20 @@ module _ (h : Header) (lines : List Line) where
         → (e : ℕ) × (take_of s.label ≡ Some (record { number = n; extras = e }))
     takes_line s x n well is names = go s.label well is
       where
-        none : (l : Label NamedLine) (y : Stamped tcp_shape) → act_of h lines (record { moment = s.moment; label = l; span = s.span }) ≡ Some y → act_of h lines (record { moment = s.moment; label = l; span = s.span }) ≡ Some x → step_line (tcp h) y.step ≡ None → ⊥
+        none : (l : Label NamedLine) (y : Stamped tcp_shape)
+            → act_of h lines (record { moment = s.moment; label = l; span = s.span }) ≡ Some y
+            → act_of h lines (record { moment = s.moment; label = l; span = s.span }) ≡ Some x
+            → step_line (tcp h) y.step ≡ None → ⊥
         none l y a b hidden = none-some n (sym hidden ∙ (ap (λ (z : Stamped tcp_shape). step_line (tcp h) z.step) (same_Some y x (sym a ∙ b)) ∙ names))
 
-        go : (l : Label NamedLine) → TakesWell h lines l → act_of h lines (record { moment = s.moment; label = l; span = s.span }) ≡ Some x → (e : ℕ) × (take_of l ≡ Some (record { number = n; extras = e }))
+        go : (l : Label NamedLine) → TakesWell h lines l
+            → act_of h lines (record { moment = s.moment; label = l; span = s.span }) ≡ Some x
+            → (e : ℕ) × (take_of l ≡ Some (record { number = n; extras = e }))
         go (L named) w is =
             let t = is_taken h w.0 named.extras w.2 in
-            let act : record { moment = s.moment; step = line_step t.0 } ≡ x = same_Some (let a : Stamped tcp_shape = record { moment = s.moment; step = line_step t.0 } in a) x (sym (line_act h lines s.moment named s.span w.0 t.0 w.1 t.1) ∙ is) in
+            let act : record { moment = s.moment; step = line_step t.0 } ≡ x =
+            same_Some (let a : Stamped tcp_shape = record { moment = s.moment; step = line_step t.0 } in a) x
+            (sym (line_act h lines s.moment named s.span w.0 t.0 w.1 t.1) ∙ is) in
             let own : w.0.number ≡ named.number = number_is (first_event_line h) b named.number lines w.0 r w.1 in
             let same : w.0.number ≡ n = same_Some w.0.number n (sym t.2 ∙ (ap (λ (y : Stamped tcp_shape). step_line (tcp h) y.step) act ∙ names)) in
             (extras_count named.extras, ap (λ (k : ℕ). Some (let t : Take = record { number = k; extras = extras_count named.extras } in t)) (sym own ∙ same))
@@ -217,25 +251,36 @@ module _ (h : Header) (lines : List Line) where
   act_place : (steps : List Step) → AllTakeWell h lines steps → (p : ℕ) (x : Stamped tcp_shape) → slice_get (stamped h lines steps) p ≡ Some x → AtPlace steps p
   act_place [] all p x at = absurd (none-some x at)
   act_place (s ∷ steps) all zero x at = here s steps all.0
-  act_place (s ∷ steps) all (suc p) x at = later s steps p all.0 (act_place steps all.1 p x (sym (ap (λ (o : Option (Stamped tcp_shape)). slice_get (cons_option o (stamped h lines steps)) (suc p)) (act_at s all.0).1) ∙ at))
+  act_place (s ∷ steps) all (suc p) x at =
+      later s steps p all.0 (act_place steps all.1 p x
+      (sym (ap (λ (o : Option (Stamped tcp_shape)). slice_get (cons_option o (stamped h lines steps)) (suc p))
+      (act_at s all.0).1) ∙ at))
 
 -- 4. moments
 
-rise_first : (h : Header) (m : ℕ) (xs : List (Stamped tcp_shape)) → MomentsRise (tcp h) m xs → (i : ℕ) (x : Stamped tcp_shape) → slice_get xs i ≡ Some x → m ≤ x.moment
+rise_first : (h : Header) (m : ℕ) (xs : List (Stamped tcp_shape)) → MomentsRise (tcp h) m xs
+    → (i : ℕ) (x : Stamped tcp_shape) → slice_get xs i ≡ Some x → m ≤ x.moment
 rise_first h m [] r i x at = absurd (none-some x at)
-rise_first h m (y ∷ xs) r zero x at = let e : y.moment ≡ x.moment = ap (λ (z : Stamped tcp_shape). z.moment) (same_Some y x at) in let le : m ≤ y.moment = r.0 in omega arith
+rise_first h m (y ∷ xs) r zero x at = let e : y.moment ≡ x.moment =
+    ap (λ (z : Stamped tcp_shape). z.moment) (same_Some y x at) in let le : m ≤ y.moment = r.0 in omega arith
 rise_first h m (y ∷ xs) r (suc i) x at = let le : m ≤ y.moment = r.0 in let up : y.moment ≤ x.moment = rise_first h y.moment xs r.1 i x at in omega arith
 
-rise_at : (h : Header) (m : ℕ) (xs : List (Stamped tcp_shape)) → MomentsRise (tcp h) m xs → (i j : ℕ) (x y : Stamped tcp_shape) → slice_get xs i ≡ Some x → slice_get xs j ≡ Some y → i < j → x.moment ≤ y.moment
+rise_at : (h : Header) (m : ℕ) (xs : List (Stamped tcp_shape)) → MomentsRise (tcp h) m xs
+    → (i j : ℕ) (x y : Stamped tcp_shape) → slice_get xs i ≡ Some x → slice_get xs j ≡ Some y → i < j
+    → x.moment ≤ y.moment
 rise_at h m [] r i j x y a b lt = absurd (none-some x a)
 rise_at h m (z ∷ xs) r zero zero x y a b lt = absurd (omega arith)
 rise_at h m (z ∷ xs) r (suc i) zero x y a b lt = absurd (omega arith)
-rise_at h m (z ∷ xs) r zero (suc j) x y a b lt = let e : z.moment ≡ x.moment = ap (λ (w : Stamped tcp_shape). w.moment) (same_Some z x a) in let up : z.moment ≤ y.moment = rise_first h z.moment xs r.1 j y b in omega arith
+rise_at h m (z ∷ xs) r zero (suc j) x y a b lt = let e : z.moment ≡ x.moment =
+    ap (λ (w : Stamped tcp_shape). w.moment) (same_Some z x a) in
+    let up : z.moment ≤ y.moment = rise_first h z.moment xs r.1 j y b in omega arith
 rise_at h m (z ∷ xs) r (suc i) (suc j) x y a b lt = rise_at h z.moment xs r.1 i j x y a b (omega arith)
 
 -- 5. the placement
 
-module _ (t : Trace) (w : Witness) (told : Tells t w (stamped t.header t.lines w.steps)) (p : Placement (tcp t.header) t.header.skew (first_event_line t.header) (map line_told t.lines) (stamped t.header t.lines w.steps)) where
+module _ (t : Trace) (w : Witness) (told : Tells t w (stamped t.header t.lines w.steps))
+    (p : Placement (tcp t.header) t.header.skew (first_event_line t.header) (map line_told t.lines)
+    (stamped t.header t.lines w.steps)) where
   abbrev steps : List (Stamped tcp_shape)
   steps = stamped t.header t.lines w.steps
 
@@ -252,7 +297,8 @@ module _ (t : Trace) (w : Witness) (told : Tells t w (stamped t.header t.lines w
   names_at : (i n : ℕ) (taken : TakesAt (moves w.steps) i n) → Names i n taken
   names_at i n taken =
       let a = move_place t.header t.lines w.steps told.takes i (taking taken.moment n taken.extras) taken.here in
-      let same : move_of a.step ≡ taking taken.moment n taken.extras = same_Some (move_of a.step) (taking taken.moment n taken.extras) (sym a.moved ∙ taken.here) in
+      let same : move_of a.step ≡ taking taken.moment n taken.extras =
+      same_Some (move_of a.step) (taking taken.moment n taken.extras) (sym a.moved ∙ taken.here) in
       let l = names_line t.header t.lines 0 told.trace a.step a.act n taken.extras a.well a.is (ap (λ (m : Move). m.take) same) in
       record { act = a.act; line = l.0; acts = a.acts; moment = a.moment ∙ ap (λ (m : Move). m.moment) same; names = l.1; is_line = l.2; count = l.3 }
 
@@ -265,11 +311,21 @@ module _ (t : Trace) (w : Witness) (told : Tells t w (stamped t.header t.lines w
       let taken = p.taken place.0 (line_told line) (map_at t.lines place.0 line place.2) in
       let a = act_place t.header t.lines w.steps told.takes taken.0 taken.1.0 taken.1.1 in
       let same : a.act ≡ taken.1.0 = same_Some a.act taken.1.0 (sym a.acts ∙ taken.1.1) in
-      let names : step_line (tcp t.header) a.act.step ≡ Some n = ap (λ (x : Stamped tcp_shape). step_line (tcp t.header) x.step) same ∙ (taken.1.2 ∙ ap (λ (k : ℕ). Some k) (sym place.1)) in
-      let e = takes_line t.header t.lines 0 told.trace a.step a.act n a.well a.is names in
-      (taken.0, record { moment = a.step.moment; extras = e.0; here = a.moved ∙ ap (λ (k : Option Take). Some (let m : Move = record { moment = a.step.moment; take = k } in m)) e.1 })
+      let names : step_line (tcp t.header) a.act.step ≡ Some n =
+      ap (λ (x : Stamped tcp_shape). step_line (tcp t.header) x.step) same
+      ∙ (taken.1.2 ∙ ap (λ (k : ℕ). Some k) (sym place.1)) in
+      let e = takes_line t.header t.lines 0 told.trace a.step a.act n a.well a.is names in (
+        taken.0,
+        record {
+          moment = a.step.moment;
+          extras = e.0;
+          here = a.moved ∙ ap (λ (k : Option Take).
+              Some (let m : Move = record { moment = a.step.moment; take = k } in m)) e.1;
+        },
+      )
 
-  timely : (n i : ℕ) (taken : TakesAt (moves w.steps) i n) → (line : Line) × (line_at t.header t.lines n ≡ Some line) × IsTimely t.header line taken.moment taken.extras
+  timely : (n i : ℕ) (taken : TakesAt (moves w.steps) i n)
+      → (line : Line) × (line_at t.header t.lines n ≡ Some line) × IsTimely t.header line taken.moment taken.extras
   timely n i taken =
       let a = names_at i n taken in
       let place = place_is (first_event_line t.header) n t.lines a.line a.is_line in
@@ -301,12 +357,16 @@ module _ (t : Trace) (w : Witness) (told : Tells t w (stamped t.header t.lines w
 
 -- 6. the law
 
-pub told_explains : (t : Trace) (w : Witness) (steps : List (Stamped tcp_shape)) → IsPlacedRun (tcp t.header) t.header.skew (first_event_line t.header) (lines_of (tcp t.header) steps) steps → Tells t w steps → Explains t w
+pub told_explains : (t : Trace) (w : Witness) (steps : List (Stamped tcp_shape))
+    → IsPlacedRun (tcp t.header) t.header.skew (first_event_line t.header) (lines_of (tcp t.header) steps) steps
+    → Tells t w steps → Explains t w
 told_explains t w steps e told =
     let seen : steps ≡ stamped t.header t.lines w.steps = sym told.steps_are in
     let tells : Tells t w (stamped t.header t.lines w.steps) = subst (λ (xs : List (Stamped tcp_shape)). Tells t w xs) seen told in
     let placement : Placement (tcp t.header) t.header.skew (first_event_line t.header) (map line_told t.lines) (stamped t.header t.lines w.steps) =
-    subst (λ (ls : List (placing.Line tcp_shape)). Placement (tcp t.header) t.header.skew (first_event_line t.header) ls (stamped t.header t.lines w.steps)) (sym tells.lines_are)
+    subst (λ (ls : List (placing.Line tcp_shape)).
+    Placement (tcp t.header) t.header.skew (first_event_line t.header) ls (stamped t.header t.lines w.steps))
+    (sym tells.lines_are)
     (subst (λ (xs : List (Stamped tcp_shape)). Placement (tcp t.header) t.header.skew (first_event_line t.header) (lines_of (tcp t.header) xs) xs) seen e.0) in
     record {
       placed = is_placed t w tells placement;

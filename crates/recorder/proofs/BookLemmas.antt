@@ -37,7 +37,8 @@ item_add (Bring f) n = omega arith
 
 ends_more : (es : List TcpEntry) (x : TcpEntry) → ends_in (es ++ x ∷ []) ≡ ends_in es + item_ends x.item 0
 ends_more [] x = omega arith
-ends_more (e ∷ es) x = let a = item_add e.item (ends_in (es ++ x ∷ [])) in let b = item_add e.item (ends_in es) in let r = ends_more es x in omega (arith, a, b, r)
+ends_more (e ∷ es) x = let a = item_add e.item (ends_in (es ++ x ∷ [])) in let b = item_add e.item (ends_in es) in
+    let r = ends_more es x in omega (arith, a, b, r)
 
 above_more : (es : List TcpEntry) (x : TcpEntry) → AllAbove es → IsAbove x.key x.item → AllAbove (es ++ x ∷ [])
 above_more [] x all one = (one, tt)
@@ -85,7 +86,9 @@ to : (c d e : Core) (n : ℕ) → e ≡ d → Grows c d n → Grows c e n
 to c d e n is g = subst (λ (x : Core). Grows c x n) (sym is) g
 
 pub begun_grows : (c d : Core) (tick : Tick) (thread : ℕ) (call : Call) → d ≡ begun c tick thread call → Grows c d 0
-begun_grows c d tick thread call is = to c (begun c tick thread call) d 0 is (step_grows c (opened c tick) 0 (Begin (line_to_come c) thread call) (opened_grows c tick))
+begun_grows c d tick thread call is =
+    to c (begun c tick thread call) d 0 is
+    (step_grows c (opened c tick) 0 (Begin (line_to_come c) thread call) (opened_grows c tick))
 
 pub ticked_grows : (c d : Core) (tick : Tick) → d ≡ opened c tick → Grows c d 0
 ticked_grows c d tick is = to c (opened c tick) d 0 is (opened_grows c tick)
@@ -94,7 +97,10 @@ effected_grows : (c : Core) (tick : Tick) (thread : ℕ) (answer : Answer) → G
 effected_grows c tick thread answer = step_grows c (opened c tick) 0 (Effect thread answer) (opened_grows c tick)
 
 pub attempted_grows : (c d : Core) (tick : Tick) (thread : ℕ) (a : Answered) → IsAttempted c tick thread a d → Grows c d 1
-attempted_grows c d tick thread a is = to c (answered c tick thread a.answer) d 1 is.1 (step_grows c (effected c tick thread a.answer) 0 (Finish (line_to_come c) thread a.answer) (effected_grows c tick thread a.answer))
+attempted_grows c d tick thread a is =
+    to c (answered c tick thread a.answer) d 1 is.1
+    (step_grows c (effected c tick thread a.answer) 0 (Finish (line_to_come c) thread a.answer)
+    (effected_grows c tick thread a.answer))
 
 pub attempt_short_grows : (c d : Core) (tick : Tick) (thread : ℕ) → IsAttemptShort c tick thread d → Grows c d 0
 attempt_short_grows c d tick thread (inl is) = ticked_grows c d tick is
@@ -114,9 +120,13 @@ module _ (c : Core) (tick : Tick) (f : Flying tcp_shape) (up : before f.key (key
   recovered_grows b d ports g (inr r) = to c b d 0 r.0 g
 
   settled_grows : (b d : Core) (n : ℕ) (ports : _) → Grows c b 0 → IsSettled b n ports d → Grows c d 0
-  settled_grows b d n ports g (arrivals.Taken choice keep may recovered) = recovered_grows (with_step b (At b.recorded.me (Takes n choice))) d ports (step_grows c b 0 (At b.recorded.me (Takes n choice)) g) recovered
-  settled_grows b d n ports g (arrivals.Reset not_taken may row) = to c (with_step b (At b.recorded.me (Answers n))) d 0 row (step_grows c b 0 (At b.recorded.me (Answers n)) g)
-  settled_grows b d n ports g (arrivals.Dropped not_taken no_reset row) = to c (with_step b (At b.recorded.me (Drops n))) d 0 row (step_grows c b 0 (At b.recorded.me (Drops n)) g)
+  settled_grows b d n ports g (arrivals.Taken choice keep may recovered) =
+      recovered_grows (with_step b (At b.recorded.me (Takes n choice))) d ports
+      (step_grows c b 0 (At b.recorded.me (Takes n choice)) g) recovered
+  settled_grows b d n ports g (arrivals.Reset not_taken may row) =
+      to c (with_step b (At b.recorded.me (Answers n))) d 0 row (step_grows c b 0 (At b.recorded.me (Answers n)) g)
+  settled_grows b d n ports g (arrivals.Dropped not_taken no_reset row) =
+      to c (with_step b (At b.recorded.me (Drops n))) d 0 row (step_grows c b 0 (At b.recorded.me (Drops n)) g)
 
   arrived_grows : (d : Core) → IsArrived c tick f d → Grows c d 0
   arrived_grows d is = settled_grows (came c tick f is.wire) d (line_to_come c) (ports_of f.emission) (came_grows is.wire) is.settled
@@ -125,7 +135,9 @@ module _ (c : Core) (tick : Tick) (f : Flying tcp_shape) (up : before f.key (key
   arrived_short_grows d (arrivals.Ticked row) = ticked_grows c d tick row
   arrived_short_grows d (arrivals.Brought row) = to c (brought c tick f) d 0 row brought_grows
   arrived_short_grows d (arrivals.Came wire bytes row) = to c (came c tick f wire) d 0 row (came_grows wire)
-  arrived_short_grows d (arrivals.Took wire bytes choice keep may due row) = to c (with_step (came c tick f wire) (At c.recorded.me (Takes (line_to_come c) choice))) d 0 row (step_grows c (came c tick f wire) 0 (At c.recorded.me (Takes (line_to_come c) choice)) (came_grows wire))
+  arrived_short_grows d (arrivals.Took wire bytes choice keep may due row) =
+      to c (with_step (came c tick f wire) (At c.recorded.me (Takes (line_to_come c) choice))) d 0 row
+      (step_grows c (came c tick f wire) 0 (At c.recorded.me (Takes (line_to_come c) choice)) (came_grows wire))
 
 -- ---- segments that go out, and timers
 
@@ -133,8 +145,12 @@ made_grows : (c : Core) (tick : Tick) (plan : _) → Grows c (made c tick plan) 
 made_grows c tick plan = step_grows c (opened c tick) 0 (At c.recorded.me (Makes plan)) (opened_grows c tick)
 
 pub pumped_grows : (c d : Core) (tick : Tick) (f : Flying tcp_shape) → IsPumped c tick f d → Grows c d 0
-pumped_grows c d tick f (pumps.Answered number waited out) = to c _ d 0 out.row (step_grows c (opened c tick) 0 (At c.recorded.me (Sends (line_to_come (opened c tick)) number out.wire)) (opened_grows c tick))
-pumped_grows c d tick f (pumps.Made free plan out) = to c _ d 0 out.row (step_grows c (made c tick plan) 0 (At c.recorded.me (Sends (line_to_come (made c tick plan)) _ out.wire)) (made_grows c tick plan))
+pumped_grows c d tick f (pumps.Answered number waited out) =
+    to c _ d 0 out.row (step_grows c (opened c tick) 0
+    (At c.recorded.me (Sends (line_to_come (opened c tick)) number out.wire)) (opened_grows c tick))
+pumped_grows c d tick f (pumps.Made free plan out) =
+    to c _ d 0 out.row (step_grows c (made c tick plan) 0
+    (At c.recorded.me (Sends (line_to_come (made c tick plan)) _ out.wire)) (made_grows c tick plan))
 
 pub pumped_short_grows : (c d : Core) (tick : Tick) → IsPumpedShort c tick d → Grows c d 0
 pumped_short_grows c d tick (inl is) = ticked_grows c d tick is
@@ -163,9 +179,14 @@ goes c d total b room g =
     record { book = subst (λ (n : ℕ). IsBook d n) z book; site = (g.header, g.me) }
 
 stays : (c d : Core) (total : ℕ) → IsBook c total → d ≡ c → Goes c d total
-stays c d total b is = record { book = subst (λ (x : Core). IsBook x total) (sym is) b; site = (ap (λ (x : Core). x.recorded.header) is, ap (λ (x : Core). x.recorded.me) is) }
+stays c d total b is =
+    record {
+      book = subst (λ (x : Core). IsBook x total) (sym is) b;
+      site = (ap (λ (x : Core). x.recorded.header) is, ap (λ (x : Core). x.recorded.me) is);
+    }
 
-pub begun_goes : (c d : Core) (tick : Tick) (thread : ℕ) (call : Call) (total : ℕ) → IsBook c total → c.events < 10000000 → d ≡ begun c tick thread call → Goes c d total
+pub begun_goes : (c d : Core) (tick : Tick) (thread : ℕ) (call : Call) (total : ℕ) → IsBook c total
+    → c.events < 10000000 → d ≡ begun c tick thread call → Goes c d total
 begun_goes c d tick thread call total b room is = goes c d total b room (begun_grows c d tick thread call is)
 
 pub ticked_goes : (c d : Core) (tick : Tick) (total : ℕ) → IsBook c total → c.events < 10000000 → d ≡ opened c tick → Goes c d total
@@ -177,14 +198,20 @@ short_goes c d tick thread total b room is = goes c d total b room (attempt_shor
 pub same_goes : (c d : Core) (total : ℕ) → IsBook c total → d ≡ c → Goes c d total
 same_goes c d total b is = stays c d total b is
 
-pub attempted_goes : (c d : Core) (tick : Tick) (thread : ℕ) (a : Answered) (total : ℕ) → IsBook c total → c.events < 10000000 → IsAttempted c tick thread a d → IsBook d (total + 1) × IsSameSite c d
-attempted_goes c d tick thread a total b room is = let g = attempted_grows c d tick thread a is in (book_grows c d total 1 b g (omega arith) room, (g.header, g.me))
+pub attempted_goes : (c d : Core) (tick : Tick) (thread : ℕ) (a : Answered) (total : ℕ) → IsBook c total
+    → c.events < 10000000 → IsAttempted c tick thread a d → IsBook d (total + 1) × IsSameSite c d
+attempted_goes c d tick thread a total b room is = let g = attempted_grows c d tick thread a is in
+    (book_grows c d total 1 b g (omega arith) room, (g.header, g.me))
 
-pub arrival_goes : (c d : Core) (tick : Tick) (f : Flying tcp_shape) (let_in : Bool) (total : ℕ) → before f.key (key_of c.recorded.me tick) ≡ true → IsBook c total → c.events < 10000000 → IsArrival c tick f let_in d → Goes c d total
+pub arrival_goes : (c d : Core) (tick : Tick) (f : Flying tcp_shape) (let_in : Bool) (total : ℕ)
+    → before f.key (key_of c.recorded.me tick) ≡ true → IsBook c total → c.events < 10000000
+    → IsArrival c tick f let_in d → Goes c d total
 arrival_goes c d tick f true total up b room is = goes c d total b room (arrived_grows c tick f up d is)
 arrival_goes c d tick f false total up b room is = stays c d total b is.0
 
-pub arrived_short_goes : (c d : Core) (tick : Tick) (f : Flying tcp_shape) (total : ℕ) → before f.key (key_of c.recorded.me tick) ≡ true → IsBook c total → c.events < 10000000 → IsArrivedShort c tick f d → Goes c d total
+pub arrived_short_goes : (c d : Core) (tick : Tick) (f : Flying tcp_shape) (total : ℕ)
+    → before f.key (key_of c.recorded.me tick) ≡ true → IsBook c total → c.events < 10000000 → IsArrivedShort c tick f d
+    → Goes c d total
 arrived_short_goes c d tick f total up b room is = goes c d total b room (arrived_short_grows c tick f up d is)
 
 pub pumped_goes : (c d : Core) (tick : Tick) (f : Flying tcp_shape) (total : ℕ) → IsBook c total → c.events < 10000000 → IsPumped c tick f d → Goes c d total
@@ -194,24 +221,32 @@ pub pumped_short_goes : (c d : Core) (tick : Tick) (total : ℕ) → IsBook c to
 pumped_short_goes c d tick total b room is = goes c d total b room (pumped_short_grows c d tick is)
 
 pub timed_goes : (c d : Core) (tick : Tick) (found : Bool) (total : ℕ) → IsBook c total → c.events < 10000000 → IsTimed c tick found d → Goes c d total
-timed_goes c d tick true total b room is = goes c d total b room (to c (expired c tick is.0 is.1) d 0 is.2 (step_grows c (opened c tick) 0 _ (opened_grows c tick)))
+timed_goes c d tick true total b room is =
+    goes c d total b room (to c (expired c tick is.0 is.1) d 0 is.2
+    (step_grows c (opened c tick) 0 _ (opened_grows c tick)))
 timed_goes c d tick false total b room is = stays c d total b is.0
 
 -- ---- the same, of the book alone
 
-pub begun_book : (c d : Core) (tick : Tick) (thread : ℕ) (call : Call) (total : ℕ) → IsBook c total → c.events < 10000000 → d ≡ begun c tick thread call → IsBook d total
+pub begun_book : (c d : Core) (tick : Tick) (thread : ℕ) (call : Call) (total : ℕ) → IsBook c total
+    → c.events < 10000000 → d ≡ begun c tick thread call → IsBook d total
 begun_book c d tick thread call total b room is = (begun_goes c d tick thread call total b room is).book
 
-pub attempted_book : (c d : Core) (tick : Tick) (thread : ℕ) (a : Answered) (total : ℕ) → IsBook c total → c.events < 10000000 → IsAttempted c tick thread a d → IsBook d (total + 1)
+pub attempted_book : (c d : Core) (tick : Tick) (thread : ℕ) (a : Answered) (total : ℕ) → IsBook c total
+    → c.events < 10000000 → IsAttempted c tick thread a d → IsBook d (total + 1)
 attempted_book c d tick thread a total b room is = (attempted_goes c d tick thread a total b room is).0
 
 pub short_book : (c d : Core) (tick : Tick) (thread total : ℕ) → IsBook c total → c.events < 10000000 → IsAttemptShort c tick thread d → IsBook d total
 short_book c d tick thread total b room is = (short_goes c d tick thread total b room is).book
 
-pub arrival_book : (c d : Core) (tick : Tick) (f : Flying tcp_shape) (let_in : Bool) (total : ℕ) → before f.key (key_of c.recorded.me tick) ≡ true → IsBook c total → c.events < 10000000 → IsArrival c tick f let_in d → IsBook d total
+pub arrival_book : (c d : Core) (tick : Tick) (f : Flying tcp_shape) (let_in : Bool) (total : ℕ)
+    → before f.key (key_of c.recorded.me tick) ≡ true → IsBook c total → c.events < 10000000
+    → IsArrival c tick f let_in d → IsBook d total
 arrival_book c d tick f let_in total up b room is = (arrival_goes c d tick f let_in total up b room is).book
 
-pub arrived_short_book : (c d : Core) (tick : Tick) (f : Flying tcp_shape) (total : ℕ) → before f.key (key_of c.recorded.me tick) ≡ true → IsBook c total → c.events < 10000000 → IsArrivedShort c tick f d → IsBook d total
+pub arrived_short_book : (c d : Core) (tick : Tick) (f : Flying tcp_shape) (total : ℕ)
+    → before f.key (key_of c.recorded.me tick) ≡ true → IsBook c total → c.events < 10000000 → IsArrivedShort c tick f d
+    → IsBook d total
 arrived_short_book c d tick f total up b room is = (arrived_short_goes c d tick f total up b room is).book
 
 pub pumped_book : (c d : Core) (tick : Tick) (f : Flying tcp_shape) (total : ℕ) → IsBook c total → c.events < 10000000 → IsPumped c tick f d → IsBook d total
@@ -224,7 +259,8 @@ pub timed_book : (c d : Core) (tick : Tick) (found : Bool) (total : ℕ) → IsB
 timed_book c d tick found total b room is = (timed_goes c d tick found total b room is).book
 
 -- whether a segment went out or not
-pub maybe_pumped_book : (c d : Core) (tick : Tick) (o : Option (Flying tcp_shape)) (total : ℕ) → IsBook c total → c.events < 10000000 → IfSome o (λ f. IsPumped c tick f d) → IfNone o ((d ≡ c) × NothingToPump c) → IsBook d total
+pub maybe_pumped_book : (c d : Core) (tick : Tick) (o : Option (Flying tcp_shape)) (total : ℕ) → IsBook c total
+    → c.events < 10000000 → IfSome o (λ f. IsPumped c tick f d) → IfNone o ((d ≡ c) × NothingToPump c) → IsBook d total
 maybe_pumped_book c d tick None total b room some none = (stays c d total b none.0).book
 maybe_pumped_book c d tick (Some f) total b room some none = pumped_book c d tick f total b room some
 
@@ -236,11 +272,13 @@ short_site c d tick thread is = let g = attempt_short_grows c d tick thread is i
 pub attempted_site : (c d : Core) (tick : Tick) (thread : ℕ) (a : Answered) → IsAttempted c tick thread a d → IsSameSite c d
 attempted_site c d tick thread a is = let g = attempted_grows c d tick thread a is in (g.header, g.me)
 
-pub arrival_site : (c d : Core) (tick : Tick) (f : Flying tcp_shape) (let_in : Bool) → before f.key (key_of c.recorded.me tick) ≡ true → IsArrival c tick f let_in d → IsSameSite c d
+pub arrival_site : (c d : Core) (tick : Tick) (f : Flying tcp_shape) (let_in : Bool)
+    → before f.key (key_of c.recorded.me tick) ≡ true → IsArrival c tick f let_in d → IsSameSite c d
 arrival_site c d tick f true up is = let g = arrived_grows c tick f up d is in (g.header, g.me)
 arrival_site c d tick f false up is = (ap (λ (x : Core). x.recorded.header) is.0, ap (λ (x : Core). x.recorded.me) is.0)
 
-pub arrived_short_site : (c d : Core) (tick : Tick) (f : Flying tcp_shape) → before f.key (key_of c.recorded.me tick) ≡ true → IsArrivedShort c tick f d → IsSameSite c d
+pub arrived_short_site : (c d : Core) (tick : Tick) (f : Flying tcp_shape)
+    → before f.key (key_of c.recorded.me tick) ≡ true → IsArrivedShort c tick f d → IsSameSite c d
 arrived_short_site c d tick f up is = let g = arrived_short_grows c tick f up d is in (g.header, g.me)
 
 pub pumped_site : (c d : Core) (tick : Tick) (f : Flying tcp_shape) → IsPumped c tick f d → IsSameSite c d

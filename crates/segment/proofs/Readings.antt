@@ -1,5 +1,6 @@
 -- What is found from left to right is the segment or the first fault of bytes.
-use Rattle.std.proofs.Common.{◌≡◌, ◌≢◌, ◌≤◌, ◌<◌, ℕ, zero, suc, ◌+◌, ◌-◌, List, [], ◌∷◌, ◌++◌, length, take, drop, Option, Some, None, Result, Ok, Err, refl, ap, subst, arith, inl, inr}
+use Rattle.std.proofs.Common.{◌≡◌, ◌≢◌, ◌≤◌, ◌<◌, ℕ, zero, suc, ◌+◌, ◌-◌, List, [], ◌∷◌, ◌++◌, length, take, drop}
+use Rattle.std.proofs.Common.{Option, Some, None, Result, Ok, Err, refl, ap, subst, arith, inl, inr}
 use Rattle.std.specs.Prelude.{◌==◌, ◌&&◌, ◌||◌, nat_lt, nat_le, IfOk, IfErr}
 use Rattle.std.proofs.lemmas.Bool.{eqb-true, eqb-false, leb-true, le-leb, ltb-true, ltb-false, and_parts, and_from, or_parts, or_cases, cond_both, both_ways}
 use Rattle.std.proofs.lemmas.List.{take-append-drop, length-take, length-drop}
@@ -17,11 +18,13 @@ abbrev IsCutting : List ℕ → Option (List Item) → Type 0
 IsCutting bytes None = HasNoItems bytes
 IsCutting bytes (Some items) = IsCut items bytes
 
-in_front-cuts : (item : Item) (rest bytes : List ℕ) (items : Option (List Item)) → IsNext item rest bytes → IsCutting rest items → IsCutting bytes (in_front item items)
+in_front-cuts : (item : Item) (rest bytes : List ℕ) (items : Option (List Item)) → IsNext item rest bytes
+    → IsCutting rest items → IsCutting bytes (in_front item items)
 in_front-cuts item rest bytes None next none = HasNoItems-before item rest bytes next none
 in_front-cuts item rest bytes (Some items) next cut = (rest, next, cut)
 
-option_items-cuts : (n kind : ℕ) (rest : List ℕ) → kind ≢ 0 → kind ≢ 1 → ((after : List ℕ) → length after < n → IsCutting after (items_within n after)) → length rest < n
+option_items-cuts : (n kind : ℕ) (rest : List ℕ) → kind ≢ 0 → kind ≢ 1
+    → ((after : List ℕ) → length after < n → IsCutting after (items_within n after)) → length rest < n
     → IsCutting (kind ∷ rest) (option_items (items_within n) kind rest)
 option_items-cuts n kind [] no_end no_padding cuts lt = no_items (kind ∷ []) (omega arith) no_end no_padding (λ long least within. omega arith)
 option_items-cuts n kind (len ∷ rest) no_end no_padding cuts lt = cond_both (nat_le 2 len && nat_le len (length rest + 2)) _ _ (IsCutting (kind ∷ len ∷ rest))
@@ -30,7 +33,9 @@ option_items-cuts n kind (len ∷ rest) no_end no_padding cuts lt = cond_both (n
     let most : len ≤ length rest + 2 = leb-true _ _ parts.1 in
     let content_len : length (take (len - 2) rest) ≡ len - 2 = omega (arith, length-take (len - 2) rest) in
     let same_len : length (take (len - 2) rest) + 2 ≡ len = omega arith in
-    let parts_are : kind ∷ len ∷ rest ≡ kind ∷ (length (take (len - 2) rest) + 2) ∷ (take (len - 2) rest ++ drop (len - 2) rest) = rw (same_len, take-append-drop) refl in
+    let parts_are : kind ∷ len ∷ rest
+    ≡ kind ∷ (length (take (len - 2) rest) + 2) ∷ (take (len - 2) rest ++ drop (len - 2) rest) =
+    rw (same_len, take-append-drop) refl in
     in_front-cuts (option kind (take (len - 2) rest)) (drop (len - 2) rest) (kind ∷ len ∷ rest) (items_within n (drop (len - 2) rest))
     (record { fits = (no_end, no_padding); parts = parts_are })
     (cuts (drop (len - 2) rest) (omega (arith, length-drop (len - 2) rest))))
@@ -44,15 +49,18 @@ items_within-cuts (suc n) (kind ∷ rest) lt = cond_both (kind == 0) _ _ (IsCutt
     (λ end. eqb-true kind 0 end)
     (λ no_end. cond_both (kind == 1) _ _ (IsCutting (kind ∷ rest))
     (λ one. let is : kind ≡ 1 = eqb-true kind 1 one in
-    in_front-cuts padding rest (kind ∷ rest) (items_within n rest) (record { fits = tt; parts = ap (λ (k : ℕ). k ∷ rest) is }) (items_within-cuts n rest (omega arith)))
-    (λ not_one. option_items-cuts n kind rest (eqb-false kind 0 no_end) (eqb-false kind 1 not_one) (λ after shorter. items_within-cuts n after shorter) (omega arith)))
+    in_front-cuts padding rest (kind ∷ rest) (items_within n rest)
+    (record { fits = tt; parts = ap (λ (k : ℕ). k ∷ rest) is }) (items_within-cuts n rest (omega arith)))
+    (λ not_one. option_items-cuts n kind rest (eqb-false kind 0 no_end) (eqb-false kind 1 not_one)
+    (λ after shorter. items_within-cuts n after shorter) (omega arith)))
 
 -- a segment is the bytes' own, and a fault their first
 abbrev IsOfBytes : List ℕ → Result Segment SegFault → Type 0
 IsOfBytes bytes (Ok s) = IsSegment bytes s
 IsOfBytes bytes (Err e) = IsFault bytes e × (e ≢ OutOfMemory)
 
-with_items-of_bytes : (bytes : List ℕ) (items : Option (List Item)) → HasHeader bytes → IsCutting (options_of bytes) items → IsOfBytes bytes (with_items bytes items)
+with_items-of_bytes : (bytes : List ℕ) (items : Option (List Item)) → HasHeader bytes
+    → IsCutting (options_of bytes) items → IsOfBytes bytes (with_items bytes items)
 with_items-of_bytes bytes None header none = ((header, none), λ e. cc)
 with_items-of_bytes bytes (Some items) header cut = cond_both (nat_lt max_len (length bytes)) _ _ (IsOfBytes bytes)
     (λ long. ((header, (items, cut), ltb-true _ _ long), λ e. cc))
@@ -117,6 +125,14 @@ gives bytes (Err TooLong) found fault = IsOfBytes-unique bytes (segment_of bytes
 
 pub reads_by_layout : ReadsByLayout
 reads_by_layout = record {
-  segments = λ bytes s. (λ is. subst (IsOfBytes bytes) is (segment_of-of_bytes bytes), λ segment. IsOfBytes-unique bytes (segment_of bytes) (Ok s) (segment_of-of_bytes bytes) segment);
-  faults = λ bytes e. (λ is. subst (IsOfBytes bytes) is (segment_of-of_bytes bytes), λ fault. IsOfBytes-unique bytes (segment_of bytes) (Err e) (segment_of-of_bytes bytes) fault);
+  segments =
+      λ bytes s. (
+        λ is. subst (IsOfBytes bytes) is (segment_of-of_bytes bytes),
+        λ segment. IsOfBytes-unique bytes (segment_of bytes) (Ok s) (segment_of-of_bytes bytes) segment,
+      );
+  faults =
+      λ bytes e. (
+        λ is. subst (IsOfBytes bytes) is (segment_of-of_bytes bytes),
+        λ fault. IsOfBytes-unique bytes (segment_of bytes) (Err e) (segment_of-of_bytes bytes) fault,
+      );
 }

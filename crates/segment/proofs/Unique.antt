@@ -13,7 +13,12 @@ IsSegment-unique bytes s t p q =
 
 pub IsFault-no_segment : (bytes : List ℕ) (e : SegFault) (s : Segment) → IsFault bytes e → IsSegment bytes s → e ≡ OutOfMemory
 IsFault-no_segment bytes Short s fault p = absurd (let h = p.header.whole in omega arith)
-IsFault-no_segment bytes Offset s fault p = absurd (elim fault.1 [ inl low ↦ let h = p.header.least in omega arith | inr high ↦ let h = p.header.within in omega arith ])
+IsFault-no_segment bytes Offset s fault p =
+    absurd (elim fault.1 [
+      | inl low ↦ let h = p.header.least in omega arith
+      | inr high ↦ let h = p.header.within in
+          omega arith
+    ])
 IsFault-no_segment bytes OptionLength s fault p = absurd (fault.1 p.items p.cut)
 IsFault-no_segment bytes TooLong s fault p = absurd (let h = p.len in let k = fault.2 in omega arith)
 IsFault-no_segment bytes OutOfMemory s fault p = refl

@@ -37,7 +37,8 @@ own_sockets : (me : Host) (sockets : List (ℕ × Socket)) → are_own_sockets m
 own_sockets me [] e n is_given = absurd (cc)
 own_sockets me (s ∷ sockets) e n is_given = go (nat_eq n s.0) refl is_given (own_sockets me sockets (and_parts _ _ e).1 n)
   where
-    go : (b : Bool) → nat_eq n s.0 ≡ b → is_some (cond b (Some s.1) (lookup (nat_eq n) sockets)) ≡ true → (is_some (lookup (nat_eq n) sockets) ≡ true → lane n ≡ me) → lane n ≡ me
+    go : (b : Bool) → nat_eq n s.0 ≡ b → is_some (cond b (Some s.1) (lookup (nat_eq n) sockets)) ≡ true
+        → (is_some (lookup (nat_eq n) sockets) ≡ true → lane n ≡ me) → lane n ≡ me
     go true is found rest = ap lane (eqb-true n s.0 is) ∙ same_host (lane s.0) me (and_parts _ _ e).0
     go false is found rest = rest found
 
@@ -56,7 +57,8 @@ gives_own me Idle answer = true
 gives_own me (Called call) answer = on (gives call answer) true (is_own_number me)
 gives_own me (Answered given) answer = true
 
-given_own : (me : Host) (turn : Turn tcp_shape) (answer : Answer) → gives_own me turn answer ≡ true → (call : Call) → turn ≡ Called call → (n : ℕ) → gives call answer ≡ Some n → lane n ≡ me
+given_own : (me : Host) (turn : Turn tcp_shape) (answer : Answer) → gives_own me turn answer ≡ true → (call : Call)
+    → turn ≡ Called call → (n : ℕ) → gives call answer ≡ Some n → lane n ≡ me
 given_own me turn answer e call is n gave =
     let here = ap (λ (t : Turn tcp_shape). gives_own me t answer) (sym is) ∙ e in
     same_host (lane n) me (ap (λ (o : Option ℕ). on o true (is_own_number me)) (sym gave) ∙ here)
@@ -83,14 +85,17 @@ none_there : {A : Type 0} (o : Option A) → not (is_some o) ≡ true → o ≡ 
 none_there None e = refl
 none_there (Some x) e = absurd (cc)
 
-fitting : (h : Header) (me : Host) (moment : ℕ) (w : World tcp_shape) (item : Item tcp_shape) → fits h me moment w item ≡ true → FitsItem (tcp h) me moment w item
+fitting : (h : Header) (me : Host) (moment : ℕ) (w : World tcp_shape) (item : Item tcp_shape)
+    → fits h me moment w item ≡ true → FitsItem (tcp h) me moment w item
 fitting h me moment w (Do step) e = let p = and_parts _ _ e in (none_there (first_broken (step_rules (tcp h) moment w step)) p.0, own h me w step p.1)
 fitting h me moment w (Bring f) e = tt
 
 -- the entries are a run of this host alone
 abbrev pub is_run : Header → Host → World tcp_shape → List TcpEntry → Bool
 is_run h me w [] = true
-is_run h me w (x ∷ xs) = fits h me x.key.moment w x.item && (are_own_sockets me (pick (next (tcp h) me w x).hosts me).body.sockets && is_run h me (next (tcp h) me w x) xs)
+is_run h me w (x ∷ xs) =
+    fits h me x.key.moment w x.item
+    && (are_own_sockets me (pick (next (tcp h) me w x).hosts me).body.sockets && is_run h me (next (tcp h) me w x) xs)
 
 pub host_run : (h : Header) (me : Host) (w : World tcp_shape) (xs : List TcpEntry) → is_run h me w xs ≡ true → HostRun (tcp h) me w xs
 host_run h me w [] e = tt
@@ -123,7 +128,8 @@ keys_rise h me (x ∷ xs) e =
 abbrev pub is_above : (old new : List TcpEntry) → Bool
 is_above old new = list_all (λ x. none_below x.key new) old
 
-pub above : (h : Header) (old new : List TcpEntry) → is_above old new ≡ true → EachEntry (tcp h) (λ x. EachEntry (tcp h) (λ y. before y.key x.key ≡ false) new) old
+pub above : (h : Header) (old new : List TcpEntry) → is_above old new ≡ true
+    → EachEntry (tcp h) (λ x. EachEntry (tcp h) (λ y. before y.key x.key ≡ false) new) old
 above h [] new e = tt
 above h (x ∷ old) new e = let p = and_parts _ _ e in (none_before h x.key new p.0, above h old new p.1)
 
@@ -154,6 +160,7 @@ keyed (Some line) n key wanted e is =
     let same = ap (λ (b : Bool). cond b (same_key key wanted) true) (sym (eq-eqb line n (same_Some line n is))) ∙ e in
     key_same key wanted same
 
-pub line_of : (h : Header) (n : ℕ) (wanted : Key) (ys : List TcpEntry) → is_line_of h n wanted ys ≡ true → EachEntry (tcp h) (λ y. item_line (tcp h) y.item ≡ Some n → y.key ≡ wanted) ys
+pub line_of : (h : Header) (n : ℕ) (wanted : Key) (ys : List TcpEntry) → is_line_of h n wanted ys ≡ true
+    → EachEntry (tcp h) (λ y. item_line (tcp h) y.item ≡ Some n → y.key ≡ wanted) ys
 line_of h n wanted [] e = tt
 line_of h n wanted (y ∷ ys) e = let p = and_parts _ _ e in (keyed (item_line (tcp h) y.item) n y.key wanted p.0, line_of h n wanted ys p.1)

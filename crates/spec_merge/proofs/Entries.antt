@@ -24,7 +24,17 @@ packet src dst seq ack flags payload = telling.packet src dst seq ack flags 6553
 
 -- a segment to be made, with the initial number where it is the first
 abbrev pub making : (lport rport pos len : ℕ) → Flags → Option ℕ → SegmentPlan
-making lport rport pos len made iss = record { lport = lport; rport = rport; pos = pos; len = len; flags = made; window = 65535; iss = option_map (λ n. record { 0 = n }) iss; shift = None }
+making lport rport pos len made iss =
+    record {
+      lport = lport;
+      rport = rport;
+      pos = pos;
+      len = len;
+      flags = made;
+      window = 65535;
+      iss = option_map (λ n. record { 0 = n }) iss;
+      shift = None;
+    }
 
 -- the choices at taking one
 abbrev pub how : (cwnd : ℕ) (keep sample : Bool) → TakeChoice

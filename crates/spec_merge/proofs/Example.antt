@@ -9,7 +9,8 @@ use Rattle.verdict.specs.declared.rule.Rule.{Rule}
 use Rattle.verdict.specs.declared.rule.Rule.TheVariants as rules
 use Rattle.verdict.specs.Rules.{first_broken}
 use Rattle.spec_network.specs.Tables.{gone_out, lane, unsent}
-use Rattle.spec_network.specs.Hosts.{Shape, Kernel, World, ThatHost, Idle, Called, Answered, Makes, Sends, Gets, Takes, Drops, Deed, Step, Begin, Finish, Effect, At, Stamped}
+use Rattle.spec_network.specs.Hosts.{Shape, Kernel, World, ThatHost, Idle, Called, Answered, Makes, Sends, Gets, Takes}
+use Rattle.spec_network.specs.Hosts.{Drops, Deed, Step, Begin, Finish, Effect, At, Stamped}
 use Rattle.spec_network.specs.HostRules.{just, step_rules}
 use Rattle.spec_network.specs.HostSteps.{start, after, after_all}
 use Rattle.spec_merge.specs.Books.{Key, Item, Do, Bring, Entry}
@@ -24,7 +25,20 @@ data Act : Type 0 where
   Rest : Act
 
 abbrev shape : Shape
-shape = record { Body = ℕ; Act = Act; Plain = Unit {0}; Expiring = Unit {0}; Making = ℕ; How = Unit {0}; Expiry = Unit {0}; Emission = ℕ; Wire = ℕ; Call = Unit {0}; Answer = Unit {0} }
+shape =
+    record {
+      Body = ℕ;
+      Act = Act;
+      Plain = Unit {0};
+      Expiring = Unit {0};
+      Making = ℕ;
+      How = Unit {0};
+      Expiry = Unit {0};
+      Emission = ℕ;
+      Wire = ℕ;
+      Call = Unit {0};
+      Answer = Unit {0};
+    }
 
 abbrev sum_after : ℕ → Act → ℕ
 sum_after b (Make n) = b
@@ -74,12 +88,14 @@ stamped moment step = record { moment = moment; step = step }
 -- host 0 sends 5 with its line 7, and takes what host 1 sent
 abbrev zeros : List (Entry shape)
 zeros = entry 1 0 Zero (Do (At Zero (Makes 5))) ∷ entry 1 1 Zero (Do (At Zero (Sends 7 1 5)))
-    ∷ entry 4 2 Zero (Bring (record { key = key 2 1 One; line = 7; emission = 6 })) ∷ entry 4 2 Zero (Do (At Zero (Gets 8 7 6))) ∷ entry 4 3 Zero (Do (At Zero (Takes 8 tt))) ∷ []
+    ∷ entry 4 2 Zero (Bring (record { key = key 2 1 One; line = 7; emission = 6 }))
+    ∷ entry 4 2 Zero (Do (At Zero (Gets 8 7 6))) ∷ entry 4 3 Zero (Do (At Zero (Takes 8 tt))) ∷ []
 
 -- host 1 sends 6 with its line 7, and takes what host 0 sent
 abbrev ones : List (Entry shape)
 ones = entry 2 0 One (Do (At One (Makes 6))) ∷ entry 2 1 One (Do (At One (Sends 7 1 6)))
-    ∷ entry 3 2 One (Bring (record { key = key 1 1 Zero; line = 7; emission = 5 })) ∷ entry 3 2 One (Do (At One (Gets 8 7 5))) ∷ entry 3 3 One (Do (At One (Takes 8 tt))) ∷ []
+    ∷ entry 3 2 One (Bring (record { key = key 1 1 Zero; line = 7; emission = 5 }))
+    ∷ entry 3 2 One (Do (At One (Gets 8 7 5))) ∷ entry 3 3 One (Do (At One (Takes 8 tt))) ∷ []
 
 -- merged, with lines from 7 on and made segments from 1 on
 abbrev told : List (Stamped shape)
@@ -175,17 +191,20 @@ called = after sums 5 last (Begin 11 4 tt)
 abbrev answered : World shape
 answered = after sums 5 called (Effect 4 tt)
 
-turns_are : (called.threads ≡ (4, Called tt) ∷ []) × (answered.threads ≡ (4, Answered tt) ∷ []) × ((after sums 5 answered (Finish 12 4 tt)).threads ≡ (4, Idle) ∷ [])
+turns_are : (called.threads ≡ (4, Called tt) ∷ []) × (answered.threads ≡ (4, Answered tt) ∷ [])
+    × ((after sums 5 answered (Finish 12 4 tt)).threads ≡ (4, Idle) ∷ [])
 turns_are = (refl, refl, refl)
 
 abbrev breaks : World shape → Step shape → Option Rule
 breaks w step = first_broken (step_rules sums 5 w step)
 
 -- each in its turn: another thread may begin, this one may not; it ends after its one effect
-while_called : (breaks called (Begin 12 6 tt) ≡ None) × (breaks called (Begin 12 4 tt) ≡ Some rules.ThreadBusy) × (breaks called (Finish 12 4 tt) ≡ Some rules.AnswerDiffers) × (breaks called (Effect 4 tt) ≡ None)
+while_called : (breaks called (Begin 12 6 tt) ≡ None) × (breaks called (Begin 12 4 tt) ≡ Some rules.ThreadBusy)
+    × (breaks called (Finish 12 4 tt) ≡ Some rules.AnswerDiffers) × (breaks called (Effect 4 tt) ≡ None)
 while_called = (refl, refl, refl, refl)
 
-while_answered : (breaks answered (Begin 12 4 tt) ≡ Some rules.ThreadBusy) × (breaks answered (Finish 12 4 tt) ≡ None) × (breaks answered (Effect 4 tt) ≡ Some rules.DoneTwice)
+while_answered : (breaks answered (Begin 12 4 tt) ≡ Some rules.ThreadBusy) × (breaks answered (Finish 12 4 tt) ≡ None)
+    × (breaks answered (Effect 4 tt) ≡ Some rules.DoneTwice)
 while_answered = (refl, refl, refl)
 
 while_idle : (breaks last (Finish 12 4 tt) ≡ Some rules.NoCall) × (breaks last (Effect 4 tt) ≡ Some rules.NoCall)

@@ -9,7 +9,8 @@ use Rattle.spec_tcp.specs.Machine.{tcp, tcp_shape}
 use Rattle.spec_tcp_laws.specs.Runs.{world_at_end}
 use Rattle.spec_merge.specs.Recordings.{AreFirstSteps, TcpEntry, merged, merged_lines}
 
-pub lawful_parts : (h : Header) (w : World tcp_shape) (xs ys : List (Stamped tcp_shape)) → Lawful (tcp h) w (xs ++ ys) → Lawful (tcp h) w xs × Lawful (tcp h) (after_all (tcp h) w xs) ys
+pub lawful_parts : (h : Header) (w : World tcp_shape) (xs ys : List (Stamped tcp_shape)) → Lawful (tcp h) w (xs ++ ys)
+    → Lawful (tcp h) w xs × Lawful (tcp h) (after_all (tcp h) w xs) ys
 lawful_parts h w [] ys may = (tt, may)
 lawful_parts h w (x ∷ xs) ys may =
     let rest = lawful_parts h (after (tcp h) x.moment w x.step) xs ys may.1 in

@@ -52,11 +52,15 @@ pub record HostHalf (k : Kernel) (names : Names) (h o : Host) (lw fw gw : Both (
 
 -- the host itself changes, in its own run and in the merged world alike
 pub hosts_mine : (k : Kernel) (names : Names) (h : Host) (lw fw gw : Both (HostState k.shape)) (ln mn : ℕ) → HostHalf k names h (other h) lw fw gw ln
-    → (x y : HostState k.shape) → y ≡ rehost k names h x → ((tag : ℕ) (e : k.shape.Emission) → lookup (nat_eq tag) x.wire ≡ Some e → tag < mn) → ((n : ℕ) → k.given x.body n ≡ true → lane n ≡ h)
+    → (x y : HostState k.shape) → y ≡ rehost k names h x
+    → ((tag : ℕ) (e : k.shape.Emission) → lookup (nat_eq tag) x.wire ≡ Some e → tag < mn)
+    → ((n : ℕ) → k.given x.body n ≡ true → lane n ≡ h)
     → HostHalf k names h (other h) (with_host lw h x) fw (with_host gw h y) mn
 hosts_mine k names h lw fw gw ln mn was x y is below lanes = record {
   host = pick_same gw h y ∙ (is ∙ ap (λ (z : HostState k.shape). rehost k names h z) (sym (pick_same lw h x)));
-  heard = subst (λ (z : HostState k.shape). (tag : ℕ) (e : k.shape.Emission) → lookup (nat_eq tag) z.wire ≡ Some e → lookup (nat_eq tag) (pick fw (other h)).wire ≡ Some e) (sym (pick_other lw h x)) was.heard;
+  heard =
+      subst (λ (z : HostState k.shape). (tag : ℕ) (e : k.shape.Emission) → lookup (nat_eq tag) z.wire ≡ Some e
+      → lookup (nat_eq tag) (pick fw (other h)).wire ≡ Some e) (sym (pick_other lw h x)) was.heard;
   below = subst (λ (z : HostState k.shape). (tag : ℕ) (e : k.shape.Emission) → lookup (nat_eq tag) z.wire ≡ Some e → tag < mn) (sym (pick_same lw h x)) below;
   lanes = subst (λ (z : HostState k.shape). (n : ℕ) → k.given z.body n ≡ true → lane n ≡ h) (sym (pick_same lw h x)) lanes;
   bare = ap (λ (z : HostState k.shape). z.body) (pick_other lw h x) ∙ was.bare;
@@ -77,19 +81,30 @@ hosts_theirs k names h lw fw gw fn was x y grows = record {
 -- a segment is brought that stands on the other's wire in the other's run
 pub hosts_bring : (k : Kernel) (names : Names) (h : Host) (lw fw gw : Both (HostState k.shape)) (ln : ℕ) → HostHalf k names h (other h) lw fw gw ln
     → (f : Flying k.shape) → lookup (nat_eq f.line) (pick fw (other h)).wire ≡ Some f.emission
-    → HostHalf k names h (other h) (with_host lw (other h) (record (pick lw (other h)) { wire = insert_entry nat_eq (pick lw (other h)).wire f.line f.emission })) fw gw ln
+    → HostHalf k names h (other h)
+    (with_host lw (other h) (record (pick lw (other h)) {
+      wire = insert_entry nat_eq (pick lw (other h)).wire f.line f.emission;
+    })) fw gw ln
 hosts_bring k names h lw fw gw ln was f named = record {
   host = was.host ∙ ap (λ (z : HostState k.shape). rehost k names h z) (sym (pick_far lw h _));
-  heard = subst (λ (z : HostState k.shape). (tag : ℕ) (e : k.shape.Emission) → lookup (nat_eq tag) z.wire ≡ Some e → lookup (nat_eq tag) (pick fw (other h)).wire ≡ Some e) (sym (pick_same lw (other h) _)) heard;
-  below = subst (λ (z : HostState k.shape). (tag : ℕ) (e : k.shape.Emission) → lookup (nat_eq tag) z.wire ≡ Some e → tag < ln) (sym (pick_far lw h _)) was.below;
+  heard =
+      subst (λ (z : HostState k.shape). (tag : ℕ) (e : k.shape.Emission) → lookup (nat_eq tag) z.wire ≡ Some e
+      → lookup (nat_eq tag) (pick fw (other h)).wire ≡ Some e) (sym (pick_same lw (other h) _)) heard;
+  below =
+      subst (λ (z : HostState k.shape). (tag : ℕ) (e : k.shape.Emission) → lookup (nat_eq tag) z.wire ≡ Some e
+      → tag < ln) (sym (pick_far lw h _)) was.below;
   lanes = subst (λ (z : HostState k.shape). (n : ℕ) → k.given z.body n ≡ true → lane n ≡ h) (sym (pick_far lw h _)) was.lanes;
   bare = ap (λ (z : HostState k.shape). z.body) (pick_same lw (other h) _) ∙ was.bare;
 }
   where
-    heard : (tag : ℕ) (e : k.shape.Emission) → lookup (nat_eq tag) (insert_entry nat_eq (pick lw (other h)).wire f.line f.emission) ≡ Some e → lookup (nat_eq tag) (pick fw (other h)).wire ≡ Some e
+    heard : (tag : ℕ) (e : k.shape.Emission)
+        → lookup (nat_eq tag) (insert_entry nat_eq (pick lw (other h)).wire f.line f.emission) ≡ Some e
+        → lookup (nat_eq tag) (pick fw (other h)).wire ≡ Some e
     heard tag e at = go (nat_eq tag f.line) refl (sym (lookup_insert tag f.line f.emission (pick lw (other h)).wire) ∙ at)
       where
-        go : (b : Bool) → nat_eq tag f.line ≡ b → cond b (Some f.emission) (lookup (nat_eq tag) (pick lw (other h)).wire) ≡ Some e → lookup (nat_eq tag) (pick fw (other h)).wire ≡ Some e
+        go : (b : Bool) → nat_eq tag f.line ≡ b
+            → cond b (Some f.emission) (lookup (nat_eq tag) (pick lw (other h)).wire) ≡ Some e
+            → lookup (nat_eq tag) (pick fw (other h)).wire ≡ Some e
         go true is at = let n : f.line ≡ tag = grind (arith, nat_tests) in subst (λ (m : ℕ). lookup (nat_eq m) (pick fw (other h)).wire ≡ Some e) n (named ∙ at)
         go false is at = was.heard tag e at
 
@@ -106,13 +121,19 @@ hosts_brought k names h lw fw gw fn was x = record {
 
 -- what a deed puts on the wire
 pub deed_wire : (k : Kernel) (h : Host) (s fresh : ℕ) (far : List (ℕ × k.shape.Emission)) (x : HostState k.shape) (d : Deed k.shape)
-    → ((deed_after k h s fresh far x d).wire ≡ x.wire) ⊎ ((line : ℕ) × (e : k.shape.Emission) × (deed_line k d ≡ Some line) × ((deed_after k h s fresh far x d).wire ≡ insert_entry nat_eq x.wire line e))
+    → ((deed_after k h s fresh far x d).wire ≡ x.wire)
+    ⊎ ((line : ℕ) × (e : k.shape.Emission) × (deed_line k d ≡ Some line)
+    × ((deed_after k h s fresh far x d).wire ≡ insert_entry nat_eq x.wire line e))
 deed_wire k h s fresh far x (Does v) = inl refl
 deed_wire k h s fresh far x (Expires line v) = inl refl
 deed_wire k h s fresh far x (Makes v) = inl refl
 deed_wire k h s fresh far x (Sends line number wire) = go (lookup (nat_eq number) x.made)
   where
-    go : (o : Option (Made k.shape.Emission)) → (on o x.wire (λ m. insert_entry nat_eq x.wire line (k.sent s wire m.emission)) ≡ x.wire) ⊎ ((l : ℕ) × (e : k.shape.Emission) × (Some line ≡ Some l) × (on o x.wire (λ m. insert_entry nat_eq x.wire line (k.sent s wire m.emission)) ≡ insert_entry nat_eq x.wire l e))
+    go : (o : Option (Made k.shape.Emission))
+        → (on o x.wire (λ m. insert_entry nat_eq x.wire line (k.sent s wire m.emission)) ≡ x.wire)
+        ⊎ ((l : ℕ) × (e : k.shape.Emission) × (Some line ≡ Some l)
+        × (on o x.wire (λ m. insert_entry nat_eq x.wire line (k.sent s wire m.emission))
+        ≡ insert_entry nat_eq x.wire l e))
     go None = inl refl
     go (Some m) = inr (line, k.sent s wire m.emission, refl, refl)
 deed_wire k h s fresh far x (Gets line copied wire) = inl refl
@@ -125,7 +146,8 @@ deed_wire k h s fresh far x (Answers line) = inl refl
 pub wire_grows : (k : Kernel) (x y : HostState k.shape) (ln : ℕ) (l : Option ℕ) → ((line : ℕ) → l ≡ Some line → line ≡ ln)
     → (y.wire ≡ x.wire) ⊎ ((line : ℕ) × (e : k.shape.Emission) × (l ≡ Some line) × (y.wire ≡ insert_entry nat_eq x.wire line e))
     → ((tag : ℕ) (e : k.shape.Emission) → lookup (nat_eq tag) x.wire ≡ Some e → tag < ln)
-    → ((tag : ℕ) (e : k.shape.Emission) → lookup (nat_eq tag) x.wire ≡ Some e → lookup (nat_eq tag) y.wire ≡ Some e) × ((tag : ℕ) (e : k.shape.Emission) → lookup (nat_eq tag) y.wire ≡ Some e → tag < on l ln (λ line. suc ln))
+    → ((tag : ℕ) (e : k.shape.Emission) → lookup (nat_eq tag) x.wire ≡ Some e → lookup (nat_eq tag) y.wire ≡ Some e)
+    × ((tag : ℕ) (e : k.shape.Emission) → lookup (nat_eq tag) y.wire ≡ Some e → tag < on l ln (λ line. suc ln))
 wire_grows k x y ln l numbered (inl same) below = (
   (λ tag e at. ap (λ (ts : List (ℕ × k.shape.Emission)). lookup (nat_eq tag) ts) same ∙ at),
   (λ tag e at. let b = below tag e (sym (ap (λ (ts : List (ℕ × k.shape.Emission)). lookup (nat_eq tag) ts) same) ∙ at) in more l tag b),
@@ -143,10 +165,12 @@ wire_grows k x y ln l numbered (inr new) below =
     there : (tag : ℕ) → lookup (nat_eq tag) y.wire ≡ cond (nat_eq tag new.0) (Some new.1) (lookup (nat_eq tag) x.wire)
     there tag = ap (λ (ts : List (ℕ × k.shape.Emission)). lookup (nat_eq tag) ts) new.3 ∙ lookup_insert tag new.0 new.1 x.wire
 
-    old : (tag : ℕ) (e : k.shape.Emission) → lookup (nat_eq tag) x.wire ≡ Some e → tag < ln → new.0 ≡ ln → (b : Bool) → nat_eq tag new.0 ≡ b → cond b (Some new.1) (lookup (nat_eq tag) x.wire) ≡ Some e
+    old : (tag : ℕ) (e : k.shape.Emission) → lookup (nat_eq tag) x.wire ≡ Some e → tag < ln → new.0 ≡ ln → (b : Bool)
+        → nat_eq tag new.0 ≡ b → cond b (Some new.1) (lookup (nat_eq tag) x.wire) ≡ Some e
     old tag e at b is true t = absurd (grind (arith, nat_tests))
     old tag e at b is false t = at
 
-    low : (tag : ℕ) (e : k.shape.Emission) → new.0 ≡ ln → (b : Bool) → nat_eq tag new.0 ≡ b → cond b (Some new.1) (lookup (nat_eq tag) x.wire) ≡ Some e → tag < suc ln
+    low : (tag : ℕ) (e : k.shape.Emission) → new.0 ≡ ln → (b : Bool) → nat_eq tag new.0 ≡ b
+        → cond b (Some new.1) (lookup (nat_eq tag) x.wire) ≡ Some e → tag < suc ln
     low tag e is true t at = grind (arith, nat_tests)
     low tag e is false t at = let b = below tag e at in omega arith

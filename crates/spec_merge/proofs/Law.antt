@@ -19,7 +19,9 @@ use Rattle.spec_merge.proofs.Stepped.{Half, idle_uncalled, stepped}
 abbrev pub Halves : (k : Kernel) → Names → Both (World k.shape) → World k.shape → Both ℕ → ℕ → List (Option Host) → List (Option Host) → Type 0
 Halves k names ws gw ls n lt mt = (h : Host) → Half k names h (other h) (pick ws h) (pick ws (other h)) gw (pick ls h) n lt mt
 
-theirs_of : (k : Kernel) (names : Names) (ws : Both (World k.shape)) (gw : World k.shape) (ls : Both ℕ) (n : ℕ) (lt mt : List (Option Host)) → Halves k names ws gw ls n lt mt → (h : Host) → Half k names (other h) h (pick ws (other h)) (pick ws h) gw (pick ls (other h)) n lt mt
+theirs_of : (k : Kernel) (names : Names) (ws : Both (World k.shape)) (gw : World k.shape) (ls : Both ℕ) (n : ℕ)
+    (lt mt : List (Option Host)) → Halves k names ws gw ls n lt mt → (h : Host)
+    → Half k names (other h) h (pick ws (other h)) (pick ws h) gw (pick ls (other h)) n lt mt
 theirs_of k names ws gw ls n lt mt all Zero = all One
 theirs_of k names ws gw ls n lt mt all One = all Zero
 
@@ -31,7 +33,8 @@ halves k names ws lw gw ls ln n lt mt Zero a b One = b
 halves k names ws lw gw ls ln n lt mt One a b Zero = b
 halves k names ws lw gw ls ln n lt mt One a b One = a
 
-redeed_line : (k : Kernel) (names : Names) (h : Host) (d : Deed k.shape) → deed_line k (redeed k names h d) ≡ on (deed_line k d) None (λ l. Some (names.line h l))
+redeed_line : (k : Kernel) (names : Names) (h : Host) (d : Deed k.shape)
+    → deed_line k (redeed k names h d) ≡ on (deed_line k d) None (λ l. Some (names.line h l))
 redeed_line k names h (Does v) = refl
 redeed_line k names h (Expires line v) = refl
 redeed_line k names h (Makes v) = refl
@@ -42,13 +45,15 @@ redeed_line k names h (Takes line how) = refl
 redeed_line k names h (Drops line) = refl
 redeed_line k names h (Answers line) = refl
 
-restep_line : (k : Kernel) (names : Names) (h : Host) (step : Step k.shape) → step_line k (restep k names h step) ≡ on (step_line k step) None (λ l. Some (names.line h l))
+restep_line : (k : Kernel) (names : Names) (h : Host) (step : Step k.shape)
+    → step_line k (restep k names h step) ≡ on (step_line k step) None (λ l. Some (names.line h l))
 restep_line k names h (Begin line t call) = refl
 restep_line k names h (Finish line t answer) = refl
 restep_line k names h (Effect t answer) = refl
 restep_line k names h (At side d) = redeed_line k names h d
 
-line_rises : (P : ℕ → Type 0) (f : ℕ → ℕ) (n : ℕ) (o : Option ℕ) → ((l : ℕ) → o ≡ Some l → f l ≡ n) → P (on o n (λ l. suc n)) → If (on o None (λ l. Some (f l))) (P n) (λ line. (line ≡ n) × P (suc n))
+line_rises : (P : ℕ → Type 0) (f : ℕ → ℕ) (n : ℕ) (o : Option ℕ) → ((l : ℕ) → o ≡ Some l → f l ≡ n)
+    → P (on o n (λ l. suc n)) → If (on o None (λ l. Some (f l))) (P n) (λ line. (line ≡ n) × P (suc n))
 line_rises P f n None is p = p
 line_rises P f n (Some l) is p = (is l refl, p)
 
@@ -56,22 +61,35 @@ abbrev Outcome : (k : Kernel) → Names → World k.shape → ℕ → List (Entr
 Outcome k names gw n zs = Lawful k gw (steps_of k names zs) × LinesRise k n (steps_of k names zs)
 
 -- from halves on, the entries that are left are a run, whose lines are numbered on
-pub merged : (k : Kernel) → ((n : ℕ) → k.given k.empty n ≡ false) → (names : Names) → Apt names → (ws : Both (World k.shape)) (gw : World k.shape) (ls : Both ℕ) (n : ℕ) (zs : List (Entry k.shape))
+pub merged : (k : Kernel) → ((n : ℕ) → k.given k.empty n ≡ false) → (names : Names) → Apt names
+    → (ws : Both (World k.shape)) (gw : World k.shape) (ls : Both ℕ) (n : ℕ) (zs : List (Entry k.shape))
     → Joint k ws ls zs → Halves k names ws gw ls n (line_turns k zs) (make_turns k zs) → Lawful k gw (steps_of k names zs) × LinesRise k n (steps_of k names zs)
 merged k none names apt ws gw ls n [] joint all = (tt, tt)
 merged k none names apt ws gw ls n (x ∷ xs) joint all = go x.key x.item joint all (λ ws gw ls n. merged k none names apt ws gw ls n xs)
   where
-    go : (key : Key) (item : Item k.shape) → Joint k ws ls (record { key = key; item = item } ∷ xs) → Halves k names ws gw ls n (line_turns k (record { key = key; item = item } ∷ xs)) (make_turns k (record { key = key; item = item } ∷ xs))
-        → ((ws : Both (World k.shape)) (gw : World k.shape) (ls : Both ℕ) (n : ℕ) → Joint k ws ls xs → Halves k names ws gw ls n (line_turns k xs) (make_turns k xs) → Lawful k gw (steps_of k names xs) × LinesRise k n (steps_of k names xs))
+    go : (key : Key) (item : Item k.shape) → Joint k ws ls (record { key = key; item = item } ∷ xs)
+        → Halves k names ws gw ls n (line_turns k (record { key = key; item = item } ∷ xs))
+        (make_turns k (record { key = key; item = item } ∷ xs))
+        → ((ws : Both (World k.shape)) (gw : World k.shape) (ls : Both ℕ) (n : ℕ) → Joint k ws ls xs
+        → Halves k names ws gw ls n (line_turns k xs) (make_turns k xs)
+        → Lawful k gw (steps_of k names xs) × LinesRise k n (steps_of k names xs))
         → Lawful k gw (with_step k names key item (steps_of k names xs)) × LinesRise k n (with_step k names key item (steps_of k names xs))
     go key (Do step) joint all rest =
         let h = key.host in
         let lw = pick ws h in
-        let done = stepped k none names apt h key.moment lw (pick ws (other h)) gw (pick ls h) (pick ls (other h)) n (line_turns k xs) (make_turns k xs) step (all h) (theirs_of k names ws gw ls n _ _ all h) joint.0 joint.1 joint.3 in
-        let more = rest (with_host ws h (after k key.moment lw step)) (after k key.moment gw (restep k names h step)) (with_host ls h (count_on k (Do step) (pick ls h))) (on (step_line k step) n (λ l. suc n)) joint.4
-        (halves k names ws (after k key.moment lw step) (after k key.moment gw (restep k names h step)) ls (on (step_line k step) (pick ls h) (λ l. suc (pick ls h))) (on (step_line k step) n (λ l. suc n)) (line_turns k xs) (make_turns k xs) h done.mine done.theirs) in (
+        let done =
+        stepped k none names apt h key.moment lw (pick ws (other h)) gw (pick ls h) (pick ls (other h)) n
+        (line_turns k xs) (make_turns k xs) step (all h)
+        (theirs_of k names ws gw ls n _ _ all h) joint.0 joint.1 joint.3 in
+        let more =
+        rest (with_host ws h (after k key.moment lw step)) (after k key.moment gw (restep k names h step))
+        (with_host ls h (count_on k (Do step) (pick ls h))) (on (step_line k step) n (λ l. suc n)) joint.4
+        (halves k names ws (after k key.moment lw step) (after k key.moment gw (restep k names h step)) ls
+        (on (step_line k step) (pick ls h) (λ l. suc (pick ls h))) (on (step_line k step) n (λ l. suc n))
+        (line_turns k xs) (make_turns k xs) h done.mine done.theirs) in (
           (done.may, more.0),
-          subst (λ (o : Option ℕ). If o (LinesRise k n (steps_of k names xs)) (λ line. (line ≡ n) × LinesRise k (suc n) (steps_of k names xs))) (sym (restep_line k names h step))
+          subst (λ (o : Option ℕ). If o (LinesRise k n (steps_of k names xs))
+              (λ line. (line ≡ n) × LinesRise k (suc n) (steps_of k names xs))) (sym (restep_line k names h step))
               (line_rises (λ m. LinesRise k m (steps_of k names xs)) (names.line h) n (step_line k step) done.line more.1),
         )
     go key (Bring f) joint all rest =
@@ -81,11 +99,25 @@ merged k none names apt ws gw ls n (x ∷ xs) joint all = go x.key x.item joint 
         let t = theirs_of k names ws gw ls n _ _ all h in
         rest (with_host ws h (next k h lw (record { key = key; item = Bring f }))) gw (with_host ls h (pick ls h)) n joint.4
         (halves k names ws (next k h lw (record { key = key; item = Bring f })) gw ls (pick ls h) n (line_turns k xs) (make_turns k xs) h
-        (record { hosts = hosts_bring k names h lw.hosts (pick ws (other h)).hosts gw.hosts (pick ls h) m.hosts f joint.2; threads = m.threads; lines = m.lines; made = m.made })
-        (record { hosts = hosts_brought k names h lw.hosts (pick ws (other h)).hosts gw.hosts (pick ls (other h)) t.hosts _; threads = t.threads; lines = t.lines; made = t.made }))
+        (record {
+          hosts = hosts_bring k names h lw.hosts (pick ws (other h)).hosts gw.hosts
+              (pick ls h) m.hosts f joint.2;
+          threads = m.threads;
+          lines = m.lines;
+          made = m.made;
+        })
+        (record {
+          hosts = hosts_brought k names h lw.hosts (pick ws (other h)).hosts gw.hosts
+              (pick ls (other h)) t.hosts _;
+          threads = t.threads;
+          lines = t.lines;
+          made = t.made;
+        }))
 
 -- from the start, with lines numbered from the first on
-start_half : (k : Kernel) → ((n : ℕ) → k.given k.empty n ≡ false) → (first : ℕ) (zs : List (Entry k.shape)) (h : Host) → Half k (names_of k first zs) h (other h) (start k) (start k) (start k) first first (line_turns k zs) (make_turns k zs)
+start_half : (k : Kernel) → ((n : ℕ) → k.given k.empty n ≡ false) → (first : ℕ) (zs : List (Entry k.shape)) (h : Host)
+    → Half k (names_of k first zs) h (other h) (start k) (start k) (start k) first first (line_turns k zs)
+    (make_turns k zs)
 start_half k none first zs h = record {
   hosts = host h;
   threads = record { same = λ t is. refl; aims = λ t call is at. absurd (idle_uncalled k call at) };

@@ -11,7 +11,9 @@ use Rattle.spec_merge.proofs.Order.{told}
 use Rattle.spec_merge.proofs.Placed.{placed}
 
 -- two books, merged by their keys, are a placement of the lines that they take, and a run
-pub is_placed_run : (k : Kernel) → ((n : ℕ) → k.given k.empty n ≡ false) → (skew first : ℕ) (xs ys : List (Entry k.shape)) → Books k first xs ys → IsPlacedRun k skew first (lines_of k (merged_steps k first xs ys)) (merged_steps k first xs ys)
+pub is_placed_run : (k : Kernel) → ((n : ℕ) → k.given k.empty n ≡ false)
+    → (skew first : ℕ) (xs ys : List (Entry k.shape)) → Books k first xs ys
+    → IsPlacedRun k skew first (lines_of k (merged_steps k first xs ys)) (merged_steps k first xs ys)
 is_placed_run k none skew first xs ys books =
     let l = law k none first (merge k xs ys) (told k xs ys (start k) (start k) first first books.0 books.1) in
     (placed k skew first (names_of k first (merge k xs ys)) xs ys books.0.keys books.1.keys l.1 l.0, l.0)

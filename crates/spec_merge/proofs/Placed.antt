@@ -1,5 +1,6 @@
 -- Steps whose lines rise are a placement of the lines that they take.
-use Rattle.std.proofs.Common.{◌≡◌, ℕ, zero, suc, ◌+◌, ◌<◌, ◌≤◌, Bool, true, false, List, [], ◌∷◌, Option, Some, None, refl, ap, sym, subst, ◌∙◌, inl, inr, ◌⊎◌, arith}
+use Rattle.std.proofs.Common.{◌≡◌, ℕ, zero, suc, ◌+◌, ◌<◌, ◌≤◌, Bool, true, false, List, [], ◌∷◌, Option, Some, None}
+use Rattle.std.proofs.Common.{refl, ap, sym, subst, ◌∙◌, inl, inr, ◌⊎◌, arith}
 use Rattle.std.specs.Prelude.{if◌then◌else◌}
 use Rattle.std.specs.List.{slice_get}
 use Rattle.std.proofs.lemmas.Bool.Decides.{nat_tests}
@@ -19,13 +20,17 @@ use Rattle.spec_network.proofs.Turns.{turns}
 -- 1. lines
 
 -- a step takes a line where it names one
-both_or_none : (k : Kernel) (step : Step k.shape) → ((step_line k step ≡ None) × (event_of k step ≡ None)) ⊎ ((n : ℕ) × (e : Event k.shape) × (step_line k step ≡ Some n) × (event_of k step ≡ Some e))
+both_or_none : (k : Kernel) (step : Step k.shape)
+    → ((step_line k step ≡ None) × (event_of k step ≡ None))
+    ⊎ ((n : ℕ) × (e : Event k.shape) × (step_line k step ≡ Some n) × (event_of k step ≡ Some e))
 both_or_none k (Begin line t call) = inr (line, CallBegin t call, refl, refl)
 both_or_none k (Finish line t answer) = inr (line, CallEnd t answer, refl, refl)
 both_or_none k (Effect t answer) = inl (refl, refl)
 both_or_none k (At side d) = go d
   where
-    go : (d : Deed k.shape) → ((deed_line k d ≡ None) × (deed_event k side d ≡ None)) ⊎ ((n : ℕ) × (e : Event k.shape) × (deed_line k d ≡ Some n) × (deed_event k side d ≡ Some e))
+    go : (d : Deed k.shape)
+        → ((deed_line k d ≡ None) × (deed_event k side d ≡ None))
+        ⊎ ((n : ℕ) × (e : Event k.shape) × (deed_line k d ≡ Some n) × (deed_event k side d ≡ Some e))
     go (Does v) = inl (refl, refl)
     go (Expires line v) = inr (line, _, refl, refl)
     go (Makes v) = inl (refl, refl)
@@ -39,17 +44,33 @@ both_or_none k (At side d) = go d
 -- the head names no line, or the first
 abbrev Head : (k : Kernel) → ℕ → Stamped k.shape → List (Stamped k.shape) → Type 0
 Head k n x xs = ((step_line k x.step ≡ None) × (lines_of k (x ∷ xs) ≡ lines_of k xs) × LinesRise k n xs)
-    ⊎ ((e : Event k.shape) × (step_line k x.step ≡ Some n) × (event_of k x.step ≡ Some e) × (lines_of k (x ∷ xs) ≡ record { moment = x.moment; event = e } ∷ lines_of k xs) × LinesRise k (suc n) xs)
+    ⊎ ((e : Event k.shape) × (step_line k x.step ≡ Some n) × (event_of k x.step ≡ Some e)
+    × (lines_of k (x ∷ xs) ≡ record { moment = x.moment; event = e } ∷ lines_of k xs) × LinesRise k (suc n) xs)
 
 head_line : (k : Kernel) (n : ℕ) (x : Stamped k.shape) (xs : List (Stamped k.shape)) → LinesRise k n (x ∷ xs)
     → Head k n x xs
 head_line k n x xs r = go (both_or_none k x.step)
   where
-    go : ((step_line k x.step ≡ None) × (event_of k x.step ≡ None)) ⊎ ((m : ℕ) × (e : Event k.shape) × (step_line k x.step ≡ Some m) × (event_of k x.step ≡ Some e))
+    go : ((step_line k x.step ≡ None) × (event_of k x.step ≡ None))
+        ⊎ ((m : ℕ) × (e : Event k.shape) × (step_line k x.step ≡ Some m) × (event_of k x.step ≡ Some e))
         → Head k n x xs
-    go (inl g) = inl (g.0, ap (λ (o : Option (Event k.shape)). on o (lines_of k xs) (λ e. record { moment = x.moment; event = e } ∷ lines_of k xs)) g.1, subst (λ (o : Option ℕ). If o (LinesRise k n xs) (λ line. (line ≡ n) × LinesRise k (suc n) xs)) g.0 r)
-    go (inr g) = let h : (g.0 ≡ n) × LinesRise k (suc n) xs = subst (λ (o : Option ℕ). If o (LinesRise k n xs) (λ line. (line ≡ n) × LinesRise k (suc n) xs)) g.2 r in
-        inr (g.1, g.2 ∙ ap (λ (m : ℕ). Some m) h.0, g.3, ap (λ (o : Option (Event k.shape)). on o (lines_of k xs) (λ e. record { moment = x.moment; event = e } ∷ lines_of k xs)) g.3, h.1)
+    go (inl g) =
+        inl (
+          g.0,
+          ap (λ (o : Option (Event k.shape)).
+              on o (lines_of k xs) (λ e. record { moment = x.moment; event = e } ∷ lines_of k xs)) g.1,
+          subst (λ (o : Option ℕ). If o (LinesRise k n xs) (λ line. (line ≡ n) × LinesRise k (suc n) xs)) g.0 r,
+        )
+    go (inr g) = let h : (g.0 ≡ n) × LinesRise k (suc n) xs =
+        subst (λ (o : Option ℕ). If o (LinesRise k n xs) (λ line. (line ≡ n) × LinesRise k (suc n) xs)) g.2 r in
+        inr (
+          g.1,
+          g.2 ∙ ap (λ (m : ℕ). Some m) h.0,
+          g.3,
+          ap (λ (o : Option (Event k.shape)).
+              on o (lines_of k xs) (λ e. record { moment = x.moment; event = e } ∷ lines_of k xs)) g.3,
+          h.1,
+        )
 
 same_number : (m n : ℕ) (o : Option ℕ) → o ≡ Some m → o ≡ Some n → m ≡ n
 same_number m n o p q = same_Some m n (sym p ∙ q)
@@ -61,7 +82,9 @@ from_first k n (x ∷ xs) r zero m at = go (head_line k n x xs r)
   where
     go : Head k n x xs → n ≤ m
     go (inl g) = absurd (none-some m (sym g.0 ∙ (ap (λ (y : Stamped k.shape). step_line k y.step) (same_Some x at.0 at.1) ∙ at.2)))
-    go (inr g) = let e = same_number n m (step_line k x.step) g.1 (ap (λ (y : Stamped k.shape). step_line k y.step) (same_Some x at.0 at.1) ∙ at.2) in omega arith
+    go (inr g) = let e =
+        same_number n m (step_line k x.step) g.1
+        (ap (λ (y : Stamped k.shape). step_line k y.step) (same_Some x at.0 at.1) ∙ at.2) in omega arith
 from_first k n (x ∷ xs) r (suc p) m at = go (head_line k n x xs r) (λ n r. from_first k n xs r p m at)
   where
     go : Head k n x xs
@@ -89,23 +112,31 @@ rises k n (x ∷ xs) r (suc p) (suc q) a b at bt less = go (head_line k n x xs r
     go (inr g) rest = rest (suc n) g.4
 
 abbrev TakenAt : (k : Kernel) → ℕ → List (Stamped k.shape) → ℕ → Line k.shape → Type 0
-TakenAt k number xs p line = (x : Stamped k.shape) × (slice_get xs p ≡ Some x) × (step_line k x.step ≡ Some number) × (event_of k x.step ≡ Some line.event) × (x.moment ≡ line.moment)
+TakenAt k number xs p line =
+    (x : Stamped k.shape) × (slice_get xs p ≡ Some x) × (step_line k x.step ≡ Some number)
+    × (event_of k x.step ≡ Some line.event) × (x.moment ≡ line.moment)
 
-taken : (k : Kernel) (n : ℕ) (xs : List (Stamped k.shape)) → LinesRise k n xs → (i : ℕ) (line : Line k.shape) → slice_get (lines_of k xs) i ≡ Some line → (p : ℕ) × TakenAt k (n + i) xs p line
+taken : (k : Kernel) (n : ℕ) (xs : List (Stamped k.shape)) → LinesRise k n xs → (i : ℕ) (line : Line k.shape)
+    → slice_get (lines_of k xs) i ≡ Some line → (p : ℕ) × TakenAt k (n + i) xs p line
 taken k n [] r i line at = absurd (none-some line at)
 taken k n (x ∷ xs) r i line at = go (head_line k n x xs r) i at (λ n r i at. taken k n xs r i line at)
   where
-    go : Head k n x xs → (i : ℕ) → slice_get (lines_of k (x ∷ xs)) i ≡ Some line → ((n : ℕ) → LinesRise k n xs → (i : ℕ) → slice_get (lines_of k xs) i ≡ Some line → (p : ℕ) × TakenAt k (n + i) xs p line) → (p : ℕ) × TakenAt k (n + i) (x ∷ xs) p line
+    go : Head k n x xs → (i : ℕ) → slice_get (lines_of k (x ∷ xs)) i ≡ Some line
+        → ((n : ℕ) → LinesRise k n xs → (i : ℕ) → slice_get (lines_of k xs) i ≡ Some line
+        → (p : ℕ) × TakenAt k (n + i) xs p line) → (p : ℕ) × TakenAt k (n + i) (x ∷ xs) p line
     go (inl g) i at rest = let h = rest n g.2 i (sym (ap (λ (ls : List (Line k.shape)). slice_get ls i) g.1) ∙ at) in (suc h.0, h.1)
     go (inr g) zero at rest =
-        let e : record { moment = x.moment; event = g.0 } ≡ line = same_Some (let l : Line k.shape = record { moment = x.moment; event = g.0 } in l) line (sym (ap (λ (ls : List (Line k.shape)). slice_get ls zero) g.3) ∙ at) in
+        let e : record { moment = x.moment; event = g.0 } ≡ line =
+        same_Some (let l : Line k.shape = record { moment = x.moment; event = g.0 } in l) line
+        (sym (ap (λ (ls : List (Line k.shape)). slice_get ls zero) g.3) ∙ at) in
         let z : n ≡ n + zero = omega arith in
         (zero, (x, refl, g.1 ∙ ap (λ (m : ℕ). Some m) z, g.2 ∙ ap (λ (l : Line k.shape). Some l.event) e, ap (λ (l : Line k.shape). l.moment) e))
     go (inr g) (suc i) at rest = let h = rest (suc n) g.4 i (sym (ap (λ (ls : List (Line k.shape)). slice_get ls (suc i)) g.3) ∙ at) in
         let z : suc n + i ≡ n + suc i = omega arith in
         (suc h.0, subst (λ (m : ℕ). TakenAt k m xs h.0 line) z h.1)
 
-only : (k : Kernel) (n : ℕ) (xs : List (Stamped k.shape)) → LinesRise k n xs → (p m : ℕ) → NamesAt k xs p m → (i : ℕ) × (line : Line k.shape) × (m ≡ n + i) × (slice_get (lines_of k xs) i ≡ Some line)
+only : (k : Kernel) (n : ℕ) (xs : List (Stamped k.shape)) → LinesRise k n xs → (p m : ℕ) → NamesAt k xs p m
+    → (i : ℕ) × (line : Line k.shape) × (m ≡ n + i) × (slice_get (lines_of k xs) i ≡ Some line)
 only k n [] r p m at = absurd (none-some at.0 at.1)
 only k n (x ∷ xs) r zero m at = go (head_line k n x xs r)
   where
@@ -115,9 +146,13 @@ only k n (x ∷ xs) r zero m at = go (head_line k n x xs r)
         (zero, record { moment = x.moment; event = g.0 }, omega arith, ap (λ (ls : List (Line k.shape)). slice_get ls zero) g.3)
 only k n (x ∷ xs) r (suc p) m at = go (head_line k n x xs r) (λ n r. only k n xs r p m at)
   where
-    go : Head k n x xs → ((n : ℕ) → LinesRise k n xs → (i : ℕ) × (line : Line k.shape) × (m ≡ n + i) × (slice_get (lines_of k xs) i ≡ Some line)) → (i : ℕ) × (line : Line k.shape) × (m ≡ n + i) × (slice_get (lines_of k (x ∷ xs)) i ≡ Some line)
+    go : Head k n x xs
+        → ((n : ℕ) → LinesRise k n xs
+        → (i : ℕ) × (line : Line k.shape) × (m ≡ n + i) × (slice_get (lines_of k xs) i ≡ Some line))
+        → (i : ℕ) × (line : Line k.shape) × (m ≡ n + i) × (slice_get (lines_of k (x ∷ xs)) i ≡ Some line)
     go (inl g) rest = let h = rest n g.2 in (h.0, h.1, h.2, ap (λ (ls : List (Line k.shape)). slice_get ls h.0) g.1 ∙ h.3)
-    go (inr g) rest = let h = rest (suc n) g.4 in let e = h.2 in (suc h.0, h.1, omega arith, ap (λ (ls : List (Line k.shape)). slice_get ls (suc h.0)) g.3 ∙ h.3)
+    go (inr g) rest = let h = rest (suc n) g.4 in let e = h.2 in
+        (suc h.0, h.1, omega arith, ap (λ (ls : List (Line k.shape)). slice_get ls (suc h.0)) g.3 ∙ h.3)
 
 -- 2. moments
 
@@ -125,7 +160,9 @@ each_merge : (k : Kernel) (P : Entry k.shape → Type 0) (xs ys : List (Entry k.
 each_merge k P [] ys p q = q
 each_merge k P (x ∷ xs) ys p q = inner (merge k xs) (each_merge k P xs) ys q
   where
-    inner : (rest : List (Entry k.shape) → List (Entry k.shape)) → ((ys : List (Entry k.shape)) → EachEntry k P xs → EachEntry k P ys → EachEntry k P (rest ys)) → (ys : List (Entry k.shape)) → EachEntry k P ys → EachEntry k P (merge_with k x rest ys)
+    inner : (rest : List (Entry k.shape) → List (Entry k.shape))
+        → ((ys : List (Entry k.shape)) → EachEntry k P xs → EachEntry k P ys → EachEntry k P (rest ys))
+        → (ys : List (Entry k.shape)) → EachEntry k P ys → EachEntry k P (merge_with k x rest ys)
     inner rest told [] q = (p.0, told [] p.1 tt)
     inner rest told (y ∷ ys) q = go (before x.key y.key) (inner rest told ys q.1)
       where
@@ -162,7 +199,10 @@ sorted_merge k [] ys p q = one ys q
     one (y ∷ ys) q = (from_keys k y.key ys q.1, one ys q.2)
 sorted_merge k (x ∷ xs) ys p q = inner (merge k xs) (λ ys. sorted_merge k xs ys p.2) (λ m ys f g. each_merge k (λ y. m ≤ y.key.moment) xs ys f g) ys q
   where
-    with_from : (rest : List (Entry k.shape) → List (Entry k.shape)) → ((m : ℕ) (ys : List (Entry k.shape)) → From k m xs → From k m ys → From k m (rest ys)) → (m : ℕ) (ys : List (Entry k.shape)) → m ≤ x.key.moment → From k m xs → From k m ys → From k m (merge_with k x rest ys)
+    with_from : (rest : List (Entry k.shape) → List (Entry k.shape))
+        → ((m : ℕ) (ys : List (Entry k.shape)) → From k m xs → From k m ys → From k m (rest ys))
+        → (m : ℕ) (ys : List (Entry k.shape)) → m ≤ x.key.moment → From k m xs → From k m ys
+        → From k m (merge_with k x rest ys)
     with_from rest low m [] le f g = (le, low m [] f tt)
     with_from rest low m (y ∷ ys) le f g = go (before x.key y.key) (with_from rest low m ys le f g.1)
       where
@@ -170,7 +210,10 @@ sorted_merge k (x ∷ xs) ys p q = inner (merge k xs) (λ ys. sorted_merge k xs 
         go true more = (le, low m (y ∷ ys) f g)
         go false more = (g.0, more)
 
-    inner : (rest : List (Entry k.shape) → List (Entry k.shape)) → ((ys : List (Entry k.shape)) → KeysRise k One ys → Sorted k (rest ys)) → ((m : ℕ) (ys : List (Entry k.shape)) → From k m xs → From k m ys → From k m (rest ys)) → (ys : List (Entry k.shape)) → KeysRise k One ys → Sorted k (merge_with k x rest ys)
+    inner : (rest : List (Entry k.shape) → List (Entry k.shape))
+        → ((ys : List (Entry k.shape)) → KeysRise k One ys → Sorted k (rest ys))
+        → ((m : ℕ) (ys : List (Entry k.shape)) → From k m xs → From k m ys → From k m (rest ys))
+        → (ys : List (Entry k.shape)) → KeysRise k One ys → Sorted k (merge_with k x rest ys)
     inner rest told low [] q = (low x.key.moment [] (from_keys k x.key xs p.1) tt, told [] tt)
     inner rest told low (y ∷ ys) q = go (before x.key y.key) refl (inner rest told low ys q.2)
       where
@@ -186,7 +229,9 @@ steps_rise : (k : Kernel) (names : Names) (m : ℕ) (zs : List (Entry k.shape)) 
 steps_rise k names m [] f g = tt
 steps_rise k names m (x ∷ xs) f g = go x.item f.0 (steps_rise k names m xs f.1 g.1) (steps_rise k names x.key.moment xs g.0 g.1)
   where
-    go : (item : Item k.shape) → m ≤ x.key.moment → MomentsRise k m (steps_of k names xs) → MomentsRise k x.key.moment (steps_of k names xs) → MomentsRise k m (with_step k names x.key item (steps_of k names xs))
+    go : (item : Item k.shape) → m ≤ x.key.moment → MomentsRise k m (steps_of k names xs)
+        → MomentsRise k x.key.moment (steps_of k names xs)
+        → MomentsRise k m (with_step k names x.key item (steps_of k names xs))
     go (Do step) le low high = (le, high)
     go (Bring fl) le low high = low
 
@@ -197,7 +242,8 @@ from_zero k (z ∷ zs) = (omega arith, from_zero k zs)
 -- 4. the placement
 
 -- a run whose lines are numbered on and whose moments don't fall is a placement of the lines that it takes
-pub placement_of : (k : Kernel) (skew first : ℕ) (xs : List (Stamped k.shape)) → LinesRise k first xs → MomentsRise k 0 xs → Lawful k (start k) xs → Placement k skew first (lines_of k xs) xs
+pub placement_of : (k : Kernel) (skew first : ℕ) (xs : List (Stamped k.shape)) → LinesRise k first xs
+    → MomentsRise k 0 xs → Lawful k (start k) xs → Placement k skew first (lines_of k xs) xs
 placement_of k skew first xs r m l = record {
   moments = m;
   taken = λ i line at. let h = taken k first xs r i line at in let e = h.1.4 in (h.0, (h.1.0, h.1.1, h.1.2, h.1.3, omega arith, omega arith));
@@ -213,10 +259,19 @@ placement_of k skew first xs r m l = record {
     go p q n f g (inr (inr e)) = let h = g e in absurd (omega arith)
 
     ord : (p q a b : ℕ) → a < b → NamesAt k xs p a → NamesAt k xs q b → (p ≡ q) ⊎ ((p < q) ⊎ (q < p)) → (q < p → b < a) → p < q
-    ord p q a b less at bt (inl e) f = let s = same_number a b (step_line k bt.0.step) (subst (λ (x : Stamped k.shape). step_line k x.step ≡ Some a) (same_Some at.0 bt.0 (sym at.1 ∙ (ap (λ (i : ℕ). slice_get xs i) e ∙ bt.1))) at.2) bt.2 in absurd (omega arith)
+    ord p q a b less at bt (inl e) f = let s =
+        same_number a b (step_line k bt.0.step)
+        (subst (λ (x : Stamped k.shape). step_line k x.step ≡ Some a)
+        (same_Some at.0 bt.0 (sym at.1 ∙ (ap (λ (i : ℕ). slice_get xs i) e ∙ bt.1))) at.2) bt.2 in
+        absurd (omega arith)
     ord p q a b less at bt (inr (inl e)) f = e
     ord p q a b less at bt (inr (inr e)) f = let h = f e in absurd (omega arith)
 
 -- so are the steps of two merged books
-pub placed : (k : Kernel) (skew first : ℕ) (names : Names) (xs ys : List (Entry k.shape)) → KeysRise k Zero xs → KeysRise k One ys → LinesRise k first (steps_of k names (merge k xs ys)) → Lawful k (start k) (steps_of k names (merge k xs ys)) → Placement k skew first (lines_of k (steps_of k names (merge k xs ys))) (steps_of k names (merge k xs ys))
-placed k skew first names xs ys p q r l = placement_of k skew first (steps_of k names (merge k xs ys)) r (steps_rise k names 0 (merge k xs ys) (from_zero k (merge k xs ys)) (sorted_merge k xs ys p q)) l
+pub placed : (k : Kernel) (skew first : ℕ) (names : Names) (xs ys : List (Entry k.shape)) → KeysRise k Zero xs
+    → KeysRise k One ys → LinesRise k first (steps_of k names (merge k xs ys))
+    → Lawful k (start k) (steps_of k names (merge k xs ys))
+    → Placement k skew first (lines_of k (steps_of k names (merge k xs ys))) (steps_of k names (merge k xs ys))
+placed k skew first names xs ys p q r l =
+    placement_of k skew first (steps_of k names (merge k xs ys)) r
+    (steps_rise k names 0 (merge k xs ys) (from_zero k (merge k xs ys)) (sorted_merge k xs ys p q)) l

@@ -24,18 +24,24 @@ test_apart f apart x y = go (nat_eq (f x) (f y)) refl (nat_eq x y) refl
 -- numbers that are apart lead to what stood there
 pub lookup_retag : {X : Type 0} (f : ℕ → ℕ) → Apart f → (q : ℕ) (es : List (ℕ × X)) → lookup (nat_eq (f q)) (retag f es) ≡ lookup (nat_eq q) es
 lookup_retag f apart q [] = refl
-lookup_retag {X} f apart q (e ∷ es) = ap (λ (b : Bool). cond b (Some e.1) (lookup (nat_eq (f q)) (retag f es))) (test_apart f apart q e.0) ∙ ap (λ (o : Option X). cond (nat_eq q e.0) (Some e.1) o) (lookup_retag f apart q es)
+lookup_retag {X} f apart q (e ∷ es) =
+    ap (λ (b : Bool). cond b (Some e.1) (lookup (nat_eq (f q)) (retag f es))) (test_apart f apart q e.0)
+    ∙ ap (λ (o : Option X). cond (nat_eq q e.0) (Some e.1) o) (lookup_retag f apart q es)
 
 -- also to what waits there
 pub waiting_retag : {E : Type 0} (f : ℕ → ℕ) → Apart f → (n : ℕ) (es : List (ℕ × Option E)) → waiting (f n) (retag f es) ≡ waiting n es
 waiting_retag {E} f apart n es = ap (λ (o : Option (Option E)). on o None (λ e. e)) (lookup_retag f apart n es)
 
 -- and a write commutes with them
-pub insert_retag : {X : Type 0} (f : ℕ → ℕ) → Apart f → (n : ℕ) (v : X) (es : List (ℕ × X)) → insert_entry nat_eq (retag f es) (f n) v ≡ retag f (insert_entry nat_eq es n v)
+pub insert_retag : {X : Type 0} (f : ℕ → ℕ) → Apart f → (n : ℕ) (v : X) (es : List (ℕ × X))
+    → insert_entry nat_eq (retag f es) (f n) v ≡ retag f (insert_entry nat_eq es n v)
 insert_retag f apart n v [] = refl
-insert_retag {X} f apart n v (e ∷ es) = ap (λ (b : Bool). if b then (f e.0, v) ∷ retag f es else (f e.0, e.1) ∷ insert_entry nat_eq (retag f es) (f n) v) (test_apart f apart n e.0) ∙ go (nat_eq n e.0) (insert_retag f apart n v es)
+insert_retag {X} f apart n v (e ∷ es) =
+    ap (λ (b : Bool). if b then (f e.0, v) ∷ retag f es else (f e.0, e.1) ∷ insert_entry nat_eq (retag f es) (f n) v)
+    (test_apart f apart n e.0) ∙ go (nat_eq n e.0) (insert_retag f apart n v es)
   where
     go : (b : Bool) → insert_entry nat_eq (retag f es) (f n) v ≡ retag f (insert_entry nat_eq es n v)
-        → (if b then (f e.0, v) ∷ retag f es else (f e.0, e.1) ∷ insert_entry nat_eq (retag f es) (f n) v) ≡ retag f (if b then (e.0, v) ∷ es else e ∷ insert_entry nat_eq es n v)
+        → (if b then (f e.0, v) ∷ retag f es else (f e.0, e.1) ∷ insert_entry nat_eq (retag f es) (f n) v)
+        ≡ retag f (if b then (e.0, v) ∷ es else e ∷ insert_entry nat_eq es n v)
     go true rest = refl
     go false rest = ap (λ (x : List (ℕ × X)). (f e.0, e.1) ∷ x) rest

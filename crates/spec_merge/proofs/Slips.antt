@@ -22,7 +22,9 @@ use Rattle.spec_merge.proofs.TwoBooks.{hello, ones, syn, syn_ack, zeros}
 -- the place among steps, from 0, of the first that breaks a rule, with the rule
 abbrev refused_from : ℕ → World tcp_shape → List (Stamped tcp_shape) → Option (ℕ × Rule)
 refused_from place w [] = None
-refused_from place w (x ∷ xs) = on (first_broken (step_rules (tcp header) x.moment w x.step)) (refused_from (suc place) (after (tcp header) x.moment w x.step) xs) (λ rule. Some (place, rule))
+refused_from place w (x ∷ xs) =
+    on (first_broken (step_rules (tcp header) x.moment w x.step))
+    (refused_from (suc place) (after (tcp header) x.moment w x.step) xs) (λ rule. Some (place, rule))
 
 abbrev refused : List (Stamped tcp_shape) → Option (ℕ × Rule)
 refused steps = refused_from 0 (start (tcp header)) steps

@@ -153,10 +153,73 @@ read_joins = record {
 
 -- each segment that came is one that the other sent
 zeros_name_ones : NamesSent header One zeros ones
-zeros_name_ones = (tt, (tt, (tt, (tt, (tt, ((refl, refl, line_of header 10 (key 50 5 One) ones refl), (tt, (tt, (tt, (tt, (tt, (tt, (tt, (tt, (tt, (tt, (tt, (tt, tt))))))))))))))))))
+zeros_name_ones = (
+  tt,
+  (
+    tt,
+    (
+      tt,
+      (
+        tt,
+        (
+          tt,
+          (
+            (refl, refl, line_of header 10 (key 50 5 One) ones refl),
+            (tt, (tt, (tt, (tt, (tt, (tt, (tt, (tt, (tt, (tt, (tt, (tt, tt)))))))))))),
+          ),
+        ),
+      ),
+    ),
+  ),
+)
 
 ones_name_zeros : NamesSent header Zero ones zeros
-ones_name_zeros = (tt, (tt, (tt, ((refl, refl, line_of header 9 (key 30 3 Zero) zeros refl), (tt, (tt, (tt, (tt, ((refl, refl, line_of header 11 (key 70 8 Zero) zeros refl), (tt, (tt, (tt, (tt, (tt, ((refl, refl, line_of header 16 (key 1000110 13 Zero) zeros refl), (tt, (tt, (tt, (tt, (tt, tt))))))))))))))))))))
+ones_name_zeros = (
+  tt,
+  (
+    tt,
+    (
+      tt,
+      (
+        (refl, refl, line_of header 9 (key 30 3 Zero) zeros refl),
+        (
+          tt,
+          (
+            tt,
+            (
+              tt,
+              (
+                tt,
+                (
+                  (refl, refl, line_of header 11 (key 70 8 Zero) zeros refl),
+                  (
+                    tt,
+                    (
+                      tt,
+                      (
+                        tt,
+                        (
+                          tt,
+                          (
+                            tt,
+                            (
+                              (refl, refl, line_of header 16 (key 1000110 13 Zero) zeros refl),
+                              (tt, (tt, (tt, (tt, (tt, tt))))),
+                            ),
+                          ),
+                        ),
+                      ),
+                    ),
+                  ),
+                ),
+              ),
+            ),
+          ),
+        ),
+      ),
+    ),
+  ),
+)
 
 are_books : Books (tcp header) 7 zeros ones
 are_books = (

@@ -54,11 +54,14 @@ wrong_byte_is_not_received_lines = take 17 five_bytes_arrive_lines ++ (ends 24 1
 abbrev pub wrong_byte_is_not_received_steps : List witness.Step
 wrong_byte_is_not_received_steps = take 29 five_bytes_arrive_steps ++ (effects 130 1 (answers.Bytes (104 ∷ 101 ∷ 108 ∷ 108 ∷ 112 ∷ [])) ∷ takes 131 24 ∷ [])
 
-pub wrong_byte_is_not_received : first_broken_step (header 120000000 0) wrong_byte_is_not_received_lines wrong_byte_is_not_received_steps ≡ Some (31, rules.CallAnswer)
+pub wrong_byte_is_not_received : first_broken_step
+    (header 120000000 0) wrong_byte_is_not_received_lines wrong_byte_is_not_received_steps
+    ≡ Some (31, rules.CallAnswer)
 wrong_byte_is_not_received = refl
 
 -- the line says another byte than the effect
-pub wrong_byte_is_not_answered : first_broken_step (header 120000000 0) wrong_byte_is_not_received_lines five_bytes_arrive_steps ≡ Some (32, rules.AnswerDiffers)
+pub wrong_byte_is_not_answered : first_broken_step
+    (header 120000000 0) wrong_byte_is_not_received_lines five_bytes_arrive_steps ≡ Some (32, rules.AnswerDiffers)
 wrong_byte_is_not_answered = refl
 
 -- a second child, where the queue has room for one
@@ -93,7 +96,9 @@ second_child_finds_no_room_steps = take 19 five_bytes_arrive_steps ++ (
     ∷ consumes 97 One 24 2144 false true
     ∷ [])
 
-pub second_child_finds_no_room : first_broken_step (header 120000000 0) second_child_finds_no_room_lines second_child_finds_no_room_steps ≡ Some (34, rules.QueueFull)
+pub second_child_finds_no_room : first_broken_step
+    (header 120000000 0) second_child_finds_no_room_lines second_child_finds_no_room_steps
+    ≡ Some (34, rules.QueueFull)
 second_child_finds_no_room = refl
 
 -- its acknowledgment is dropped
@@ -331,7 +336,9 @@ segment_for_an_older_endpoint_steps =
     ∷ consumes 20 Zero 22 2144 false false
     ∷ []
 
-pub segment_for_an_older_endpoint : first_broken_step (header 120000000 0) segment_for_an_older_endpoint_lines segment_for_an_older_endpoint_steps ≡ Some (29, rules.NotPeer)
+pub segment_for_an_older_endpoint : first_broken_step
+    (header 120000000 0) segment_for_an_older_endpoint_lines segment_for_an_older_endpoint_steps
+    ≡ Some (29, rules.NotPeer)
 segment_for_an_older_endpoint = refl
 
 -- a reset that answers a segment of an older endpoint
@@ -394,7 +401,9 @@ reset_for_an_older_endpoint_steps =
     ∷ consumes 37 Zero 34 2144 false false
     ∷ [])
 
-pub reset_for_an_older_endpoint : first_broken_step (header 120000000 0) reset_for_an_older_endpoint_lines reset_for_an_older_endpoint_steps ≡ Some (50, rules.NotPeer)
+pub reset_for_an_older_endpoint : first_broken_step
+    (header 120000000 0) reset_for_an_older_endpoint_lines reset_for_an_older_endpoint_steps
+    ≡ Some (50, rules.NotPeer)
 reset_for_an_older_endpoint = refl
 
 -- a segment of a newer endpoint of the same ports
@@ -422,5 +431,7 @@ segment_of_a_newer_endpoint_steps = take 10 segment_for_an_older_endpoint_steps 
     ∷ consumes 16 One 18 0 false false
     ∷ [])
 
-pub segment_of_a_newer_endpoint : first_broken_step (header 120000000 0) segment_of_a_newer_endpoint_lines segment_of_a_newer_endpoint_steps ≡ Some (21, rules.NotPeer)
+pub segment_of_a_newer_endpoint : first_broken_step
+    (header 120000000 0) segment_of_a_newer_endpoint_lines segment_of_a_newer_endpoint_steps
+    ≡ Some (21, rules.NotPeer)
 segment_of_a_newer_endpoint = refl

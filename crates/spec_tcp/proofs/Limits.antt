@@ -59,7 +59,9 @@ congestion_window_ends_here_steps =
     ∷ makes 21 Zero 4000 80 151 51 ack 65535 None
     ∷ [])
 
-pub congestion_window_ends_here : first_broken_step (header 120000000 0) congestion_window_ends_here_lines congestion_window_ends_here_steps ≡ Some (26, rules.Congestion)
+pub congestion_window_ends_here : first_broken_step
+    (header 120000000 0) congestion_window_ends_here_lines congestion_window_ends_here_steps
+    ≡ Some (26, rules.Congestion)
 congestion_window_ends_here = refl
 
 -- the offered window of three segments ends the fourth
@@ -147,7 +149,8 @@ older_window_is_not_taken_steps = take 13 congestion_window_holds_steps ++ (
     ∷ makes 122 Zero 4000 80 1 6 ack 65535 None
     ∷ [])
 
-pub older_window_is_not_taken : first_broken_step (header 120000000 0) older_window_is_not_taken_lines older_window_is_not_taken_steps ≡ Some (37, rules.Offered)
+pub older_window_is_not_taken : first_broken_step
+    (header 120000000 0) older_window_is_not_taken_lines older_window_is_not_taken_steps ≡ Some (37, rules.Offered)
 older_window_is_not_taken = refl
 
 -- up to which bytes may go

@@ -37,7 +37,19 @@ nowhere = record { line = 0; start = 0; stop = 0 }
 -- a segment on the wire
 abbrev pub packet : (src dst seq ack flags window : ℕ) → Option ℕ → List ℕ → Wire
 packet src dst seq ack flags window mss payload =
-    let shown : Segment = record { src = src; dst = dst; seq = record { 0 = seq }; ack = record { 0 = ack }; flags = flags; window = window; mss = mss; scale = None; options = []; payload = payload } in
+    let shown : Segment =
+    record {
+      src = src;
+      dst = dst;
+      seq = record { 0 = seq };
+      ack = record { 0 = ack };
+      flags = flags;
+      window = window;
+      mss = mss;
+      scale = None;
+      options = [];
+      payload = payload;
+    } in
     record { bytes = encoding shown; seg = as_written shown }
 
 abbrev pub line : (number moment thread : ℕ) → Event → lines.Line
@@ -79,7 +91,16 @@ effects moment thread answer = step moment (labels.D thread answer)
 
 abbrev pub makes : ℕ → Host → (lport rport pos len : ℕ) → Flags → ℕ → Option ℕ → witness.Step
 makes moment host lport rport pos len flags window iss =
-    step moment (labels.M host (record { lport = lport; rport = rport; pos = pos; len = len; flags = flags; window = window; iss = option_map (λ n. record { 0 = n }) iss; shift = None }))
+    step moment (labels.M host (record {
+      lport = lport;
+      rport = rport;
+      pos = pos;
+      len = len;
+      flags = flags;
+      window = window;
+      iss = option_map (λ n. record { 0 = n }) iss;
+      shift = None;
+    }))
 
 abbrev pub consumes : ℕ → Host → (number cwnd : ℕ) → (keep sample : Bool) → witness.Step
 consumes moment host number cwnd keep sample = step moment (labels.T host number (record { cwnd = cwnd; keep = keep; sample = sample }))

@@ -68,7 +68,9 @@ persist_timer_runs = refl
 
 -- once the window opens, the byte of the probe may go again, with others
 abbrev pub probe_goes_again_lines : List lines.Line
-probe_goes_again_lines = take 15 a_probe_may_go_lines ++ (sends 22 999063 4 One (packet 80 4000 101 4294967295 16 65535 None []) ∷ gets 23 999064 3 Zero (packet 80 4000 101 4294967295 16 65535 None []) ∷ [])
+probe_goes_again_lines =
+    take 15 a_probe_may_go_lines ++ (sends 22 999063 4 One (packet 80 4000 101 4294967295 16 65535 None [])
+    ∷ gets 23 999064 3 Zero (packet 80 4000 101 4294967295 16 65535 None []) ∷ [])
 
 abbrev pub probe_goes_again_steps : List witness.Step
 probe_goes_again_steps = take 26 a_probe_may_go_steps ++ (
@@ -188,7 +190,9 @@ no_sample_of_what_was_made_twice_steps =
     ∷ consumes 999027 Zero 25 536 false true
     ∷ [])
 
-pub no_sample_of_what_was_made_twice : first_broken_step (header 120000000 0) no_sample_of_what_was_made_twice_lines no_sample_of_what_was_made_twice_steps ≡ Some (35, rules.Sample)
+pub no_sample_of_what_was_made_twice : first_broken_step
+    (header 120000000 0) no_sample_of_what_was_made_twice_lines no_sample_of_what_was_made_twice_steps
+    ≡ Some (35, rules.Sample)
 no_sample_of_what_was_made_twice = refl
 
 -- the wait in TIME-WAIT ends twice the segment lifetime after it began

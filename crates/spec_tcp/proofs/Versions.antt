@@ -42,12 +42,33 @@ second initial = record (header 120000000 0) { version = Two; initial = initial 
 -- a SYN that tells a shift, or none
 abbrev greeting : (src dst seq number flags : ℕ) → Option ℕ → Wire
 greeting src dst seq number flags scale =
-    let shown : Segment = record { src = src; dst = dst; seq = record { 0 = seq }; ack = record { 0 = number }; flags = flags; window = 65535; mss = None; scale = scale; options = []; payload = [] } in
+    let shown : Segment =
+    record {
+      src = src;
+      dst = dst;
+      seq = record { 0 = seq };
+      ack = record { 0 = number };
+      flags = flags;
+      window = 65535;
+      mss = None;
+      scale = scale;
+      options = [];
+      payload = [];
+    } in
     record { bytes = encoding shown; seg = as_written shown }
 
 abbrev greets : ℕ → Host → (lport rport : ℕ) → Flags → ℕ → Option ℕ → witness.Step
 greets moment host lport rport flags iss shift =
-    step moment (labels.M host (record { lport = lport; rport = rport; pos = 0; len = 0; flags = flags; window = 65535; iss = Some (record { 0 = iss }); shift = shift }))
+    step moment (labels.M host (record {
+      lport = lport;
+      rport = rport;
+      pos = 0;
+      len = 0;
+      flags = flags;
+      window = 65535;
+      iss = Some (record { 0 = iss });
+      shift = shift;
+    }))
 
 -- a handshake, in which the SYNs tell these shifts
 abbrev handshake_lines : (syn_tells answer_tells : Option ℕ) → List lines.Line
@@ -92,14 +113,17 @@ pub both_scale : first_broken_step (second Rfc5681) (handshake_lines (Some 7) (S
 both_scale = refl
 
 -- the second gave a shift and its SYN doesn't tell it, so that the first doesn't scale and the second does
-pub one_tells_no_shift : first_broken_step (second Rfc5681) (handshake_lines (Some 7) None) (handshake_steps (Some 7) (Some 2) 2144) ≡ Some (19, rules.ScaleUnread)
+pub one_tells_no_shift : first_broken_step (second Rfc5681) (handshake_lines (Some 7) None)
+    (handshake_steps (Some 7) (Some 2) 2144) ≡ Some (19, rules.ScaleUnread)
 one_tells_no_shift = refl
 
 -- a SYN tells another shift than was given, or one where none was given
-pub another_shift : first_broken_step (second Rfc5681) (handshake_lines (Some 6) (Some 2)) (handshake_steps (Some 7) (Some 2) 2144) ≡ Some (9, rules.BytesDiffer)
+pub another_shift : first_broken_step (second Rfc5681) (handshake_lines (Some 6) (Some 2))
+    (handshake_steps (Some 7) (Some 2) 2144) ≡ Some (9, rules.BytesDiffer)
 another_shift = refl
 
-pub a_shift_of_nobody : first_broken_step (second Rfc5681) (handshake_lines (Some 7) (Some 2)) (handshake_steps None (Some 2) 2144) ≡ Some (9, rules.BytesDiffer)
+pub a_shift_of_nobody : first_broken_step (second Rfc5681) (handshake_lines (Some 7) (Some 2))
+    (handshake_steps None (Some 2) 2144) ≡ Some (9, rules.BytesDiffer)
 a_shift_of_nobody = refl
 
 -- ten segments of 536 bytes by RFC 6928, and not by RFC 5681

@@ -14,7 +14,8 @@ use Rattle.verdict.specs.declared.rule.Rule.{Rule}
 use Rattle.verdict.specs.declared.rule.Rule.TheVariants as rules
 use Rattle.verdict.specs.Rules.{first_broken}
 use Rattle.spec_network.specs.Tables.{Both, pick, other, on, waiting}
-use Rattle.spec_network.specs.Hosts.{HostState, Turn, Idle, Called, Answered, Deed, Does, Expires, Makes, Sends, Gets, Hears, Takes, Drops, Answers, Begin, Finish, Effect, At, turn_of}
+use Rattle.spec_network.specs.Hosts.{HostState, Turn, Idle, Called, Answered, Deed, Does, Expires, Makes, Sends, Gets}
+use Rattle.spec_network.specs.Hosts.{Hears, Takes, Drops, Answers, Begin, Finish, Effect, At, turn_of}
 use Rattle.spec_network.specs.HostRules.{deed_rules, call_rules, effect_rules, fresh_rules, aim_of, just}
 use Rattle.spec_tcp.specs.declared.endpoint.Emission.{Emission}
 use Rattle.spec_tcp.specs.HostTcp.{HostTcp, endpoint_of}
@@ -111,7 +112,8 @@ above low ((r, b) ∷ rules) up = (at_most_to low (rule_number r) parts.0, go ru
     go [] all = tt
     go (x ∷ xs) all = (let here : low ≤ rule_number x.0 = omega (arith, all.0, at_most_to low (rule_number r) parts.0) in here, go xs all.1)
 
-least_each : (low : ℕ) (rules : List (Rule × Bool)) (rule : Rule) → ascend low rules ≡ true → first_broken rules ≡ Some rule → AllByRecursion (λ r. r.1 ≡ true → rule_number rule ≤ rule_number r.0) rules
+least_each : (low : ℕ) (rules : List (Rule × Bool)) (rule : Rule) → ascend low rules ≡ true
+    → first_broken rules ≡ Some rule → AllByRecursion (λ r. r.1 ≡ true → rule_number rule ≤ rule_number r.0) rules
 least_each low [] rule up is = tt
 least_each low ((r, true) ∷ rules) rule up is =
     subst (λ (x : Rule). AllByRecursion (λ y. y.1 ≡ true → rule_number x ≤ rule_number y.0) ((r, true) ∷ rules)) (same_Some r rule is)
@@ -120,7 +122,8 @@ least_each low ((r, true) ∷ rules) rule up is =
     arith_refl : (n : ℕ) → n ≤ n
     arith_refl n = omega arith
 
-    go : (xs : List (Rule × Bool)) → AllByRecursion (λ x. rule_number r ≤ rule_number x.0) xs → AllByRecursion (λ x. x.1 ≡ true → rule_number r ≤ rule_number x.0) xs
+    go : (xs : List (Rule × Bool)) → AllByRecursion (λ x. rule_number r ≤ rule_number x.0) xs
+        → AllByRecursion (λ x. x.1 ≡ true → rule_number r ≤ rule_number x.0) xs
     go [] all = tt
     go (x ∷ xs) all = ((λ e. all.0), go xs all.1)
 least_each low ((r, false) ∷ rules) rule up is =

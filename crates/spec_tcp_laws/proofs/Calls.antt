@@ -1,5 +1,6 @@
 -- A call: what its answer says, and what the endpoints of the host become.
-use Rattle.std.proofs.Common.{◌≡◌, ℕ, zero, suc, Bool, true, false, List, [], ◌∷◌, ◌++◌, length, take, Option, Some, None, refl, ap, sym, subst, ◌∙◌, inl, arith, nat_eq}
+use Rattle.std.proofs.Common.{◌≡◌, ℕ, zero, suc, Bool, true, false, List, [], ◌∷◌, ◌++◌, length, take, Option, Some}
+use Rattle.std.proofs.Common.{None, refl, ap, sym, subst, ◌∙◌, inl, arith, nat_eq}
 use Rattle.std.specs.Prelude.{if◌then◌else◌, ◌==◌, ◌&&◌, ◌||◌, nat_le, slice_get, is_some}
 use Rattle.std.specs.Option.{option_map_or}
 use Rattle.std.specs.Map.{lookup}
@@ -43,7 +44,9 @@ use Rattle.spec_tcp_laws.proofs.Rules.{map_or_cases, both_true, number_same, num
 use Rattle.spec_tcp_laws.proofs.Later.{Hosts, name, all_cells, Later}
 use Rattle.spec_tcp_laws.proofs.Moves.{KeepsPeer, Fresh, GoodEnds, Moves, moves_not, moves_keeps, moves_map, moves_push}
 use Rattle.streams.specs.declared.cell.Cell.{Cell}
-use Rattle.spec_tcp_laws.proofs.Grows.{Added, nothing, Adds, adds_nothing, silent, plain_keeps, Own, Stays, Gains, Grows, Bare, Plain, plain_same, plain_either, own_sends, waiting_own, Coming, OwnEnds, Grown, grown_not, grown_one, grown_plain, grown_map, grown_push}
+use Rattle.spec_tcp_laws.proofs.Grows.{Added, nothing, Adds, adds_nothing, silent, plain_keeps, Own, Stays, Gains}
+use Rattle.spec_tcp_laws.proofs.Grows.{Grows, Bare, Plain, plain_same, plain_either, own_sends, waiting_own, Coming}
+use Rattle.spec_tcp_laws.proofs.Grows.{OwnEnds, Grown, grown_not, grown_one, grown_plain, grown_map, grown_push}
 use Rattle.spec_tcp_laws.proofs.Reading.{read_fits, read_more}
 
 -- 1. socket numbers
@@ -55,7 +58,12 @@ name_told hosts _ _ me = []
 
 -- what a call adds to an endpoint
 abbrev pub call_adds : Hosts → Call → Answer → EndpointId → Added
-call_adds hosts call answer me = record { told = name_told hosts call answer me; accepted = call_accepted hosts call answer me; ended = call_ended hosts call answer me }
+call_adds hosts call answer me =
+    record {
+      told = name_told hosts call answer me;
+      accepted = call_accepted hosts call answer me;
+      ended = call_ended hosts call answer me;
+    }
 
 -- no socket number was given by both hosts
 abbrev pub Apart : Hosts → Type 0
@@ -81,7 +89,8 @@ owner_of b n thing e = go (lookup (nat_eq n) b.sockets) e
     by s true e = ap endpoint_place (same_Some s.thing thing e)
     by s false e = absurd (none-some thing e)
 
-    go : (o : Option Socket) → option_map_or if_live o None ≡ Some thing → (option_map_or (λ s. endpoint_place s.thing) o None ≡ endpoint_place thing) × (is_some o ≡ true)
+    go : (o : Option Socket) → option_map_or if_live o None ≡ Some thing
+        → (option_map_or (λ s. endpoint_place s.thing) o None ≡ endpoint_place thing) × (is_some o ≡ true)
     go None e = absurd (none-some thing e)
     go (Some s) e = (by s s.live e, refl)
 
@@ -95,11 +104,14 @@ pub socket_none : (a : Hosts) (host : Host) (n i : ℕ) → owner (pick a host).
 socket_none a host n i e = ap (λ (o : Option ℕ). option_map_or (λ k. k == i) o false) e
 
 -- a socket number names an endpoint that allows the answer
-pub named : (b : HostTcp) (n : ℕ) (call : Call) (answer : Answer) → socket_allows b n call answer ≡ true → is_bad_socket answer ≡ false → ((queue : List ℕ) → listener_allows queue call answer ≡ false)
+pub named : (b : HostTcp) (n : ℕ) (call : Call) (answer : Answer) → socket_allows b n call answer ≡ true
+    → is_bad_socket answer ≡ false → ((queue : List ℕ) → listener_allows queue call answer ≡ false)
     → (i : ℕ) × (thing_of b n ≡ Some (EndpointAt i)) × (e : Endpoint) × (slice_get b.endpoints i ≡ Some e) × (endpoint_allows e call answer ≡ true)
 named b n call answer may good refused = go (thing_of b n) refl may
   where
-    there : (i : ℕ) (o : Option Endpoint) → slice_get b.endpoints i ≡ o → option_map_or (λ e. endpoint_allows e call answer) o false ≡ true → (e : Endpoint) × (slice_get b.endpoints i ≡ Some e) × (endpoint_allows e call answer ≡ true)
+    there : (i : ℕ) (o : Option Endpoint) → slice_get b.endpoints i ≡ o
+        → option_map_or (λ e. endpoint_allows e call answer) o false ≡ true
+        → (e : Endpoint) × (slice_get b.endpoints i ≡ Some e) × (endpoint_allows e call answer ≡ true)
     there i None at may = absurd cc
     there i (Some e) at may = (e, at, may)
 
@@ -115,7 +127,9 @@ named b n call answer may good refused = go (thing_of b n) refl may
 send_open : (e : Endpoint) (bytes : List ℕ) (n : ℕ) → send_allows e bytes (answers.Given n) ≡ true → e.stream.ended ≡ false
 send_open e bytes n may = go e.fault e.stream.ended may
   where
-    go : (fault : Option Fault) (ended : Bool) → (if is_some fault then option_map_or (λ x. tells x (answers.Given n)) fault false || (ended && false) else if ended then false else open_send_allows e.state bytes (answers.Given n)) ≡ true → ended ≡ false
+    go : (fault : Option Fault) (ended : Bool)
+        → (if is_some fault then option_map_or (λ x. tells x (answers.Given n)) fault false || (ended && false)
+        else if ended then false else open_send_allows e.state bytes (answers.Given n)) ≡ true → ended ≡ false
     go fault false may = refl
     go None true may = absurd cc
     go (Some Refused) true may = absurd cc
@@ -155,20 +169,23 @@ shut_waits states.TimeWait x = x
 
 -- 3. endpoints by themselves
 
-grown_quiet : (comes : Coming) (host : Host) (adds : ℕ → Added) (es fs : List Endpoint) → ((i : ℕ) → adds i ≡ nothing) → Grown comes host silent es fs → Grown comes host adds es fs
+grown_quiet : (comes : Coming) (host : Host) (adds : ℕ → Added) (es fs : List Endpoint) → ((i : ℕ) → adds i ≡ nothing)
+    → Grown comes host silent es fs → Grown comes host adds es fs
 grown_quiet comes host adds es fs quiet m = record {
   onward = λ i e at. let h = m.onward i e at in (h.0, h.1, subst (λ (x : Added). Grows (comes (name host i)) x e h.0) (sym (quiet i)) h.2);
   back = m.back;
 }
 
-grown_socket : (comes : Coming) (a : Hosts) (host : Host) (n i : ℕ) (f : Endpoint → Endpoint) (F : Bool → Added) → F false ≡ nothing → owner (pick a host).body n ≡ Some i → OwnEnds (pick a host).body.endpoints
+grown_socket : (comes : Coming) (a : Hosts) (host : Host) (n i : ℕ) (f : Endpoint → Endpoint) (F : Bool → Added)
+    → F false ≡ nothing → owner (pick a host).body n ≡ Some i → OwnEnds (pick a host).body.endpoints
     → ((e : Endpoint) → slice_get (pick a host).body.endpoints i ≡ Some e → Grows (comes (name host i)) (F true) e (f e))
     → Grown comes host (λ j. F (is_socket_of a n (name host j))) (pick a host).body.endpoints (modify (pick a host).body.endpoints i f)
 grown_socket comes a host n i f F none own g new = grown_one comes host (λ j. F (is_socket_of a n (name host j))) (pick a host).body.endpoints i f g
     (λ j h. ap F (socket_other a host n i j own h) ∙ none)
     (λ e at. subst (λ b. Grows (comes (name host i)) (F b) e (f e)) (sym (socket_here a host n i own)) (new e at))
 
-grows_send : (comes : ℕ → Cell → Type 0) (e : Endpoint) (bytes : List ℕ) (n : ℕ) → Own e → e.stream.ended ≡ false → Grows comes (record { told = []; accepted = take n bytes; ended = false }) e (after_send bytes n e)
+grows_send : (comes : ℕ → Cell → Type 0) (e : Endpoint) (bytes : List ℕ) (n : ℕ) → Own e → e.stream.ended ≡ false
+    → Grows comes (record { told = []; accepted = take n bytes; ended = false }) e (after_send bytes n e)
 grows_send comes e bytes n g open' = record {
   own = own_sends e (after_send bytes n e) (e.stream.accepted ++ take n bytes) e.stream.ended g refl refl (λ x. x);
   later = accept_later e.stream (take n bytes) open';
@@ -178,11 +195,18 @@ grows_send comes e bytes n g open' = record {
 }
 
 -- sending is ended
-grows_ended : (comes : ℕ → Cell → Type 0) (e f : Endpoint) → Own e → f.stream ≡ record e.stream { ended = true } → f.irs ≡ e.irs → (is_syn_sent f.state ≡ true → is_syn_sent e.state ≡ true) → Grows comes (record { told = []; accepted = []; ended = true }) e f
+grows_ended : (comes : ℕ → Cell → Type 0) (e f : Endpoint) → Own e → f.stream ≡ record e.stream { ended = true }
+    → f.irs ≡ e.irs → (is_syn_sent f.state ≡ true → is_syn_sent e.state ≡ true)
+    → Grows comes (record { told = []; accepted = []; ended = true }) e f
 grows_ended comes e f g is irs waits = record {
   own = own_sends e f e.stream.accepted true g is irs waits;
   later = subst (λ (s : Stream). Later e.stream s) (sym is) (ended_later e.stream);
-  adds = subst (λ (s : Stream). Adds (record { told = []; accepted = []; ended = true }) e.stream s) (sym is) (record { told = append-nil (received e.stream.receive); accepted = append-nil e.stream.accepted; ended = or_true e.stream.ended });
+  adds = subst (λ (s : Stream). Adds (record { told = []; accepted = []; ended = true }) e.stream s) (sym is)
+      (record {
+        told = append-nil (received e.stream.receive);
+        accepted = append-nil e.stream.accepted;
+        ended = or_true e.stream.ended;
+      });
   stays = subst (λ (s : Stream). Stays e.stream s) (sym is) (λ p c x. x);
   gains = subst (λ (s : Stream). Gains comes e.stream s) (sym is) (λ p c x some. inl x);
 }
@@ -193,11 +217,17 @@ grows_shut comes e g = grows_ended comes e (after_shut e) g refl refl (shut_wait
 grows_close : (comes : ℕ → Cell → Type 0) (e : Endpoint) → Own e → Grows comes (record { told = []; accepted = []; ended = true }) e (after_close e)
 grows_close comes e g = go (is_syn_sent e.state) refl
   where
-    go : (b : Bool) → is_syn_sent e.state ≡ b → Grows comes (record { told = []; accepted = []; ended = true }) e (record (if b then shut_down (record e { stream = record e.stream { ended = true } }) else after_shut e) { closed = true })
+    go : (b : Bool) → is_syn_sent e.state ≡ b
+        → Grows comes (record { told = []; accepted = []; ended = true }) e
+        (record (if b then shut_down (record e { stream = record e.stream { ended = true } }) else after_shut e) {
+          closed = true;
+        })
     go true is = grows_ended comes e (record (shut_down (record e { stream = record e.stream { ended = true } })) { closed = true }) g refl refl (λ x. is)
     go false is = grows_ended comes e (record (after_shut e) { closed = true }) g refl refl (shut_waits e.state)
 
-grows_recv : (comes : ℕ → Cell → Type 0) (e : Endpoint) (bytes rest : List ℕ) → Own e → bytes ++ rest ≡ waiting e.stream.receive → Grows comes (record { told = bytes; accepted = []; ended = false }) e (after_recv bytes e)
+grows_recv : (comes : ℕ → Cell → Type 0) (e : Endpoint) (bytes rest : List ℕ) → Own e
+    → bytes ++ rest ≡ waiting e.stream.receive
+    → Grows comes (record { told = bytes; accepted = []; ended = false }) e (after_recv bytes e)
 grows_recv comes e bytes rest g is =
     let r = e.stream.receive in
     let waits = waiting_own e g in
@@ -210,18 +240,24 @@ grows_recv comes e bytes rest g is =
     }
 
 plain_orphan : (l : ℕ) (e : Endpoint) → Plain e (orphaned l e)
-plain_orphan l e = plain_either (option_map_or (λ holder. holder == l) e.listener false) e (after_abort e) e (record { stream = refl; irs = refl; waits = λ x. absurd cc }) (plain_same e)
+plain_orphan l e =
+    plain_either (option_map_or (λ holder. holder == l) e.listener false) e (after_abort e) e
+    (record { stream = refl; irs = refl; waits = λ x. absurd cc }) (plain_same e)
 
-grown_listener : (comes : Coming) (host : Host) (b : HostTcp) (l : ℕ) → OwnEnds b.endpoints → Grown comes host silent b.endpoints (without_listener b l).endpoints
+grown_listener : (comes : Coming) (host : Host) (b : HostTcp) (l : ℕ) → OwnEnds b.endpoints
+    → Grown comes host silent b.endpoints (without_listener b l).endpoints
 grown_listener comes host b l g = grown_map comes host b.endpoints (orphaned l) g (plain_orphan l)
 
-grown_accept : (comes : Coming) (host : Host) (b : HostTcp) (n : ℕ) (thing : SocketTarget) → OwnEnds b.endpoints → Grown comes host silent b.endpoints (after_accept b n thing).endpoints
+grown_accept : (comes : Coming) (host : Host) (b : HostTcp) (n : ℕ) (thing : SocketTarget) → OwnEnds b.endpoints
+    → Grown comes host silent b.endpoints (after_accept b n thing).endpoints
 grown_accept comes host b n (EndpointAt i) g = grown_not comes host silent b.endpoints (λ i. refl) g
 grown_accept comes host b n (ListenerAt l) g = go (queue_of b l)
   where
     go : (queue : List ℕ) → Grown comes host silent b.endpoints (accepted_from b l n queue).endpoints
     go [] = grown_not comes host silent b.endpoints (λ i. refl) g
-    go (child ∷ queue) = grown_plain comes host b.endpoints child (λ e. record e { listener = None }) g (λ e. record { stream = refl; irs = refl; waits = λ x. x })
+    go (child ∷ queue) =
+        grown_plain comes host b.endpoints child (λ e. record e { listener = None }) g
+        (λ e. record { stream = refl; irs = refl; waits = λ x. x })
 
 bare_endpoint : (p : Profile) (lport rport : ℕ) → Bare (new_endpoint lport rport None states.SynSent p)
 bare_endpoint p lport rport = record {
@@ -237,12 +273,17 @@ grown_call p comes a host (calls.Listen at port backlog) (answers.Given n) g may
 grown_call p comes a host (calls.Connect at lport rport) (answers.Given n) g may =
     grown_push comes host (pick a host).body.endpoints (new_endpoint lport rport None states.SynSent p) g (bare_endpoint p lport rport)
 grown_call p comes a host (calls.Accept h) (answers.Given n) g may = let b = (pick a host).body in
-    map_or_cases (λ (x : HostTcp). Grown comes host silent b.endpoints x.endpoints) (thing_of b h) b (after_accept b n) (λ e. grown_not comes host silent b.endpoints (λ i. refl) g) (λ thing e. grown_accept comes host b n thing g)
+    map_or_cases (λ (x : HostTcp). Grown comes host silent b.endpoints x.endpoints) (thing_of b h) b (after_accept b n)
+    (λ e. grown_not comes host silent b.endpoints (λ i. refl) g) (λ thing e. grown_accept comes host b n thing g)
 grown_call p comes a host (calls.Send h bytes) (answers.Given n) g may =
     let b = (pick a host).body in
     let x = named b h (calls.Send h bytes) (answers.Given n) may refl (λ queue. refused queue) in
-    subst (λ (o : Option SocketTarget). Grown comes host (λ j. call_adds a (calls.Send h bytes) (answers.Given n) (name host j)) b.endpoints (option_map_or (change_thing b (after_send bytes n)) o b).endpoints) (sym x.1)
-    (grown_socket comes a host h x.0 (after_send bytes n) (λ c. record { told = []; accepted = if c then take n bytes else []; ended = false }) refl (owner_of b h (EndpointAt x.0) x.1).0 g
+    subst (λ (o : Option SocketTarget).
+    Grown comes host (λ j. call_adds a (calls.Send h bytes) (answers.Given n) (name host j)) b.endpoints
+    (option_map_or (change_thing b (after_send bytes n)) o b).endpoints) (sym x.1)
+    (grown_socket comes a host h x.0 (after_send bytes n)
+    (λ c. record { told = []; accepted = if c then take n bytes else []; ended = false }) refl
+    (owner_of b h (EndpointAt x.0) x.1).0 g
     (λ e at. grows_send (comes (name host x.0)) e bytes n (g x.0 e at)
     (subst (λ (y : Endpoint). y.stream.ended ≡ false) (same_Some x.2 e (sym x.3 ∙ at)) (send_open x.2 bytes n x.4))))
   where
@@ -252,9 +293,16 @@ grown_call p comes a host (calls.Send h bytes) (answers.Given n) g may =
 grown_call p comes a host (calls.Recv h most) (answers.Bytes bytes) g may =
     let b = (pick a host).body in
     let x = named b h (calls.Recv h most) (answers.Bytes bytes) may refl (λ queue. refused queue) in
-    let rest = starts_prefix bytes (waiting x.2.stream.receive) (both_true (nat_le 1 (length bytes) && nat_le (length bytes) most) (starts bytes (waiting x.2.stream.receive)) x.4).1 in
-    subst (λ (o : Option SocketTarget). Grown comes host (λ j. call_adds a (calls.Recv h most) (answers.Bytes bytes) (name host j)) b.endpoints (option_map_or (change_thing b (after_recv bytes)) o b).endpoints) (sym x.1)
-    (grown_socket comes a host h x.0 (after_recv bytes) (λ c. record { told = if c then bytes else []; accepted = []; ended = false }) refl (owner_of b h (EndpointAt x.0) x.1).0 g
+    let rest =
+    starts_prefix bytes (waiting x.2.stream.receive)
+    (both_true (nat_le 1 (length bytes) && nat_le (length bytes) most)
+    (starts bytes (waiting x.2.stream.receive)) x.4).1 in
+    subst (λ (o : Option SocketTarget).
+    Grown comes host (λ j. call_adds a (calls.Recv h most) (answers.Bytes bytes) (name host j)) b.endpoints
+    (option_map_or (change_thing b (after_recv bytes)) o b).endpoints) (sym x.1)
+    (grown_socket comes a host h x.0 (after_recv bytes)
+    (λ c. record { told = if c then bytes else []; accepted = []; ended = false }) refl
+    (owner_of b h (EndpointAt x.0) x.1).0 g
     (λ e at. grows_recv (comes (name host x.0)) e bytes rest.0 (g x.0 e at)
     (subst (λ (y : Endpoint). bytes ++ rest.0 ≡ waiting y.stream.receive) (same_Some x.2 e (sym x.3 ∙ at)) rest.1)))
   where
@@ -264,22 +312,37 @@ grown_call p comes a host (calls.Recv h most) (answers.Bytes bytes) g may =
 grown_call p comes a host (calls.Shut h) answers.Done g may =
     let b = (pick a host).body in
     let x = named b h (calls.Shut h) answers.Done may refl (λ queue. refused queue) in
-    subst (λ (o : Option SocketTarget). Grown comes host (λ j. call_adds a (calls.Shut h) answers.Done (name host j)) b.endpoints (option_map_or (change_thing b after_shut) o b).endpoints) (sym x.1)
-    (grown_socket comes a host h x.0 after_shut (λ c. record { told = []; accepted = []; ended = c }) refl (owner_of b h (EndpointAt x.0) x.1).0 g (λ e at. grows_shut (comes (name host x.0)) e (g x.0 e at)))
+    subst (λ (o : Option SocketTarget).
+    Grown comes host (λ j. call_adds a (calls.Shut h) answers.Done (name host j)) b.endpoints
+    (option_map_or (change_thing b after_shut) o b).endpoints) (sym x.1)
+    (grown_socket comes a host h x.0 after_shut (λ c. record { told = []; accepted = []; ended = c }) refl
+    (owner_of b h (EndpointAt x.0) x.1).0 g (λ e at. grows_shut (comes (name host x.0)) e (g x.0 e at)))
   where
     refused : (queue : List ℕ) → listener_allows queue (calls.Shut h) answers.Done ≡ false
     refused [] = refl
     refused (c ∷ queue) = refl
 grown_call p comes a host (calls.Close h) answers.Done g may = go (thing_of (pick a host).body h) refl may
   where
-    go : (o : Option SocketTarget) → thing_of (pick a host).body h ≡ o → option_map_or (thing_allows (pick a host).body (calls.Close h) answers.Done) o false ≡ true
-        → Grown comes host (λ j. call_adds a (calls.Close h) answers.Done (name host j)) (pick a host).body.endpoints (option_map_or (λ thing. record (thing_gone (pick a host).body thing after_close) { sockets = dead (pick a host).body.sockets h }) o (pick a host).body).endpoints
+    go : (o : Option SocketTarget) → thing_of (pick a host).body h ≡ o
+        → option_map_or (thing_allows (pick a host).body (calls.Close h) answers.Done) o false ≡ true
+        → Grown comes host (λ j. call_adds a (calls.Close h) answers.Done (name host j)) (pick a host).body.endpoints
+        (option_map_or (λ thing. record (thing_gone (pick a host).body thing after_close) {
+          sockets = dead (pick a host).body.sockets h;
+        }) o (pick a host).body).endpoints
     go None is may = absurd cc
-    go (Some (ListenerAt l)) is may = grown_quiet comes host (λ j. call_adds a (calls.Close h) answers.Done (name host j)) (pick a host).body.endpoints (without_listener (pick a host).body l).endpoints
-        (λ i. ap (λ (c : Bool). record { told = []; accepted = []; ended = c }) (socket_none a host h i (owner_of (pick a host).body h (ListenerAt l) is).0)) (grown_listener comes host (pick a host).body l g)
-    go (Some (EndpointAt i)) is may = grown_socket comes a host h i after_close (λ c. record { told = []; accepted = []; ended = c }) refl (owner_of (pick a host).body h (EndpointAt i) is).0 g (λ e at. grows_close (comes (name host i)) e (g i e at))
+    go (Some (ListenerAt l)) is may =
+        grown_quiet comes host (λ j. call_adds a (calls.Close h) answers.Done (name host j))
+        (pick a host).body.endpoints (without_listener (pick a host).body l).endpoints
+        (λ i. ap (λ (c : Bool). record { told = []; accepted = []; ended = c })
+        (socket_none a host h i (owner_of (pick a host).body h (ListenerAt l) is).0))
+        (grown_listener comes host (pick a host).body l g)
+    go (Some (EndpointAt i)) is may =
+        grown_socket comes a host h i after_close (λ c. record { told = []; accepted = []; ended = c }) refl
+        (owner_of (pick a host).body h (EndpointAt i) is).0 g (λ e at. grows_close (comes (name host i)) e (g i e at))
 grown_call p comes a host (calls.Abort h) answers.Done g may = let b = (pick a host).body in
-    map_or_cases (λ (x : HostTcp). Grown comes host silent b.endpoints x.endpoints) (thing_of b h) b (λ thing. record (thing_gone b thing after_abort) { sockets = dead b.sockets h }) (λ e. grown_not comes host silent b.endpoints (λ i. refl) g)
+    map_or_cases (λ (x : HostTcp). Grown comes host silent b.endpoints x.endpoints) (thing_of b h) b
+    (λ thing. record (thing_gone b thing after_abort) { sockets = dead b.sockets h })
+    (λ e. grown_not comes host silent b.endpoints (λ i. refl) g)
     (λ thing e. go thing)
   where
     go : (thing : SocketTarget) → Grown comes host silent (pick a host).body.endpoints (thing_gone (pick a host).body thing after_abort).endpoints
@@ -302,8 +365,12 @@ keeps_close e = go (is_syn_sent e.state)
 keeps_abort : (e : Endpoint) → KeepsPeer e (after_abort e)
 keeps_abort e = record { peer = refl; taken = refl; snd_una = refl; waits = λ x. absurd cc }
 
-moves_change : (a : Hosts) (host : Host) (b : HostTcp) (n : ℕ) (f : Endpoint → Endpoint) → GoodEnds a host b.endpoints → ((e : Endpoint) → KeepsPeer e (f e)) → Moves a host b.endpoints (option_map_or (change_thing b f) (thing_of b n) b).endpoints
-moves_change a host b n f g keeps = map_or_cases (λ (x : HostTcp). Moves a host b.endpoints x.endpoints) (thing_of b n) b (change_thing b f) (λ e. moves_not a host b.endpoints g) (λ thing e. go thing)
+moves_change : (a : Hosts) (host : Host) (b : HostTcp) (n : ℕ) (f : Endpoint → Endpoint) → GoodEnds a host b.endpoints
+    → ((e : Endpoint) → KeepsPeer e (f e))
+    → Moves a host b.endpoints (option_map_or (change_thing b f) (thing_of b n) b).endpoints
+moves_change a host b n f g keeps =
+    map_or_cases (λ (x : HostTcp). Moves a host b.endpoints x.endpoints) (thing_of b n) b (change_thing b f)
+    (λ e. moves_not a host b.endpoints g) (λ thing e. go thing)
   where
     go : (thing : SocketTarget) → Moves a host b.endpoints (change_thing b f thing).endpoints
     go (ListenerAt l) = moves_not a host b.endpoints g
@@ -311,19 +378,25 @@ moves_change a host b n f g keeps = map_or_cases (λ (x : HostTcp). Moves a host
 
 moves_gone : (a : Hosts) (host : Host) (b : HostTcp) (n : ℕ) (f : Endpoint → Endpoint) → GoodEnds a host b.endpoints → ((e : Endpoint) → KeepsPeer e (f e))
     → Moves a host b.endpoints (option_map_or (λ thing. record (thing_gone b thing f) { sockets = dead b.sockets n }) (thing_of b n) b).endpoints
-moves_gone a host b n f g keeps = map_or_cases (λ (x : HostTcp). Moves a host b.endpoints x.endpoints) (thing_of b n) b (λ thing. record (thing_gone b thing f) { sockets = dead b.sockets n }) (λ e. moves_not a host b.endpoints g) (λ thing e. go thing)
+moves_gone a host b n f g keeps =
+    map_or_cases (λ (x : HostTcp). Moves a host b.endpoints x.endpoints) (thing_of b n) b
+    (λ thing. record (thing_gone b thing f) { sockets = dead b.sockets n }) (λ e. moves_not a host b.endpoints g)
+    (λ thing e. go thing)
   where
     go : (thing : SocketTarget) → Moves a host b.endpoints (thing_gone b thing f).endpoints
     go (ListenerAt l) = moves_map a host b.endpoints (orphaned l) g (λ e. plain_keeps e (orphaned l e) (plain_orphan l e))
     go (EndpointAt i) = moves_keeps a host b.endpoints i f g keeps
 
-moves_accept : (a : Hosts) (host : Host) (b : HostTcp) (n : ℕ) (thing : SocketTarget) → GoodEnds a host b.endpoints → Moves a host b.endpoints (after_accept b n thing).endpoints
+moves_accept : (a : Hosts) (host : Host) (b : HostTcp) (n : ℕ) (thing : SocketTarget) → GoodEnds a host b.endpoints
+    → Moves a host b.endpoints (after_accept b n thing).endpoints
 moves_accept a host b n (EndpointAt i) g = moves_not a host b.endpoints g
 moves_accept a host b n (ListenerAt l) g = go (queue_of b l)
   where
     go : (queue : List ℕ) → Moves a host b.endpoints (accepted_from b l n queue).endpoints
     go [] = moves_not a host b.endpoints g
-    go (child ∷ queue) = moves_keeps a host b.endpoints child (λ e. record e { listener = None }) g (λ e. record { peer = refl; taken = refl; snd_una = refl; waits = λ x. x })
+    go (child ∷ queue) =
+        moves_keeps a host b.endpoints child (λ e. record e { listener = None }) g
+        (λ e. record { peer = refl; taken = refl; snd_una = refl; waits = λ x. x })
 
 fresh_endpoint : (p : Profile) (a : Hosts) (me : EndpointId) (lport rport : ℕ) → Fresh a me (new_endpoint lport rport None states.SynSent p)
 fresh_endpoint p a me lport rport = record {
@@ -340,7 +413,8 @@ moves_call p a host b (calls.Listen at port backlog) (answers.Given n) g = moves
 moves_call p a host b (calls.Connect at lport rport) (answers.Given n) g =
     moves_push a host b.endpoints (new_endpoint lport rport None states.SynSent p) g (fresh_endpoint p a _ lport rport)
 moves_call p a host b (calls.Accept h) (answers.Given n) g =
-    map_or_cases (λ (x : HostTcp). Moves a host b.endpoints x.endpoints) (thing_of b h) b (after_accept b n) (λ e. moves_not a host b.endpoints g) (λ thing e. moves_accept a host b n thing g)
+    map_or_cases (λ (x : HostTcp). Moves a host b.endpoints x.endpoints) (thing_of b h) b (after_accept b n)
+    (λ e. moves_not a host b.endpoints g) (λ thing e. moves_accept a host b n thing g)
 moves_call p a host b (calls.Send h bytes) (answers.Given n) g =
     moves_change a host b h (after_send bytes n) g (λ e. record { peer = refl; taken = refl; snd_una = refl; waits = λ x. x })
 moves_call p a host b (calls.Recv h most) (answers.Bytes bytes) g =

@@ -26,7 +26,9 @@ use Rattle.spec_tcp_laws.proofs.Later.{name}
 -- the steps that a witness asks for
 abbrev pub steps_of : Header → List lines.Line → List witness.Step → List (Stamped tcp_shape)
 steps_of h all [] = []
-steps_of h all (s ∷ steps) = option_map_or (λ step. record { moment = s.moment; step = step } ∷ steps_of h all steps) (label_step (line_at h all) s.label) (steps_of h all steps)
+steps_of h all (s ∷ steps) =
+    option_map_or (λ step. record { moment = s.moment; step = step } ∷ steps_of h all steps)
+    (label_step (line_at h all) s.label) (steps_of h all steps)
 
 -- the first rule that steps break, one by one
 abbrev broken : Header → World tcp_shape → List (Stamped tcp_shape) → Option Rule
@@ -38,7 +40,8 @@ lawful : (h : Header) (w : World tcp_shape) (xs : List (Stamped tcp_shape)) → 
 lawful h w [] e = tt
 lawful h w (x ∷ xs) e = go (first_broken (step_rules (tcp h) x.moment w x.step)) refl e (lawful h (after (tcp h) x.moment w x.step) xs)
   where
-    go : (o : Option Rule) → first_broken (step_rules (tcp h) x.moment w x.step) ≡ o → option_map_or (λ rule. Some rule) o (broken h (after (tcp h) x.moment w x.step) xs) ≡ None
+    go : (o : Option Rule) → first_broken (step_rules (tcp h) x.moment w x.step) ≡ o
+        → option_map_or (λ rule. Some rule) o (broken h (after (tcp h) x.moment w x.step) xs) ≡ None
         → (broken h (after (tcp h) x.moment w x.step) xs ≡ None → Lawful (tcp h) (after (tcp h) x.moment w x.step) xs) → Lawful (tcp h) w (x ∷ xs)
     go None is e rest = (is, rest e)
     go (Some rule) is e rest = absurd (none-some rule (sym e))
@@ -89,10 +92,12 @@ answered_by_mistake_is_a_run = lawful (header 120000000 0) (start (tcp (header 1
 its_syn_is_acknowledged : option_map_or (λ e. e.stream.snd_una) (find (world_at_end (header 120000000 0) answered_by_mistake).hosts (name Zero 1)) 0 ≡ 1
 its_syn_is_acknowledged = refl
 
-its_peer_is_the_child : option_map_or (λ e. e.stream.peer) (find (world_at_end (header 120000000 0) answered_by_mistake).hosts (name Zero 1)) None ≡ Some (name One 0)
+its_peer_is_the_child : option_map_or (λ e. e.stream.peer)
+    (find (world_at_end (header 120000000 0) answered_by_mistake).hosts (name Zero 1)) None ≡ Some (name One 0)
 its_peer_is_the_child = refl
 
-the_childs_peer_is_the_older : option_map_or (λ e. e.stream.peer) (find (world_at_end (header 120000000 0) answered_by_mistake).hosts (name One 0)) None ≡ Some (name Zero 0)
+the_childs_peer_is_the_older : option_map_or (λ e. e.stream.peer)
+    (find (world_at_end (header 120000000 0) answered_by_mistake).hosts (name One 0)) None ≡ Some (name Zero 0)
 the_childs_peer_is_the_older = refl
 
 -- where host 0 alone is recorded: its read was told two bytes that were heard

@@ -25,8 +25,12 @@ pub received_none : (hosts : Hosts) (me : EndpointId) (s : Stream) → GoodStrea
 received_none hosts me s g p = take_nothing s.receive.delivered (arrived s.receive) (ap bytes_of (nothing_in_front s.receive.taken (taken_none hosts me s g p)))
 
 -- what was received is how that begins which the peer's sends accepted
-pub received_prefix : (hosts : Hosts) (me : EndpointId) (s : Stream) (q : EndpointId) (t : Endpoint) → GoodStream hosts me s → s.peer ≡ Some q → find hosts q ≡ Some t → IsPrefixOf (received s.receive) t.stream.accepted
-received_prefix hosts me s q t g p there = prefix_take s.receive.delivered (arrived s.receive) t.stream.accepted (in_order s.receive t.stream.accepted t.stream.ended (taken_of hosts me s q t g p there)).arrives
+pub received_prefix : (hosts : Hosts) (me : EndpointId) (s : Stream) (q : EndpointId) (t : Endpoint)
+    → GoodStream hosts me s → s.peer ≡ Some q → find hosts q ≡ Some t
+    → IsPrefixOf (received s.receive) t.stream.accepted
+received_prefix hosts me s q t g p there =
+    prefix_take s.receive.delivered (arrived s.receive) t.stream.accepted
+    (in_order s.receive t.stream.accepted t.stream.ended (taken_of hosts me s q t g p there)).arrives
 
 -- a prefix as long as the whole is the whole
 whole_prefix : (xs ys : List ℕ) → IsPrefixOf xs ys → length xs ≡ length ys → xs ≡ ys

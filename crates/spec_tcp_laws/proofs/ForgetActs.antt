@@ -54,11 +54,15 @@ listener-forget b m = by (listener_on b m.rport)
 endpoint_taker-forget : (b : HostTcp) (m : Emission) (i : ℕ) → endpoint_taker (forget_body b) m i ≡ forget_taker (endpoint_taker b m i)
 endpoint_taker-forget b m i = rw (slice_get-map forget_endpoint b.endpoints i) (by (slice_get b.endpoints i))
   where
-    closed : (e : Endpoint) (c : Bool) → (if c then listener_taker b m else AtEndpoint i (forget_endpoint e)) ≡ forget_taker (if c then listener_taker b m else AtEndpoint i e)
+    closed : (e : Endpoint) (c : Bool)
+        → (if c then listener_taker b m else AtEndpoint i (forget_endpoint e))
+        ≡ forget_taker (if c then listener_taker b m else AtEndpoint i e)
     closed e true = listener-forget b m
     closed e false = refl
 
-    by : (o : Option Endpoint) → option_map_or (λ e. if is_closed e.state then listener_taker b m else AtEndpoint i e) (option_map forget_endpoint o) (listener_taker b m)
+    by : (o : Option Endpoint)
+        → option_map_or (λ e. if is_closed e.state then listener_taker b m else AtEndpoint i e)
+        (option_map forget_endpoint o) (listener_taker b m)
         ≡ forget_taker (option_map_or (λ e. if is_closed e.state then listener_taker b m else AtEndpoint i e) o (listener_taker b m))
     by None = listener-forget b m
     by (Some e) = closed e (is_closed e.state)
@@ -66,7 +70,9 @@ endpoint_taker-forget b m i = rw (slice_get-map forget_endpoint b.endpoints i) (
 taker-forget : (b : HostTcp) (m : Emission) → taker (forget_body b) m ≡ forget_taker (taker b m)
 taker-forget b m = rw (place-forget b m.rport m.lport) (by (place_of b m.rport m.lport))
   where
-    by : (o : Option ℕ) → option_map_or (endpoint_taker (forget_body b) m) o (listener_taker b m) ≡ forget_taker (option_map_or (endpoint_taker b m) o (listener_taker b m))
+    by : (o : Option ℕ)
+        → option_map_or (endpoint_taker (forget_body b) m) o (listener_taker b m)
+        ≡ forget_taker (option_map_or (endpoint_taker b m) o (listener_taker b m))
     by None = listener-forget b m
     by (Some i) = endpoint_taker-forget b m i
 
@@ -99,16 +105,26 @@ act_rules-forget h me moment b (Calls call answer) = rw (call_allows-forget b ca
 act_rules-forget h me moment b (Makes m) = rules_at-forget b m.lport m.rport (λ e. making_rules e m) (λ e. making_rules-forget e m)
 act_rules-forget h me moment b (Takes how m) = rw (taker-forget b m) (taker_rules-forget h me b how m moment (taker b m))
 act_rules-forget h me moment b (Resets m) = rw (taker-forget b m, nothing-forget m (taker b m)) refl
-act_rules-forget h me moment b (Expires x) = rules_at-forget b x.lport x.rport (λ e. expiry_rules h moment e x.expired) (λ e. expiry_rules-forget h moment e x.expired)
+act_rules-forget h me moment b (Expires x) =
+    rules_at-forget b x.lport x.rport (λ e. expiry_rules h moment e x.expired)
+    (λ e. expiry_rules-forget h moment e x.expired)
 act_rules-forget h me moment b (Recovers x) =
     rules_at-forget b x.lport x.rport (λ e. recovery_rules e x.cwnd x.ssthresh moment) (λ e. recovery_rules-forget e x.cwnd x.ssthresh moment)
 
-taking-forgets : (h : Header) (b : HostTcp) (how : TakeChoice) (m : Emission) (moment : ℕ) (t : Taker) → forget_body (after_taking h (forget_body b) how m moment (forget_taker t)) ≡ forget_body (after_taking h b how m moment t)
+taking-forgets : (h : Header) (b : HostTcp) (how : TakeChoice) (m : Emission) (moment : ℕ) (t : Taker)
+    → forget_body (after_taking h (forget_body b) how m moment (forget_taker t))
+    ≡ forget_body (after_taking h b how m moment t)
 taking-forgets h b how m moment Nobody = body-forget b
 taking-forgets h b how m moment (AtListener l) = rw (append-forgets b.endpoints (child (profile_of h) l how m moment ∷ [])) refl
-taking-forgets h b how m moment (AtEndpoint i e) = rw (read-forget h e m, modify-forgets b.endpoints i (λ x. endpoint_taken h x how (as_read h.version e m) moment) (endpoint-forgets h how (as_read h.version e m) moment)) refl
+taking-forgets h b how m moment (AtEndpoint i e) =
+    rw (
+      read-forget h e m,
+      modify-forgets b.endpoints i (λ x. endpoint_taken h x how (as_read h.version e m) moment)
+          (endpoint-forgets h how (as_read h.version e m) moment),
+    ) refl
 
-pub act-forgets : (h : Header) (me : Host) (moment : ℕ) (b : HostTcp) (act : Act) → forget_body (act_after h me moment (forget_body b) act) ≡ forget_body (act_after h me moment b act)
+pub act-forgets : (h : Header) (me : Host) (moment : ℕ) (b : HostTcp) (act : Act)
+    → forget_body (act_after h me moment (forget_body b) act) ≡ forget_body (act_after h me moment b act)
 act-forgets h me moment b (Calls call answer) = call-forgets (profile_of h) b call answer
 act-forgets h me moment b (Makes m) = ports-forgets b m.lport m.rport (λ e. after_making e m moment) (making-forgets m moment)
 act-forgets h me moment b (Takes how m) = rw (taker-forget b m) (taking-forgets h b how m moment (taker b m))
@@ -121,7 +137,8 @@ act-forgets h me moment b (Recovers x) =
 empty_below : (e : Endpoint) (m : SegmentPlan) → is_bad_payload e m ≡ false → is_bad_place e m ≡ false → m.pos < e.stream.snd_una → m.len ≡ 0
 empty_below e m payload place low = grind (arith, nat_tests, payload, place, low)
 
-piece_same : (e : Endpoint) (m : SegmentPlan) → first_broken (making_rules e m) ≡ None → piece (forget_endpoint e).stream.accepted m.pos m.len ≡ piece e.stream.accepted m.pos m.len
+piece_same : (e : Endpoint) (m : SegmentPlan) → first_broken (making_rules e m) ≡ None
+    → piece (forget_endpoint e).stream.accepted m.pos m.len ≡ piece e.stream.accepted m.pos m.len
 piece_same e m permitted =
     let all = none_all (making_rules e m) permitted in
     elim (cases_lt m.pos e.stream.snd_una) [
@@ -129,15 +146,19 @@ piece_same e m permitted =
       | inr high ↦ piece-forget e m.pos m.len high
     ]
 
-emission_same : (me : EndpointId) (e : Endpoint) (m : SegmentPlan) → first_broken (making_rules e m) ≡ None → emission_of me (forget_endpoint e) m ≡ emission_of me e m
+emission_same : (me : EndpointId) (e : Endpoint) (m : SegmentPlan) → first_broken (making_rules e m) ≡ None
+    → emission_of me (forget_endpoint e) m ≡ emission_of me e m
 emission_same me e m permitted = rw (rcv_nxt-forget e, piece_same e m permitted) refl
 
 -- the segment that is made is the same where it is permitted
-pub makes-forget : (h : Header) (me : Host) (moment : ℕ) (b : HostTcp) (m : SegmentPlan) → first_broken (act_rules h me moment b (Makes m)) ≡ None → act_makes me (forget_body b) (Makes m) ≡ act_makes me b (Makes m)
+pub makes-forget : (h : Header) (me : Host) (moment : ℕ) (b : HostTcp) (m : SegmentPlan)
+    → first_broken (act_rules h me moment b (Makes m)) ≡ None
+    → act_makes me (forget_body b) (Makes m) ≡ act_makes me b (Makes m)
 makes-forget h me moment b m permitted = rw (place-forget b m.lport m.rport) (by (place_of b m.lport m.rport) permitted)
   where
     at : (i : ℕ) (o : Option Endpoint) → first_broken (option_map_or (λ e. making_rules e m) o ((rules.NoEndpoint, true) ∷ [])) ≡ None
-        → option_map (λ e. emission_of (record { host = me; number = i }) e m) (option_map forget_endpoint o) ≡ option_map (λ e. emission_of (record { host = me; number = i }) e m) o
+        → option_map (λ e. emission_of (record { host = me; number = i }) e m) (option_map forget_endpoint o)
+        ≡ option_map (λ e. emission_of (record { host = me; number = i }) e m) o
     at i None p = refl
     at i (Some e) p = rw (emission_same (record { host = me; number = i }) e m p) refl
 

@@ -23,7 +23,8 @@ use Rattle.spec_tcp.specs.Calls.Receive.{after_recv}
 use Rattle.spec_tcp.specs.Calls.Accept.{accepted_from, after_accept}
 use Rattle.spec_tcp.specs.Forgetting.{forget_endpoint, forget_body}
 use Rattle.spec_tcp_laws.proofs.ForgetRules.{await-forget, recv-forget}
-use Rattle.spec_tcp_laws.proofs.ForgetEffects.{Forgets, abort-forgets, adopted-forgets, close-forgets, orphaned-forgets, recv-forgets, send-forgets, shut-forgets}
+use Rattle.spec_tcp_laws.proofs.ForgetEffects.{Forgets, abort-forgets, adopted-forgets, close-forgets, orphaned-forgets}
+use Rattle.spec_tcp_laws.proofs.ForgetEffects.{recv-forgets, send-forgets, shut-forgets}
 use Rattle.spec_tcp_laws.proofs.ForgetBodies.{append-forgets, all-forget, body-forget, each-forget, endpoint-forget, map-forgets, modify-forgets, place-forgets}
 
 shut-forget : (e : Endpoint) (answer : Answer) → shut_allows (forget_endpoint e) answer ≡ shut_allows e answer
@@ -40,20 +41,28 @@ endpoint_allows-forget (calls.Close n) answers.Done e = refl
 endpoint_allows-forget (calls.Abort n) answers.Done e = refl
 endpoint_allows-forget _ _ e = refl
 
-thing-forget : (b : HostTcp) (call : Call) (answer : Answer) (thing : SocketTarget) → thing_allows (forget_body b) call answer thing ≡ thing_allows b call answer thing
+thing-forget : (b : HostTcp) (call : Call) (answer : Answer) (thing : SocketTarget)
+    → thing_allows (forget_body b) call answer thing ≡ thing_allows b call answer thing
 thing-forget b call answer (ListenerAt l) = refl
 thing-forget b call answer (EndpointAt i) =
-    rw (slice_get-map forget_endpoint b.endpoints i) (each-forget (λ e. endpoint_allows e call answer) (λ e. endpoint_allows e call answer) (slice_get b.endpoints i) false (endpoint_allows-forget call answer))
+    rw (slice_get-map forget_endpoint b.endpoints i)
+    (each-forget (λ e. endpoint_allows e call answer) (λ e. endpoint_allows e call answer)
+    (slice_get b.endpoints i) false (endpoint_allows-forget call answer))
 
 socket-forget : (b : HostTcp) (n : ℕ) (call : Call) (answer : Answer) → socket_allows (forget_body b) n call answer ≡ socket_allows b n call answer
 socket-forget b n call answer = by (thing_of b n)
   where
-    by : (o : Option SocketTarget) → option_map_or (thing_allows (forget_body b) call answer) o (is_bad_socket answer) ≡ option_map_or (thing_allows b call answer) o (is_bad_socket answer)
+    by : (o : Option SocketTarget)
+        → option_map_or (thing_allows (forget_body b) call answer) o (is_bad_socket answer)
+        ≡ option_map_or (thing_allows b call answer) o (is_bad_socket answer)
     by None = refl
     by (Some thing) = thing-forget b call answer thing
 
 connected-forget : (b : HostTcp) (lport rport : ℕ) → is_connected (forget_body b) lport rport ≡ is_connected b lport rport
-connected-forget b lport rport = rw (endpoint-forget b lport rport) (each-forget (λ e. not (is_closed e.state)) (λ e. not (is_closed e.state)) (endpoint_of b lport rport) false (λ e. refl))
+connected-forget b lport rport =
+    rw (endpoint-forget b lport rport)
+    (each-forget (λ e. not (is_closed e.state)) (λ e. not (is_closed e.state)) (endpoint_of b lport rport) false
+    (λ e. refl))
 
 pub call_allows-forget : (b : HostTcp) (call : Call) (answer : Answer) → call_allows (forget_body b) call answer ≡ call_allows b call answer
 call_allows-forget b (calls.Listen host port backlog) answer = refl
@@ -70,7 +79,9 @@ call_allows-forget b (calls.Status n) answer = socket-forget b n (calls.Status n
 change-forgets : (b : HostTcp) (n : ℕ) (f : Endpoint → Endpoint) → Forgets f → forget_body (change (forget_body b) n f) ≡ forget_body (change b n f)
 change-forgets b n f same = by (thing_of b n)
   where
-    by : (o : Option SocketTarget) → forget_body (option_map_or (change_thing (forget_body b) f) o (forget_body b)) ≡ forget_body (option_map_or (change_thing b f) o b)
+    by : (o : Option SocketTarget)
+        → forget_body (option_map_or (change_thing (forget_body b) f) o (forget_body b))
+        ≡ forget_body (option_map_or (change_thing b f) o b)
     by None = body-forget b
     by (Some (ListenerAt l)) = body-forget b
     by (Some (EndpointAt i)) = place-forgets b i f same
@@ -78,7 +89,9 @@ change-forgets b n f same = by (thing_of b n)
 gone-forgets : (b : HostTcp) (n : ℕ) (f : Endpoint → Endpoint) → Forgets f → forget_body (after_gone (forget_body b) n f) ≡ forget_body (after_gone b n f)
 gone-forgets b n f same = by (thing_of b n)
   where
-    by : (o : Option SocketTarget) → forget_body (option_map_or (λ thing. record (thing_gone (forget_body b) thing f) { sockets = dead b.sockets n }) o (forget_body b))
+    by : (o : Option SocketTarget)
+        → forget_body (option_map_or (λ thing.
+        record (thing_gone (forget_body b) thing f) { sockets = dead b.sockets n }) o (forget_body b))
         ≡ forget_body (option_map_or (λ thing. record (thing_gone b thing f) { sockets = dead b.sockets n }) o b)
     by None = body-forget b
     by (Some (ListenerAt l)) = rw (map-forgets b.endpoints (orphaned l) (orphaned-forgets l)) refl
@@ -88,7 +101,9 @@ accepted-forgets : (b : HostTcp) (l n : ℕ) (queue : List ℕ) → forget_body 
 accepted-forgets b l n [] = body-forget b
 accepted-forgets b l n (child ∷ queue) = rw (modify-forgets b.endpoints child (λ e. record e { listener = None }) adopted-forgets) refl
 
-accept-forgets : (b : HostTcp) (n : ℕ) (o : Option SocketTarget) → forget_body (option_map_or (after_accept (forget_body b) n) o (forget_body b)) ≡ forget_body (option_map_or (after_accept b n) o b)
+accept-forgets : (b : HostTcp) (n : ℕ) (o : Option SocketTarget)
+    → forget_body (option_map_or (after_accept (forget_body b) n) o (forget_body b))
+    ≡ forget_body (option_map_or (after_accept b n) o b)
 accept-forgets b n None = body-forget b
 accept-forgets b n (Some (ListenerAt l)) = accepted-forgets b l n (queue_of b l)
 accept-forgets b n (Some (EndpointAt i)) = body-forget b

@@ -34,7 +34,10 @@ shut_same e = refl
 close_same : (e : Endpoint) → after_close (forget_endpoint e) ≡ forget_endpoint (after_close e)
 close_same e = by (is_syn_sent e.state)
   where
-    by : (b : Bool) → (let x : Endpoint = record (if b then shut_down (record (forget_endpoint e) { stream = record (forget_endpoint e).stream { ended = true } }) else after_shut (forget_endpoint e)) { closed = true } in x)
+    by : (b : Bool)
+        → (let x : Endpoint = record (if b
+        then shut_down (record (forget_endpoint e) { stream = record (forget_endpoint e).stream { ended = true } })
+        else after_shut (forget_endpoint e)) { closed = true } in x)
         ≡ forget_endpoint (record (if b then shut_down (record e { stream = record e.stream { ended = true } }) else after_shut e) { closed = true })
     by true = refl
     by false = refl

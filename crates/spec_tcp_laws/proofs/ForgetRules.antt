@@ -45,7 +45,9 @@ syn_sent_rules-forget e how m moment = rw (snd_max-forget e, again-forget e 1) r
 read_position-forget : (e : Endpoint) (m : Emission) → read_position (forget_endpoint e) m ≡ read_position e m
 read_position-forget e m = rw (rcv_nxt-forget e) refl
 
-acceptable-forget : (e : Endpoint) (m : Emission) → option_map_or (is_acceptable_at (forget_endpoint e) m) (read_position (forget_endpoint e) m) false ≡ option_map_or (is_acceptable_at e m) (read_position e m) false
+acceptable-forget : (e : Endpoint) (m : Emission)
+    → option_map_or (is_acceptable_at (forget_endpoint e) m) (read_position (forget_endpoint e) m) false
+    ≡ option_map_or (is_acceptable_at e m) (read_position e m) false
 acceptable-forget e m = rw (read_position-forget e m) (by (read_position e m))
   where
     by : (place : Option ℕ) → option_map_or (is_acceptable_at (forget_endpoint e) m) place false ≡ option_map_or (is_acceptable_at e m) place false

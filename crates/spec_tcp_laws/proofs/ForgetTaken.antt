@@ -59,7 +59,8 @@ timeout-forget h e true ack syn moment unacked = rw (get-covered (once 0) e.stre
 unacked : (e : Endpoint) (how : TakeChoice) (m : Emission) → (how.sample && is_new_ack e m) ≡ true → e.stream.snd_una ≤ m.ack - 1
 unacked e how m new = grind (arith, nat_tests, new)
 
-timers-forget : (h : Header) (e : Endpoint) (how : TakeChoice) (m : Emission) (moment : ℕ) → timers_after_segment h (forget_endpoint e) how m moment ≡ timers_after_segment h e how m moment
+timers-forget : (h : Header) (e : Endpoint) (how : TakeChoice) (m : Emission) (moment : ℕ)
+    → timers_after_segment h (forget_endpoint e) how m moment ≡ timers_after_segment h e how m moment
 timers-forget h e how m moment =
     rw (state-forget e how m, timeout-forget h e (how.sample && is_new_ack e m) m.ack (acknowledges_syn e m) moment (unacked e how m), snd_max-forget e) refl
 
@@ -79,7 +80,8 @@ taken-forgets h how m moment e =
 syn_unacked : (e : Endpoint) (how : TakeChoice) (m : Emission) → (how.sample && m.flags.ack && e.stream.snd_una == 0) ≡ true → e.stream.snd_una ≤ 1 - 1
 syn_unacked e how m new = grind (arith, nat_tests, new)
 
-timers_after_syn-forget : (h : Header) (e : Endpoint) (how : TakeChoice) (m : Emission) (moment : ℕ) → timers_after_syn h (forget_endpoint e) how m moment ≡ timers_after_syn h e how m moment
+timers_after_syn-forget : (h : Header) (e : Endpoint) (how : TakeChoice) (m : Emission) (moment : ℕ)
+    → timers_after_syn h (forget_endpoint e) how m moment ≡ timers_after_syn h e how m moment
 timers_after_syn-forget h e how m moment =
     rw (timeout-forget h e (how.sample && m.flags.ack && e.stream.snd_una == 0) 1 m.flags.ack moment (syn_unacked e how m), snd_max-forget e) refl
 
@@ -94,7 +96,12 @@ pub met-forgets : (h : Header) (how : TakeChoice) (m : Emission) (moment : ℕ) 
 met-forgets h how m moment e =
     let snd_una = e.stream.snd_una in
     let higher = una_rises e m in
-    rw (timers_after_syn-forget h e how m moment, snd_max-forget e, covered-covered 0 (snd_una - 1) (snd_una_after_syn e m - 1) e.stream.accepted (omega arith), covered-covered (once 0) snd_una (snd_una_after_syn e m) e.transmissions higher) refl
+    rw (
+      timers_after_syn-forget h e how m moment,
+      snd_max-forget e,
+      covered-covered 0 (snd_una - 1) (snd_una_after_syn e m - 1) e.stream.accepted (omega arith),
+      covered-covered (once 0) snd_una (snd_una_after_syn e m) e.transmissions higher,
+    ) refl
 
 fault-forget : (state : State) (e : Endpoint) → reset_fault state (forget_endpoint e) ≡ reset_fault state e
 fault-forget states.SynReceived e = refl
@@ -107,7 +114,8 @@ pub endpoint-forgets : (h : Header) (how : TakeChoice) (m : Emission) (moment : 
 endpoint-forgets h how m moment e = by m.flags.rst (is_syn_sent e.state)
   where
     by : (rst sent : Bool)
-        → forget_endpoint (if rst then was_reset (forget_endpoint e) how moment else if sent then on_syn h (forget_endpoint e) how m moment else taken h (forget_endpoint e) how m moment)
+        → forget_endpoint (if rst then was_reset (forget_endpoint e) how moment else if sent
+        then on_syn h (forget_endpoint e) how m moment else taken h (forget_endpoint e) how m moment)
         ≡ forget_endpoint (if rst then was_reset e how moment else if sent then on_syn h e how m moment else taken h e how m moment)
     by true sent = reset-forgets how moment e
     by false true = met-forgets h how m moment e

@@ -9,7 +9,9 @@ use Rattle.case_forms.specs.declared.trace.Header.{Header}
 use Rattle.verdict.specs.declared.rule.Rule.TheVariants as rules
 use Rattle.verdict.specs.Rules.{first_broken}
 use Rattle.spec_network.specs.Tables.{Both, pick, on, Made, waiting, settled}
-use Rattle.spec_network.specs.Hosts.{Aim, ThatHost, ThatSocket, HostState, Turn, Idle, Called, Answered, World, Deed, Does, Expires, Makes, Sends, Gets, Hears, Takes, Drops, Answers, Step, Begin, Finish, Effect, At, turn_of}
+use Rattle.spec_network.specs.Hosts.{Aim, ThatHost, ThatSocket, HostState, Turn, Idle, Called, Answered, World, Deed}
+use Rattle.spec_network.specs.Hosts.{Does, Expires, Makes, Sends, Gets, Hears, Takes, Drops, Answers, Step, Begin}
+use Rattle.spec_network.specs.Hosts.{Finish, Effect, At, turn_of}
 use Rattle.spec_network.specs.HostRules.{just, deed_rules, aim_of, fresh_rules, call_rules, effect_rules, step_rules, Permitted}
 use Rattle.spec_network.specs.HostSteps.{act_made, deed_after, call_after, effect_after, after, made_gone_out, wire_after, inbox_after, inbox_settled}
 use Rattle.spec_tcp.specs.declared.endpoint.Emission.{Emission}
@@ -39,11 +41,15 @@ deed_rules-forget h me moment far s (Sends line number wire) = refl
 deed_rules-forget h me moment far s (Gets line copied wire) = refl
 deed_rules-forget h me moment far s (Hears line wire) = refl
 deed_rules-forget h me moment far s (Takes line how) =
-    on-same (waiting line s.inbox) (just rules.Inbox true) (λ e. acts.act_rules h me moment (forget_body s.body) (acts.Takes how e)) (λ e. acts.act_rules h me moment s.body (acts.Takes how e))
+    on-same (waiting line s.inbox) (just rules.Inbox true)
+    (λ e. acts.act_rules h me moment (forget_body s.body) (acts.Takes how e))
+    (λ e. acts.act_rules h me moment s.body (acts.Takes how e))
     (λ e. act_rules-forget h me moment s.body (acts.Takes how e))
 deed_rules-forget h me moment far s (Drops line) = refl
 deed_rules-forget h me moment far s (Answers line) =
-    on-same (waiting line s.inbox) (just rules.Inbox true) (λ e. acts.act_rules h me moment (forget_body s.body) (acts.Resets e)) (λ e. acts.act_rules h me moment s.body (acts.Resets e))
+    on-same (waiting line s.inbox) (just rules.Inbox true)
+    (λ e. acts.act_rules h me moment (forget_body s.body) (acts.Resets e))
+    (λ e. acts.act_rules h me moment s.body (acts.Resets e))
     (λ e. act_rules-forget h me moment s.body (acts.Resets e))
 
 -- both hosts, of which something was discarded
@@ -61,8 +67,14 @@ fresh-forget h hosts (Some n) = refl
 call_rules-forget : (h : Header) (moment : ℕ) (hosts : Both (HostState tcp_shape)) (call : Call) (answer : Answer) (o : Option Host)
     → call_rules (tcp h) moment (forget_hosts hosts) call answer o ≡ call_rules (tcp h) moment hosts call answer o
 call_rules-forget h moment hosts call answer None = rw (fresh-forget h hosts (gives call answer)) refl
-call_rules-forget h moment hosts call answer (Some Zero) = rw (fresh-forget h hosts (gives call answer), act_rules-forget h Zero moment hosts.zero.body (acts.Calls call answer)) refl
-call_rules-forget h moment hosts call answer (Some One) = rw (fresh-forget h hosts (gives call answer), act_rules-forget h One moment hosts.one.body (acts.Calls call answer)) refl
+call_rules-forget h moment hosts call answer (Some Zero) =
+    rw (
+      fresh-forget h hosts (gives call answer),
+      act_rules-forget h Zero moment hosts.zero.body (acts.Calls call answer),
+    ) refl
+call_rules-forget h moment hosts call answer (Some One) =
+    rw (fresh-forget h hosts (gives call answer), act_rules-forget h One moment hosts.one.body (acts.Calls call answer))
+    refl
 
 effect_rules-forget : (h : Header) (moment : ℕ) (hosts : Both (HostState tcp_shape)) (u : Turn tcp_shape) (answer : Answer)
     → effect_rules (tcp h) moment (forget_hosts hosts) u answer ≡ effect_rules (tcp h) moment hosts u answer
@@ -71,7 +83,8 @@ effect_rules-forget h moment hosts (Called call) answer =
     rw (aim-forget h hosts (aim call), call_rules-forget h moment hosts call answer (aim_of (tcp h) hosts (aim call))) refl
 effect_rules-forget h moment hosts (Answered given) answer = refl
 
-pub step_rules-forget : (h : Header) (moment : ℕ) (w : World tcp_shape) (step : Step tcp_shape) → step_rules (tcp h) moment (forget w) step ≡ step_rules (tcp h) moment w step
+pub step_rules-forget : (h : Header) (moment : ℕ) (w : World tcp_shape) (step : Step tcp_shape)
+    → step_rules (tcp h) moment (forget w) step ≡ step_rules (tcp h) moment w step
 step_rules-forget h moment w (Begin line t call) = refl
 step_rules-forget h moment w (Finish line t answer) = refl
 step_rules-forget h moment w (Effect t answer) = effect_rules-forget h moment w.hosts (turn_of t w.threads) answer
@@ -92,7 +105,8 @@ deed-forgets : (h : Header) (me : Host) (moment fresh : ℕ) (far : List (ℕ ×
 deed-forgets h me moment fresh far s (Does x) ok = rw (act-forgets h me moment s.body (acts.Recovers x)) refl
 deed-forgets h me moment fresh far s (Expires line x) ok = rw (act-forgets h me moment s.body (acts.Expires x)) refl
 deed-forgets h me moment fresh far s (Makes x) ok = rw (act-forgets h me moment s.body (acts.Makes x), makes-forget h me moment s.body x ok) refl
-deed-forgets h me moment fresh far s (Sends line number wire) ok = tables-forgets s (made_gone_out number s.made) (wire_after wires.sent s.made line number wire moment s.wire) s.inbox
+deed-forgets h me moment fresh far s (Sends line number wire) ok =
+    tables-forgets s (made_gone_out number s.made) (wire_after wires.sent s.made line number wire moment s.wire) s.inbox
 deed-forgets h me moment fresh far s (Gets line copied wire) ok = tables-forgets s s.made s.wire (inbox_after far line copied s.inbox)
 deed-forgets h me moment fresh far s (Hears line wire) ok = tables-forgets s s.made s.wire (insert_entry nat_eq s.inbox line (Some (heard moment wire)))
 deed-forgets h me moment fresh far s (Takes line how) ok = by (waiting line s.inbox)
@@ -117,21 +131,27 @@ deed-forgets h me moment fresh far s (Answers line) ok = by (waiting line s.inbo
     by None = host-forget s
     by (Some e) = tables-forgets s (act_made (tcp h) me moment fresh s (acts.Resets e)) s.wire (settled line s.inbox)
 
-call-forgets : (h : Header) (moment : ℕ) (hosts : Both (HostState tcp_shape)) (act : Act) (o : Option Host) → forget_hosts (call_after (tcp h) moment (forget_hosts hosts) act o) ≡ forget_hosts (call_after (tcp h) moment hosts act o)
+call-forgets : (h : Header) (moment : ℕ) (hosts : Both (HostState tcp_shape)) (act : Act) (o : Option Host)
+    → forget_hosts (call_after (tcp h) moment (forget_hosts hosts) act o)
+    ≡ forget_hosts (call_after (tcp h) moment hosts act o)
 call-forgets h moment hosts act None = rw (body-forget hosts.zero.body, body-forget hosts.one.body) refl
 call-forgets h moment hosts act (Some Zero) = rw (act-forgets h Zero moment hosts.zero.body act, body-forget hosts.one.body) refl
 call-forgets h moment hosts act (Some One) = rw (act-forgets h One moment hosts.one.body act, body-forget hosts.zero.body) refl
 
-effect-forgets : (h : Header) (moment : ℕ) (w : World tcp_shape) (t : ℕ) (answer : Answer) (u : Turn tcp_shape) → forget (effect_after (tcp h) moment (forget w) t answer u) ≡ forget (effect_after (tcp h) moment w t answer u)
+effect-forgets : (h : Header) (moment : ℕ) (w : World tcp_shape) (t : ℕ) (answer : Answer) (u : Turn tcp_shape)
+    → forget (effect_after (tcp h) moment (forget w) t answer u) ≡ forget (effect_after (tcp h) moment w t answer u)
 effect-forgets h moment w t answer Idle = world-forget w
 effect-forgets h moment w t answer (Called call) =
     rw (aim-forget h w.hosts (aim call), call-forgets h moment w.hosts (acts.Calls call answer) (aim_of (tcp h) w.hosts (aim call))) refl
 effect-forgets h moment w t answer (Answered given) = world-forget w
 
-turn-forgets : (w : World tcp_shape) (threads : List (ℕ × Turn tcp_shape)) → forget (record (forget w) { threads = threads }) ≡ forget (record w { threads = threads })
+turn-forgets : (w : World tcp_shape) (threads : List (ℕ × Turn tcp_shape))
+    → forget (record (forget w) { threads = threads }) ≡ forget (record w { threads = threads })
 turn-forgets w threads = rw (body-forget w.hosts.zero.body, body-forget w.hosts.one.body) refl
 
-pub after-forgets : (h : Header) (moment : ℕ) (w : World tcp_shape) (step : Step tcp_shape) → MakesPermitted h moment w step → forget (after (tcp h) moment (forget w) step) ≡ forget (after (tcp h) moment w step)
+pub after-forgets : (h : Header) (moment : ℕ) (w : World tcp_shape) (step : Step tcp_shape)
+    → MakesPermitted h moment w step
+    → forget (after (tcp h) moment (forget w) step) ≡ forget (after (tcp h) moment w step)
 after-forgets h moment w (Begin line t call) ok = turn-forgets w (insert_entry nat_eq w.threads t (Called call))
 after-forgets h moment w (Finish line t answer) ok = turn-forgets w (insert_entry nat_eq w.threads t Idle)
 after-forgets h moment w (Effect t answer) ok = effect-forgets h moment w t answer (turn_of t w.threads)
@@ -140,11 +160,26 @@ after-forgets h moment w (At One d) ok = rw (deed-forgets h One moment (suc w.co
 
 -- forgetting leaves the tables as they stand
 tables-same : (v w : World tcp_shape) → forget v ≡ forget w → (host : Host) → SameTables (pick v.hosts host) (pick w.hosts host)
-tables-same v w same Zero = record { made = ap (λ (x : World tcp_shape). x.hosts.zero.made) same; wire = ap (λ (x : World tcp_shape). x.hosts.zero.wire) same; inbox = ap (λ (x : World tcp_shape). x.hosts.zero.inbox) same }
-tables-same v w same One = record { made = ap (λ (x : World tcp_shape). x.hosts.one.made) same; wire = ap (λ (x : World tcp_shape). x.hosts.one.wire) same; inbox = ap (λ (x : World tcp_shape). x.hosts.one.inbox) same }
+tables-same v w same Zero =
+    record {
+      made = ap (λ (x : World tcp_shape). x.hosts.zero.made) same;
+      wire = ap (λ (x : World tcp_shape). x.hosts.zero.wire) same;
+      inbox = ap (λ (x : World tcp_shape). x.hosts.zero.inbox) same;
+    }
+tables-same v w same One =
+    record {
+      made = ap (λ (x : World tcp_shape). x.hosts.one.made) same;
+      wire = ap (λ (x : World tcp_shape). x.hosts.one.wire) same;
+      inbox = ap (λ (x : World tcp_shape). x.hosts.one.inbox) same;
+    }
 
 pub besides-same : (v w : World tcp_shape) → forget v ≡ forget w → SameBesides v w
-besides-same v w same = record { tables = tables-same v w same; threads = ap (λ (x : World tcp_shape). x.threads) same; count = ap (λ (x : World tcp_shape). x.count) same }
+besides-same v w same =
+    record {
+      tables = tables-same v w same;
+      threads = ap (λ (x : World tcp_shape). x.threads) same;
+      count = ap (λ (x : World tcp_shape). x.count) same;
+    }
 
 -- a permitted step that makes a segment is permitted
 if_making : (d : Deed tcp_shape) (P : Type 0) → P → IfMaking d P

@@ -1,5 +1,6 @@
 -- What a step makes of endpoints by themselves: true of every case, whatever is known of the peer.
-use Rattle.std.proofs.Common.{◌≡◌, ℕ, suc, ◌<◌, ◌≤◌, ◌⊎◌, Bool, true, false, List, [], ◌∷◌, ◌++◌, length, drop, map, Some, refl, ap, sym, subst, ◌∙◌, inl, inr, arith}
+use Rattle.std.proofs.Common.{◌≡◌, ℕ, suc, ◌<◌, ◌≤◌, ◌⊎◌, Bool, true, false, List, [], ◌∷◌, ◌++◌, length, drop, map}
+use Rattle.std.proofs.Common.{Some, refl, ap, sym, subst, ◌∙◌, inl, inr, arith}
 use Rattle.std.specs.Prelude.{if◌then◌else◌, ◌==◌, ◌||◌, slice_get}
 use Rattle.std.proofs.lemmas.List.{append-nil, length-append, length-drop, length-take}
 use Rattle.std.proofs.Math.Bool.{or-false}
@@ -102,12 +103,26 @@ plain_either true e x y p q = p
 plain_either false e x y p q = q
 
 pub plain_keeps : (e f : Endpoint) → Plain e f → KeepsPeer e f
-plain_keeps e f p = record { peer = ap (λ (s : Stream). s.peer) p.stream; taken = ap (λ (s : Stream). s.receive.taken) p.stream; snd_una = ap (λ (s : Stream). s.snd_una) p.stream; waits = p.waits }
+plain_keeps e f p =
+    record {
+      peer = ap (λ (s : Stream). s.peer) p.stream;
+      taken = ap (λ (s : Stream). s.receive.taken) p.stream;
+      snd_una = ap (λ (s : Stream). s.snd_una) p.stream;
+      waits = p.waits;
+    }
 
 -- an endpoint changes, but not in what it took
-pub own_sends : (e f : Endpoint) (accepted : List ℕ) (ended : Bool) → Own e → f.stream ≡ record e.stream { accepted = accepted; ended = ended } → f.irs ≡ e.irs → (is_syn_sent f.state ≡ true → is_syn_sent e.state ≡ true) → Own f
+pub own_sends : (e f : Endpoint) (accepted : List ℕ) (ended : Bool) → Own e
+    → f.stream ≡ record e.stream { accepted = accepted; ended = ended } → f.irs ≡ e.irs
+    → (is_syn_sent f.state ≡ true → is_syn_sent e.state ≡ true) → Own f
 own_sends e f accepted ended g streams irs waits = record {
-  waits = keeps_waits e f (record { peer = ap (λ (s : Stream). s.peer) streams; taken = ap (λ (s : Stream). s.receive.taken) streams; snd_una = ap (λ (s : Stream). s.snd_una) streams; waits = waits }) g.waits;
+  waits =
+      keeps_waits e f (record {
+        peer = ap (λ (s : Stream). s.peer) streams;
+        taken = ap (λ (s : Stream). s.receive.taken) streams;
+        snd_una = ap (λ (s : Stream). s.snd_una) streams;
+        waits = waits;
+      }) g.waits;
   order = subst (λ (s : Stream). InOrder s.receive.taken) (sym streams) g.order;
   begun = λ irs' is. subst (λ (s : Stream). Begun s.receive.taken) (sym streams) (g.begun irs' (sym irs ∙ is));
   delivered = subst (λ (s : Stream). s.receive.delivered ≤ length (arrived s.receive)) (sym streams) g.delivered;
@@ -152,7 +167,8 @@ ended_stays comes x e f g fin =
     let here = g.stays (suc (length (received r))) Fin fin in
     let bound = fin_bounds s.taken g.own.order (length (received r)) here in
     let more = ap length g.later.told.1 in
-    let same : length (received r) ≡ length (received s) = omega (arith, bound, more, length-append (received r) g.later.told.0, length-take s.delivered (arrived s)) in
+    let same : length (received r) ≡ length (received s) =
+    omega (arith, bound, more, length-append (received r) g.later.told.0, length-take s.delivered (arrived s)) in
     subst (λ n. slice_get s.taken (suc n) ≡ Some (Some Fin)) same here
 
 -- 2. the endpoints of one host
@@ -176,7 +192,8 @@ grown_not comes host adds es quiet g = record {
 }
 
 -- one changes, and nothing is added to another
-pub grown_one : (comes : Coming) (host : Host) (adds : ℕ → Added) (es : List Endpoint) (i : ℕ) (f : Endpoint → Endpoint) → OwnEnds es → ((j : ℕ) → (j ≡ i → ⊥) → adds j ≡ nothing)
+pub grown_one : (comes : Coming) (host : Host) (adds : ℕ → Added) (es : List Endpoint) (i : ℕ) (f : Endpoint → Endpoint)
+    → OwnEnds es → ((j : ℕ) → (j ≡ i → ⊥) → adds j ≡ nothing)
     → ((e : Endpoint) → slice_get es i ≡ Some e → Grows (comes (name host i)) (adds i) e (f e)) → Grown comes host adds es (modify es i f)
 grown_one comes host adds es i f g quiet new = record {
   onward = modify_each (λ j. Grows (comes (name host j)) (adds j)) f es i
@@ -185,11 +202,15 @@ grown_one comes host adds es i f g quiet new = record {
 }
 
 -- one changes, but not in its streams
-pub grown_plain : (comes : Coming) (host : Host) (es : List Endpoint) (i : ℕ) (f : Endpoint → Endpoint) → OwnEnds es → ((e : Endpoint) → Plain e (f e)) → Grown comes host silent es (modify es i f)
-grown_plain comes host es i f g plain = grown_one comes host silent es i f g (λ j n. refl) (λ e at. grows_plain (comes (name host i)) e (f e) (g i e at) (plain e))
+pub grown_plain : (comes : Coming) (host : Host) (es : List Endpoint) (i : ℕ) (f : Endpoint → Endpoint) → OwnEnds es
+    → ((e : Endpoint) → Plain e (f e)) → Grown comes host silent es (modify es i f)
+grown_plain comes host es i f g plain =
+    grown_one comes host silent es i f g (λ j n. refl)
+    (λ e at. grows_plain (comes (name host i)) e (f e) (g i e at) (plain e))
 
 -- all may change, but not in their streams
-pub grown_map : (comes : Coming) (host : Host) (es : List Endpoint) (f : Endpoint → Endpoint) → OwnEnds es → ((e : Endpoint) → Plain e (f e)) → Grown comes host silent es (map f es)
+pub grown_map : (comes : Coming) (host : Host) (es : List Endpoint) (f : Endpoint → Endpoint) → OwnEnds es
+    → ((e : Endpoint) → Plain e (f e)) → Grown comes host silent es (map f es)
 grown_map comes host es f g plain = record {
   onward = map_onward (λ j. Grows (comes (name host j)) nothing) f es (λ j e at. grows_plain (comes (name host j)) e (f e) (g j e at) (plain e));
   back = λ j y e. let h = map_back f es j y e in inl (h.0, h.1);
@@ -203,8 +224,12 @@ grown_push comes host es e g new = record {
 }
 
 -- the endpoint of some ports changes, but not in its streams
-pub grown_at_ports : (comes : Coming) (host : Host) (b : HostTcp) (lport rport : ℕ) (f : Endpoint → Endpoint) → OwnEnds b.endpoints → ((e : Endpoint) → Plain e (f e)) → Grown comes host silent b.endpoints (at_ports b lport rport f).endpoints
-grown_at_ports comes host b lport rport f g plain = map_or_cases (λ (x : HostTcp). Grown comes host silent b.endpoints x.endpoints) (place_of b lport rport) b (λ i. with_endpoint b i f)
+pub grown_at_ports : (comes : Coming) (host : Host) (b : HostTcp) (lport rport : ℕ) (f : Endpoint → Endpoint)
+    → OwnEnds b.endpoints → ((e : Endpoint) → Plain e (f e))
+    → Grown comes host silent b.endpoints (at_ports b lport rport f).endpoints
+grown_at_ports comes host b lport rport f g plain =
+    map_or_cases (λ (x : HostTcp). Grown comes host silent b.endpoints x.endpoints) (place_of b lport rport) b
+    (λ i. with_endpoint b i f)
     (λ e. grown_not comes host silent b.endpoints (λ i. refl) g) (λ i e. grown_plain comes host b.endpoints i f g plain)
 
 -- 3. both hosts
@@ -220,7 +245,8 @@ pub all_grown_not : (comes : Coming) (a : Hosts) (adds : EndpointId → Added) �
 all_grown_not comes a adds quiet g = record { all = λ x. grown_not comes x (λ i. adds (name x i)) (pick a x).body.endpoints (λ i. quiet (name x i)) (g x) }
 
 -- one host changes: what is to be shown is of that host alone
-pub all_grown_host : (comes : Coming) (a : Hosts) (host : Host) (k : HostState tcp_shape) (adds : EndpointId → Added) → AllOwn a → Grown comes host (λ i. adds (name host i)) (pick a host).body.endpoints k.body.endpoints
+pub all_grown_host : (comes : Coming) (a : Hosts) (host : Host) (k : HostState tcp_shape) (adds : EndpointId → Added)
+    → AllOwn a → Grown comes host (λ i. adds (name host i)) (pick a host).body.endpoints k.body.endpoints
     → ((i : ℕ) → adds (name (other host) i) ≡ nothing) → AllGrown comes adds a (with_host a host k)
 all_grown_host comes a host k adds g m quiet = record {
   all = with_cases a host k (λ x y. Grown comes x (λ i. adds (name x i)) (pick a x).body.endpoints y.body.endpoints) m
@@ -228,7 +254,8 @@ all_grown_host comes a host k adds g m quiet = record {
 }
 
 -- what an endpoint became, and what it was
-pub grew : (comes : Coming) (adds : EndpointId → Added) (a b : Hosts) (me : EndpointId) (e f : Endpoint) → AllGrown comes adds a b → find a me ≡ Some e → find b me ≡ Some f → Grows (comes me) (adds me) e f
+pub grew : (comes : Coming) (adds : EndpointId → Added) (a b : Hosts) (me : EndpointId) (e f : Endpoint)
+    → AllGrown comes adds a b → find a me ≡ Some e → find b me ≡ Some f → Grows (comes me) (adds me) e f
 grew comes adds a b me e f m at now =
     let h = (m.all me.host).onward me.number e at in
     subst (λ (x : Endpoint). Grows (comes me) (adds me) e x) (same_at (pick b me.host).body.endpoints me.number h.0 f h.1 now) h.2

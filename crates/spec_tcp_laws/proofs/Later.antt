@@ -55,7 +55,8 @@ pub record GoodEmission (hosts : Hosts) (m : Emission) : Type 0 where
   pub sent : (p : ℕ) (c : Cell) → slice_get (carried m) p ≡ Some c → HasStream hosts m.sender (λ s. slice_get (all_cells s) (m.pos + p) ≡ Some c)
   pub peer_at_send : (q : EndpointId) → m.peer_at_send ≡ Some q → HasStream hosts m.sender (λ s. s.peer ≡ Some q)
   pub resets : m.is_reset_reply ≡ true → m.flags.rst ≡ true
-  pub ack : m.flags.ack ≡ true → m.is_reset_reply ≡ false → ((q : EndpointId) × (m.peer_at_send ≡ Some q)) × HasStream hosts m.sender (λ s. m.ack ≤ next s.receive)
+  pub ack : m.flags.ack ≡ true → m.is_reset_reply ≡ false
+      → ((q : EndpointId) × (m.peer_at_send ≡ Some q)) × HasStream hosts m.sender (λ s. m.ack ≤ next s.receive)
 
 -- an endpoint took what its peer sends, and is acknowledged what its peer took of it
 pub record GoodStream (hosts : Hosts) (me : EndpointId) (s : Stream) : Type 0 where
@@ -79,7 +80,8 @@ abbrev pub Good : Hosts → Type 0
 Good hosts = (host : Host) → GoodHost hosts host (pick hosts host)
 
 -- a fact of one endpoint that it keeps whatever it may become
-pub has_later : (a b : Hosts) (P : Stream → Type 0) → ((s t : Stream) → Later s t → P s → P t) → AllLater a b → (n : EndpointId) → HasStream a n P → HasStream b n P
+pub has_later : (a b : Hosts) (P : Stream → Type 0) → ((s t : Stream) → Later s t → P s → P t) → AllLater a b
+    → (n : EndpointId) → HasStream a n P → HasStream b n P
 has_later a b P keeps later n x =
     let y = later n x.0 x.1 in
     (y.0, y.1, keeps x.0.stream y.0.stream y.2 x.2)
@@ -96,7 +98,12 @@ emission_later a b later m g = record {
 pub stream_later : (a b : Hosts) → AllLater a b → (n : EndpointId) (s : Stream) → GoodStream a n s → GoodStream b n s
 stream_later a b later n s g = record {
   taken = λ p c e. let h = g.taken p c e in (h.0, h.1, has_later a b (λ t. slice_get (all_cells t) p ≡ Some c) (λ x y l. l.cells p c) later h.0 h.2);
-  snd_una = λ more. let h = g.snd_una more in (h.0, h.1, has_later a b (λ t. (t.peer ≡ Some n) × (s.snd_una ≤ next t.receive)) (λ x y l p. (l.peer n p.0, let up = l.next in let was = p.1 in omega arith)) later h.0 h.2);
+  snd_una = λ more. let h = g.snd_una more in (
+    h.0,
+    h.1,
+    has_later a b (λ t. (t.peer ≡ Some n) × (s.snd_una ≤ next t.receive))
+        (λ x y l p. (l.peer n p.0, let up = l.next in let was = p.1 in omega arith)) later h.0 h.2,
+  );
   peer = λ q e. has_later a b (λ t. Unit {0}) (λ x y l u. u) later q (g.peer q e);
 }
 

@@ -30,7 +30,8 @@ use Rattle.spec_tcp.specs.Timeouts.{after_expiry}
 use Rattle.spec_tcp.specs.Recovery.{after_recovery}
 use Rattle.spec_tcp.specs.Machine.{made_at, rules_at}
 use Rattle.spec_tcp_laws.specs.Consequences.{HasStream}
-use Rattle.spec_tcp_laws.proofs.Rules.{map_or_cases, not_false, both_true, neither, and_false, not_true, number_same, zero_from, some_from, at_most_from, less_to}
+use Rattle.spec_tcp_laws.proofs.Rules.{map_or_cases, not_false, both_true, neither, and_false, not_true, number_same}
+use Rattle.spec_tcp_laws.proofs.Rules.{zero_from, some_from, at_most_from, less_to}
 use Rattle.spec_tcp_laws.proofs.Later.{Hosts, name, GoodEmission, Good}
 use Rattle.spec_tcp_laws.proofs.Moves.{GoodEnds, Moves, moves_not, moves_keeps}
 use Rattle.spec_tcp_laws.proofs.Grows.{Plain, plain_either, plain_keeps}
@@ -48,14 +49,17 @@ record Fits (acc : List ℕ) (ended : Bool) (pos len : ℕ) (s f : Bool) : Type 
 without_fin : (f : Bool) → not f ≡ true → f ≡ false
 without_fin f e = not_true f e
 
-fits : (e : Endpoint) (m : SegmentPlan) → may_make e m ≡ true → is_bad_payload e m ≡ false → Fits e.stream.accepted e.stream.ended m.pos m.len m.flags.syn m.flags.fin
+fits : (e : Endpoint) (m : SegmentPlan) → may_make e m ≡ true → is_bad_payload e m ≡ false
+    → Fits e.stream.accepted e.stream.ended m.pos m.len m.flags.syn m.flags.fin
 fits e m may good = go m.flags.syn m.flags.rst may good
   where
     acc : List ℕ
     acc = e.stream.accepted
 
     go : (s r : Bool) → (if s then may_make_syn e m else if r then may_make_reset e m else may_make_other e m) ≡ true
-        → (if s then not (m.pos == 0 && m.len == 0) else if r then not (m.len == 0) else (nat_lt 0 m.len && (m.pos == 0 || nat_lt (1 + length acc) (m.pos + m.len))) || (m.flags.fin && not (e.stream.ended && m.pos + m.len == 1 + length acc))) ≡ false
+        → (if s then not (m.pos == 0 && m.len == 0) else if r then not (m.len == 0)
+        else (nat_lt 0 m.len && (m.pos == 0 || nat_lt (1 + length acc) (m.pos + m.len)))
+        || (m.flags.fin && not (e.stream.ended && m.pos + m.len == 1 + length acc))) ≡ false
         → Fits acc e.stream.ended m.pos m.len s m.flags.fin
     go true r may good =
         let parts = both_true (m.pos == 0) (m.len == 0) (not_false _ good) in
@@ -107,18 +111,26 @@ pub making_facts : (e : Endpoint) (m : SegmentPlan) → first_broken (making_rul
 making_facts e m may = let t = none_all (making_rules e m) may in
     record { state = not_false _ t.1.0; payload = t.1.1.1.0; ack = t.1.1.1.1.0; offered = t.1.1.1.1.1.1.0; congestion = t.1.1.1.1.1.1.1.0 }
 
-pub made_good : (a : Hosts) (host : Host) (i : ℕ) (e : Endpoint) (m : SegmentPlan) → Good a → slice_get (pick a host).body.endpoints i ≡ Some e → MayMake e m → GoodEmission a (emission_of (name host i) e m)
+pub made_good : (a : Hosts) (host : Host) (i : ℕ) (e : Endpoint) (m : SegmentPlan) → Good a
+    → slice_get (pick a host).body.endpoints i ≡ Some e → MayMake e m → GoodEmission a (emission_of (name host i) e m)
 made_good a host i e m g at t =
     let f = fits e m t.state t.payload in
     record {
       there = (e, at, tt);
-      sent = λ p c x. (e, at, carried_in e.stream.accepted e.stream.ended m.pos m.len m.flags.syn m.flags.fin f.syn_place f.syn_empty f.syn_alone f.within f.behind_syn f.fin_place f.fin_ended p c x);
+      sent = λ p c x. (
+        e,
+        at,
+        carried_in e.stream.accepted e.stream.ended m.pos m.len m.flags.syn m.flags.fin
+            f.syn_place f.syn_empty f.syn_alone f.within f.behind_syn f.fin_place f.fin_ended p c x,
+      );
       peer_at_send = λ q x. (e, at, x);
       resets = λ x. absurd cc;
       ack = λ k x. acks m.flags.ack k t.ack;
     }
   where
-    acks : (b : Bool) → b ≡ true → (if b then rcv_nxt e == 0 else not m.flags.rst && nat_le 1 (rcv_nxt e)) ≡ false → ((q : EndpointId) × (e.stream.peer ≡ Some q)) × HasStream a (name host i) (λ s. (if b then rcv_nxt e else 0) ≤ length (front s.receive.taken))
+    acks : (b : Bool) → b ≡ true → (if b then rcv_nxt e == 0 else not m.flags.rst && nat_le 1 (rcv_nxt e)) ≡ false
+        → ((q : EndpointId) × (e.stream.peer ≡ Some q))
+        × HasStream a (name host i) (λ s. (if b then rcv_nxt e else 0) ≤ length (front s.receive.taken))
     acks true k bad =
         let first = front_at e.stream.receive.taken 0 (some_from (rcv_nxt e) bad) in
         let from = ((g host).endpoints i e at).stream.taken 0 first.0 first.1 in
@@ -126,16 +138,21 @@ made_good a host i e m g at t =
     acks false k bad = absurd cc
 
 -- the segment that a making makes
-pub makes_good : (a : Hosts) (host : Host) (m : SegmentPlan) (x : Emission) → Good a → first_broken (rules_at (pick a host).body m.lport m.rport (λ e. making_rules e m)) ≡ None
+pub makes_good : (a : Hosts) (host : Host) (m : SegmentPlan) (x : Emission) → Good a
+    → first_broken (rules_at (pick a host).body m.lport m.rport (λ e. making_rules e m)) ≡ None
     → option_map_or (made_at host (pick a host).body m) (place_of (pick a host).body m.lport m.rport) None ≡ Some x → GoodEmission a x
 makes_good a host m x g may made = go (place_of (pick a host).body m.lport m.rport) may made
   where
-    by : (i : ℕ) (o : Option Endpoint) → slice_get (pick a host).body.endpoints i ≡ o → first_broken (option_map_or (λ e. making_rules e m) o ((rules.NoEndpoint, true) ∷ [])) ≡ None
+    by : (i : ℕ) (o : Option Endpoint) → slice_get (pick a host).body.endpoints i ≡ o
+        → first_broken (option_map_or (λ e. making_rules e m) o ((rules.NoEndpoint, true) ∷ [])) ≡ None
         → option_map (λ e. emission_of (name host i) e m) o ≡ Some x → GoodEmission a x
     by i None at may made = absurd (none-some x made)
     by i (Some e) at may made = subst (λ y. GoodEmission a y) (same_Some _ x made) (made_good a host i e m g at (making_facts e m may))
 
-    go : (o : Option ℕ) → first_broken (option_map_or (λ e. making_rules e m) (option_map_or (λ i. slice_get (pick a host).body.endpoints i) o None) ((rules.NoEndpoint, true) ∷ [])) ≡ None
+    go : (o : Option ℕ)
+        → first_broken (option_map_or (λ e. making_rules e m)
+        (option_map_or (λ i. slice_get (pick a host).body.endpoints i) o None) ((rules.NoEndpoint, true) ∷ []))
+        ≡ None
         → option_map_or (made_at host (pick a host).body m) o None ≡ Some x → GoodEmission a x
     go None may made = absurd (none-some x made)
     go (Some i) may made = by i (slice_get (pick a host).body.endpoints i) refl may made
@@ -146,8 +163,12 @@ either_stream true x y s p q = p
 either_stream false x y s p q = q
 
 -- the endpoint of some ports changes, but not in its streams
-pub moves_at_ports : (a : Hosts) (host : Host) (b : HostTcp) (lport rport : ℕ) (f : Endpoint → Endpoint) → GoodEnds a host b.endpoints → ((e : Endpoint) → Plain e (f e)) → Moves a host b.endpoints (at_ports b lport rport f).endpoints
-moves_at_ports a host b lport rport f g plain = map_or_cases (λ (x : HostTcp). Moves a host b.endpoints x.endpoints) (place_of b lport rport) b (λ i. with_endpoint b i f)
+pub moves_at_ports : (a : Hosts) (host : Host) (b : HostTcp) (lport rport : ℕ) (f : Endpoint → Endpoint)
+    → GoodEnds a host b.endpoints → ((e : Endpoint) → Plain e (f e))
+    → Moves a host b.endpoints (at_ports b lport rport f).endpoints
+moves_at_ports a host b lport rport f g plain =
+    map_or_cases (λ (x : HostTcp). Moves a host b.endpoints x.endpoints) (place_of b lport rport) b
+    (λ i. with_endpoint b i f)
     (λ e. moves_not a host b.endpoints g) (λ i e. moves_keeps a host b.endpoints i f g (λ x. plain_keeps x (f x) (plain x)))
 
 -- making a segment, a timer's expiry and the beginning of fast recovery change no stream

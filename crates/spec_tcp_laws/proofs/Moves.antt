@@ -55,7 +55,8 @@ pub keeps_waits : (e f : Endpoint) → KeepsPeer e f → Waits e → Waits f
 keeps_waits e f k was = λ w. let h = was (k.waits w) in (k.peer ∙ h.0, k.taken ∙ h.1)
 
 keeps_una : (a : Hosts) (me : EndpointId) (e f : Endpoint) → KeepsPeer e f → UnaIn a me e.stream → UnaIn a me f.stream
-keeps_una a me e f k was = λ more. let h = was (subst (λ n. 1 < n) k.snd_una more) in (h.0, k.peer ∙ h.1, (h.2.0, h.2.1, (h.2.2.0, subst (λ n. n ≤ next h.2.0.stream.receive) (sym k.snd_una) h.2.2.1)))
+keeps_una a me e f k was = λ more. let h = was (subst (λ n. 1 < n) k.snd_una more) in
+    (h.0, k.peer ∙ h.1, (h.2.0, h.2.1, (h.2.2.0, subst (λ n. n ≤ next h.2.0.stream.receive) (sym k.snd_una) h.2.2.1)))
 
 keeps_good : (c : Hosts) (me : EndpointId) (e f : Endpoint) → KeepsPeer e f → GoodStream c me e.stream → GoodStream c me f.stream
 keeps_good c me e f k g = record {
@@ -82,7 +83,9 @@ pub moves_not : (a : Hosts) (host : Host) (es : List Endpoint) → GoodEnds a ho
 moves_not a host es g = record { onward = λ i e at. (e, at, changes_not a (name host i) e (g i e at)); back = λ i f at. inl (f, at) }
 
 -- what each element becomes, where one is modified
-pub modify_each : {X : Type 0} (R : ℕ → X → X → Type 0) (f : X → X) (xs : List X) (i : ℕ) → ((j : ℕ) (x : X) → slice_get xs j ≡ Some x → (j ≡ i → ⊥) → R j x x) → ((x : X) → slice_get xs i ≡ Some x → R i x (f x))
+pub modify_each : {X : Type 0} (R : ℕ → X → X → Type 0) (f : X → X) (xs : List X) (i : ℕ)
+    → ((j : ℕ) (x : X) → slice_get xs j ≡ Some x → (j ≡ i → ⊥) → R j x x)
+    → ((x : X) → slice_get xs i ≡ Some x → R i x (f x))
     → (j : ℕ) (x : X) → slice_get xs j ≡ Some x → (y : X) × (slice_get (modify xs i f) j ≡ Some y) × R j x y
 modify_each R f [] i old new j x e = absurd (none-some x e)
 modify_each R f (a ∷ xs) zero old new zero x e = (f a, refl, subst (λ z. R zero z (f a)) (same_Some a x e) (new a refl))
@@ -91,17 +94,21 @@ modify_each R f (a ∷ xs) (suc i) old new zero x e = (x, e, old zero x e (λ p.
 modify_each R f (a ∷ xs) (suc i) old new (suc j) x e = modify_each (λ k. R (suc k)) f xs i (λ k y h n. old (suc k) y h (λ p. n (omega arith))) new j x e
 
 -- one changes
-pub moves_one : (a : Hosts) (host : Host) (es : List Endpoint) (i : ℕ) (f : Endpoint → Endpoint) → GoodEnds a host es → ((e : Endpoint) → slice_get es i ≡ Some e → Changes a (name host i) e (f e)) → Moves a host es (modify es i f)
+pub moves_one : (a : Hosts) (host : Host) (es : List Endpoint) (i : ℕ) (f : Endpoint → Endpoint) → GoodEnds a host es
+    → ((e : Endpoint) → slice_get es i ≡ Some e → Changes a (name host i) e (f e)) → Moves a host es (modify es i f)
 moves_one a host es i f g new = record {
   onward = modify_each (λ j. Changes a (name host j)) f es i (λ j e at n. changes_not a (name host j) e (g j e at)) new;
   back = all_modify (λ j y. ((e : Endpoint) × (slice_get es j ≡ Some e)) ⊎ Fresh a (name host j) y) f es i (λ j e x. inl (e, x)) (λ e x. inl (e, x));
 }
 
 -- one changes, but not in what it has of its peer
-pub moves_keeps : (a : Hosts) (host : Host) (es : List Endpoint) (i : ℕ) (f : Endpoint → Endpoint) → GoodEnds a host es → ((e : Endpoint) → KeepsPeer e (f e)) → Moves a host es (modify es i f)
+pub moves_keeps : (a : Hosts) (host : Host) (es : List Endpoint) (i : ℕ) (f : Endpoint → Endpoint) → GoodEnds a host es
+    → ((e : Endpoint) → KeepsPeer e (f e)) → Moves a host es (modify es i f)
 moves_keeps a host es i f g keeps = moves_one a host es i f g (λ e at. changes_keeps a (name host i) e (f e) (g i e at) (keeps e))
 
-pub map_onward : {X : Type 0} (R : ℕ → X → X → Type 0) (f : X → X) (xs : List X) → ((j : ℕ) (x : X) → slice_get xs j ≡ Some x → R j x (f x)) → (j : ℕ) (x : X) → slice_get xs j ≡ Some x → (y : X) × (slice_get (map f xs) j ≡ Some y) × R j x y
+pub map_onward : {X : Type 0} (R : ℕ → X → X → Type 0) (f : X → X) (xs : List X)
+    → ((j : ℕ) (x : X) → slice_get xs j ≡ Some x → R j x (f x)) → (j : ℕ) (x : X) → slice_get xs j ≡ Some x
+    → (y : X) × (slice_get (map f xs) j ≡ Some y) × R j x y
 map_onward R f [] h j x e = absurd (none-some x e)
 map_onward R f (a ∷ xs) h zero x e = (f a, refl, subst (λ z. R zero z (f a)) (same_Some a x e) (h zero a refl))
 map_onward R f (a ∷ xs) h (suc j) x e = map_onward (λ k. R (suc k)) f xs (λ k. h (suc k)) j x e
@@ -112,14 +119,16 @@ map_back f (a ∷ xs) zero y e = (a, refl, same_Some (f a) y e)
 map_back f (a ∷ xs) (suc j) y e = map_back f xs j y e
 
 -- all may change, but not in what they have of their peers
-pub moves_map : (a : Hosts) (host : Host) (es : List Endpoint) (f : Endpoint → Endpoint) → GoodEnds a host es → ((e : Endpoint) → KeepsPeer e (f e)) → Moves a host es (map f es)
+pub moves_map : (a : Hosts) (host : Host) (es : List Endpoint) (f : Endpoint → Endpoint) → GoodEnds a host es
+    → ((e : Endpoint) → KeepsPeer e (f e)) → Moves a host es (map f es)
 moves_map a host es f g keeps = record {
   onward = map_onward (λ j. Changes a (name host j)) f es (λ j e at. changes_keeps a (name host j) e (f e) (g j e at) (keeps e));
   back = λ j y e. let h = map_back f es j y e in inl (h.0, h.1);
 }
 
 -- an endpoint is created
-pub moves_push : (a : Hosts) (host : Host) (es : List Endpoint) (e : Endpoint) → GoodEnds a host es → Fresh a (name host (length es)) e → Moves a host es (es ++ e ∷ [])
+pub moves_push : (a : Hosts) (host : Host) (es : List Endpoint) (e : Endpoint) → GoodEnds a host es
+    → Fresh a (name host (length es)) e → Moves a host es (es ++ e ∷ [])
 moves_push a host es e g new = record {
   onward = λ i x at. (x, get_append es (e ∷ []) i x at, changes_not a (name host i) x (g i x at));
   back = all_push (λ j y. ((x : Endpoint) × (slice_get es j ≡ Some x)) ⊎ Fresh a (name host j) y) es e (λ j x at. inl (x, at)) (inr new);
@@ -135,35 +144,44 @@ pub kept_not : (a : Hosts) → Good a → Kept a a
 kept_not a g = record { good = g; before = λ me f at. una_in a me f.stream ((g me.host).endpoints me.number f at).stream }
 
 -- a property of both hosts, where one is replaced
-pub with_cases : {X : Type 0} (a : Both X) (g : Host) (h : X) (P : Host → X → Type 0) → P g h → P (other g) (pick a (other g)) → (x : Host) → P x (pick (with_host a g h) x)
+pub with_cases : {X : Type 0} (a : Both X) (g : Host) (h : X) (P : Host → X → Type 0) → P g h
+    → P (other g) (pick a (other g)) → (x : Host) → P x (pick (with_host a g h) x)
 with_cases a Zero h P p q Zero = p
 with_cases a Zero h P p q One = q
 with_cases a One h P p q Zero = q
 with_cases a One h P p q One = p
 
 -- what a host's endpoints become, and what they were
-moved : (a : Hosts) (host : Host) (es fs : List Endpoint) (i : ℕ) (e f : Endpoint) → Moves a host es fs → slice_get es i ≡ Some e → slice_get fs i ≡ Some f → Changes a (name host i) e f
+moved : (a : Hosts) (host : Host) (es fs : List Endpoint) (i : ℕ) (e f : Endpoint) → Moves a host es fs
+    → slice_get es i ≡ Some e → slice_get fs i ≡ Some f → Changes a (name host i) e f
 moved a host es fs i e f m at now =
     let h = m.onward i e at in
     subst (λ (x : Endpoint). Changes a (name host i) e x) (same_at fs i h.0 f h.1 now) h.2
 
 -- one host changes: what is to be shown is of that host alone
-pub kept_host : (a : Hosts) (host : Host) (h : HostState tcp_shape) → Good a → AllLater a (with_host a host h) → Moves a host (pick a host).body.endpoints h.body.endpoints
+pub kept_host : (a : Hosts) (host : Host) (h : HostState tcp_shape) → Good a → AllLater a (with_host a host h)
+    → Moves a host (pick a host).body.endpoints h.body.endpoints
     → ((c : Hosts) → AllLater a c → InTables (GoodEmission c) (pick a host) → InTables (GoodEmission c) h) → Kept a (with_host a host h)
 kept_host a host h g later m tables = record {
   good = with_cases a host h (λ x k. GoodHost b x k) here (host_later a b later (other host) (pick a (other host)) (g (other host)));
   before = λ me. with_cases a host h (λ x k. (i : ℕ) (f : Endpoint) → slice_get k.body.endpoints i ≡ Some f → UnaIn a (name x i) f.stream)
-      (λ i f at. snd_una i f at (m.back i f at)) (λ i f at. una_in a (name (other host) i) f.stream ((g (other host)).endpoints i f at).stream) me.host me.number;
+      (λ i f at. snd_una i f at (m.back i f at))
+      (λ i f at. una_in a (name (other host) i) f.stream ((g (other host)).endpoints i f at).stream) me.host
+      me.number;
 }
   where
     b : Hosts
     b = with_host a host h
 
-    snd_una : (i : ℕ) (f : Endpoint) → slice_get h.body.endpoints i ≡ Some f → ((e : Endpoint) × (slice_get (pick a host).body.endpoints i ≡ Some e)) ⊎ Fresh a (name host i) f → UnaIn a (name host i) f.stream
+    snd_una : (i : ℕ) (f : Endpoint) → slice_get h.body.endpoints i ≡ Some f
+        → ((e : Endpoint) × (slice_get (pick a host).body.endpoints i ≡ Some e)) ⊎ Fresh a (name host i) f
+        → UnaIn a (name host i) f.stream
     snd_una i f at (inl old) = (moved a host (pick a host).body.endpoints h.body.endpoints i old.0 f m old.1 at).snd_una
     snd_una i f at (inr new) = new.snd_una
 
-    good_end : GoodHost b host (pick a host) → (i : ℕ) (f : Endpoint) → slice_get h.body.endpoints i ≡ Some f → ((e : Endpoint) × (slice_get (pick a host).body.endpoints i ≡ Some e)) ⊎ Fresh a (name host i) f → GoodEnd b (name host i) f
+    good_end : GoodHost b host (pick a host) → (i : ℕ) (f : Endpoint) → slice_get h.body.endpoints i ≡ Some f
+        → ((e : Endpoint) × (slice_get (pick a host).body.endpoints i ≡ Some e)) ⊎ Fresh a (name host i) f
+        → GoodEnd b (name host i) f
     good_end was i f at (inl old) = (moved a host (pick a host).body.endpoints h.body.endpoints i old.0 f m old.1 at).good b later (was.endpoints i old.0 old.1)
     good_end was i f at (inr new) = new.good b later
 

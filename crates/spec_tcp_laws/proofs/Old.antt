@@ -19,5 +19,9 @@ old_unread near (Some b) w pos old = go (same_word (number_of b pos) w) (nat_le 
     go true true e = grind arith
 
 pub old_is_bad : (e : Endpoint) (m : Emission) → m.is_reset_reply ≡ false → m.pos + 2 ^ 31 < rcv_nxt e → is_bad_number e m ≡ true
-old_is_bad e m own old = subst (λ (a : Bool). (if a then not (is_some (read_position e m)) else not (reads_as (rcv_nxt e) e.irs m.seq m.pos) || m.flags.ack && not (reads_as e.stream.snd_una e.iss m.ack_seq m.ack)) ≡ true) (sym own)
-    (subst (λ (r : Bool). (not r || m.flags.ack && not (reads_as e.stream.snd_una e.iss m.ack_seq m.ack)) ≡ true) (sym (old_unread (rcv_nxt e) e.irs m.seq m.pos old)) refl)
+old_is_bad e m own old =
+    subst (λ (a : Bool). (if a then not (is_some (read_position e m))
+    else not (reads_as (rcv_nxt e) e.irs m.seq m.pos) || m.flags.ack
+    && not (reads_as e.stream.snd_una e.iss m.ack_seq m.ack)) ≡ true) (sym own)
+    (subst (λ (r : Bool). (not r || m.flags.ack && not (reads_as e.stream.snd_una e.iss m.ack_seq m.ack)) ≡ true)
+    (sym (old_unread (rcv_nxt e) e.irs m.seq m.pos old)) refl)

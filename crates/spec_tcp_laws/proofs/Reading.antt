@@ -15,7 +15,8 @@ use Rattle.spec_tcp_laws.specs.Consequences.{find}
 use Rattle.spec_tcp_laws.proofs.Later.{Hosts, all_cells, GoodStream}
 
 -- all that an endpoint took is what its peer sends
-pub taken_of : (hosts : Hosts) (me : EndpointId) (s : Stream) (q : EndpointId) (t : Endpoint) → GoodStream hosts me s → s.peer ≡ Some q → find hosts q ≡ Some t → Taken (λ p c. slice_get (all_cells t.stream) p ≡ Some c) s.receive.taken
+pub taken_of : (hosts : Hosts) (me : EndpointId) (s : Stream) (q : EndpointId) (t : Endpoint) → GoodStream hosts me s
+    → s.peer ≡ Some q → find hosts q ≡ Some t → Taken (λ p c. slice_get (all_cells t.stream) p ≡ Some c) s.receive.taken
 taken_of hosts me s q t g e there p c x =
     let h = g.taken p c x in
     let which : h.0 ≡ q = same_Some h.0 q (sym h.1 ∙ e) in
@@ -42,8 +43,10 @@ take_begin : (x rest all : List ℕ) → x ++ rest ≡ all → take (length x) a
 take_begin x rest all e = ap (λ (l : List ℕ). take (length x) l) (sym e) ∙ (take-append-le (length x) x rest (le_refl _) ∙ take_all (length x) x (le_refl _))
 
 -- bytes that wait are read
-pub read_more : (r : Receiving) (x rest : List ℕ) → waiting r ≡ drop r.delivered (arrived r) → x ++ rest ≡ waiting r → received r ++ x ≡ received (told r (length x))
+pub read_more : (r : Receiving) (x rest : List ℕ) → waiting r ≡ drop r.delivered (arrived r) → x ++ rest ≡ waiting r
+    → received r ++ x ≡ received (told r (length x))
 read_more r x rest is e = ap (λ (l : List ℕ). received r ++ l) (sym (take_begin x rest (waiting r) e)) ∙ sym (received_told r (length x) is)
 
-pub read_fits : (r : Receiving) (x rest : List ℕ) → waiting r ≡ drop r.delivered (arrived r) → x ++ rest ≡ waiting r → r.delivered ≤ length (arrived r) → r.delivered + length x ≤ length (arrived r)
+pub read_fits : (r : Receiving) (x rest : List ℕ) → waiting r ≡ drop r.delivered (arrived r) → x ++ rest ≡ waiting r
+    → r.delivered ≤ length (arrived r) → r.delivered + length x ≤ length (arrived r)
 read_fits r x rest is e le = told_within r (length x) is le (let all = ap length e in omega (arith, all, length-append x rest))

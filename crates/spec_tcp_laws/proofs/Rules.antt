@@ -14,11 +14,13 @@ use Rattle.spec_tcp.specs.declared.endpoint.EndpointId.{EndpointId}
 use Rattle.spec_tcp.specs.Same.{same_name}
 
 -- the thing is there, and the rules on it pass
-pub on_passes : {A : Type 0} (o : Option A) (r : Rule) (f : A → List (Rule × Bool)) → first_broken (on o (just r true) f) ≡ None → (x : A) × (o ≡ Some x) × (first_broken (f x) ≡ None)
+pub on_passes : {A : Type 0} (o : Option A) (r : Rule) (f : A → List (Rule × Bool))
+    → first_broken (on o (just r true) f) ≡ None → (x : A) × (o ≡ Some x) × (first_broken (f x) ≡ None)
 on_passes None r f e = absurd (none-some r (sym e))
 on_passes (Some x) r f e = (x, refl, e)
 
-pub map_or_passes : {A : Type 0} (o : Option A) (r : Rule) (f : A → List (Rule × Bool)) → first_broken (option_map_or f o ((r, true) ∷ [])) ≡ None → (x : A) × (o ≡ Some x) × (first_broken (f x) ≡ None)
+pub map_or_passes : {A : Type 0} (o : Option A) (r : Rule) (f : A → List (Rule × Bool))
+    → first_broken (option_map_or f o ((r, true) ∷ [])) ≡ None → (x : A) × (o ≡ Some x) × (first_broken (f x) ≡ None)
 map_or_passes None r f e = absurd (none-some r (sym e))
 map_or_passes (Some x) r f e = (x, refl, e)
 
@@ -32,7 +34,8 @@ pub option_cases : {A : Type 0} (P : Option A → Type 0) (o : Option A) → P N
 option_cases P None p q = p
 option_cases P (Some x) p q = q x refl
 
-pub map_or_cases : {A B : Type 0} (P : B → Type 0) (o : Option A) (none : B) (f : A → B) → (o ≡ None → P none) → ((x : A) → o ≡ Some x → P (f x)) → P (option_map_or f o none)
+pub map_or_cases : {A B : Type 0} (P : B → Type 0) (o : Option A) (none : B) (f : A → B) → (o ≡ None → P none)
+    → ((x : A) → o ≡ Some x → P (f x)) → P (option_map_or f o none)
 map_or_cases P None none f p q = p refl
 map_or_cases P (Some x) none f p q = q x refl
 

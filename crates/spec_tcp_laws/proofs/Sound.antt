@@ -1,5 +1,6 @@
 -- Sockets and queues: each endpoint has at most one socket number, and who stands in a queue has none.
-use Rattle.std.proofs.Common.{◌≡◌, ℕ, zero, suc, ◌⊎◌, Bool, true, false, cond, List, [], ◌∷◌, ◌++◌, length, map, Option, Some, None, refl, ap, sym, subst, ◌∙◌, inl, inr, arith, nat_eq}
+use Rattle.std.proofs.Common.{◌≡◌, ℕ, zero, suc, ◌⊎◌, Bool, true, false, cond, List, [], ◌∷◌, ◌++◌, length, map, Option}
+use Rattle.std.proofs.Common.{Some, None, refl, ap, sym, subst, ◌∙◌, inl, inr, arith, nat_eq}
 use Rattle.std.specs.Prelude.{if◌then◌else◌, ◌||◌, slice_get, is_some}
 use Rattle.std.specs.Option.{option_map_or}
 use Rattle.std.specs.Map.{lookup}
@@ -29,7 +30,8 @@ pub record Sound (b : HostTcp) : Type 0 where
   -- it alone names it
   pub alone : (m n i : ℕ) → owner b m ≡ Some i → owner b n ≡ Some i → m ≡ n
   -- who stands in a queue is there, is that listener's, and its SYN was acknowledged
-  pub queued : (l k i : ℕ) → slice_get (queue_of b l) k ≡ Some i → (e : Endpoint) × (slice_get b.endpoints i ≡ Some e) × (e.listener ≡ Some l) × (is_early e.state ≡ false)
+  pub queued : (l k i : ℕ) → slice_get (queue_of b l) k ≡ Some i
+      → (e : Endpoint) × (slice_get b.endpoints i ≡ Some e) × (e.listener ≡ Some l) × (is_early e.state ≡ false)
   -- it stands there once
   pub once : (l j k i : ℕ) → slice_get (queue_of b l) j ≡ Some i → slice_get (queue_of b l) k ≡ Some i → j ≡ k
 
@@ -56,7 +58,8 @@ stays_either false e x y p q = q
 abbrev pub AllStay : List Endpoint → List Endpoint → Type 0
 AllStay es fs = (i : ℕ) (e : Endpoint) → slice_get es i ≡ Some e → (f : Endpoint) × (slice_get fs i ≡ Some f) × Stays e f
 
-pub stay_modify : (f : Endpoint → Endpoint) (es : List Endpoint) (i : ℕ) → ((e : Endpoint) → slice_get es i ≡ Some e → Stays e (f e)) → AllStay es (modify es i f)
+pub stay_modify : (f : Endpoint → Endpoint) (es : List Endpoint) (i : ℕ)
+    → ((e : Endpoint) → slice_get es i ≡ Some e → Stays e (f e)) → AllStay es (modify es i f)
 stay_modify f es i new = modify_later Stays stays_not f es i new
 
 pub stay_push : (es : List Endpoint) (e : Endpoint) → AllStay es (es ++ e ∷ [])
@@ -68,7 +71,8 @@ stay_map f (a ∷ es) h zero e x = (f a, refl, subst (λ (z : Endpoint). Stays z
 stay_map f (a ∷ es) h (suc i) e x = stay_map f es h i e x
 
 -- the endpoints stay, and nothing else changes but what no socket number and no queue shows
-pub keeps_stay : (b c : HostTcp) → Sound b → AllStay b.endpoints c.endpoints → ((n : ℕ) → owner c n ≡ owner b n) → ((l : ℕ) → queue_of c l ≡ queue_of b l) → Sound c
+pub keeps_stay : (b c : HostTcp) → Sound b → AllStay b.endpoints c.endpoints → ((n : ℕ) → owner c n ≡ owner b n)
+    → ((l : ℕ) → queue_of c l ≡ queue_of b l) → Sound c
 keeps_stay b c g stay owners queues = record {
   named = λ n i e.
       let x = g.named n i (sym (owners n) ∙ e) in
@@ -83,29 +87,44 @@ keeps_stay b c g stay owners queues = record {
 }
 
 pub keeps_endpoints : (b : HostTcp) (fs : List Endpoint) → Sound b → AllStay b.endpoints fs → Keeps b (record b { endpoints = fs }) None
-keeps_endpoints b fs g stay = record { sound = keeps_stay b (record b { endpoints = fs }) g stay (λ n. refl) (λ l. refl); stays = λ n i e. e; given = λ n e. inl e }
+keeps_endpoints b fs g stay =
+    record {
+      sound = keeps_stay b (record b { endpoints = fs }) g stay (λ n. refl) (λ l. refl);
+      stays = λ n i e. e;
+      given = λ n e. inl e;
+    }
 
 pub keeps_not : (b : HostTcp) → Sound b → Keeps b b None
 keeps_not b g = record { sound = g; stays = λ n i e. e; given = λ n e. inl e }
 
-pub keeps_at_ports : (b : HostTcp) (lport rport : ℕ) (f : Endpoint → Endpoint) → Sound b → ((e : Endpoint) → Stays e (f e)) → Keeps b (at_ports b lport rport f) None
-keeps_at_ports b lport rport f g stay = map_or_cases (λ (c : HostTcp). Keeps b c None) (place_of b lport rport) b (λ i. with_endpoint b i f) (λ e. keeps_not b g)
+pub keeps_at_ports : (b : HostTcp) (lport rport : ℕ) (f : Endpoint → Endpoint) → Sound b
+    → ((e : Endpoint) → Stays e (f e)) → Keeps b (at_ports b lport rport f) None
+keeps_at_ports b lport rport f g stay =
+    map_or_cases (λ (c : HostTcp). Keeps b c None) (place_of b lport rport) b (λ i. with_endpoint b i f)
+    (λ e. keeps_not b g)
     (λ i e. keeps_endpoints b (modify b.endpoints i f) g (stay_modify f b.endpoints i (λ x at. stay x)))
 
 -- 2. socket numbers
 
 -- what a number names after one was given
-pub owner_insert : (b : HostTcp) (n : ℕ) (s : Socket) (m : ℕ) → option_map_or (λ x. endpoint_place x.thing) (lookup (nat_eq m) (insert_entry nat_eq b.sockets n s)) None ≡ (if nat_eq m n then endpoint_place s.thing else owner b m)
+pub owner_insert : (b : HostTcp) (n : ℕ) (s : Socket) (m : ℕ)
+    → option_map_or (λ x. endpoint_place x.thing) (lookup (nat_eq m) (insert_entry nat_eq b.sockets n s)) None
+    ≡ (if nat_eq m n then endpoint_place s.thing else owner b m)
 owner_insert b n s m = ap (λ (o : Option Socket). option_map_or (λ x. endpoint_place x.thing) o None) (lookup_insert m n s b.sockets) ∙ go (nat_eq m n)
   where
-    go : (c : Bool) → option_map_or (λ x. endpoint_place x.thing) (cond c (Some s) (lookup (nat_eq m) b.sockets)) None ≡ (if c then endpoint_place s.thing else owner b m)
+    go : (c : Bool)
+        → option_map_or (λ x. endpoint_place x.thing) (cond c (Some s) (lookup (nat_eq m) b.sockets)) None
+        ≡ (if c then endpoint_place s.thing else owner b m)
     go true = refl
     go false = refl
 
-pub given_insert : (sockets : List (ℕ × Socket)) (n : ℕ) (s : Socket) (m : ℕ) → is_some (lookup (nat_eq m) (insert_entry nat_eq sockets n s)) ≡ true → (is_some (lookup (nat_eq m) sockets) ≡ true) ⊎ (Some n ≡ Some m)
+pub given_insert : (sockets : List (ℕ × Socket)) (n : ℕ) (s : Socket) (m : ℕ)
+    → is_some (lookup (nat_eq m) (insert_entry nat_eq sockets n s)) ≡ true
+    → (is_some (lookup (nat_eq m) sockets) ≡ true) ⊎ (Some n ≡ Some m)
 given_insert sockets n s m e = go (nat_eq m n) refl (sym (ap is_some (lookup_insert m n s sockets)) ∙ e)
   where
-    go : (c : Bool) → nat_eq m n ≡ c → is_some (cond c (Some s) (lookup (nat_eq m) sockets)) ≡ true → (is_some (lookup (nat_eq m) sockets) ≡ true) ⊎ (Some n ≡ Some m)
+    go : (c : Bool) → nat_eq m n ≡ c → is_some (cond c (Some s) (lookup (nat_eq m) sockets)) ≡ true
+        → (is_some (lookup (nat_eq m) sockets) ≡ true) ⊎ (Some n ≡ Some m)
     go true is e = inr (ap (λ k. Some k) (sym (number_same m n is)))
     go false is e = inl e
 
@@ -121,7 +140,8 @@ pub not_owner : (b : HostTcp) (n i : ℕ) → given b n ≡ false → owner b n 
 not_owner b n i h e = true_false (owner_given b n i e) h
 
 -- a number that was given names what it named
-stays_given : (b : HostTcp) (n : ℕ) (s : Socket) (m i : ℕ) → given b n ≡ false → owner b m ≡ Some i → (if nat_eq m n then endpoint_place s.thing else owner b m) ≡ Some i
+stays_given : (b : HostTcp) (n : ℕ) (s : Socket) (m i : ℕ) → given b n ≡ false → owner b m ≡ Some i
+    → (if nat_eq m n then endpoint_place s.thing else owner b m) ≡ Some i
 stays_given b n s m i new e = go (nat_eq m n) refl
   where
     go : (c : Bool) → nat_eq m n ≡ c → (if c then endpoint_place s.thing else owner b m) ≡ Some i
@@ -133,10 +153,15 @@ pub dead_owner : (b : HostTcp) (n m : ℕ) → option_map_or (λ x. endpoint_pla
 dead_owner b n m = go (lookup (nat_eq n) b.sockets) refl
   where
     by : (s : Socket) (c : Bool) → lookup (nat_eq n) b.sockets ≡ Some s → nat_eq m n ≡ c → (if c then endpoint_place s.thing else owner b m) ≡ owner b m
-    by s true at is = sym (ap (λ (o : Option Socket). option_map_or (λ x. endpoint_place x.thing) o None) (subst (λ k. lookup (nat_eq k) b.sockets ≡ Some s) (sym (number_same m n is)) at))
+    by s true at is =
+        sym (ap (λ (o : Option Socket). option_map_or (λ x. endpoint_place x.thing) o None)
+        (subst (λ k. lookup (nat_eq k) b.sockets ≡ Some s) (sym (number_same m n is)) at))
     by s false at is = refl
 
-    go : (o : Option Socket) → lookup (nat_eq n) b.sockets ≡ o → option_map_or (λ x. endpoint_place x.thing) (lookup (nat_eq m) (option_map_or (λ s. insert_entry nat_eq b.sockets n (record s { live = false })) o b.sockets)) None ≡ owner b m
+    go : (o : Option Socket) → lookup (nat_eq n) b.sockets ≡ o
+        → option_map_or (λ x. endpoint_place x.thing)
+        (lookup (nat_eq m) (option_map_or
+        (λ s. insert_entry nat_eq b.sockets n (record s { live = false })) o b.sockets)) None ≡ owner b m
     go None at = refl
     go (Some s) at = owner_insert b n (record s { live = false }) m ∙ by s (nat_eq m n) at refl
 
@@ -147,14 +172,18 @@ dead_given b n m = go (lookup (nat_eq n) b.sockets) refl
     by s at (inl old) = old
     by s at (inr one) = subst (λ k. given b k ≡ true) (same_Some n m one) (ap is_some at)
 
-    go : (o : Option Socket) → lookup (nat_eq n) b.sockets ≡ o → is_some (lookup (nat_eq m) (option_map_or (λ s. insert_entry nat_eq b.sockets n (record s { live = false })) o b.sockets)) ≡ true → given b m ≡ true
+    go : (o : Option Socket) → lookup (nat_eq n) b.sockets ≡ o
+        → is_some (lookup (nat_eq m) (option_map_or
+        (λ s. insert_entry nat_eq b.sockets n (record s { live = false })) o b.sockets)) ≡ true → given b m ≡ true
     go None at e = e
     go (Some s) at e = by s at (given_insert b.sockets n (record s { live = false }) m e)
 
 -- a number is given to a listener
 pub keeps_listener : (b : HostTcp) (n l : ℕ) → Sound b → given b n ≡ false → Keeps b (with_socket b n (ListenerAt l)) (Some n)
 keeps_listener b n l g new = record {
-  sound = keeps_stay b (with_socket b n (ListenerAt l)) g (λ i e at. (e, at, stays_not e)) (λ m. owner_insert b n (record { thing = ListenerAt l; live = true }) m ∙ by m (nat_eq m n) refl) (λ k. refl);
+  sound =
+      keeps_stay b (with_socket b n (ListenerAt l)) g (λ i e at. (e, at, stays_not e))
+      (λ m. owner_insert b n (record { thing = ListenerAt l; live = true }) m ∙ by m (nat_eq m n) refl) (λ k. refl);
   stays = λ m i e. owner_insert b n (record { thing = ListenerAt l; live = true }) m ∙ stays_given b n (record { thing = ListenerAt l; live = true }) m i new e;
   given = λ m e. given_insert b.sockets n (record { thing = ListenerAt l; live = true }) m e;
 }
@@ -168,7 +197,9 @@ keeps_listener b n l g new = record {
     by m false is = refl
 
 -- a number is given to an endpoint that has none
-pub keeps_socket : (b : HostTcp) (n j : ℕ) (x : Endpoint) → Sound b → given b n ≡ false → slice_get b.endpoints j ≡ Some x → x.listener ≡ None → ((m : ℕ) → owner b m ≡ Some j → ⊥) → Keeps b (with_socket b n (EndpointAt j)) (Some n)
+pub keeps_socket : (b : HostTcp) (n j : ℕ) (x : Endpoint) → Sound b → given b n ≡ false
+    → slice_get b.endpoints j ≡ Some x → x.listener ≡ None → ((m : ℕ) → owner b m ≡ Some j → ⊥)
+    → Keeps b (with_socket b n (EndpointAt j)) (Some n)
 keeps_socket b n j x g new at free bare = record {
   sound = record {
     named = λ m i e. named m i (nat_eq m n) refl (sym (owner_insert b n s m) ∙ e);
@@ -183,11 +214,13 @@ keeps_socket b n j x g new at free bare = record {
     s : Socket
     s = record { thing = EndpointAt j; live = true }
 
-    named : (m i : ℕ) (c : Bool) → nat_eq m n ≡ c → (if c then Some j else owner b m) ≡ Some i → (e : Endpoint) × (slice_get b.endpoints i ≡ Some e) × (e.listener ≡ None)
+    named : (m i : ℕ) (c : Bool) → nat_eq m n ≡ c → (if c then Some j else owner b m) ≡ Some i
+        → (e : Endpoint) × (slice_get b.endpoints i ≡ Some e) × (e.listener ≡ None)
     named m i true is e = (x, subst (λ k. slice_get b.endpoints k ≡ Some x) (same_Some j i e) at, free)
     named m i false is e = g.named m i e
 
-    alone : (m k i : ℕ) (c d : Bool) → nat_eq m n ≡ c → nat_eq k n ≡ d → (if c then Some j else owner b m) ≡ Some i → (if d then Some j else owner b k) ≡ Some i → m ≡ k
+    alone : (m k i : ℕ) (c d : Bool) → nat_eq m n ≡ c → nat_eq k n ≡ d → (if c then Some j else owner b m) ≡ Some i
+        → (if d then Some j else owner b k) ≡ Some i → m ≡ k
     alone m k i true true p q e f = number_same m n p ∙ sym (number_same k n q)
     alone m k i true false p q e f = absurd (bare k (f ∙ ap (λ y. Some y) (sym (same_Some j i e))))
     alone m k i false true p q e f = absurd (bare m (e ∙ ap (λ y. Some y) (sym (same_Some j i f))))
@@ -205,7 +238,8 @@ queue_push [] x (suc l) e = refl
 queue_push (y ∷ ls) x zero e = refl
 queue_push (y ∷ ls) x (suc l) e = queue_push ls x l e
 
-pub queue_modify : (f : Listener → Listener) → ((x : Listener) → (f x).queue ≡ x.queue) → (ls : List Listener) (l k : ℕ) → queue_at (modify ls l f) k ≡ queue_at ls k
+pub queue_modify : (f : Listener → Listener) → ((x : Listener) → (f x).queue ≡ x.queue) → (ls : List Listener) (l k : ℕ)
+    → queue_at (modify ls l f) k ≡ queue_at ls k
 queue_modify f same [] l k = refl
 queue_modify f same (x ∷ ls) zero zero = same x
 queue_modify f same (x ∷ ls) zero (suc k) = refl
@@ -216,7 +250,9 @@ queue_modify f same (x ∷ ls) (suc l) (suc k) = queue_modify f same ls l k
 push_cases : (xs : List ℕ) (y j c : ℕ) → slice_get (xs ++ y ∷ []) j ≡ Some c → (slice_get xs j ≡ Some c) ⊎ ((j ≡ length xs) × (c ≡ y))
 push_cases xs y = all_push (λ j c. (slice_get xs j ≡ Some c) ⊎ ((j ≡ length xs) × (c ≡ y))) xs y (λ j c e. inl e) (inr (refl, refl))
 
-queue_joined : (ls : List Listener) (l i k j c : ℕ) → slice_get (queue_at (modify ls l (λ x. record x { queue = x.queue ++ i ∷ [] })) k) j ≡ Some c → (slice_get (queue_at ls k) j ≡ Some c) ⊎ ((k ≡ l) × (j ≡ length (queue_at ls k)) × (c ≡ i))
+queue_joined : (ls : List Listener) (l i k j c : ℕ)
+    → slice_get (queue_at (modify ls l (λ x. record x { queue = x.queue ++ i ∷ [] })) k) j ≡ Some c
+    → (slice_get (queue_at ls k) j ≡ Some c) ⊎ ((k ≡ l) × (j ≡ length (queue_at ls k)) × (c ≡ i))
 queue_joined [] l i k j c e = inl e
 queue_joined (x ∷ ls) zero i zero j c e = go (push_cases x.queue i j c e)
   where
@@ -227,12 +263,14 @@ queue_joined (x ∷ ls) zero i (suc k) j c e = inl e
 queue_joined (x ∷ ls) (suc l) i zero j c e = inl e
 queue_joined (x ∷ ls) (suc l) i (suc k) j c e = go (queue_joined ls l i k j c e)
   where
-    go : (slice_get (queue_at ls k) j ≡ Some c) ⊎ ((k ≡ l) × (j ≡ length (queue_at ls k)) × (c ≡ i)) → (slice_get (queue_at ls k) j ≡ Some c) ⊎ ((suc k ≡ suc l) × (j ≡ length (queue_at ls k)) × (c ≡ i))
+    go : (slice_get (queue_at ls k) j ≡ Some c) ⊎ ((k ≡ l) × (j ≡ length (queue_at ls k)) × (c ≡ i))
+        → (slice_get (queue_at ls k) j ≡ Some c) ⊎ ((suc k ≡ suc l) × (j ≡ length (queue_at ls k)) × (c ≡ i))
     go (inl e) = inl e
     go (inr e) = inr (ap (λ n. suc n) e.0, e.1, e.2)
 
 -- a child joins its listener's queue
-pub sound_joined : (b : HostTcp) (i l : ℕ) (x : Endpoint) → Sound b → slice_get b.endpoints i ≡ Some x → x.listener ≡ Some l → is_early x.state ≡ false → ((k : ℕ) → slice_get (queue_of b l) k ≡ Some i → ⊥)
+pub sound_joined : (b : HostTcp) (i l : ℕ) (x : Endpoint) → Sound b → slice_get b.endpoints i ≡ Some x
+    → x.listener ≡ Some l → is_early x.state ≡ false → ((k : ℕ) → slice_get (queue_of b l) k ≡ Some i → ⊥)
     → Sound (record b { listeners = modify b.listeners l (λ x. record x { queue = x.queue ++ i ∷ [] }) })
 sound_joined b i l x g at his late new = record {
   named = g.named;
@@ -241,7 +279,9 @@ sound_joined b i l x g at his late new = record {
   once = λ m j k c e f. once m j k c (queue_joined b.listeners l i m j c e) (queue_joined b.listeners l i m k c f);
 }
   where
-    queued : (m k j : ℕ) → (slice_get (queue_at b.listeners m) k ≡ Some j) ⊎ ((m ≡ l) × (k ≡ length (queue_at b.listeners m)) × (j ≡ i)) → (e : Endpoint) × (slice_get b.endpoints j ≡ Some e) × (e.listener ≡ Some m) × (is_early e.state ≡ false)
+    queued : (m k j : ℕ)
+        → (slice_get (queue_at b.listeners m) k ≡ Some j) ⊎ ((m ≡ l) × (k ≡ length (queue_at b.listeners m)) × (j ≡ i))
+        → (e : Endpoint) × (slice_get b.endpoints j ≡ Some e) × (e.listener ≡ Some m) × (is_early e.state ≡ false)
     queued m k j (inl e) = g.queued m k j e
     queued m k j (inr e) = (x, subst (λ y. slice_get b.endpoints y ≡ Some x) (sym e.2) at, his ∙ ap (λ y. Some y) (sym e.0), late)
 
@@ -256,7 +296,8 @@ sound_joined b i l x g at his late new = record {
     once m j k c (inr e) (inr f) = e.1 ∙ sym f.1
 
 -- who stands in a queue after the front left
-queue_popped : (ls : List Listener) (l child : ℕ) (rest : List ℕ) → queue_at ls l ≡ child ∷ rest → (k j c : ℕ) → slice_get (queue_at (modify ls l (λ x. record x { queue = rest })) k) j ≡ Some c
+queue_popped : (ls : List Listener) (l child : ℕ) (rest : List ℕ) → queue_at ls l ≡ child ∷ rest → (k j c : ℕ)
+    → slice_get (queue_at (modify ls l (λ x. record x { queue = rest })) k) j ≡ Some c
     → ((k ≡ l → ⊥) × (slice_get (queue_at ls k) j ≡ Some c)) ⊎ ((k ≡ l) × (slice_get (queue_at ls k) (suc j) ≡ Some c))
 queue_popped [] l child rest q k j c e = absurd cc
 queue_popped (x ∷ ls) zero child rest q zero j c e = inr (refl, subst (λ (y : List ℕ). slice_get y (suc j) ≡ Some c) (sym q) e)
@@ -264,7 +305,10 @@ queue_popped (x ∷ ls) zero child rest q (suc k) j c e = inl ((λ p. omega arit
 queue_popped (x ∷ ls) (suc l) child rest q zero j c e = inl ((λ p. omega arith), e)
 queue_popped (x ∷ ls) (suc l) child rest q (suc k) j c e = go (queue_popped ls l child rest q k j c e)
   where
-    go : ((k ≡ l → ⊥) × (slice_get (queue_at ls k) j ≡ Some c)) ⊎ ((k ≡ l) × (slice_get (queue_at ls k) (suc j) ≡ Some c)) → ((suc k ≡ suc l → ⊥) × (slice_get (queue_at ls k) j ≡ Some c)) ⊎ ((suc k ≡ suc l) × (slice_get (queue_at ls k) (suc j) ≡ Some c))
+    go : ((k ≡ l → ⊥) × (slice_get (queue_at ls k) j ≡ Some c))
+        ⊎ ((k ≡ l) × (slice_get (queue_at ls k) (suc j) ≡ Some c))
+        → ((suc k ≡ suc l → ⊥) × (slice_get (queue_at ls k) j ≡ Some c))
+        ⊎ ((suc k ≡ suc l) × (slice_get (queue_at ls k) (suc j) ≡ Some c))
     go (inl e) = inl ((λ p. e.0 (omega arith)), e.1)
     go (inr e) = inr (ap (λ n. suc n) e.0, e.1)
 
@@ -281,7 +325,8 @@ modify_here {X} f (a ∷ xs) zero x e = ap (λ (y : X). Some (f y)) (same_Some a
 modify_here f (a ∷ xs) (suc i) x e = modify_here f xs i x e
 
 -- the front of a queue is accepted
-pub keeps_accepted : (b : HostTcp) (l n child : ℕ) (rest : List ℕ) → Sound b → given b n ≡ false → queue_of b l ≡ child ∷ rest → Keeps b (accepted_from b l n (child ∷ rest)) (Some n)
+pub keeps_accepted : (b : HostTcp) (l n child : ℕ) (rest : List ℕ) → Sound b → given b n ≡ false
+    → queue_of b l ≡ child ∷ rest → Keeps b (accepted_from b l n (child ∷ rest)) (Some n)
 keeps_accepted b l n child rest g new q = record { sound = last.sound; stays = last.stays; given = last.given }
   where
     his : (e : Endpoint) × (slice_get b.endpoints child ≡ Some e) × (e.listener ≡ Some l) × (is_early e.state ≡ false)
@@ -289,9 +334,14 @@ keeps_accepted b l n child rest g new q = record { sound = last.sound; stays = l
 
     -- the child left its queue and is no listener's any more
     free : HostTcp
-    free = record b { endpoints = modify b.endpoints child (λ e. record e { listener = None }); listeners = modify b.listeners l (λ x. record x { queue = rest }) }
+    free = record b {
+      endpoints = modify b.endpoints child (λ e. record e { listener = None });
+      listeners = modify b.listeners l (λ x. record x { queue = rest });
+    }
 
-    popped : (m k i : ℕ) → slice_get (queue_of free m) k ≡ Some i → ((m ≡ l → ⊥) × (slice_get (queue_of b m) k ≡ Some i)) ⊎ ((m ≡ l) × (slice_get (queue_of b m) (suc k) ≡ Some i))
+    popped : (m k i : ℕ) → slice_get (queue_of free m) k ≡ Some i
+        → ((m ≡ l → ⊥) × (slice_get (queue_of b m) k ≡ Some i))
+        ⊎ ((m ≡ l) × (slice_get (queue_of b m) (suc k) ≡ Some i))
     popped m k i e = queue_popped b.listeners l child rest q m k i e
 
     -- who stands in a queue of another listener, or behind, is another
@@ -301,11 +351,16 @@ keeps_accepted b l n child rest g new q = record { sound = last.sound; stays = l
         let one : x.0 ≡ his.0 = same_Some x.0 his.0 (sym x.1 ∙ subst (λ y. slice_get b.endpoints y ≡ Some his.0) (sym p) his.1) in
         e.0 (same_Some m l (sym x.2 ∙ (ap (λ (y : Endpoint). y.listener) one ∙ his.2)))
     apart m k i (inr e) = λ p.
-        let front : slice_get (queue_of b m) 0 ≡ Some i = subst (λ y. slice_get (queue_of b y) 0 ≡ Some i) (sym e.0) (subst (λ (y : List ℕ). slice_get y 0 ≡ Some i) (sym q) (ap (λ y. Some y) (sym p))) in
+        let front : slice_get (queue_of b m) 0 ≡ Some i =
+        subst (λ y. slice_get (queue_of b y) 0 ≡ Some i) (sym e.0)
+        (subst (λ (y : List ℕ). slice_get y 0 ≡ Some i) (sym q) (ap (λ y. Some y) (sym p))) in
         let place = g.once m (suc k) 0 i e.1 front in
         omega arith
 
-    queued : (m k i : ℕ) → ((m ≡ l → ⊥) × (slice_get (queue_of b m) k ≡ Some i)) ⊎ ((m ≡ l) × (slice_get (queue_of b m) (suc k) ≡ Some i)) → (e : Endpoint) × (slice_get b.endpoints i ≡ Some e) × (e.listener ≡ Some m) × (is_early e.state ≡ false)
+    queued : (m k i : ℕ)
+        → ((m ≡ l → ⊥) × (slice_get (queue_of b m) k ≡ Some i))
+        ⊎ ((m ≡ l) × (slice_get (queue_of b m) (suc k) ≡ Some i))
+        → (e : Endpoint) × (slice_get b.endpoints i ≡ Some e) × (e.listener ≡ Some m) × (is_early e.state ≡ false)
     queued m k i (inl e) = g.queued m k i e.1
     queued m k i (inr e) = g.queued m (suc k) i e.1
 
@@ -326,7 +381,9 @@ keeps_accepted b l n child rest g new q = record { sound = last.sound; stays = l
     sound = record {
       named = λ m i e.
           let x = g.named m i e in
-          let y = modify_later (λ (x y : Endpoint). x.listener ≡ None → y.listener ≡ None) (λ x h. h) (λ e. record e { listener = None }) b.endpoints child (λ x at h. refl) i x.0 x.1 in
+          let y =
+          modify_later (λ (x y : Endpoint). x.listener ≡ None → y.listener ≡ None) (λ x h. h)
+          (λ e. record e { listener = None }) b.endpoints child (λ x at h. refl) i x.0 x.1 in
           (y.0, y.1, y.2 x.2);
       alone = g.alone;
       queued = λ m k i e.

@@ -17,7 +17,8 @@ use Rattle.verdict.specs.Rules.{first_broken}
 use Rattle.verdict.proofs.RuleLemmas.{none_all}
 use Rattle.streams.specs.Lists.{modify}
 use Rattle.spec_network.specs.Tables.{pick, other, with_host, waiting}
-use Rattle.spec_network.specs.Hosts.{HostState, Turn, Idle, Called, Answered, World, Deed, Does, Expires, Makes, Sends, Gets, Hears, Takes, Drops, Answers, Step, Begin, Finish, Effect, At, turn_of}
+use Rattle.spec_network.specs.Hosts.{HostState, Turn, Idle, Called, Answered, World, Deed, Does, Expires, Makes, Sends}
+use Rattle.spec_network.specs.Hosts.{Gets, Hears, Takes, Drops, Answers, Step, Begin, Finish, Effect, At, turn_of}
 use Rattle.spec_network.specs.HostRules.{aim_of, fresh_rules, effect_rules, Permitted}
 use Rattle.spec_network.specs.HostSteps.{deed_after, call_after, effect_after, after}
 use Rattle.window_rules.specs.declared.control.Profile.{Profile}
@@ -58,12 +59,18 @@ use Rattle.spec_tcp_laws.proofs.Moves.{with_cases}
 use Rattle.spec_tcp_laws.proofs.Takes.{taker_there}
 use Rattle.spec_tcp_laws.proofs.Calls.{Apart}
 use Rattle.spec_tcp_laws.proofs.Steps.{effect_allowed}
-use Rattle.spec_tcp_laws.proofs.Sound.{is_early, Sound, Keeps, Stays, stays_not, stays_either, AllStay, stay_modify, stay_push, stay_map, keeps_stay, keeps_endpoints, keeps_not, keeps_at_ports, dead_owner, dead_given, keeps_listener, keeps_socket, queue_push, queue_modify, sound_joined, modify_here, keeps_accepted}
+use Rattle.spec_tcp_laws.proofs.Sound.{is_early, Sound, Keeps, Stays, stays_not, stays_either, AllStay, stay_modify}
+use Rattle.spec_tcp_laws.proofs.Sound.{stay_push, stay_map, keeps_stay, keeps_endpoints, keeps_not, keeps_at_ports}
+use Rattle.spec_tcp_laws.proofs.Sound.{dead_owner, dead_given, keeps_listener, keeps_socket, queue_push, queue_modify}
+use Rattle.spec_tcp_laws.proofs.Sound.{sound_joined, modify_here, keeps_accepted}
 
 -- 1. endpoints
 
 stays_making : (e : Endpoint) (m : SegmentPlan) (moment : ℕ) → Stays e (after_making e m moment)
-stays_making e m moment = stays_either m.flags.rst e (record (shut_down (endpoint_made e m moment)) { reset_due = false }) (endpoint_made e m moment) (record { listener = refl; late = λ h. refl }) (record { listener = refl; late = λ h. h })
+stays_making e m moment =
+    stays_either m.flags.rst e (record (shut_down (endpoint_made e m moment)) { reset_due = false })
+    (endpoint_made e m moment) (record { listener = refl; late = λ h. refl })
+    (record { listener = refl; late = λ h. h })
 
 stays_expiry : (e : Endpoint) (x : Expired) (moment : ℕ) → Stays e (after_expiry e x moment)
 stays_expiry e (Rto growth) moment = record { listener = refl; late = λ h. h }
@@ -117,11 +124,15 @@ not_both states.SynSent e = absurd cc
 not_both state e = refl
 
 -- the SYN is acknowledged in SYN-RECEIVED
-late_joined : (h : Header) (e : Endpoint) (how : TakeChoice) (m : Emission) (moment : ℕ) → (is_syn_received e.state && acknowledges_syn e m) ≡ true → is_early (endpoint_taken h e how m moment).state ≡ false
+late_joined : (h : Header) (e : Endpoint) (how : TakeChoice) (m : Emission) (moment : ℕ)
+    → (is_syn_received e.state && acknowledges_syn e m) ≡ true
+    → is_early (endpoint_taken h e how m moment).state ≡ false
 late_joined h e how m moment c =
     let parts = both_true (is_syn_received e.state) (acknowledges_syn e m) c in
     let new = (both_true (is_new_ack e m) (e.stream.snd_una == 0) parts.1).0 in
-    let plain = not_true m.flags.rst (both_true m.flags.ack (not m.flags.rst) (both_true (m.flags.ack && not m.flags.rst) (nat_lt e.stream.snd_una m.ack) new).0).1 in
+    let plain =
+    not_true m.flags.rst (both_true m.flags.ack (not m.flags.rst)
+    (both_true (m.flags.ack && not m.flags.rst) (nat_lt e.stream.snd_una m.ack) new).0).1 in
     go m.flags.rst (is_syn_sent e.state) plain (not_both e.state parts.0) (finished_late (acknowledged e.state e m) _ (acks e.state parts.0 parts.1))
   where
     chosen : (b : Bool) → b ≡ true → is_early (if b then (if e.stream.ended then states.FinWait1 else states.Established) else states.SynReceived) ≡ false
@@ -165,7 +176,9 @@ stays_shut e = record { listener = refl; late = shut_late e.state }
 
 stays_close : (e : Endpoint) → Stays e (after_close e)
 stays_close e =
-    let x = stays_either (is_syn_sent e.state) e (shut_down (record e { stream = record e.stream { ended = true } })) (after_shut e) (record { listener = refl; late = λ h. refl }) (stays_shut e) in
+    let x =
+    stays_either (is_syn_sent e.state) e (shut_down (record e { stream = record e.stream { ended = true } }))
+    (after_shut e) (record { listener = refl; late = λ h. refl }) (stays_shut e) in
     record { listener = x.listener; late = x.late }
 
 stays_abort : (e : Endpoint) → Stays e (after_abort e)
@@ -179,15 +192,31 @@ keeps_same b o g = record { sound = g; stays = λ n i e. e; given = λ n e. inl 
 keeps_taking : (h : Header) (b : HostTcp) (how : TakeChoice) (m : Emission) (moment : ℕ) → Sound b → Keeps b (after_taking h b how m moment (taker b m)) None
 keeps_taking h b how m moment g = go (taker b m) refl
   where
-    by : (m : Emission) (i : ℕ) (e : Endpoint) → slice_get b.endpoints i ≡ Some e → (c : Bool) (o : Option ℕ) → (is_syn_received e.state && acknowledges_syn e m) ≡ c → e.listener ≡ o
-        → Keeps b (record b { endpoints = modify b.endpoints i (λ x. endpoint_taken h x how m moment); listeners = if c then option_map_or (λ l. modify b.listeners l (λ x. record x { queue = x.queue ++ i ∷ [] })) o b.listeners else b.listeners }) None
-    by m i e at false o is his = keeps_endpoints b (modify b.endpoints i (λ x. endpoint_taken h x how m moment)) g (stay_modify (λ x. endpoint_taken h x how m moment) b.endpoints i (λ x there. stays_taken h x how m moment))
-    by m i e at true None is his = keeps_endpoints b (modify b.endpoints i (λ x. endpoint_taken h x how m moment)) g (stay_modify (λ x. endpoint_taken h x how m moment) b.endpoints i (λ x there. stays_taken h x how m moment))
+    by : (m : Emission) (i : ℕ) (e : Endpoint) → slice_get b.endpoints i ≡ Some e → (c : Bool) (o : Option ℕ)
+        → (is_syn_received e.state && acknowledges_syn e m) ≡ c → e.listener ≡ o
+        → Keeps b (record b {
+          endpoints = modify b.endpoints i (λ x. endpoint_taken h x how m moment);
+          listeners = if c then option_map_or
+              (λ l. modify b.listeners l (λ x. record x { queue = x.queue ++ i ∷ [] })) o b.listeners
+              else b.listeners;
+        }) None
+    by m i e at false o is his =
+        keeps_endpoints b (modify b.endpoints i (λ x. endpoint_taken h x how m moment)) g
+        (stay_modify (λ x. endpoint_taken h x how m moment) b.endpoints i (λ x there. stays_taken h x how m moment))
+    by m i e at true None is his =
+        keeps_endpoints b (modify b.endpoints i (λ x. endpoint_taken h x how m moment)) g
+        (stay_modify (λ x. endpoint_taken h x how m moment) b.endpoints i (λ x there. stays_taken h x how m moment))
     by m i e at true (Some l) is his =
-        let first = keeps_endpoints b (modify b.endpoints i (λ x. endpoint_taken h x how m moment)) g (stay_modify (λ x. endpoint_taken h x how m moment) b.endpoints i (λ x there. stays_taken h x how m moment)) in
+        let first =
+        keeps_endpoints b (modify b.endpoints i (λ x. endpoint_taken h x how m moment)) g
+        (stay_modify (λ x. endpoint_taken h x how m moment) b.endpoints i
+        (λ x there. stays_taken h x how m moment)) in
         record {
-          sound = sound_joined (record b { endpoints = modify b.endpoints i (λ x. endpoint_taken h x how m moment) }) i l (endpoint_taken h e how m moment) first.sound
-              (modify_here (λ x. endpoint_taken h x how m moment) b.endpoints i e at) ((stays_taken h e how m moment).listener ∙ his) (late_joined h e how m moment is)
+          sound =
+              sound_joined (record b { endpoints = modify b.endpoints i (λ x. endpoint_taken h x how m moment) }) i l
+              (endpoint_taken h e how m moment) first.sound
+              (modify_here (λ x. endpoint_taken h x how m moment) b.endpoints i e at)
+              ((stays_taken h e how m moment).listener ∙ his) (late_joined h e how m moment is)
               (λ k x.
               let q = g.queued l k i x in
               let one : q.0 ≡ e = same_Some q.0 e (sym q.1 ∙ at) in
@@ -201,9 +230,11 @@ keeps_taking h b how m moment g = go (taker b m) refl
     go Nobody is = keeps_not b g
     go (AtListener l) is =
         keeps_endpoints b (b.endpoints ++ child (profile_of h) l how m moment ∷ []) g (stay_push b.endpoints (child (profile_of h) l how m moment))
-    go (AtEndpoint i e) is = let k : Emission = as_read h.version e m in by k i e (taker_there b m i e is) (is_syn_received e.state && acknowledges_syn e k) e.listener refl refl
+    go (AtEndpoint i e) is = let k : Emission = as_read h.version e m in
+        by k i e (taker_there b m i e is) (is_syn_received e.state && acknowledges_syn e k) e.listener refl refl
 
-keeps_dead : (b c : HostTcp) (n : ℕ) → Sound b → AllStay b.endpoints c.endpoints → ((l : ℕ) → queue_of c l ≡ queue_of b l) → Keeps b (record c { sockets = dead b.sockets n }) None
+keeps_dead : (b c : HostTcp) (n : ℕ) → Sound b → AllStay b.endpoints c.endpoints
+    → ((l : ℕ) → queue_of c l ≡ queue_of b l) → Keeps b (record c { sockets = dead b.sockets n }) None
 keeps_dead b c n g stay queues = record {
   sound = keeps_stay b (record c { sockets = dead b.sockets n }) g stay (dead_owner b n) queues;
   stays = λ m i e. dead_owner b n m ∙ e;
@@ -211,11 +242,15 @@ keeps_dead b c n g stay queues = record {
 }
 
 keeps_gone : (b : HostTcp) (n : ℕ) (f : Endpoint → Endpoint) → ((e : Endpoint) → Stays e (f e)) → Sound b → Keeps b (after_gone b n f) None
-keeps_gone b n f stay g = map_or_cases (λ (c : HostTcp). Keeps b c None) (thing_of b n) b (λ thing. record (thing_gone b thing f) { sockets = dead b.sockets n }) (λ e. keeps_not b g) (λ thing e. go thing)
+keeps_gone b n f stay g =
+    map_or_cases (λ (c : HostTcp). Keeps b c None) (thing_of b n) b
+    (λ thing. record (thing_gone b thing f) { sockets = dead b.sockets n }) (λ e. keeps_not b g) (λ thing e. go thing)
   where
     go : (thing : SocketTarget) → Keeps b (record (thing_gone b thing f) { sockets = dead b.sockets n }) None
     go (ListenerAt l) = keeps_dead b (without_listener b l) n g
-        (stay_map (orphaned l) b.endpoints (λ e. stays_either (option_map_or (λ holder. holder == l) e.listener false) e (after_abort e) e (stays_abort e) (stays_not e)))
+        (stay_map (orphaned l) b.endpoints
+        (λ e. stays_either (option_map_or (λ holder. holder == l) e.listener false) e (after_abort e) e
+        (stays_abort e) (stays_not e)))
         (λ k. queue_modify (λ x. record x { is_open = false }) (λ x. refl) b.listeners l k)
     go (EndpointAt i) = keeps_dead b (with_endpoint b i f) n g (stay_modify f b.endpoints i (λ e at. stay e)) (λ k. refl)
 
@@ -242,16 +277,24 @@ keeps_call : (p : Profile) (b : HostTcp) (call : Call) (answer : Answer) → Sou
     → Keeps b (after_call p b call answer) (gives call answer)
 keeps_call p b (calls.Listen host port backlog) (answers.Given n) g new =
     let wide : HostTcp = record b { listeners = b.listeners ++ record { port = port; backlog = backlog; is_open = true; queue = [] } ∷ [] } in
-    let x = keeps_listener wide n (length b.listeners) (keeps_stay b wide g (λ i e at. (e, at, stays_not e)) (λ m. refl) (λ k. queue_push b.listeners (record { port = port; backlog = backlog; is_open = true; queue = [] }) k refl)) (new n refl) in
+    let x =
+    keeps_listener wide n (length b.listeners)
+    (keeps_stay b wide g (λ i e at. (e, at, stays_not e)) (λ m. refl)
+    (λ k. queue_push b.listeners (record { port = port; backlog = backlog; is_open = true; queue = [] }) k
+    refl)) (new n refl) in
     record { sound = x.sound; stays = x.stays; given = x.given }
 keeps_call p b (calls.Connect host lport rport) (answers.Given n) g new =
     let e : Endpoint = new_endpoint lport rport None states.SynSent p in
     let wide : HostTcp = record b { endpoints = b.endpoints ++ e ∷ [] } in
-    let x = keeps_socket wide n (length b.endpoints) e (keeps_stay b wide g (stay_push b.endpoints e) (λ m. refl) (λ k. refl)) (new n refl) (get_push b.endpoints e) refl
+    let x =
+    keeps_socket wide n (length b.endpoints) e
+    (keeps_stay b wide g (stay_push b.endpoints e) (λ m. refl) (λ k. refl)) (new n refl)
+    (get_push b.endpoints e) refl
     (λ m own. let y = g.named m (length b.endpoints) own in let within = slice_get_within b.endpoints (length b.endpoints) y.0 y.1 in omega arith) in
     record { sound = x.sound; stays = x.stays; given = x.given }
 keeps_call p b (calls.Accept h) (answers.Given n) g new =
-    map_or_cases (λ (c : HostTcp). Keeps b c (Some n)) (thing_of b h) b (after_accept b n) (λ e. keeps_same b (Some n) g) (λ thing e. keeps_accept b n thing g (new n refl))
+    map_or_cases (λ (c : HostTcp). Keeps b c (Some n)) (thing_of b h) b (after_accept b n)
+    (λ e. keeps_same b (Some n) g) (λ thing e. keeps_accept b n thing g (new n refl))
 keeps_call p b (calls.Send h bytes) (answers.Given n) g new = keeps_change b h (after_send bytes n) (λ e. record { listener = refl; late = λ x. x }) g
 keeps_call p b (calls.Recv h most) (answers.Bytes bytes) g new = keeps_change b h (after_recv bytes) (λ e. record { listener = refl; late = λ x. x }) g
 keeps_call p b (calls.Shut h) answers.Done g new = keeps_change b h after_shut stays_shut g
@@ -261,17 +304,26 @@ keeps_call p b call answer g new = keeps_same b (gives call answer) g
 
 -- 3. steps
 
-keeps_deed : (h : Header) (s : ℕ) (w : World tcp_shape) (host : Host) (d : Deed tcp_shape) → Sound (pick w.hosts host).body → Keeps (pick w.hosts host).body (deed_after (tcp h) host s (suc w.count) (pick w.hosts (other host)).wire (pick w.hosts host) d).body None
+keeps_deed : (h : Header) (s : ℕ) (w : World tcp_shape) (host : Host) (d : Deed tcp_shape)
+    → Sound (pick w.hosts host).body
+    → Keeps (pick w.hosts host).body
+    (deed_after (tcp h) host s (suc w.count) (pick w.hosts (other host)).wire (pick w.hosts host) d).body None
 keeps_deed h s w host (Does x) g =
     keeps_at_ports (pick w.hosts host).body x.lport x.rport (λ e. after_recovery e x.cwnd x.ssthresh s) g (λ e. record { listener = refl; late = λ y. y })
-keeps_deed h s w host (Expires line x) g = keeps_at_ports (pick w.hosts host).body x.lport x.rport (λ e. after_expiry e x.expired s) g (λ e. stays_expiry e x.expired s)
+keeps_deed h s w host (Expires line x) g =
+    keeps_at_ports (pick w.hosts host).body x.lport x.rport (λ e. after_expiry e x.expired s) g
+    (λ e. stays_expiry e x.expired s)
 keeps_deed h s w host (Makes m) g = keeps_at_ports (pick w.hosts host).body m.lport m.rport (λ e. after_making e m s) g (λ e. stays_making e m s)
 keeps_deed h s w host (Sends line number wire) g = keeps_not (pick w.hosts host).body g
 keeps_deed h s w host (Gets line copied wire) g = keeps_not (pick w.hosts host).body g
 keeps_deed h s w host (Hears line wire) g = keeps_not (pick w.hosts host).body g
-keeps_deed h s w host (Takes line how) g = let k = pick w.hosts host in on_cases (λ (b : HostTcp). Keeps k.body b None) (waiting line k.inbox) k.body _ (keeps_not k.body g) (λ m e. keeps_taking h k.body how m s g)
+keeps_deed h s w host (Takes line how) g = let k = pick w.hosts host in
+    on_cases (λ (b : HostTcp). Keeps k.body b None) (waiting line k.inbox) k.body _ (keeps_not k.body g)
+    (λ m e. keeps_taking h k.body how m s g)
 keeps_deed h s w host (Drops line) g = keeps_not (pick w.hosts host).body g
-keeps_deed h s w host (Answers line) g = let k = pick w.hosts host in on_cases (λ (b : HostTcp). Keeps k.body b None) (waiting line k.inbox) k.body _ (keeps_not k.body g) (λ m e. keeps_not k.body g)
+keeps_deed h s w host (Answers line) g = let k = pick w.hosts host in
+    on_cases (λ (b : HostTcp). Keeps k.body b None) (waiting line k.inbox) k.body _ (keeps_not k.body g)
+    (λ m e. keeps_not k.body g)
 
 -- sockets and queues after a step of the world
 pub record SoundStep (a b : Hosts) : Type 0 where
@@ -282,7 +334,9 @@ pub record SoundStep (a b : Hosts) : Type 0 where
 sound_not : (a : Hosts) → ((x : Host) → Sound (pick a x).body) → Apart a → SoundStep a a
 sound_not a g apart = record { sound = g; stays = λ x n i e. e; apart = apart }
 
-sound_host : (a : Hosts) (host : Host) (k : HostState tcp_shape) (o : Option ℕ) → ((x : Host) → Sound (pick a x).body) → Apart a → ((n : ℕ) → o ≡ Some n → (given a.zero.body n ≡ false) × (given a.one.body n ≡ false)) → Keeps (pick a host).body k.body o → SoundStep a (with_host a host k)
+sound_host : (a : Hosts) (host : Host) (k : HostState tcp_shape) (o : Option ℕ) → ((x : Host) → Sound (pick a x).body)
+    → Apart a → ((n : ℕ) → o ≡ Some n → (given a.zero.body n ≡ false) × (given a.one.body n ≡ false))
+    → Keeps (pick a host).body k.body o → SoundStep a (with_host a host k)
 sound_host a host k o g apart fresh keeps = record {
   sound = with_cases a host k (λ x y. Sound y.body) keeps.sound (g (other host));
   stays = with_cases a host k (λ x y. (n i : ℕ) → owner (pick a x).body n ≡ Some i → owner y.body n ≡ Some i) keeps.stays (λ n i e. e);
@@ -301,13 +355,16 @@ sound_host a host k o g apart fresh keeps = record {
     go Zero keeps = λ n z y. zero_new n y (keeps.given n z)
     go One keeps = λ n z y. one_new n z (keeps.given n y)
 
-fresh_from : (h : Header) (a : Hosts) (o : Option ℕ) → first_broken (fresh_rules (tcp h) a o) ≡ None → (n : ℕ) → o ≡ Some n → (given a.zero.body n ≡ false) × (given a.one.body n ≡ false)
+fresh_from : (h : Header) (a : Hosts) (o : Option ℕ) → first_broken (fresh_rules (tcp h) a o) ≡ None → (n : ℕ)
+    → o ≡ Some n → (given a.zero.body n ≡ false) × (given a.one.body n ≡ false)
 fresh_from h a None may n e = absurd (none-some n e)
 fresh_from h a (Some m) may n e =
     let t = none_all ((rules.Socket, given a.zero.body m) ∷ (rules.Socket, given a.one.body m) ∷ []) may in
     subst (λ k. (given a.zero.body k ≡ false) × (given a.one.body k ≡ false)) (same_Some m n e) (t.0, t.1.0)
 
-sound_effect : (h : Header) (s : ℕ) (w : World tcp_shape) (t : ℕ) (answer : Answer) → ((x : Host) → Sound (pick w.hosts x).body) → Apart w.hosts → Permitted (tcp h) s w (Effect t answer) → SoundStep w.hosts (after (tcp h) s w (Effect t answer)).hosts
+sound_effect : (h : Header) (s : ℕ) (w : World tcp_shape) (t : ℕ) (answer : Answer)
+    → ((x : Host) → Sound (pick w.hosts x).body) → Apart w.hosts → Permitted (tcp h) s w (Effect t answer)
+    → SoundStep w.hosts (after (tcp h) s w (Effect t answer)).hosts
 sound_effect h s w t answer g apart may = go (turn_of t w.threads) may
   where
     a : Hosts
@@ -317,18 +374,25 @@ sound_effect h s w t answer g apart may = go (turn_of t w.threads) may
     here Zero n f = f.0
     here One n f = f.1
 
-    by : (call : Call) (o : Option Host) → first_broken (fresh_rules (tcp h) a (gives call answer)) ≡ None → SoundStep a (call_after (tcp h) s a (Calls call answer) o)
+    by : (call : Call) (o : Option Host) → first_broken (fresh_rules (tcp h) a (gives call answer)) ≡ None
+        → SoundStep a (call_after (tcp h) s a (Calls call answer) o)
     by call None new = sound_not a g apart
     by call (Some host) new = let fresh = fresh_from h a (gives call answer) new in
-        sound_host a host (record (pick a host) { body = after_call (profile_of h) (pick a host).body call answer }) (gives call answer) g apart fresh (keeps_call (profile_of h) (pick a host).body call answer (g host) (λ n e. here host n (fresh n e)))
+        sound_host a host (record (pick a host) { body = after_call (profile_of h) (pick a host).body call answer })
+        (gives call answer) g apart fresh
+        (keeps_call (profile_of h) (pick a host).body call answer (g host) (λ n e. here host n (fresh n e)))
 
     go : (u : Turn tcp_shape) → first_broken (effect_rules (tcp h) s a u answer) ≡ None → SoundStep a (effect_after (tcp h) s w t answer u).hosts
     go Idle may = sound_not a g apart
     go (Called call) may = by call (aim_of (tcp h) a (aim call)) (effect_allowed h s a call answer (aim_of (tcp h) a (aim call)) may).0
     go (Answered x) may = sound_not a g apart
 
-pub sound_step : (h : Header) (s : ℕ) (w : World tcp_shape) (step : Step tcp_shape) → ((x : Host) → Sound (pick w.hosts x).body) → Apart w.hosts → Permitted (tcp h) s w step → SoundStep w.hosts (after (tcp h) s w step).hosts
+pub sound_step : (h : Header) (s : ℕ) (w : World tcp_shape) (step : Step tcp_shape)
+    → ((x : Host) → Sound (pick w.hosts x).body) → Apart w.hosts → Permitted (tcp h) s w step
+    → SoundStep w.hosts (after (tcp h) s w step).hosts
 sound_step h s w (Begin line t call) g apart may = sound_not w.hosts g apart
 sound_step h s w (Finish line t answer) g apart may = sound_not w.hosts g apart
 sound_step h s w (Effect t answer) g apart may = sound_effect h s w t answer g apart may
-sound_step h s w (At host d) g apart may = sound_host w.hosts host (deed_after (tcp h) host s (suc w.count) (pick w.hosts (other host)).wire (pick w.hosts host) d) None g apart (λ n e. absurd (none-some n e)) (keeps_deed h s w host d (g host))
+sound_step h s w (At host d) g apart may =
+    sound_host w.hosts host (deed_after (tcp h) host s (suc w.count) (pick w.hosts (other host)).wire
+    (pick w.hosts host) d) None g apart (λ n e. absurd (none-some n e)) (keeps_deed h s w host d (g host))

@@ -37,9 +37,13 @@ inbox_insert P inbox n v new old q m e = go (nat_eq q n) (subst (λ (o : Option 
     go false e = old q m e
 
 -- a segment joins the inbox
-pub inbox_join : (P : Emission → Type 0) (inbox : List (ℕ × Option Emission)) (n : ℕ) (x : Emission) → P x → ((q : ℕ) (m : Emission) → waiting q inbox ≡ Some m → P m) → (q : ℕ) (m : Emission) → waiting q (insert_entry nat_eq inbox n (Some x)) ≡ Some m → P m
+pub inbox_join : (P : Emission → Type 0) (inbox : List (ℕ × Option Emission)) (n : ℕ) (x : Emission) → P x
+    → ((q : ℕ) (m : Emission) → waiting q inbox ≡ Some m → P m) → (q : ℕ) (m : Emission)
+    → waiting q (insert_entry nat_eq inbox n (Some x)) ≡ Some m → P m
 inbox_join P inbox n x new old = inbox_insert P inbox n (Some x) (λ m e. subst P (same_Some x m e) new) old
 
 -- it waits no longer
-pub inbox_settled : (P : Emission → Type 0) (inbox : List (ℕ × Option Emission)) (n : ℕ) → ((q : ℕ) (m : Emission) → waiting q inbox ≡ Some m → P m) → (q : ℕ) (m : Emission) → waiting q (settled n inbox) ≡ Some m → P m
+pub inbox_settled : (P : Emission → Type 0) (inbox : List (ℕ × Option Emission)) (n : ℕ)
+    → ((q : ℕ) (m : Emission) → waiting q inbox ≡ Some m → P m) → (q : ℕ) (m : Emission)
+    → waiting q (settled n inbox) ≡ Some m → P m
 inbox_settled P inbox n old = inbox_insert P inbox n None (λ m e. absurd (none-some m e)) old

@@ -1,5 +1,6 @@
 -- Taking a segment: what the rules say of it, and what the endpoint becomes.
-use Rattle.std.proofs.Common.{◌≡◌, ℕ, suc, ◌+◌, ◌-◌, ◌<◌, ◌≤◌, ◌⊎◌, Bool, true, false, List, [], ◌∷◌, ◌++◌, length, take, drop, min, max, Option, Some, None, refl, ap, sym, subst, ◌∙◌, inl, inr, arith}
+use Rattle.std.proofs.Common.{◌≡◌, ℕ, suc, ◌+◌, ◌-◌, ◌<◌, ◌≤◌, ◌⊎◌, Bool, true, false, List, [], ◌∷◌, ◌++◌, length}
+use Rattle.std.proofs.Common.{take, drop, min, max, Option, Some, None, refl, ap, sym, subst, ◌∙◌, inl, inr, arith}
 use Rattle.std.specs.Prelude.{if◌then◌else◌, ◌&&◌, ◌||◌, not, nat_lt, nat_le, slice_get, slice_range, is_some}
 use Rattle.std.specs.Option.{option_map_or}
 use Rattle.std.proofs.Math.Nat.{suc-add}
@@ -54,7 +55,8 @@ use Rattle.spec_tcp_laws.proofs.Rules.{not_false, both_true, neither, and_false,
 use Rattle.spec_tcp_laws.proofs.Later.{Hosts, name, all_cells, emission_later, GoodEmission, GoodStream, GoodEnd}
 use Rattle.spec_tcp_laws.proofs.Reading.{take_nothing}
 use Rattle.spec_tcp_laws.proofs.Ordered.{Begun, next_begun, stays_put_all, begun_kept, begun_met}
-use Rattle.spec_tcp_laws.proofs.Grows.{nothing, adds_nothing, silent, Own, Grows, Bare, Plain, plain_keeps, Coming, Grown, AllOwn, grows_plain, grown_not, grown_one, grown_push}
+use Rattle.spec_tcp_laws.proofs.Grows.{nothing, adds_nothing, silent, Own, Grows, Bare, Plain, plain_keeps, Coming}
+use Rattle.spec_tcp_laws.proofs.Grows.{Grown, AllOwn, grows_plain, grown_not, grown_one, grown_push}
 use Rattle.spec_tcp_laws.proofs.Moves.{Changes, changes_keeps, GoodEnds, Moves, moves_not, moves_one, moves_push}
 
 -- 1. what is kept of a segment stands in it
@@ -69,12 +71,15 @@ kept_part payload f q hi kf within whole k c e =
 
 -- what is kept stands in the segment
 kept_place : (payload : List ℕ) (keep f : Bool) (first n edge : ℕ) (k : ℕ) (c : Cell)
-    → slice_get (body (if keep then slice_range payload (max n first - first) (min (first + length payload) edge - first) else []) (keep && f && nat_le n (first + length payload) && nat_le (first + length payload) edge)) k ≡ Some c
+    → slice_get (body (if keep then slice_range payload (max n first - first)
+    (min (first + length payload) edge - first) else [])
+    (keep && f && nat_le n (first + length payload) && nat_le (first + length payload) edge)) k ≡ Some c
     → (keep ≡ true) × (slice_get (body payload f) (max n first - first + k) ≡ Some c)
 kept_place payload false f first n edge k c e = absurd (none-some c e)
 kept_place payload true f first n edge k c e = (
   refl,
-  kept_part payload f (max n first - first) (min (first + length payload) edge - first) (f && nat_le n (first + length payload) && nat_le (first + length payload) edge) (omega arith)
+  kept_part payload f (max n first - first) (min (first + length payload) edge - first)
+      (f && nat_le n (first + length payload) && nat_le (first + length payload) edge) (omega arith)
       (λ h.
       let outer = both_true (f && nat_le n (first + length payload)) (nat_le (first + length payload) edge) h in
       let inner = both_true f (nat_le n (first + length payload)) outer.0 in
@@ -85,7 +90,8 @@ kept_place payload true f first n edge k c e = (
 
 -- where a cell that is kept stands in all that it carries
 pub kept_cell : (payload : List ℕ) (keep f s : Bool) (pos n edge : ℕ) (k : ℕ) (c : Cell)
-    → slice_get (body (if keep then slice_range payload (max n (pos + flag_count s) - (pos + flag_count s)) (min (pos + flag_count s + length payload) edge - (pos + flag_count s)) else [])
+    → slice_get (body (if keep then slice_range payload (max n (pos + flag_count s) - (pos + flag_count s))
+    (min (pos + flag_count s + length payload) edge - (pos + flag_count s)) else [])
     (keep && f && nat_le n (pos + flag_count s + length payload) && nat_le (pos + flag_count s + length payload) edge)) k ≡ Some c
     → (p : ℕ) × (pos + p ≡ max n (pos + flag_count s) + k) × (slice_get (if s then Syn ∷ body payload f else body payload f) p ≡ Some c)
 kept_cell payload keep f s pos n edge k c e = place s refl (kept_place payload keep f (pos + flag_count s) n edge k c e).1
@@ -102,7 +108,10 @@ either_state true x y p q h = p h
 either_state false x y p q h = q h
 
 acknowledged_waits : (st : State) (e : Endpoint) (m : Emission) → is_syn_sent (acknowledged st e m) ≡ true → is_syn_sent st ≡ true
-acknowledged_waits states.SynReceived e m x = absurd (either_state (acknowledges_syn e m) (if e.stream.ended then states.FinWait1 else states.Established) states.SynReceived (either_state e.stream.ended states.FinWait1 states.Established (λ y. cc) (λ y. cc)) (λ y. cc) x)
+acknowledged_waits states.SynReceived e m x =
+    absurd (either_state (acknowledges_syn e m)
+    (if e.stream.ended then states.FinWait1 else states.Established) states.SynReceived
+    (either_state e.stream.ended states.FinWait1 states.Established (λ y. cc) (λ y. cc)) (λ y. cc) x)
 acknowledged_waits states.FinWait1 e m x = absurd (either_state (fin_acknowledged e m) states.FinWait2 states.FinWait1 (λ y. cc) (λ y. cc) x)
 acknowledged_waits states.Closing e m x = absurd (either_state (fin_acknowledged e m) states.TimeWait states.Closing (λ y. cc) (λ y. cc) x)
 acknowledged_waits states.LastAck e m x = absurd (either_state (fin_acknowledged e m) states.Closed states.LastAck (λ y. cc) (λ y. cc) x)
@@ -144,7 +153,9 @@ no_endpoint (Some l) i e x = cc
 pub taker_there : (b : HostTcp) (m : Emission) (i : ℕ) (e : Endpoint) → taker b m ≡ AtEndpoint i e → slice_get b.endpoints i ≡ Some e
 taker_there b m i e x = go (place_of b m.rport m.lport) x
   where
-    inner : (j : ℕ) (o : Option Endpoint) → slice_get b.endpoints j ≡ o → option_map_or (λ f. if is_closed f.state then listener_taker b m else AtEndpoint j f) o (listener_taker b m) ≡ AtEndpoint i e → slice_get b.endpoints i ≡ Some e
+    inner : (j : ℕ) (o : Option Endpoint) → slice_get b.endpoints j ≡ o
+        → option_map_or (λ f. if is_closed f.state then listener_taker b m else AtEndpoint j f) o (listener_taker b m)
+        ≡ AtEndpoint i e → slice_get b.endpoints i ≡ Some e
     inner j None at x = absurd (no_endpoint (listener_on b m.rport) i e x)
     inner j (Some f) at x = by (is_closed f.state) x
       where
@@ -176,8 +187,10 @@ plain_reset : (e : Endpoint) (how : TakeChoice) (moment : ℕ) → Plain e (was_
 plain_reset e how moment = record { stream = refl; irs = refl; waits = λ y. absurd cc }
 
 -- what is taken behind the SYN is what the segment has
-grows_taken : (comes : ℕ → Cell → Type 0) (h : Header) (e : Endpoint) (how : TakeChoice) (m : Emission) (moment : ℕ) → Own e → is_syn_sent e.state ≡ false → (irs : Word) → e.irs ≡ Some irs
-    → ((k : ℕ) (c : Cell) → how.keep ≡ true → slice_get (body m.payload m.flags.fin) k ≡ Some c → comes (first_byte m + k) c) → Grows comes nothing e (taken h e how m moment)
+grows_taken : (comes : ℕ → Cell → Type 0) (h : Header) (e : Endpoint) (how : TakeChoice) (m : Emission) (moment : ℕ)
+    → Own e → is_syn_sent e.state ≡ false → (irs : Word) → e.irs ≡ Some irs
+    → ((k : ℕ) (c : Cell) → how.keep ≡ true → slice_get (body m.payload m.flags.fin) k ≡ Some c
+    → comes (first_byte m + k) c) → Grows comes nothing e (taken h e how m moment)
 grows_taken comes h e how m moment g up irs met new = record {
   own = record {
     waits = λ y. absurd (let back = acknowledged_waits e.state e m (finished_waits (acknowledged e.state e m) _ y) in cc);
@@ -193,9 +206,13 @@ grows_taken comes h e how m moment g up irs met new = record {
   };
   adds = record { told = append-nil (received r) ∙ told.0; accepted = (adds_nothing e.stream).accepted; ended = (adds_nothing e.stream).ended };
   stays = stays_put_all r.taken start (body_kept r.taken start (kept_bytes e how m) (keeps_fin e how m));
-  gains = all_put_all (λ p c. 0 < p → (slice_get r.taken p ≡ Some (Some c)) ⊎ comes p c) r.taken start (body_kept r.taken start (kept_bytes e how m) (keeps_fin e how m)) (λ p c x some. inl x)
+  gains =
+      all_put_all (λ p c. 0 < p → (slice_get r.taken p ≡ Some (Some c)) ⊎ comes p c) r.taken start
+      (body_kept r.taken start (kept_bytes e how m) (keeps_fin e how m)) (λ p c x some. inl x)
       (λ k c x some.
-      let at = kept_place m.payload how.keep m.flags.fin (first_byte m) (next r) e.window.rcv_adv k c (kept_within r.taken start (kept_bytes e how m) (keeps_fin e how m) k c x) in
+      let at =
+      kept_place m.payload how.keep m.flags.fin (first_byte m) (next r) e.window.rcv_adv k c
+      (kept_within r.taken start (kept_bytes e how m) (keeps_fin e how m) k c x) in
       let place : first_byte m + (start - first_byte m + k) ≡ start + k = omega arith in
       inr (subst (λ p. comes p c) place (new (start - first_byte m + k) c at.0 at.1)));
 }
@@ -212,14 +229,18 @@ grows_taken comes h e how m moment g up irs met new = record {
     all : Begun (kept r start (kept_bytes e how m) (keeps_fin e how m)).taken
     all = begun_kept r.taken start (kept_bytes e how m) (keeps_fin e how m) begun (let some = next_begun r.taken begun in omega arith)
 
-    told : (received r ≡ received (kept r start (kept_bytes e how m) (keeps_fin e how m))) × (r.delivered ≤ length (arrived (kept r start (kept_bytes e how m) (keeps_fin e how m))))
+    told : (received r ≡ received (kept r start (kept_bytes e how m) (keeps_fin e how m)))
+        × (r.delivered ≤ length (arrived (kept r start (kept_bytes e how m) (keeps_fin e how m))))
     told = kept_told r start (kept_bytes e how m) (keeps_fin e how m) (omega arith) g.delivered
 
 -- the SYN alone
-grows_met : (comes : ℕ → Cell → Type 0) (h : Header) (e : Endpoint) (how : TakeChoice) (m : Emission) (moment : ℕ) → Own e → is_syn_sent e.state ≡ true → Grows comes nothing e (on_syn h e how m moment)
+grows_met : (comes : ℕ → Cell → Type 0) (h : Header) (e : Endpoint) (how : TakeChoice) (m : Emission) (moment : ℕ)
+    → Own e → is_syn_sent e.state ≡ true → Grows comes nothing e (on_syn h e how m moment)
 grows_met comes h e how m moment g waits =
     let alone = g.waits waits in
-    let none : received e.stream.receive ≡ [] = take_nothing e.stream.receive.delivered (arrived e.stream.receive) (ap (λ (l : List (Option Cell)). bytes_of (front l)) alone.1) in
+    let none : received e.stream.receive ≡ [] =
+    take_nothing e.stream.receive.delivered (arrived e.stream.receive)
+    (ap (λ (l : List (Option Cell)). bytes_of (front l)) alone.1) in
     record {
       own = record { waits = λ y. absurd (met_state m.flags.ack y); order = inr begun_met; begun = λ base is. begun_met; delivered = omega arith };
       later = record {
@@ -228,7 +249,11 @@ grows_met comes h e how m moment g waits =
         next = let empty : front e.stream.receive.taken ≡ [] = ap front alone.1 in omega (arith, ap length empty);
         told = ([], append-nil (received e.stream.receive) ∙ none);
       };
-      adds = record { told = append-nil (received e.stream.receive) ∙ none; accepted = (adds_nothing e.stream).accepted; ended = (adds_nothing e.stream).ended };
+      adds = record {
+        told = append-nil (received e.stream.receive) ∙ none;
+        accepted = (adds_nothing e.stream).accepted;
+        ended = (adds_nothing e.stream).ended;
+      };
       stays = λ p c x. absurd (none-some _ (subst (λ (l : List (Option Cell)). slice_get l p ≡ Some (Some c)) alone.1 x));
       gains = syn_taken (λ p c. 0 < p → (slice_get e.stream.receive.taken p ≡ Some (Some c)) ⊎ comes p c) (λ some. absurd (omega arith));
     }
@@ -245,7 +270,10 @@ base_there : (e : Endpoint) (m : Emission) → is_bad_number e m ≡ false → (
 base_there e m good = go m.is_reset_reply e.irs refl good
   where
     go : (answers : Bool) (o : Option Word) → e.irs ≡ o
-        → (if answers then not (is_some (if answers then option_map_or (λ irs. near_position (next_of e) irs m.seq) o None else Some m.pos)) else not (reads_as (next_of e) o m.seq m.pos) || m.flags.ack && not (reads_as e.stream.snd_una e.iss m.ack_seq m.ack)) ≡ false
+        → (if answers then not (is_some
+        (if answers then option_map_or (λ irs. near_position (next_of e) irs m.seq) o None else Some m.pos))
+        else not (reads_as (next_of e) o m.seq m.pos) || m.flags.ack
+        && not (reads_as e.stream.snd_una e.iss m.ack_seq m.ack)) ≡ false
         → (irs : Word) × (e.irs ≡ Some irs)
     go true None is x = absurd cc
     go false None is x = absurd cc
@@ -264,20 +292,24 @@ grows_endpoint comes h b me e how m moment g new may = go m.flags.rst (is_syn_se
     go true s is x may = grows_plain comes e (was_reset e how moment) g (plain_reset e how moment)
     go false true is x may = grows_met comes h e how m moment g x
     go false false is x may =
-        let base = base_there e m (none_all (connected_rules h b me e how m moment) may).1.0 in grows_taken comes h e how m moment g x base.0 base.1 (λ k c keep. new k c keep is)
+        let base = base_there e m (none_all (connected_rules h b me e how m moment) may).1.0 in
+        grows_taken comes h e how m moment g x base.0 base.1 (λ k c keep. new k c keep is)
 
 -- reading a segment changes neither its flags nor what it carries
 read_flags : (b : Bool) (e : Endpoint) (m : Emission) → (if b then read_at e m else m).flags ≡ m.flags
 read_flags true e m = refl
 read_flags false e m = refl
 
-read_body : (b : Bool) (e : Endpoint) (m : Emission) → body (if b then read_at e m else m).payload (if b then read_at e m else m).flags.fin ≡ body m.payload m.flags.fin
+read_body : (b : Bool) (e : Endpoint) (m : Emission)
+    → body (if b then read_at e m else m).payload (if b then read_at e m else m).flags.fin ≡ body m.payload m.flags.fin
 read_body true e m = refl
 read_body false e m = refl
 
-pub grown_taking : (h : Header) (s : ℕ) (w : World tcp_shape) (host : Host) (line : ℕ) (how : TakeChoice) (m : Emission) → AllOwn w.hosts → waiting line (pick w.hosts host).inbox ≡ Some m
+pub grown_taking : (h : Header) (s : ℕ) (w : World tcp_shape) (host : Host) (line : ℕ) (how : TakeChoice) (m : Emission)
+    → AllOwn w.hosts → waiting line (pick w.hosts host).inbox ≡ Some m
     → first_broken (taker_rules h host (pick w.hosts host).body how m s (taker (pick w.hosts host).body m)) ≡ None
-    → Grown (Carries h w (At host (Takes line how))) host silent (pick w.hosts host).body.endpoints (after_taking h (pick w.hosts host).body how m s (taker (pick w.hosts host).body m)).endpoints
+    → Grown (Carries h w (At host (Takes line how))) host silent (pick w.hosts host).body.endpoints
+    (after_taking h (pick w.hosts host).body how m s (taker (pick w.hosts host).body m)).endpoints
 grown_taking h s w host line how m g waits may = go (taker (pick w.hosts host).body m) refl may
   where
     b : HostTcp
@@ -309,7 +341,9 @@ grown_taking h s w host line how m g waits may = go (taker (pick w.hosts host).b
           stands = refl;
           has = subst (λ (cs : List Cell). slice_get cs k ≡ Some c) (read_body (is_half h.version) e m) has;
         })
-        (subst (λ (y : Endpoint). first_broken (if is_syn_sent y.state then syn_sent_rules y how (as_read h.version e m) s else connected_rules h b (name host i) y how (as_read h.version e m) s) ≡ None) one may))
+        (subst (λ (y : Endpoint). first_broken
+        (if is_syn_sent y.state then syn_sent_rules y how (as_read h.version e m) s
+        else connected_rules h b (name host i) y how (as_read h.version e m) s) ≡ None) one may))
 
 -- 5. the endpoint and its peer
 
@@ -321,7 +355,9 @@ kept_taken b e how m peer good old =
     let start = max (next r) (m.pos + flag_count m.flags.syn) in
     all_put_all (λ p c. (q : EndpointId) × (e.stream.peer ≡ Some q) × HasStream b q (λ t. slice_get (all_cells t) p ≡ Some c)) r.taken start _ old
     (λ k c x.
-    let at = kept_cell m.payload how.keep m.flags.fin m.flags.syn m.pos (next r) e.window.rcv_adv k c (kept_within r.taken start (kept_bytes e how m) (keeps_fin e how m) k c x) in
+    let at =
+    kept_cell m.payload how.keep m.flags.fin m.flags.syn m.pos (next r) e.window.rcv_adv k c
+    (kept_within r.taken start (kept_bytes e how m) (keeps_fin e how m) k c x) in
     (m.sender, peer, subst (λ p. HasStream b m.sender (λ t. slice_get (all_cells t) p ≡ Some c)) at.1 (good.sent at.0 c at.2)))
 
 -- what is acknowledged then
@@ -350,7 +386,9 @@ from_peer : (a : Hosts) (h : Header) → is_half h.version ≡ false → (b : Ho
 from_peer a h whole b me e how m moment good r may =
     let t = none_all (connected_rules h b me e how m moment) may in
     let plain : m.is_reset_reply ≡ false = is_not m.is_reset_reply (λ x. let y = good.resets x in cc) in
-    let from = both_true (option_map_or (λ peer. same_name peer m.sender) e.stream.peer false) _ (other m.is_reset_reply plain (not_false _ (whole_case h whole (is_from_peer me e m) t.0))) in
+    let from =
+    both_true (option_map_or (λ peer. same_name peer m.sender) e.stream.peer false) _
+    (other m.is_reset_reply plain (not_false _ (whole_case h whole (is_from_peer me e m) t.0))) in
     let acks = neither (not m.flags.ack || nat_lt (snd_max e) m.ack) _ (and_false (not m.flags.rst) _ t.1.1.1.0 (flip m.flags.rst r)) in
     record {
       peer = some_name e.stream.peer m.sender from.0;
@@ -359,8 +397,12 @@ from_peer a h whole b me e how m moment good r may =
       peer_at_send = λ q x. any_name m.peer_at_send me q from.1 x;
     }
   where
-    other : (c : Bool) → c ≡ false → (if c then same_name m.sender me else option_map_or (λ peer. same_name peer m.sender) e.stream.peer false && option_map_or (λ peer_at_send. same_name peer_at_send me) m.peer_at_send true) ≡ true
-        → (option_map_or (λ peer. same_name peer m.sender) e.stream.peer false && option_map_or (λ peer_at_send. same_name peer_at_send me) m.peer_at_send true) ≡ true
+    other : (c : Bool) → c ≡ false
+        → (if c then same_name m.sender me
+        else option_map_or (λ peer. same_name peer m.sender) e.stream.peer false
+        && option_map_or (λ peer_at_send. same_name peer_at_send me) m.peer_at_send true) ≡ true
+        → (option_map_or (λ peer. same_name peer m.sender) e.stream.peer false
+        && option_map_or (λ peer_at_send. same_name peer_at_send me) m.peer_at_send true) ≡ true
     other true is x = absurd cc
     other false is x = x
 
@@ -368,7 +410,9 @@ from_peer a h whole b me e how m moment good r may =
     flip true is = absurd cc
     flip false is = refl
 
-changes_taken : (a : Hosts) (h : Header) (me : EndpointId) (e : Endpoint) (how : TakeChoice) (m : Emission) (moment : ℕ) → GoodEnd a me e → GoodEmission a m → FromPeer me e m → is_syn_sent e.state ≡ false → Changes a me e (taken h e how m moment)
+changes_taken : (a : Hosts) (h : Header) (me : EndpointId) (e : Endpoint) (how : TakeChoice) (m : Emission) (moment : ℕ)
+    → GoodEnd a me e → GoodEmission a m → FromPeer me e m → is_syn_sent e.state ≡ false
+    → Changes a me e (taken h e how m moment)
 changes_taken a h me e how m moment g good f up = record {
   snd_una = acked_in a good g.stream;
   good = λ c later was.
@@ -380,7 +424,9 @@ changes_taken a h me e how m moment g good f up = record {
 }
   where
     -- what is acknowledged then was taken by the sender, whose peer is this endpoint
-    acked_in : (b : Hosts) → GoodEmission b m → GoodStream b me e.stream → 1 < max e.stream.snd_una m.ack → (r : EndpointId) × (e.stream.peer ≡ Some r) × HasStream b r (λ t. (t.peer ≡ Some me) × (max e.stream.snd_una m.ack ≤ next t.receive))
+    acked_in : (b : Hosts) → GoodEmission b m → GoodStream b me e.stream → 1 < max e.stream.snd_una m.ack
+        → (r : EndpointId) × (e.stream.peer ≡ Some r)
+        × HasStream b r (λ t. (t.peer ≡ Some me) × (max e.stream.snd_una m.ack ≤ next t.receive))
     acked_in b good was = una_taken b me e.stream.peer m.sender e.stream.snd_una m.ack f.peer
         (let acked = good.ack f.ack f.plain in
         let peer_at_send = good.peer_at_send me (f.peer_at_send acked.0.0 acked.0.1) in
@@ -389,7 +435,8 @@ changes_taken a h me e how m moment g good f up = record {
         was.snd_una
 
 -- the SYN of the peer was taken, and nothing else
-met_good : (b : Hosts) (me q : EndpointId) (s : Stream) → HasStream b q (λ t. Unit {0}) → s.peer ≡ Some q → s.receive.taken ≡ Some Syn ∷ [] → (1 < s.snd_una → ⊥) → GoodStream b me s
+met_good : (b : Hosts) (me q : EndpointId) (s : Stream) → HasStream b q (λ t. Unit {0}) → s.peer ≡ Some q
+    → s.receive.taken ≡ Some Syn ∷ [] → (1 < s.snd_una → ⊥) → GoodStream b me s
 met_good b me q s there p is none = record {
   taken = subst (Taken (λ p c. (r : EndpointId) × (s.peer ≡ Some r) × HasStream b r (λ t. slice_get (all_cells t) p ≡ Some c))) (sym is)
       (syn_taken (λ p c. (r : EndpointId) × (s.peer ≡ Some r) × HasStream b r (λ t. slice_get (all_cells t) p ≡ Some c)) (q, p, (there.0, there.1, refl)));
@@ -397,13 +444,17 @@ met_good b me q s there p is none = record {
   peer = λ r e. subst (λ (k : EndpointId). HasStream b k (λ t. Unit {0})) (same_Some q r (sym p ∙ e)) there;
 }
 
-changes_met : (a : Hosts) (h : Header) (me : EndpointId) (e : Endpoint) (how : TakeChoice) (m : Emission) (moment : ℕ) → GoodEnd a me e → GoodEmission a m → is_syn_sent e.state ≡ true → Changes a me e (on_syn h e how m moment)
+changes_met : (a : Hosts) (h : Header) (me : EndpointId) (e : Endpoint) (how : TakeChoice) (m : Emission) (moment : ℕ)
+    → GoodEnd a me e → GoodEmission a m → is_syn_sent e.state ≡ true → Changes a me e (on_syn h e how m moment)
 changes_met a h me e how m moment g good waits =
     let alone = g.waits waits in
     record {
       snd_una = λ more. absurd (met_una m.flags.ack e.stream.snd_una more (λ own. let p = g.stream.snd_una own in none-some p.0 (sym alone.0 ∙ p.1)));
       good = λ c later was. record {
-        stream = met_good c me m.sender (on_syn h e how m moment).stream (emission_later a c later m good).there refl refl (λ more. met_una m.flags.ack e.stream.snd_una more (λ own. let p = g.stream.snd_una own in none-some p.0 (sym alone.0 ∙ p.1)));
+        stream =
+            met_good c me m.sender (on_syn h e how m moment).stream (emission_later a c later m good).there refl refl
+            (λ more. met_una m.flags.ack e.stream.snd_una more
+            (λ own. let p = g.stream.snd_una own in none-some p.0 (sym alone.0 ∙ p.1)));
         waits = λ y. absurd (met_state m.flags.ack y);
       };
     }
@@ -412,7 +463,9 @@ changes_met a h me e how m moment g good waits =
     met_una true snd_una more = λ no. no (omega arith)
     met_una false snd_una more = λ no. no more
 
-changes_endpoint : (a : Hosts) (h : Header) → is_half h.version ≡ false → (b : HostTcp) (me : EndpointId) (e : Endpoint) (how : TakeChoice) (m : Emission) (moment : ℕ) → GoodEnd a me e → GoodEmission a m
+changes_endpoint : (a : Hosts) (h : Header) → is_half h.version ≡ false
+    → (b : HostTcp) (me : EndpointId) (e : Endpoint) (how : TakeChoice) (m : Emission) (moment : ℕ) → GoodEnd a me e
+    → GoodEmission a m
     → first_broken (if is_syn_sent e.state then syn_sent_rules e how m moment else connected_rules h b me e how m moment) ≡ None
     → Changes a me e (endpoint_taken h e how m moment)
 changes_endpoint a h whole b me e how m moment g good may = go m.flags.rst (is_syn_sent e.state) refl refl may
@@ -428,7 +481,9 @@ changes_endpoint a h whole b me e how m moment g good may = go m.flags.rst (is_s
 reads_itself : (h : Header) → is_half h.version ≡ false → (e : Endpoint) (m : Emission) → as_read h.version e m ≡ m
 reads_itself h whole e m = ap (λ (b : Bool). if b then read_at e m else m) whole
 
-pub moves_taking : (a : Hosts) (h : Header) → is_half h.version ≡ false → (host : Host) (b : HostTcp) (how : TakeChoice) (m : Emission) (moment : ℕ) → GoodEnds a host b.endpoints → GoodEmission a m
+pub moves_taking : (a : Hosts) (h : Header) → is_half h.version ≡ false
+    → (host : Host) (b : HostTcp) (how : TakeChoice) (m : Emission) (moment : ℕ) → GoodEnds a host b.endpoints
+    → GoodEmission a m
     → first_broken (taker_rules h host b how m moment (taker b m)) ≡ None → Moves a host b.endpoints (after_taking h b how m moment (taker b m)).endpoints
 moves_taking a h whole host b how m moment g good may = go (taker b m) refl may
   where
@@ -438,11 +493,18 @@ moves_taking a h whole host b how m moment g good may = go (taker b m) refl may
     go (AtListener l) is may = moves_push a host b.endpoints (child (profile_of h) l how m moment) g (record {
       snd_una = λ more. absurd (omega arith);
       good =
-          λ c later. record { stream = met_good c _ m.sender (child (profile_of h) l how m moment).stream (emission_later a c later m good).there refl refl (λ more. omega arith); waits = λ y. absurd cc };
+          λ c later. record {
+            stream = met_good c _ m.sender (child (profile_of h) l how m moment).stream
+                (emission_later a c later m good).there refl refl (λ more. omega arith);
+            waits = λ y. absurd cc;
+          };
     })
     go (AtEndpoint i e) is may = let at = taker_there b m i e is in
         moves_one a host b.endpoints i (λ x. endpoint_taken h x how (as_read h.version e m) moment) g
         (λ x there.
         let one : e ≡ x = same_Some e x (sym at ∙ there) in
-        changes_endpoint a h whole b (name host i) x how (as_read h.version e m) moment (g i x there) (subst (GoodEmission a) (sym (reads_itself h whole e m)) good)
-        (subst (λ (y : Endpoint). first_broken (if is_syn_sent y.state then syn_sent_rules y how (as_read h.version e m) moment else connected_rules h b (name host i) y how (as_read h.version e m) moment) ≡ None) one may))
+        changes_endpoint a h whole b (name host i) x how (as_read h.version e m) moment (g i x there)
+        (subst (GoodEmission a) (sym (reads_itself h whole e m)) good)
+        (subst (λ (y : Endpoint). first_broken
+        (if is_syn_sent y.state then syn_sent_rules y how (as_read h.version e m) moment
+        else connected_rules h b (name host i) y how (as_read h.version e m) moment) ≡ None) one may))

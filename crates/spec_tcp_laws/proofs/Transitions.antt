@@ -1,5 +1,6 @@
 -- What each step makes of the states and the positions of endpoints.
-use Rattle.std.proofs.Common.{◌≡◌, ℕ, zero, suc, ◌≤◌, ◌⊎◌, Bool, true, false, List, [], ◌∷◌, ◌++◌, length, map, Option, Some, None, refl, ap, sym, subst, ◌∙◌, inl, inr}
+use Rattle.std.proofs.Common.{◌≡◌, ℕ, zero, suc, ◌≤◌, ◌⊎◌, Bool, true, false, List, [], ◌∷◌, ◌++◌, length, map, Option}
+use Rattle.std.proofs.Common.{Some, None, refl, ap, sym, subst, ◌∙◌, inl, inr}
 use Rattle.std.specs.Prelude.{if◌then◌else◌, ◌==◌, ◌+◌, ◌-◌, max, replicate, slice_get, ◌&&◌, not, nat_lt, is_some}
 use Rattle.std.specs.Option.{option_map_or}
 use Rattle.std.proofs.Math.Nat.{le_refl, le-max_left, le-add_right}
@@ -26,7 +27,9 @@ use Rattle.streams.specs.Transmissions.{made, mark, once}
 use Rattle.streams.specs.Received.{is_ended}
 use Rattle.streams.proofs.Places.{get_append, all_push, all_modify}
 use Rattle.spec_network.specs.Tables.{pick, other, with_host, waiting}
-use Rattle.spec_network.specs.Hosts.{HostState, Turn, Idle, Called, Answered, World, Deed, Does, Expires, Makes, Sends, Gets, Hears, Takes, Drops, Answers, Step, Begin, Finish, Effect, At, Stamped, turn_of}
+use Rattle.spec_network.specs.Hosts.{HostState, Turn, Idle, Called, Answered, World, Deed, Does, Expires, Makes, Sends}
+use Rattle.spec_network.specs.Hosts.{Gets, Hears, Takes, Drops, Answers, Step, Begin, Finish, Effect, At, Stamped}
+use Rattle.spec_network.specs.Hosts.{turn_of}
 use Rattle.spec_network.specs.HostRules.{aim_of, Permitted}
 use Rattle.spec_network.specs.HostSteps.{deed_after, call_after, effect_after, after, start, Lawful}
 use Rattle.window_rules.specs.declared.control.Profile.{Profile}
@@ -66,7 +69,10 @@ use Rattle.spec_tcp.specs.Machine.{Calls, Expiring, tcp, tcp_shape, aim}
 use Rattle.spec_tcp_laws.specs.Runs.{world_at_end}
 use Rattle.spec_tcp_laws.specs.Consequences.{find}
 use Rattle.spec_tcp_laws.specs.Bounds.{TakesThere}
-use Rattle.spec_tcp_laws.specs.Transitions.{StaysOr, close_leads, segment_leads, fin_leads, closed_number, left_number, CallsOn, closes, TimerCloses, MayLead, Stays, ByClose, ByAbort, ByListener, BySegment, ByReset, ByOwnReset, ByTimer, StatesFollow, PositionsNeverFall, WaitsOn}
+use Rattle.spec_tcp_laws.specs.Transitions.{StaysOr, close_leads, segment_leads, fin_leads, closed_number, left_number}
+use Rattle.spec_tcp_laws.specs.Transitions.{CallsOn, closes, TimerCloses, MayLead, Stays, ByClose, ByAbort, ByListener}
+use Rattle.spec_tcp_laws.specs.Transitions.{BySegment, ByReset, ByOwnReset, ByTimer, StatesFollow, PositionsNeverFall}
+use Rattle.spec_tcp_laws.specs.Transitions.{WaitsOn}
 use Rattle.spec_tcp_laws.proofs.Rules.{on_cases, map_or_cases, map_or_true, number_same}
 use Rattle.spec_tcp_laws.proofs.Later.{Hosts, name}
 use Rattle.spec_tcp_laws.proofs.Moves.{with_cases, modify_each, map_onward, map_back}
@@ -94,11 +100,13 @@ record Goes (w : World tcp_shape) (step : Step tcp_shape) (me : EndpointId) (e f
   pub waits : SameWait e f
 
 -- its state, its positions and its timers stay
-stays : (w : World tcp_shape) (step : Step tcp_shape) (me : EndpointId) (e f : Endpoint) → f.state ≡ e.state → Rises e f → f.timers.msl_armed ≡ e.timers.msl_armed → Goes w step me e f
+stays : (w : World tcp_shape) (step : Step tcp_shape) (me : EndpointId) (e f : Endpoint) → f.state ≡ e.state → Rises e f
+    → f.timers.msl_armed ≡ e.timers.msl_armed → Goes w step me e f
 stays w step me e f state rises timers = record { leads = Stays state; rises = rises; waits = λ was is. timers }
 
 -- it is CLOSED
-closed : (w : World tcp_shape) (step : Step tcp_shape) (me : EndpointId) (e f : Endpoint) → f.state ≡ states.Closed → Rises e f → MayLead w step me e f.state → Goes w step me e f
+closed : (w : World tcp_shape) (step : Step tcp_shape) (me : EndpointId) (e f : Endpoint) → f.state ≡ states.Closed
+    → Rises e f → MayLead w step me e f.state → Goes w step me e f
 closed w step me e f state rises leads = record { leads = leads; rises = rises; waits = λ was is. absurd (not_both is (ap is_time_wait state)) }
 
 calm : (w : World tcp_shape) (step : Step tcp_shape) (me : EndpointId) (e : Endpoint) → Goes w step me e e
@@ -116,13 +124,16 @@ record Gone (w : World tcp_shape) (step : Step tcp_shape) (host : Host) (es fs :
 gone_not : (w : World tcp_shape) (step : Step tcp_shape) (host : Host) (es : List Endpoint) → Gone w step host es es
 gone_not w step host es = record { onward = λ i e at. (e, at, calm w step (name host i) e); back = λ i f at. inl (f, at) }
 
-gone_one : (w : World tcp_shape) (step : Step tcp_shape) (host : Host) (es : List Endpoint) (i : ℕ) (f : Endpoint → Endpoint) → ((e : Endpoint) → slice_get es i ≡ Some e → Goes w step (name host i) e (f e)) → Gone w step host es (modify es i f)
+gone_one : (w : World tcp_shape) (step : Step tcp_shape) (host : Host) (es : List Endpoint) (i : ℕ)
+    (f : Endpoint → Endpoint) → ((e : Endpoint) → slice_get es i ≡ Some e → Goes w step (name host i) e (f e))
+    → Gone w step host es (modify es i f)
 gone_one w step host es i f new = record {
   onward = modify_each (λ j. Goes w step (name host j)) f es i (λ j e at n. calm w step (name host j) e) new;
   back = all_modify (λ j y. ((e : Endpoint) × (slice_get es j ≡ Some e)) ⊎ Begins y) f es i (λ j e x. inl (e, x)) (λ e x. inl (e, x));
 }
 
-gone_map : (w : World tcp_shape) (step : Step tcp_shape) (host : Host) (es : List Endpoint) (f : Endpoint → Endpoint) → ((i : ℕ) (e : Endpoint) → Goes w step (name host i) e (f e)) → Gone w step host es (map f es)
+gone_map : (w : World tcp_shape) (step : Step tcp_shape) (host : Host) (es : List Endpoint) (f : Endpoint → Endpoint)
+    → ((i : ℕ) (e : Endpoint) → Goes w step (name host i) e (f e)) → Gone w step host es (map f es)
 gone_map w step host es f new = record {
   onward = map_onward (λ j. Goes w step (name host j)) f es (λ j e at. new j e);
   back = λ j y e. let h = map_back f es j y e in inl (h.0, h.1);
@@ -136,8 +147,11 @@ gone_push w step host es e new = record {
 
 -- the endpoint of some ports changes
 gone_at_ports : (w : World tcp_shape) (step : Step tcp_shape) (host : Host) (b : HostTcp) (lport rport : ℕ) (f : Endpoint → Endpoint)
-    → ((i : ℕ) (e : Endpoint) → place_of b lport rport ≡ Some i → Goes w step (name host i) e (f e)) → Gone w step host b.endpoints (at_ports b lport rport f).endpoints
-gone_at_ports w step host b lport rport f new = map_or_cases (λ (x : HostTcp). Gone w step host b.endpoints x.endpoints) (place_of b lport rport) b (λ i. with_endpoint b i f)
+    → ((i : ℕ) (e : Endpoint) → place_of b lport rport ≡ Some i → Goes w step (name host i) e (f e))
+    → Gone w step host b.endpoints (at_ports b lport rport f).endpoints
+gone_at_ports w step host b lport rport f new =
+    map_or_cases (λ (x : HostTcp). Gone w step host b.endpoints x.endpoints) (place_of b lport rport) b
+    (λ i. with_endpoint b i f)
     (λ e. gone_not w step host b.endpoints) (λ i at. gone_one w step host b.endpoints i f (λ e there. new i e at))
 
 -- 1. one endpoint
@@ -157,7 +171,8 @@ length-mark zero (suc count) (x ∷ all) = ap (λ n. suc n) (length-mark zero co
 made_rises : (all : List Transmission) (position count moment : ℕ) → length all ≤ length (made all position count moment)
 made_rises all position count moment =
     let more = replicate (position + count - length all) (once moment) in
-    let longer : length (made all position count moment) ≡ length all + length more = length-append (mark position count all) more ∙ ap (λ n. n + length more) (length-mark position count all) in
+    let longer : length (made all position count moment) ≡ length all + length more =
+    length-append (mark position count all) more ∙ ap (λ n. n + length more) (length-mark position count all) in
     subst (λ n. length all ≤ n) (sym longer) (le-add_right (length all) (length more))
 
 either_edge : (b : Bool) (old new : ℕ) → old ≤ (if b then max old new else old)
@@ -165,7 +180,11 @@ either_edge true old new = le-max_left old new
 either_edge false old new = le_refl old
 
 making_rises : (e : Endpoint) (m : SegmentPlan) (moment : ℕ) → Rises e (endpoint_made e m moment)
-making_rises e m moment = (le_refl e.stream.snd_una, made_rises e.transmissions m.pos (making_length m) moment, either_edge m.flags.ack e.window.rcv_adv (rcv_nxt e + own_window e m))
+making_rises e m moment = (
+  le_refl e.stream.snd_una,
+  made_rises e.transmissions m.pos (making_length m) moment,
+  either_edge m.flags.ack e.window.rcv_adv (rcv_nxt e + own_window e m),
+)
 
 timed_waits : (t : Timers) (m : SegmentPlan) (moment : ℕ) → (timed t m moment).msl_armed ≡ t.msl_armed
 timed_waits t m moment = go (nat_lt 0 (making_length m) && not (is_some t.rto_armed))
@@ -174,22 +193,33 @@ timed_waits t m moment = go (nat_lt 0 (making_length m) && not (is_some t.rto_ar
     go true = refl
     go false = refl
 
-making_goes : (w : World tcp_shape) (s : ℕ) (host : Host) (m : SegmentPlan) (i : ℕ) (e : Endpoint) → place_of (pick w.hosts host).body m.lport m.rport ≡ Some i → Goes w (At host (Makes m)) (name host i) e (after_making e m s)
+making_goes : (w : World tcp_shape) (s : ℕ) (host : Host) (m : SegmentPlan) (i : ℕ) (e : Endpoint)
+    → place_of (pick w.hosts host).body m.lport m.rport ≡ Some i
+    → Goes w (At host (Makes m)) (name host i) e (after_making e m s)
 making_goes w s host m i e at = go m.flags.rst refl
   where
-    go : (b : Bool) → m.flags.rst ≡ b → Goes w (At host (Makes m)) (name host i) e (if b then record (shut_down (endpoint_made e m s)) { reset_due = false } else endpoint_made e m s)
-    go true is = closed w (At host (Makes m)) (name host i) e (record (shut_down (endpoint_made e m s)) { reset_due = false }) refl (making_rises e m s) (ByOwnReset (m, refl, is, at) refl)
+    go : (b : Bool) → m.flags.rst ≡ b
+        → Goes w (At host (Makes m)) (name host i) e
+        (if b then record (shut_down (endpoint_made e m s)) { reset_due = false } else endpoint_made e m s)
+    go true is =
+        closed w (At host (Makes m)) (name host i) e
+        (record (shut_down (endpoint_made e m s)) { reset_due = false }) refl (making_rises e m s)
+        (ByOwnReset (m, refl, is, at) refl)
     go false is = stays w (At host (Makes m)) (name host i) e (endpoint_made e m s) refl (making_rises e m s) (timed_waits e.timers m s)
 
-expiry_goes : (w : World tcp_shape) (s : ℕ) (host : Host) (line : ℕ) (x : Expiring) (i : ℕ) (e : Endpoint) → place_of (pick w.hosts host).body x.lport x.rport ≡ Some i
+expiry_goes : (w : World tcp_shape) (s : ℕ) (host : Host) (line : ℕ) (x : Expiring) (i : ℕ) (e : Endpoint)
+    → place_of (pick w.hosts host).body x.lport x.rport ≡ Some i
     → Goes w (At host (Expires line x)) (name host i) e (after_expiry e x.expired s)
 expiry_goes w s host line x i e at = go x.expired (λ closing. (line, x, refl, closing, at))
   where
-    go : (t : Expired) → (closes t ≡ true → TimerCloses w (At host (Expires line x)) (name host i)) → Goes w (At host (Expires line x)) (name host i) e (after_expiry e t s)
+    go : (t : Expired) → (closes t ≡ true → TimerCloses w (At host (Expires line x)) (name host i))
+        → Goes w (At host (Expires line x)) (name host i) e (after_expiry e t s)
     go (expireds.Rto growth) closing = stays w (At host (Expires line x)) (name host i) e (after_expiry e (expireds.Rto growth) s) refl (level e) refl
     go expireds.Persist closing = stays w (At host (Expires line x)) (name host i) e (after_expiry e expireds.Persist s) refl (level e) refl
     go expireds.Msl2 closing = closed w (At host (Expires line x)) (name host i) e (after_expiry e expireds.Msl2 s) refl (level e) (ByTimer (closing refl) refl)
-    go expireds.Giveup closing = closed w (At host (Expires line x)) (name host i) e (after_expiry e expireds.Giveup s) refl (level e) (ByTimer (closing refl) refl)
+    go expireds.Giveup closing =
+        closed w (At host (Expires line x)) (name host i) e (after_expiry e expireds.Giveup s) refl (level e)
+        (ByTimer (closing refl) refl)
 
 -- the arrows of an acknowledgment, and behind it those of a FIN
 acknowledged_leads : (s : State) (e : Endpoint) (m : Emission) → StaysOr segment_leads s (acknowledged s e m)
@@ -247,10 +277,14 @@ same_reset h e m = go (is_half h.version)
     go false = refl
 
 -- what a segment leaves of the wait in TIME-WAIT
-timeout_waits : (h : Header) (e : Endpoint) (sample : Bool) (ack : ℕ) (syn : Bool) (moment : ℕ) → (timeout_after_ack h e sample ack syn moment).msl_armed ≡ e.timers.msl_armed
+timeout_waits : (h : Header) (e : Endpoint) (sample : Bool) (ack : ℕ) (syn : Bool) (moment : ℕ)
+    → (timeout_after_ack h e sample ack syn moment).msl_armed ≡ e.timers.msl_armed
 timeout_waits h e sample ack syn moment = go sample (syn && e.syn_lost)
   where
-    go : (b c : Bool) → (if c then raised_for_lost_syn (if b then sampled e.timers (since_made e (ack - 1) moment) h else e.timers) else (if b then sampled e.timers (since_made e (ack - 1) moment) h else e.timers)).msl_armed ≡ e.timers.msl_armed
+    go : (b c : Bool)
+        → (if c then raised_for_lost_syn (if b then sampled e.timers (since_made e (ack - 1) moment) h else e.timers)
+        else (if b then sampled e.timers (since_made e (ack - 1) moment) h else e.timers)).msl_armed
+        ≡ e.timers.msl_armed
     go true true = refl
     go true false = refl
     go false true = refl
@@ -273,12 +307,18 @@ either_waits : (b : Bool) (t u : Timers) (since : Option ℕ) → t.msl_armed �
 either_waits true t u since p q = p
 either_waits false t u since p q = q
 
-state_waits : (t : Timers) (old new : State) (moment : ℕ) → is_time_wait old ≡ true → is_time_wait new ≡ true → (state_timers t old new moment).msl_armed ≡ t.msl_armed
+state_waits : (t : Timers) (old new : State) (moment : ℕ) → is_time_wait old ≡ true → is_time_wait new ≡ true
+    → (state_timers t old new moment).msl_armed ≡ t.msl_armed
 state_waits t old states.TimeWait moment was is = ap (λ (b : Bool). (if b then t else armed t Msl2 moment).msl_armed) was
 state_waits t old new moment was is = absurd cc
 
-taken_waits : (h : Header) (e : Endpoint) (how : TakeChoice) (m : Emission) (moment : ℕ) → is_time_wait e.state ≡ true → is_time_wait (state_after_segment e how m) ≡ true → (timers_after_segment h e how m moment).msl_armed ≡ e.timers.msl_armed
-taken_waits h e how m moment was is = state_waits persisting e.state (state_after_segment e how m) moment was is ∙ either_waits (takes_window e m) (persist_after_window running m.window moment) running e.timers.msl_armed (persist_waits running m.window moment ∙ run) run
+taken_waits : (h : Header) (e : Endpoint) (how : TakeChoice) (m : Emission) (moment : ℕ) → is_time_wait e.state ≡ true
+    → is_time_wait (state_after_segment e how m) ≡ true
+    → (timers_after_segment h e how m moment).msl_armed ≡ e.timers.msl_armed
+taken_waits h e how m moment was is =
+    state_waits persisting e.state (state_after_segment e how m) moment was is
+    ∙ either_waits (takes_window e m) (persist_after_window running m.window moment) running e.timers.msl_armed
+    (persist_waits running m.window moment ∙ run) run
   where
     measured : Timers
     measured = timeout_after_ack h e (how.sample && is_new_ack e m) m.ack (acknowledges_syn e m) moment
@@ -290,13 +330,15 @@ taken_waits h e how m moment was is = state_waits persisting e.state (state_afte
     persisting = if takes_window e m then persist_after_window running m.window moment else running
 
     run : running.msl_armed ≡ e.timers.msl_armed
-    run = rto_waits measured (snd_una_after_segment e m == snd_max e) (is_new_ack e m) moment ∙ timeout_waits h e (how.sample && is_new_ack e m) m.ack (acknowledges_syn e m) moment
+    run = rto_waits measured (snd_una_after_segment e m == snd_max e) (is_new_ack e m) moment
+        ∙ timeout_waits h e (how.sample && is_new_ack e m) m.ack (acknowledges_syn e m) moment
 
 not_waiting : (s : State) → is_syn_sent s ≡ true → is_time_wait s ≡ false
 not_waiting states.SynSent is = refl
 not_waiting s is = absurd cc
 
-taking_goes : (h : Header) (w : World tcp_shape) (step : Step tcp_shape) (me : EndpointId) (e : Endpoint) (how : TakeChoice) (m r : Emission) (moment : ℕ) → r.flags.rst ≡ m.flags.rst → TakesThere w step me e m
+taking_goes : (h : Header) (w : World tcp_shape) (step : Step tcp_shape) (me : EndpointId) (e : Endpoint)
+    (how : TakeChoice) (m r : Emission) (moment : ℕ) → r.flags.rst ≡ m.flags.rst → TakesThere w step me e m
     → Goes w step me e (endpoint_taken h e how r moment)
 taking_goes h w step me e how m r moment same there = go r.flags.rst (is_syn_sent e.state) same refl
   where
@@ -309,15 +351,19 @@ taking_goes h w step me e how m r moment same there = go r.flags.rst (is_syn_sen
       waits = λ was now. absurd (not_both was (not_waiting e.state is));
     }
     go false false rst is = record {
-      leads = BySegment m (acknowledged e.state e r) there (sym rst) (acknowledged_leads e.state e r) (finished_leads (acknowledged e.state e r) (is_ended (receive_after e how r)));
+      leads =
+          BySegment m (acknowledged e.state e r) there (sym rst) (acknowledged_leads e.state e r)
+          (finished_leads (acknowledged e.state e r) (is_ended (receive_after e how r)));
       rises = (le-max_left e.stream.snd_una r.ack, le_refl (snd_max e), taken_edge e r);
       waits = taken_waits h e how r moment;
     }
 
 -- 2. what hosts do
 
-gone_taking : (h : Header) (s : ℕ) (w : World tcp_shape) (host : Host) (line : ℕ) (how : TakeChoice) (m : Emission) → waiting line (pick w.hosts host).inbox ≡ Some m
-    → Gone w (At host (Takes line how)) host (pick w.hosts host).body.endpoints (after_taking h (pick w.hosts host).body how m s (taker (pick w.hosts host).body m)).endpoints
+gone_taking : (h : Header) (s : ℕ) (w : World tcp_shape) (host : Host) (line : ℕ) (how : TakeChoice) (m : Emission)
+    → waiting line (pick w.hosts host).inbox ≡ Some m
+    → Gone w (At host (Takes line how)) host (pick w.hosts host).body.endpoints
+    (after_taking h (pick w.hosts host).body how m s (taker (pick w.hosts host).body m)).endpoints
 gone_taking h s w host line how m waits = go (taker (pick w.hosts host).body m) refl
   where
     b : HostTcp
@@ -329,13 +375,17 @@ gone_taking h s w host line how m waits = go (taker (pick w.hosts host).body m) 
     go (AtEndpoint i e) is = gone_one w (At host (Takes line how)) host b.endpoints i (λ x. endpoint_taken h x how (as_read h.version e m) s)
         (λ x there.
         let one : e ≡ x = same_Some e x (sym (taker_there b m i e is) ∙ there) in
-        taking_goes h w (At host (Takes line how)) (name host i) x how m (as_read h.version e m) s (same_reset h e m) (line, how, refl, waits, is ∙ ap (λ (y : Endpoint). AtEndpoint i y) one))
+        taking_goes h w (At host (Takes line how)) (name host i) x how m (as_read h.version e m) s (same_reset h e m)
+        (line, how, refl, waits, is ∙ ap (λ (y : Endpoint). AtEndpoint i y) one))
 
 gone_deed : (h : Header) (s : ℕ) (w : World tcp_shape) (host : Host) (d : Deed tcp_shape)
-    → Gone w (At host d) host (pick w.hosts host).body.endpoints (deed_after (tcp h) host s (suc w.count) (pick w.hosts (other host)).wire (pick w.hosts host) d).body.endpoints
+    → Gone w (At host d) host (pick w.hosts host).body.endpoints
+    (deed_after (tcp h) host s (suc w.count) (pick w.hosts (other host)).wire (pick w.hosts host) d).body.endpoints
 gone_deed h s w host (Does x) = gone_at_ports w (At host (Does x)) host (pick w.hosts host).body x.lport x.rport (λ e. after_recovery e x.cwnd x.ssthresh s)
     (λ i e at. stays w (At host (Does x)) (name host i) e (after_recovery e x.cwnd x.ssthresh s) refl (level e) refl)
-gone_deed h s w host (Expires line x) = gone_at_ports w (At host (Expires line x)) host (pick w.hosts host).body x.lport x.rport (λ e. after_expiry e x.expired s)
+gone_deed h s w host (Expires line x) =
+    gone_at_ports w (At host (Expires line x)) host (pick w.hosts host).body x.lport x.rport
+    (λ e. after_expiry e x.expired s)
     (λ i e at. expiry_goes w s host line x i e at)
 gone_deed h s w host (Makes m) = gone_at_ports w (At host (Makes m)) host (pick w.hosts host).body m.lport m.rport (λ e. after_making e m s)
     (λ i e at. making_goes w s host m i e at)
@@ -343,10 +393,12 @@ gone_deed h s w host (Sends line number wire) = gone_not w (At host (Sends line 
 gone_deed h s w host (Gets line copied wire) = gone_not w (At host (Gets line copied wire)) host (pick w.hosts host).body.endpoints
 gone_deed h s w host (Hears line wire) = gone_not w (At host (Hears line wire)) host (pick w.hosts host).body.endpoints
 gone_deed h s w host (Takes line how) = let k = pick w.hosts host in let step : Step tcp_shape = At host (Takes line how) in
-    on_cases (λ (b : HostTcp). Gone w step host k.body.endpoints b.endpoints) (waiting line k.inbox) k.body _ (gone_not w step host k.body.endpoints) (λ m e. gone_taking h s w host line how m e)
+    on_cases (λ (b : HostTcp). Gone w step host k.body.endpoints b.endpoints) (waiting line k.inbox) k.body _
+    (gone_not w step host k.body.endpoints) (λ m e. gone_taking h s w host line how m e)
 gone_deed h s w host (Drops line) = gone_not w (At host (Drops line)) host (pick w.hosts host).body.endpoints
 gone_deed h s w host (Answers line) = let k = pick w.hosts host in let step : Step tcp_shape = At host (Answers line) in
-    on_cases (λ (b : HostTcp). Gone w step host k.body.endpoints b.endpoints) (waiting line k.inbox) k.body _ (gone_not w step host k.body.endpoints) (λ m e. gone_not w step host k.body.endpoints)
+    on_cases (λ (b : HostTcp). Gone w step host k.body.endpoints b.endpoints) (waiting line k.inbox) k.body _
+    (gone_not w step host k.body.endpoints) (λ m e. gone_not w step host k.body.endpoints)
 
 -- 3. calls
 
@@ -355,16 +407,21 @@ abbrev AtNumber : World tcp_shape → Step tcp_shape → Host → ℕ → (Endpo
 AtNumber w step host n f = (i : ℕ) (e : Endpoint) → thing_of (pick w.hosts host).body n ≡ Some (EndpointAt i) → Goes w step (name host i) e (f e)
 
 gone_change : (w : World tcp_shape) (step : Step tcp_shape) (host : Host) (n : ℕ) (f : Endpoint → Endpoint) → AtNumber w step host n f
-    → Gone w step host (pick w.hosts host).body.endpoints (option_map_or (change_thing (pick w.hosts host).body f) (thing_of (pick w.hosts host).body n) (pick w.hosts host).body).endpoints
+    → Gone w step host (pick w.hosts host).body.endpoints
+    (option_map_or (change_thing (pick w.hosts host).body f) (thing_of (pick w.hosts host).body n)
+    (pick w.hosts host).body).endpoints
 gone_change w step host n f new = let b = (pick w.hosts host).body in
-    map_or_cases (λ (x : HostTcp). Gone w step host b.endpoints x.endpoints) (thing_of b n) b (change_thing b f) (λ e. gone_not w step host b.endpoints) (λ thing e. go thing e)
+    map_or_cases (λ (x : HostTcp). Gone w step host b.endpoints x.endpoints) (thing_of b n) b (change_thing b f)
+    (λ e. gone_not w step host b.endpoints) (λ thing e. go thing e)
   where
-    go : (thing : SocketTarget) → thing_of (pick w.hosts host).body n ≡ Some thing → Gone w step host (pick w.hosts host).body.endpoints (change_thing (pick w.hosts host).body f thing).endpoints
+    go : (thing : SocketTarget) → thing_of (pick w.hosts host).body n ≡ Some thing
+        → Gone w step host (pick w.hosts host).body.endpoints (change_thing (pick w.hosts host).body f thing).endpoints
     go (ListenerAt l) is = gone_not w step host (pick w.hosts host).body.endpoints
     go (EndpointAt i) is = gone_one w step host (pick w.hosts host).body.endpoints i f (λ e at. new i e is)
 
 -- a `shut` or a `close`
-shut_goes : (w : World tcp_shape) (step : Step tcp_shape) (me : EndpointId) (e : Endpoint) → CallsOn closed_number w step me.host (EndpointAt me.number) → Goes w step me e (after_shut e)
+shut_goes : (w : World tcp_shape) (step : Step tcp_shape) (me : EndpointId) (e : Endpoint)
+    → CallsOn closed_number w step me.host (EndpointAt me.number) → Goes w step me e (after_shut e)
 shut_goes w step me e c = record { leads = go (ended_leads e.state); rises = level e; waits = λ was is. refl }
   where
     go : StaysOr close_leads e.state (ended_state e.state) → MayLead w step me e (ended_state e.state)
@@ -375,15 +432,22 @@ syn_sent_closes : (s : State) → is_syn_sent s ≡ true → close_leads s state
 syn_sent_closes states.SynSent is = refl
 syn_sent_closes s is = absurd cc
 
-close_goes : (w : World tcp_shape) (step : Step tcp_shape) (me : EndpointId) (e : Endpoint) → CallsOn closed_number w step me.host (EndpointAt me.number) → Goes w step me e (after_close e)
+close_goes : (w : World tcp_shape) (step : Step tcp_shape) (me : EndpointId) (e : Endpoint)
+    → CallsOn closed_number w step me.host (EndpointAt me.number) → Goes w step me e (after_close e)
 close_goes w step me e c = go (is_syn_sent e.state) refl
   where
-    go : (b : Bool) → is_syn_sent e.state ≡ b → Goes w step me e (record (if b then shut_down (record e { stream = record e.stream { ended = true } }) else after_shut e) { closed = true })
-    go true is = closed w step me e (record (shut_down (record e { stream = record e.stream { ended = true } })) { closed = true }) refl (level e) (ByClose c (syn_sent_closes e.state is))
+    go : (b : Bool) → is_syn_sent e.state ≡ b
+        → Goes w step me e (record (if b then shut_down (record e { stream = record e.stream { ended = true } })
+        else after_shut e) { closed = true })
+    go true is =
+        closed w step me e (record (shut_down (record e { stream = record e.stream { ended = true } })) {
+          closed = true;
+        }) refl (level e) (ByClose c (syn_sent_closes e.state is))
     go false is = let g = shut_goes w step me e c in record { leads = g.leads; rises = g.rises; waits = g.waits }
 
 -- the children of a listener that is left
-orphan_goes : (w : World tcp_shape) (step : Step tcp_shape) (me : EndpointId) (e : Endpoint) (l : ℕ) → CallsOn left_number w step me.host (ListenerAt l) → Goes w step me e (orphaned l e)
+orphan_goes : (w : World tcp_shape) (step : Step tcp_shape) (me : EndpointId) (e : Endpoint) (l : ℕ)
+    → CallsOn left_number w step me.host (ListenerAt l) → Goes w step me e (orphaned l e)
 orphan_goes w step me e l c = go (option_map_or (λ holder. holder == l) e.listener false) refl
   where
     go : (b : Bool) → option_map_or (λ holder. holder == l) e.listener false ≡ b → Goes w step me e (if b then after_abort e else e)
@@ -394,21 +458,31 @@ orphan_goes w step me e l c = go (option_map_or (λ holder. holder == l) e.liste
 
 gone_gone : (w : World tcp_shape) (step : Step tcp_shape) (host : Host) (n : ℕ) (f : Endpoint → Endpoint) → AtNumber w step host n f
     → ((l : ℕ) → thing_of (pick w.hosts host).body n ≡ Some (ListenerAt l) → CallsOn left_number w step host (ListenerAt l))
-    → Gone w step host (pick w.hosts host).body.endpoints (option_map_or (λ thing. record (thing_gone (pick w.hosts host).body thing f) { sockets = dead (pick w.hosts host).body.sockets n }) (thing_of (pick w.hosts host).body n) (pick w.hosts host).body).endpoints
+    → Gone w step host (pick w.hosts host).body.endpoints
+    (option_map_or (λ thing. record (thing_gone (pick w.hosts host).body thing f) {
+      sockets = dead (pick w.hosts host).body.sockets n;
+    }) (thing_of (pick w.hosts host).body n)
+    (pick w.hosts host).body).endpoints
 gone_gone w step host n f new left = let b = (pick w.hosts host).body in
-    map_or_cases (λ (x : HostTcp). Gone w step host b.endpoints x.endpoints) (thing_of b n) b (λ thing. record (thing_gone b thing f) { sockets = dead b.sockets n }) (λ e. gone_not w step host b.endpoints) (λ thing e. go thing e)
+    map_or_cases (λ (x : HostTcp). Gone w step host b.endpoints x.endpoints) (thing_of b n) b
+    (λ thing. record (thing_gone b thing f) { sockets = dead b.sockets n })
+    (λ e. gone_not w step host b.endpoints) (λ thing e. go thing e)
   where
-    go : (thing : SocketTarget) → thing_of (pick w.hosts host).body n ≡ Some thing → Gone w step host (pick w.hosts host).body.endpoints (thing_gone (pick w.hosts host).body thing f).endpoints
+    go : (thing : SocketTarget) → thing_of (pick w.hosts host).body n ≡ Some thing
+        → Gone w step host (pick w.hosts host).body.endpoints (thing_gone (pick w.hosts host).body thing f).endpoints
     go (ListenerAt l) is = gone_map w step host (pick w.hosts host).body.endpoints (orphaned l) (λ i e. orphan_goes w step (name host i) e l (left l is))
     go (EndpointAt i) is = gone_one w step host (pick w.hosts host).body.endpoints i f (λ e at. new i e is)
 
-gone_accept : (w : World tcp_shape) (step : Step tcp_shape) (host : Host) (b : HostTcp) (n : ℕ) (thing : SocketTarget) → Gone w step host b.endpoints (after_accept b n thing).endpoints
+gone_accept : (w : World tcp_shape) (step : Step tcp_shape) (host : Host) (b : HostTcp) (n : ℕ) (thing : SocketTarget)
+    → Gone w step host b.endpoints (after_accept b n thing).endpoints
 gone_accept w step host b n (EndpointAt i) = gone_not w step host b.endpoints
 gone_accept w step host b n (ListenerAt l) = go (queue_of b l)
   where
     go : (queue : List ℕ) → Gone w step host b.endpoints (accepted_from b l n queue).endpoints
     go [] = gone_not w step host b.endpoints
-    go (c ∷ queue) = gone_one w step host b.endpoints c (λ e. record e { listener = None }) (λ e at. stays w step (name host c) e (record e { listener = None }) refl (level e) refl)
+    go (c ∷ queue) =
+        gone_one w step host b.endpoints c (λ e. record e { listener = None })
+        (λ e at. stays w step (name host c) e (record e { listener = None }) refl (level e) refl)
 
 gone_call : (p : Profile) (w : World tcp_shape) (thread : ℕ) (host : Host) (call : Call) (answer : Answer) → turn_of thread w.threads ≡ Called call
     → Gone w (Effect thread answer) host (pick w.hosts host).body.endpoints (after_call p (pick w.hosts host).body call answer).endpoints
@@ -418,18 +492,24 @@ gone_call p w thread host (calls.Connect at lport rport) (answers.Given n) turn 
     gone_push w (Effect thread (answers.Given n)) host (pick w.hosts host).body.endpoints (new_endpoint lport rport None states.SynSent p) (inl refl)
 gone_call p w thread host (calls.Accept h) (answers.Given n) turn =
     let b = (pick w.hosts host).body in let step : Step tcp_shape = Effect thread (answers.Given n) in
-    map_or_cases (λ (x : HostTcp). Gone w step host b.endpoints x.endpoints) (thing_of b h) b (after_accept b n) (λ e. gone_not w step host b.endpoints) (λ thing e. gone_accept w step host b n thing)
+    map_or_cases (λ (x : HostTcp). Gone w step host b.endpoints x.endpoints) (thing_of b h) b (after_accept b n)
+    (λ e. gone_not w step host b.endpoints) (λ thing e. gone_accept w step host b n thing)
 gone_call p w thread host (calls.Send h bytes) (answers.Given n) turn =
-    gone_change w (Effect thread (answers.Given n)) host h (after_send bytes n) (λ i e is. stays w (Effect thread (answers.Given n)) (name host i) e (after_send bytes n e) refl (level e) refl)
+    gone_change w (Effect thread (answers.Given n)) host h (after_send bytes n)
+    (λ i e is. stays w (Effect thread (answers.Given n)) (name host i) e (after_send bytes n e) refl
+    (level e) refl)
 gone_call p w thread host (calls.Recv h most) (answers.Bytes bytes) turn =
-    gone_change w (Effect thread (answers.Bytes bytes)) host h (after_recv bytes) (λ i e is. stays w (Effect thread (answers.Bytes bytes)) (name host i) e (after_recv bytes e) refl (level e) refl)
+    gone_change w (Effect thread (answers.Bytes bytes)) host h (after_recv bytes)
+    (λ i e is. stays w (Effect thread (answers.Bytes bytes)) (name host i) e (after_recv bytes e) refl
+    (level e) refl)
 gone_call p w thread host (calls.Shut h) answers.Done turn = gone_change w (Effect thread answers.Done) host h after_shut
     (λ i e is. shut_goes w (Effect thread answers.Done) (name host i) e (thread, answers.Done, calls.Shut h, h, refl, turn, refl, is))
 gone_call p w thread host (calls.Close h) answers.Done turn = gone_gone w (Effect thread answers.Done) host h after_close
     (λ i e is. close_goes w (Effect thread answers.Done) (name host i) e (thread, answers.Done, calls.Close h, h, refl, turn, refl, is))
     (λ l is. (thread, answers.Done, calls.Close h, h, refl, turn, refl, is))
 gone_call p w thread host (calls.Abort h) answers.Done turn = gone_gone w (Effect thread answers.Done) host h after_abort
-    (λ i e is. closed w (Effect thread answers.Done) (name host i) e (after_abort e) refl (level e) (ByAbort (thread, answers.Done, calls.Abort h, h, refl, turn, refl, is) refl))
+    (λ i e is. closed w (Effect thread answers.Done) (name host i) e (after_abort e) refl (level e)
+    (ByAbort (thread, answers.Done, calls.Abort h, h, refl, turn, refl, is) refl))
     (λ l is. (thread, answers.Done, calls.Abort h, h, refl, turn, refl, is))
 gone_call p w thread host call answer turn = gone_not w (Effect thread answer) host (pick w.hosts host).body.endpoints
 
@@ -442,8 +522,13 @@ record BothGo (w : World tcp_shape) (step : Step tcp_shape) (b : Hosts) : Type 0
 both_not : (w : World tcp_shape) (step : Step tcp_shape) → BothGo w step w.hosts
 both_not w step = record { all = λ x. gone_not w step x (pick w.hosts x).body.endpoints }
 
-both_host : (w : World tcp_shape) (step : Step tcp_shape) (host : Host) (k : HostState tcp_shape) → Gone w step host (pick w.hosts host).body.endpoints k.body.endpoints → BothGo w step (with_host w.hosts host k)
-both_host w step host k f = record { all = with_cases w.hosts host k (λ x y. Gone w step x (pick w.hosts x).body.endpoints y.body.endpoints) f (gone_not w step (other host) (pick w.hosts (other host)).body.endpoints) }
+both_host : (w : World tcp_shape) (step : Step tcp_shape) (host : Host) (k : HostState tcp_shape)
+    → Gone w step host (pick w.hosts host).body.endpoints k.body.endpoints → BothGo w step (with_host w.hosts host k)
+both_host w step host k f =
+    record {
+      all = with_cases w.hosts host k (λ x y. Gone w step x (pick w.hosts x).body.endpoints y.body.endpoints) f
+          (gone_not w step (other host) (pick w.hosts (other host)).body.endpoints);
+    }
 
 both_step : (h : Header) (s : ℕ) (w : World tcp_shape) (step : Step tcp_shape) → BothGo w step (after (tcp h) s w step).hosts
 both_step h s w (Begin line t call) = both_not w (Begin line t call)
@@ -453,18 +538,24 @@ both_step h s w (Effect t answer) = go (turn_of t w.threads) refl
     by : (call : Call) (o : Option Host) → turn_of t w.threads ≡ Called call → BothGo w (Effect t answer) (call_after (tcp h) s w.hosts (Calls call answer) o)
     by call None turn = both_not w (Effect t answer)
     by call (Some host) turn =
-        both_host w (Effect t answer) host (record (pick w.hosts host) { body = after_call (profile_of h) (pick w.hosts host).body call answer }) (gone_call (profile_of h) w t host call answer turn)
+        both_host w (Effect t answer) host
+        (record (pick w.hosts host) { body = after_call (profile_of h) (pick w.hosts host).body call answer })
+        (gone_call (profile_of h) w t host call answer turn)
 
     go : (u : Turn tcp_shape) → turn_of t w.threads ≡ u → BothGo w (Effect t answer) (effect_after (tcp h) s w t answer u).hosts
     go Idle is = both_not w (Effect t answer)
     go (Called call) is = by call (aim_of (tcp h) w.hosts (aim call)) is
     go (Answered x) is = both_not w (Effect t answer)
-both_step h s w (At host d) = both_host w (At host d) host (deed_after (tcp h) host s (suc w.count) (pick w.hosts (other host)).wire (pick w.hosts host) d) (gone_deed h s w host d)
+both_step h s w (At host d) =
+    both_host w (At host d) host (deed_after (tcp h) host s (suc w.count) (pick w.hosts (other host)).wire
+    (pick w.hosts host) d) (gone_deed h s w host d)
 
 -- from TIME-WAIT no arrow leads but to CLOSED
-from_time_wait : (w : World tcp_shape) (step : Step tcp_shape) (me : EndpointId) (e : Endpoint) (t : State) → e.state ≡ states.TimeWait → MayLead w step me e t → (t ≡ states.Closed) ⊎ (t ≡ states.TimeWait)
+from_time_wait : (w : World tcp_shape) (step : Step tcp_shape) (me : EndpointId) (e : Endpoint) (t : State)
+    → e.state ≡ states.TimeWait → MayLead w step me e t → (t ≡ states.Closed) ⊎ (t ≡ states.TimeWait)
 from_time_wait w step me e t was (Stays same) = inr (same ∙ was)
-from_time_wait w step me e t was (ByClose c leads) = let no : close_leads states.TimeWait t ≡ true = subst (λ (s : State). close_leads s t ≡ true) was leads in absurd cc
+from_time_wait w step me e t was (ByClose c leads) = let no : close_leads states.TimeWait t ≡ true =
+    subst (λ (s : State). close_leads s t ≡ true) was leads in absurd cc
 from_time_wait w step me e t was (ByAbort c is) = inl is
 from_time_wait w step me e t was (ByListener l of' c is) = inl is
 from_time_wait w step me e t was (BySegment m between there plain one two) = go (subst (λ (s : State). StaysOr segment_leads s between) was one)
@@ -502,10 +593,20 @@ states_lead h s w step = record {
     from me f none (inr new) = new
 
 -- the next position that is expected doesn't fall in a run
-pub none_falls : (h : Header) (steps : List (Stamped tcp_shape)) (x : Stamped tcp_shape) → Lawful (tcp h) (start (tcp h)) steps → Permitted (tcp h) x.moment (world_at_end h steps) x.step → PositionsNeverFall h steps x
+pub none_falls : (h : Header) (steps : List (Stamped tcp_shape)) (x : Stamped tcp_shape)
+    → Lawful (tcp h) (start (tcp h)) steps → Permitted (tcp h) x.moment (world_at_end h steps) x.step
+    → PositionsNeverFall h steps x
 none_falls h steps x run may me e there =
     let w = world_at_end h steps in
     let here = ((both_step h x.moment w x.step).all me.host).onward me.number e there in
     let later = later_step h x.moment w x.step (steady_run h (start (tcp h)) steps (steady_start h) run) may me e there in
-    let one : later.0 ≡ here.0 = same_Some later.0 here.0 (sym later.1 ∙ here.1) in
-    (here.0, here.1, record { snd_una = here.2.rises.0; made = here.2.rises.1; rcv_nxt = subst (λ (f : Endpoint). rcv_nxt e ≤ rcv_nxt f) one later.2.next; rcv_adv = here.2.rises.2 })
+    let one : later.0 ≡ here.0 = same_Some later.0 here.0 (sym later.1 ∙ here.1) in (
+      here.0,
+      here.1,
+      record {
+        snd_una = here.2.rises.0;
+        made = here.2.rises.1;
+        rcv_nxt = subst (λ (f : Endpoint). rcv_nxt e ≤ rcv_nxt f) one later.2.next;
+        rcv_adv = here.2.rises.2;
+      },
+    )

@@ -1,5 +1,6 @@
 -- What each step makes of the windows of endpoints.
-use Rattle.std.proofs.Common.{◌≡◌, ℕ, suc, ◌≤◌, ◌⊎◌, Bool, true, false, List, [], ◌∷◌, ◌++◌, map, Option, Some, None, refl, ap, sym, subst, ◌∙◌, inl, inr, arith}
+use Rattle.std.proofs.Common.{◌≡◌, ℕ, suc, ◌≤◌, ◌⊎◌, Bool, true, false, List, [], ◌∷◌, ◌++◌, map, Option, Some, None}
+use Rattle.std.proofs.Common.{refl, ap, sym, subst, ◌∙◌, inl, inr, arith}
 use Rattle.std.specs.Prelude.{if◌then◌else◌, ◌==◌, ◌||◌, nat_lt, not, slice_get}
 use Rattle.std.specs.Option.{option_map_or}
 use Rattle.std.proofs.lemmas.Option.{none-some, same_Some}
@@ -24,7 +25,8 @@ use Rattle.window_rules.proofs.ControlLemmas.{chosen_cwnd, kept_ssthresh, same_p
 use Rattle.streams.specs.Lists.{modify}
 use Rattle.streams.proofs.Places.{get_append, all_push, all_modify}
 use Rattle.spec_network.specs.Tables.{pick, other, with_host, waiting, on}
-use Rattle.spec_network.specs.Hosts.{HostState, Turn, Idle, Called, Answered, World, Deed, Does, Expires, Makes, Sends, Gets, Hears, Takes, Drops, Answers, Step, Begin, Finish, Effect, At, turn_of}
+use Rattle.spec_network.specs.Hosts.{HostState, Turn, Idle, Called, Answered, World, Deed, Does, Expires, Makes, Sends}
+use Rattle.spec_network.specs.Hosts.{Gets, Hears, Takes, Drops, Answers, Step, Begin, Finish, Effect, At, turn_of}
 use Rattle.spec_network.specs.HostRules.{aim_of, Permitted}
 use Rattle.spec_network.specs.HostSteps.{deed_after, call_after, effect_after, after}
 use Rattle.spec_tcp.specs.declared.endpoint.EndpointId.{EndpointId}
@@ -113,7 +115,9 @@ follows_at_ports p w step host b lport rport f new =
     (λ e. follows_not p w step host b.endpoints) (λ i at. follows_one p w step host b.endpoints i f (λ e there. new i e at there))
 
 -- the rules on the endpoint of some ports
-rules_there : (b : HostTcp) (lport rport i : ℕ) (e : Endpoint) (f : Endpoint → List (Rule × Bool)) → place_of b lport rport ≡ Some i → slice_get b.endpoints i ≡ Some e → first_broken (rules_at b lport rport f) ≡ None → first_broken (f e) ≡ None
+rules_there : (b : HostTcp) (lport rport i : ℕ) (e : Endpoint) (f : Endpoint → List (Rule × Bool))
+    → place_of b lport rport ≡ Some i → slice_get b.endpoints i ≡ Some e
+    → first_broken (rules_at b lport rport f) ≡ None → first_broken (f e) ≡ None
 rules_there b lport rport i e f at there may =
     let place : endpoint_of b lport rport ≡ Some e = ap (λ (o : Option ℕ). endpoint_at b o) at ∙ there in
     subst (λ (o : Option Endpoint). first_broken (option_map_or f o ((rules.NoEndpoint, true) ∷ [])) ≡ None) place may
@@ -128,7 +132,8 @@ unmoved w step me e f same = stayed same
 
 -- 1. what hosts do
 
-expiry_moves : (w : World tcp_shape) (s : ℕ) (host : Host) (line : ℕ) (x : Expiring) (i : ℕ) (e : Endpoint) → place_of (pick w.hosts host).body x.lport x.rport ≡ Some i
+expiry_moves : (w : World tcp_shape) (s : ℕ) (host : Host) (line : ℕ) (x : Expiring) (i : ℕ) (e : Endpoint)
+    → place_of (pick w.hosts host).body x.lport x.rport ≡ Some i
     → WindowsMove w (At host (Expires line x)) (name host i) e (after_expiry e x.expired s)
 expiry_moves w s host line x i e at = go x.expired refl
   where
@@ -140,17 +145,24 @@ expiry_moves w s host line x i e at = go x.expired refl
 
 -- the windows of who took a segment are those chosen
 chosen : (h : Header) (e : Endpoint) (how : TakeChoice) (m : Emission) (moment : ℕ) → ((endpoint_taken h e how m moment).control.values.cwnd ≡ how.cwnd)
-    × ((endpoint_taken h e how m moment).control.values.ssthresh ≡ e.control.values.ssthresh) × ((endpoint_taken h e how m moment).control.profile ≡ e.control.profile)
+    × ((endpoint_taken h e how m moment).control.values.ssthresh ≡ e.control.values.ssthresh)
+    × ((endpoint_taken h e how m moment).control.profile ≡ e.control.profile)
 chosen h e how m moment = go m.flags.rst (is_syn_sent e.state)
   where
     after_signal : (x : Signal) → ((after_it e.control x (at_moment e moment) how.cwnd e.control.values.ssthresh).values.cwnd ≡ how.cwnd)
         × ((after_it e.control x (at_moment e moment) how.cwnd e.control.values.ssthresh).values.ssthresh ≡ e.control.values.ssthresh)
         × ((after_it e.control x (at_moment e moment) how.cwnd e.control.values.ssthresh).profile ≡ e.control.profile)
-    after_signal x =
-        (chosen_cwnd e.control x (at_moment e moment) how.cwnd e.control.values.ssthresh, kept_ssthresh e.control x (at_moment e moment) how.cwnd, same_profile e.control x (at_moment e moment) how.cwnd e.control.values.ssthresh)
+    after_signal x = (
+      chosen_cwnd e.control x (at_moment e moment) how.cwnd e.control.values.ssthresh,
+      kept_ssthresh e.control x (at_moment e moment) how.cwnd,
+      same_profile e.control x (at_moment e moment) how.cwnd e.control.values.ssthresh,
+    )
 
-    go : (r s : Bool) → ((if r then was_reset e how moment else if s then on_syn h e how m moment else segment_taken h e how m moment).control.values.cwnd ≡ how.cwnd)
-        × ((if r then was_reset e how moment else if s then on_syn h e how m moment else segment_taken h e how m moment).control.values.ssthresh ≡ e.control.values.ssthresh)
+    go : (r s : Bool)
+        → ((if r then was_reset e how moment else if s then on_syn h e how m moment
+        else segment_taken h e how m moment).control.values.cwnd ≡ how.cwnd)
+        × ((if r then was_reset e how moment else if s then on_syn h e how m moment
+        else segment_taken h e how m moment).control.values.ssthresh ≡ e.control.values.ssthresh)
         × ((if r then was_reset e how moment else if s then on_syn h e how m moment else segment_taken h e how m moment).control.profile ≡ e.control.profile)
     go true s = after_signal Other
     go false true = after_signal (signal_of e m)
@@ -170,7 +182,8 @@ allowed h b me e how m moment may = go (is_syn_sent e.state) may
 follows_taking : (h : Header) (s : ℕ) (w : World tcp_shape) (host : Host) (line : ℕ) (how : TakeChoice) (m : Emission)
     → waiting line (pick w.hosts host).inbox ≡ Some m
     → first_broken (taker_rules h host (pick w.hosts host).body how m s (taker (pick w.hosts host).body m)) ≡ None
-    → Follows (profile_of h) w (At host (Takes line how)) host (pick w.hosts host).body.endpoints (after_taking h (pick w.hosts host).body how m s (taker (pick w.hosts host).body m)).endpoints
+    → Follows (profile_of h) w (At host (Takes line how)) host (pick w.hosts host).body.endpoints
+    (after_taking h (pick w.hosts host).body how m s (taker (pick w.hosts host).body m)).endpoints
 follows_taking h s w host line how m waits may = go (taker (pick w.hosts host).body m) refl may
   where
     b : HostTcp
@@ -181,7 +194,8 @@ follows_taking h s w host line how m waits may = go (taker (pick w.hosts host).b
     go Nobody is may = follows_not (profile_of h) w (At host (Takes line how)) host b.endpoints
     go (AtListener l) is may =
         let none = at_most_from 0 how.cwnd (none_all (listener_rules how m) may).1.0 in
-        follows_push (profile_of h) w (At host (Takes line how)) host b.endpoints (child (profile_of h) l how m s) ((let zero' : how.cwnd ≡ 0 = omega arith in zero'), refl, refl)
+        follows_push (profile_of h) w (At host (Takes line how)) host b.endpoints (child (profile_of h) l how m s)
+        ((let zero' : how.cwnd ≡ 0 = omega arith in zero'), refl, refl)
     go (AtEndpoint i e) is may =
         follows_one (profile_of h) w (At host (Takes line how)) host b.endpoints i (λ x. endpoint_taken h x how (as_read h.version e m) s)
         (λ x there.
@@ -189,7 +203,8 @@ follows_taking h s w host line how m waits may = go (taker (pick w.hosts host).b
         taken m (line, how, refl, waits, is ∙ ap (λ (y : Endpoint). AtEndpoint i y) one) (chosen h x how (as_read h.version e m) s).2)
 
 follows_deed : (h : Header) (s : ℕ) (w : World tcp_shape) (host : Host) (d : Deed tcp_shape) → Permitted (tcp h) s w (At host d)
-    → Follows (profile_of h) w (At host d) host (pick w.hosts host).body.endpoints (deed_after (tcp h) host s (suc w.count) (pick w.hosts (other host)).wire (pick w.hosts host) d).body.endpoints
+    → Follows (profile_of h) w (At host d) host (pick w.hosts host).body.endpoints
+    (deed_after (tcp h) host s (suc w.count) (pick w.hosts (other host)).wire (pick w.hosts host) d).body.endpoints
 follows_deed h s w host (Does x) may = let b = (pick w.hosts host).body in
     follows_at_ports (profile_of h) w (At host (Does x)) host b x.lport x.rport (λ e. after_recovery e x.cwnd x.ssthresh s)
     (λ i e at there. recovered (x, refl, at) (same_profile e.control (recovery_signal e x.ssthresh) (at_moment e s) x.cwnd x.ssthresh))
@@ -198,21 +213,26 @@ follows_deed h s w host (Expires line x) may = let b = (pick w.hosts host).body 
     (λ i e at there. expiry_moves w s host line x i e at)
 follows_deed h s w host (Makes m) may = let b = (pick w.hosts host).body in
     follows_at_ports (profile_of h) w (At host (Makes m)) host b m.lport m.rport (λ e. after_making e m s)
-    (λ i e at there. unmoved w (At host (Makes m)) (name host i) e (after_making e m s) (either_windows m.flags.rst (record (shut_down (endpoint_made e m s)) { reset_due = false }) (endpoint_made e m s) e refl refl))
+    (λ i e at there. unmoved w (At host (Makes m)) (name host i) e (after_making e m s)
+    (either_windows m.flags.rst (record (shut_down (endpoint_made e m s)) { reset_due = false })
+    (endpoint_made e m s) e refl refl))
 follows_deed h s w host (Sends line number wire) may =
     follows_not (profile_of h) w (At host (Sends line number wire)) host (pick w.hosts host).body.endpoints
 follows_deed h s w host (Gets line copied wire) may =
     follows_not (profile_of h) w (At host (Gets line copied wire)) host (pick w.hosts host).body.endpoints
 follows_deed h s w host (Hears line wire) may = follows_not (profile_of h) w (At host (Hears line wire)) host (pick w.hosts host).body.endpoints
 follows_deed h s w host (Takes line how) may = let k = pick w.hosts host in let step : Step tcp_shape = At host (Takes line how) in
-    on_cases (λ (b : HostTcp). Follows (profile_of h) w step host k.body.endpoints b.endpoints) (waiting line k.inbox) k.body _ (follows_not (profile_of h) w step host k.body.endpoints)
+    on_cases (λ (b : HostTcp). Follows (profile_of h) w step host k.body.endpoints b.endpoints)
+    (waiting line k.inbox) k.body _ (follows_not (profile_of h) w step host k.body.endpoints)
     (λ m e.
     let t = on_passes (waiting line k.inbox) rules.Inbox (λ x. taker_rules h host k.body how x s (taker k.body x)) may in
     let one : t.0 ≡ m = same_Some t.0 m (sym t.1 ∙ e) in
     follows_taking h s w host line how m e (subst (λ (x : Emission). first_broken (taker_rules h host k.body how x s (taker k.body x)) ≡ None) one t.2))
 follows_deed h s w host (Drops line) may = follows_not (profile_of h) w (At host (Drops line)) host (pick w.hosts host).body.endpoints
 follows_deed h s w host (Answers line) may = let k = pick w.hosts host in let step : Step tcp_shape = At host (Answers line) in
-    on_cases (λ (b : HostTcp). Follows (profile_of h) w step host k.body.endpoints b.endpoints) (waiting line k.inbox) k.body _ (follows_not (profile_of h) w step host k.body.endpoints) (λ m e. follows_not (profile_of h) w step host k.body.endpoints)
+    on_cases (λ (b : HostTcp). Follows (profile_of h) w step host k.body.endpoints b.endpoints)
+    (waiting line k.inbox) k.body _ (follows_not (profile_of h) w step host k.body.endpoints)
+    (λ m e. follows_not (profile_of h) w step host k.body.endpoints)
 
 -- 2. calls
 
@@ -223,7 +243,8 @@ follows_same p w step host b i f same = follows_one p w step host b.endpoints i 
 follows_change : (p : Profile) (w : World tcp_shape) (step : Step tcp_shape) (host : Host) (b : HostTcp) (n : ℕ) (f : Endpoint → Endpoint)
     → ((e : Endpoint) → (f e).control ≡ e.control) → Follows p w step host b.endpoints (option_map_or (change_thing b f) (thing_of b n) b).endpoints
 follows_change p w step host b n f same =
-    map_or_cases (λ (x : HostTcp). Follows p w step host b.endpoints x.endpoints) (thing_of b n) b (change_thing b f) (λ e. follows_not p w step host b.endpoints) (λ thing e. go thing)
+    map_or_cases (λ (x : HostTcp). Follows p w step host b.endpoints x.endpoints) (thing_of b n) b (change_thing b f)
+    (λ e. follows_not p w step host b.endpoints) (λ thing e. go thing)
   where
     go : (thing : SocketTarget) → Follows p w step host b.endpoints (change_thing b f thing).endpoints
     go (ListenerAt l) = follows_not p w step host b.endpoints
@@ -233,11 +254,15 @@ follows_gone : (p : Profile) (w : World tcp_shape) (step : Step tcp_shape) (host
     → ((e : Endpoint) → (f e).control ≡ e.control)
     → Follows p w step host b.endpoints (option_map_or (λ thing. record (thing_gone b thing f) { sockets = dead b.sockets n }) (thing_of b n) b).endpoints
 follows_gone p w step host b n f same =
-    map_or_cases (λ (x : HostTcp). Follows p w step host b.endpoints x.endpoints) (thing_of b n) b (λ thing. record (thing_gone b thing f) { sockets = dead b.sockets n }) (λ e. follows_not p w step host b.endpoints) (λ thing e. go thing)
+    map_or_cases (λ (x : HostTcp). Follows p w step host b.endpoints x.endpoints) (thing_of b n) b
+    (λ thing. record (thing_gone b thing f) { sockets = dead b.sockets n })
+    (λ e. follows_not p w step host b.endpoints) (λ thing e. go thing)
   where
     go : (thing : SocketTarget) → Follows p w step host b.endpoints (thing_gone b thing f).endpoints
     go (ListenerAt l) =
-        follows_map p w step host b.endpoints (orphaned l) (λ e. either_windows (option_map_or (λ holder. holder == l) e.listener false) (after_abort e) e e refl refl)
+        follows_map p w step host b.endpoints (orphaned l)
+        (λ e. either_windows (option_map_or (λ holder. holder == l) e.listener false)
+        (after_abort e) e e refl refl)
     go (EndpointAt i) = follows_same p w step host b i f same
 
 follows_accept : (p : Profile) (w : World tcp_shape) (step : Step tcp_shape) (host : Host) (b : HostTcp) (n : ℕ) (thing : SocketTarget)
@@ -255,12 +280,15 @@ follows_call p w step host b (calls.Listen at port backlog) (answers.Given n) = 
 follows_call p w step host b (calls.Connect at lport rport) (answers.Given n) =
     follows_push p w step host b.endpoints (new_endpoint lport rport None states.SynSent p) (refl, refl, refl)
 follows_call p w step host b (calls.Accept h) (answers.Given n) =
-    map_or_cases (λ (x : HostTcp). Follows p w step host b.endpoints x.endpoints) (thing_of b h) b (after_accept b n) (λ e. follows_not p w step host b.endpoints) (λ thing e. follows_accept p w step host b n thing)
+    map_or_cases (λ (x : HostTcp). Follows p w step host b.endpoints x.endpoints) (thing_of b h) b (after_accept b n)
+    (λ e. follows_not p w step host b.endpoints) (λ thing e. follows_accept p w step host b n thing)
 follows_call p w step host b (calls.Send h bytes) (answers.Given n) = follows_change p w step host b h (after_send bytes n) (λ e. refl)
 follows_call p w step host b (calls.Recv h most) (answers.Bytes bytes) = follows_change p w step host b h (after_recv bytes) (λ e. refl)
 follows_call p w step host b (calls.Shut h) answers.Done = follows_change p w step host b h after_shut (λ e. refl)
 follows_call p w step host b (calls.Close h) answers.Done =
-    follows_gone p w step host b h after_close (λ e. either_windows (is_syn_sent e.state) (shut_down (record e { stream = record e.stream { ended = true } })) (after_shut e) e refl refl)
+    follows_gone p w step host b h after_close
+    (λ e. either_windows (is_syn_sent e.state)
+    (shut_down (record e { stream = record e.stream { ended = true } })) (after_shut e) e refl refl)
 follows_call p w step host b (calls.Abort h) answers.Done = follows_gone p w step host b h after_abort (λ e. refl)
 follows_call p w step host b call answer = follows_not p w step host b.endpoints
 
@@ -276,7 +304,11 @@ both_not p w step = record { all = λ x. follows_not p w step x (pick w.hosts x)
 both_host : (p : Profile) (w : World tcp_shape) (step : Step tcp_shape) (host : Host) (k : HostState tcp_shape)
     → Follows p w step host (pick w.hosts host).body.endpoints k.body.endpoints → BothFollow p w step (with_host w.hosts host k)
 both_host p w step host k f =
-    record { all = with_cases w.hosts host k (λ x y. Follows p w step x (pick w.hosts x).body.endpoints y.body.endpoints) f (follows_not p w step (other host) (pick w.hosts (other host)).body.endpoints) }
+    record {
+      all = with_cases w.hosts host k
+          (λ x y. Follows p w step x (pick w.hosts x).body.endpoints y.body.endpoints) f
+          (follows_not p w step (other host) (pick w.hosts (other host)).body.endpoints);
+    }
 
 pub both_step : (h : Header) (s : ℕ) (w : World tcp_shape) (step : Step tcp_shape) → Permitted (tcp h) s w step
     → BothFollow (profile_of h) w step (after (tcp h) s w step).hosts
@@ -287,14 +319,18 @@ both_step h s w (Effect t answer) may = go (turn_of t w.threads)
     by : (call : Call) (o : Option Host) → BothFollow (profile_of h) w (Effect t answer) (call_after (tcp h) s w.hosts (Calls call answer) o)
     by call None = both_not (profile_of h) w (Effect t answer)
     by call (Some host) =
-        both_host (profile_of h) w (Effect t answer) host (record (pick w.hosts host) { body = after_call (profile_of h) (pick w.hosts host).body call answer }) (follows_call (profile_of h) w (Effect t answer) host (pick w.hosts host).body call answer)
+        both_host (profile_of h) w (Effect t answer) host
+        (record (pick w.hosts host) { body = after_call (profile_of h) (pick w.hosts host).body call answer })
+        (follows_call (profile_of h) w (Effect t answer) host (pick w.hosts host).body call answer)
 
     go : (u : Turn tcp_shape) → BothFollow (profile_of h) w (Effect t answer) (effect_after (tcp h) s w t answer u).hosts
     go Idle = both_not (profile_of h) w (Effect t answer)
     go (Called call) = by call (aim_of (tcp h) w.hosts (aim call))
     go (Answered x) = both_not (profile_of h) w (Effect t answer)
 both_step h s w (At host d) may =
-    both_host (profile_of h) w (At host d) host (deed_after (tcp h) host s (suc w.count) (pick w.hosts (other host)).wire (pick w.hosts host) d) (follows_deed h s w host d may)
+    both_host (profile_of h) w (At host d) host
+    (deed_after (tcp h) host s (suc w.count) (pick w.hosts (other host)).wire (pick w.hosts host) d)
+    (follows_deed h s w host d may)
 
 -- 4. what the steps that may change windows leave
 
@@ -315,7 +351,12 @@ timeout_leaves : (h : Header) (s : ℕ) (w : World tcp_shape) (host : Host) (lin
     → Permitted (tcp h) s w (At host (Expires line x)) → x.expired ≡ Rto growth
     → place_of (pick w.hosts host).body x.lport x.rport ≡ Some i → slice_get (pick w.hosts host).body.endpoints i ≡ Some e
     → Leaves h s w (At host (Expires line x)) (name host i) (λ c. (c.values.cwnd ≤ (greatest_values e s).0) × (c.values.ssthresh ≤ (greatest_values e s).1))
-timeout_leaves h s w host line x growth i e may is at there = subst Bound (sym is) (after_expiry e (Rto growth) s, at_ports_there w host x.lport x.rport i e (λ e. after_expiry e (Rto growth) s) at there, bound)
+timeout_leaves h s w host line x growth i e may is at there =
+    subst Bound (sym is) (
+      after_expiry e (Rto growth) s,
+      at_ports_there w host x.lport x.rport i e (λ e. after_expiry e (Rto growth) s) at there,
+      bound,
+    )
   where
     b : HostTcp
     b = (pick w.hosts host).body
@@ -326,7 +367,8 @@ timeout_leaves h s w host line x growth i e may is at there = subst Bound (sym i
         × ((f.control.values.cwnd ≤ (greatest_values e s).0) × (f.control.values.ssthresh ≤ (greatest_values e s).1))
 
     mine : first_broken (expiry_rules h s e (Rto growth)) ≡ None
-    mine = subst (λ (t : Expired). first_broken (expiry_rules h s e t) ≡ None) is (rules_there b x.lport x.rport i e (λ e. expiry_rules h s e x.expired) at there may)
+    mine = subst (λ (t : Expired). first_broken (expiry_rules h s e t) ≡ None) is
+        (rules_there b x.lport x.rport i e (λ e. expiry_rules h s e x.expired) at there may)
 
     bound : (growth.cwnd ≤ (greatest_values e s).0) × (growth.ssthresh ≤ (greatest_values e s).1)
     bound =
@@ -367,12 +409,16 @@ taking_leaves h s w host line how m i e may waits is =
         ∙ modify_here (λ x. endpoint_taken h x how r s) b.endpoints i e (taker_there b m i e is)
 
     left : find (after (tcp h) s w (At host (Takes line how))).hosts (name host i) ≡ Some (endpoint_taken h e how r s)
-    left = ap (λ (x : HostState tcp_shape). slice_get x.body.endpoints i) (pick_with w.hosts host (deed_after (tcp h) host s (suc w.count) (pick w.hosts (other host)).wire k (Takes line how)))
+    left = ap (λ (x : HostState tcp_shape). slice_get x.body.endpoints i)
+        (pick_with w.hosts host (deed_after (tcp h) host s (suc w.count) (pick w.hosts (other host)).wire k
+        (Takes line how)))
         ∙ (ap (λ (o : Option Emission). slice_get (on o b (λ y. after_taking h b how y s (taker b y))).endpoints i) waits ∙ here)
 
 recovery_leaves : (h : Header) (s : ℕ) (w : World tcp_shape) (host : Host) (x : Recovery) (i : ℕ) (e : Endpoint) → Permitted (tcp h) s w (At host (Does x))
     → place_of (pick w.hosts host).body x.lport x.rport ≡ Some i → slice_get (pick w.hosts host).body.endpoints i ≡ Some e
-    → Leaves h s w (At host (Does x)) (name host i) (λ c. (c.values.ssthresh ≤ (greatest e.control (recovery_signal e c.values.ssthresh) (at_moment e s)).1) × (c.values.cwnd ≤ (greatest e.control (recovery_signal e c.values.ssthresh) (at_moment e s)).0))
+    → Leaves h s w (At host (Does x)) (name host i)
+    (λ c. (c.values.ssthresh ≤ (greatest e.control (recovery_signal e c.values.ssthresh) (at_moment e s)).1)
+    × (c.values.cwnd ≤ (greatest e.control (recovery_signal e c.values.ssthresh) (at_moment e s)).0))
 recovery_leaves h s w host x i e may at there =
     (after_recovery e x.cwnd x.ssthresh s, at_ports_there w host x.lport x.rport i e (λ e. after_recovery e x.cwnd x.ssthresh s) at there, bound)
   where
@@ -383,9 +429,16 @@ recovery_leaves h s w host x i e may at there =
     bound =
         let mine = rules_there (pick w.hosts host).body x.lport x.rport i e (λ e. recovery_rules e x.cwnd x.ssthresh s) at there may in
         let t = none_all (recovery_rules e x.cwnd x.ssthresh s) mine in
-        let last = neither (not (may_recover e.control) || e.stream.snd_una == snd_max e || nat_lt ((greatest e.control now (at_moment e s)).1) x.ssthresh) (nat_lt ((greatest e.control now (at_moment e s)).0) x.cwnd) t.1.1.0 in
-        let threshold = neither (not (may_recover e.control) || e.stream.snd_una == snd_max e) (nat_lt ((greatest e.control now (at_moment e s)).1) x.ssthresh) last.0 in
-        (at_most_from ((greatest e.control now (at_moment e s)).1) x.ssthresh threshold.1, at_most_from ((greatest e.control now (at_moment e s)).0) x.cwnd last.1)
+        let last =
+        neither (not (may_recover e.control) || e.stream.snd_una == snd_max e
+        || nat_lt ((greatest e.control now (at_moment e s)).1) x.ssthresh)
+        (nat_lt ((greatest e.control now (at_moment e s)).0) x.cwnd) t.1.1.0 in
+        let threshold =
+        neither (not (may_recover e.control) || e.stream.snd_una == snd_max e)
+        (nat_lt ((greatest e.control now (at_moment e s)).1) x.ssthresh) last.0 in (
+          at_most_from ((greatest e.control now (at_moment e s)).1) x.ssthresh threshold.1,
+          at_most_from ((greatest e.control now (at_moment e s)).0) x.cwnd last.1,
+        )
 
 -- a step of no such kind leaves both as they are
 others_stay : (h : Header) (s : ℕ) (w : World tcp_shape) (step : Step tcp_shape) (me : EndpointId) (e : Endpoint) → (f : Endpoint)
@@ -410,13 +463,21 @@ profile_stays w step me e f (recovered a p) = p
 pub follow : (h : Header) (s : ℕ) (w : World tcp_shape) (step : Step tcp_shape) → Permitted (tcp h) s w step → WindowsFollow h s w step
 follow h s w step may = record {
   takes =
-      λ me e m there a. subst (λ (y : Step tcp_shape). Leaves h s w y me (λ c. (c.values.cwnd ≤ greatest_taking h s e m) × (c.values.ssthresh ≡ e.control.values.ssthresh))) (sym a.2)
+      λ me e m there a. subst (λ (y : Step tcp_shape).
+      Leaves h s w y me (λ c. (c.values.cwnd ≤ greatest_taking h s e m)
+      × (c.values.ssthresh ≡ e.control.values.ssthresh))) (sym a.2)
       (taking_leaves h s w me.host a.0 a.1 m me.number e (subst (λ (y : Step tcp_shape). Permitted (tcp h) s w y) a.2 may) a.3 a.4);
   times_out =
-      λ me e there a. subst (λ (y : Step tcp_shape). Leaves h s w y me (λ c. (c.values.cwnd ≤ (greatest_values e s).0) × (c.values.ssthresh ≤ (greatest_values e s).1))) (sym a.3)
+      λ me e there a. subst (λ (y : Step tcp_shape).
+      Leaves h s w y me (λ c. (c.values.cwnd ≤ (greatest_values e s).0)
+      × (c.values.ssthresh ≤ (greatest_values e s).1))) (sym a.3)
       (timeout_leaves h s w me.host a.0 a.1 a.2 me.number e (subst (λ (y : Step tcp_shape). Permitted (tcp h) s w y) a.3 may) a.4 a.5 there);
   recovers =
-      λ me e there a. subst (λ (y : Step tcp_shape). Leaves h s w y me (λ c. (c.values.ssthresh ≤ (greatest e.control (recovery_signal e c.values.ssthresh) (at_moment e s)).1) × (c.values.cwnd ≤ (greatest e.control (recovery_signal e c.values.ssthresh) (at_moment e s)).0))) (sym a.1)
+      λ me e there a. subst (λ (y : Step tcp_shape).
+      Leaves h s w y me (λ c. (c.values.ssthresh
+      ≤ (greatest e.control (recovery_signal e c.values.ssthresh) (at_moment e s)).1)
+      × (c.values.cwnd ≤ (greatest e.control (recovery_signal e c.values.ssthresh) (at_moment e s)).0)))
+      (sym a.1)
       (recovery_leaves h s w me.host a.0 me.number e (subst (λ (y : Step tcp_shape). Permitted (tcp h) s w y) a.1 may) a.2 there);
   stays = λ me e there no_taking no_timeout no_recovery. others_stay h s w step me e ((all me.host).onward me.number e there) no_taking no_timeout no_recovery;
   profile = λ me e there. let x = (all me.host).onward me.number e there in (x.0, x.1, profile_stays w step me e x.0 x.2);

@@ -1,5 +1,6 @@
 -- A step leaves each endpoint as it was that it does not affect.
-use Rattle.std.proofs.Common.{◌≡◌, ◌<◌, ◌⊎◌, ℕ, zero, suc, Bool, true, false, List, [], ◌∷◌, ◌++◌, length, map, Option, None, Some, refl, ap, sym, ◌∙◌, subst, inl, inr, arith}
+use Rattle.std.proofs.Common.{◌≡◌, ◌<◌, ◌⊎◌, ℕ, zero, suc, Bool, true, false, List, [], ◌∷◌, ◌++◌, length, map, Option}
+use Rattle.std.proofs.Common.{None, Some, refl, ap, sym, ◌∙◌, subst, inl, inr, arith}
 use Rattle.std.specs.Prelude.{slice_get, if◌then◌else◌}
 use Rattle.std.specs.Option.{option_map_or}
 use Rattle.case_forms.specs.States.{is_closed}
@@ -14,7 +15,8 @@ use Rattle.case_forms.specs.declared.steps.TakeChoice.{TakeChoice}
 use Rattle.case_forms.specs.declared.trace.Header.{Header}
 use Rattle.streams.specs.Lists.{modify}
 use Rattle.spec_network.specs.Tables.{Both, on, other, pick, waiting, with_host}
-use Rattle.spec_network.specs.Hosts.{HostState, Deed, Does, Expires, Makes, Sends, Gets, Hears, Takes, Drops, Answers, Turn, Idle, Called, Answered, World, Step, Begin, Finish, Effect, At, turn_of}
+use Rattle.spec_network.specs.Hosts.{HostState, Deed, Does, Expires, Makes, Sends, Gets, Hears, Takes, Drops, Answers}
+use Rattle.spec_network.specs.Hosts.{Turn, Idle, Called, Answered, World, Step, Begin, Finish, Effect, At, turn_of}
 use Rattle.spec_network.specs.HostRules.{aim_of}
 use Rattle.spec_network.specs.HostSteps.{after, call_after, deed_after, effect_after, start}
 use Rattle.window_rules.specs.declared.control.Profile.{Profile}
@@ -53,7 +55,8 @@ modify_length [] j f = refl
 modify_length (e ∷ es) zero f = refl
 modify_length (e ∷ es) (suc j) f = ap suc (modify_length es j f)
 
-modify_back : (es : List Endpoint) (j : ℕ) (f : Endpoint → Endpoint) (i : ℕ) (x : Endpoint) → slice_get (modify es j f) i ≡ Some x → (i ≡ j) ⊎ (slice_get es i ≡ Some x)
+modify_back : (es : List Endpoint) (j : ℕ) (f : Endpoint → Endpoint) (i : ℕ) (x : Endpoint)
+    → slice_get (modify es j f) i ≡ Some x → (i ≡ j) ⊎ (slice_get es i ≡ Some x)
 modify_back [] j f i x at = inr at
 modify_back (e ∷ es) zero f zero x at = inl refl
 modify_back (e ∷ es) zero f (suc i) x at = inr at
@@ -95,26 +98,38 @@ at_leaves b l r f = by (place_of b l r)
     by None = leaves_same kinds.Nobody b.endpoints
     by (Some i) = leaves_modify b.endpoints i f
 
-taking_leaves : (h : Header) (b : HostTcp) (how : TakeChoice) (m : Emission) (moment : ℕ) → Leaves (affected_at (place_of b m.rport m.lport)) b.endpoints (after_taking h b how m moment (taker b m)).endpoints
+taking_leaves : (h : Header) (b : HostTcp) (how : TakeChoice) (m : Emission) (moment : ℕ)
+    → Leaves (affected_at (place_of b m.rport m.lport)) b.endpoints
+    (after_taking h b how m moment (taker b m)).endpoints
 taking_leaves h b how m moment = by (place_of b m.rport m.lport)
   where
     at_listener : (t : Affected) (o : Option ℕ) → Leaves t b.endpoints (after_taking h b how m moment (option_map_or (λ l. AtListener l) o Nobody)).endpoints
     at_listener t None = leaves_same t b.endpoints
     at_listener t (Some l) = leaves_push t b.endpoints _
 
-    closed : (i : ℕ) (e : Endpoint) (c : Bool) → Leaves (kinds.Place i) b.endpoints (after_taking h b how m moment (if c then listener_taker b m else AtEndpoint i e)).endpoints
+    closed : (i : ℕ) (e : Endpoint) (c : Bool)
+        → Leaves (kinds.Place i) b.endpoints
+        (after_taking h b how m moment (if c then listener_taker b m else AtEndpoint i e)).endpoints
     closed i e true = at_listener (kinds.Place i) (listener_on b m.rport)
     closed i e false = leaves_modify b.endpoints i _
 
-    at_place : (i : ℕ) (o : Option Endpoint) → Leaves (kinds.Place i) b.endpoints (after_taking h b how m moment (option_map_or (λ e. if is_closed e.state then listener_taker b m else AtEndpoint i e) o (listener_taker b m))).endpoints
+    at_place : (i : ℕ) (o : Option Endpoint)
+        → Leaves (kinds.Place i) b.endpoints
+        (after_taking h b how m moment
+        (option_map_or (λ e. if is_closed e.state then listener_taker b m else AtEndpoint i e) o
+        (listener_taker b m))).endpoints
     at_place i None = at_listener (kinds.Place i) (listener_on b m.rport)
     at_place i (Some e) = closed i e (is_closed e.state)
 
-    by : (o : Option ℕ) → Leaves (affected_at o) b.endpoints (after_taking h b how m moment (option_map_or (endpoint_taker b m) o (listener_taker b m))).endpoints
+    by : (o : Option ℕ)
+        → Leaves (affected_at o) b.endpoints
+        (after_taking h b how m moment (option_map_or (endpoint_taker b m) o (listener_taker b m))).endpoints
     by None = at_listener kinds.Nobody (listener_on b m.rport)
     by (Some i) = at_place i (slice_get b.endpoints i)
 
-deed_leaves : (h : Header) (me : Host) (moment fresh : ℕ) (far : List (ℕ × Emission)) (s : HostState tcp_shape) (d : Deed tcp_shape) → Leaves (affected_by_deed s d) s.body.endpoints (deed_after (tcp h) me moment fresh far s d).body.endpoints
+deed_leaves : (h : Header) (me : Host) (moment fresh : ℕ) (far : List (ℕ × Emission)) (s : HostState tcp_shape)
+    (d : Deed tcp_shape) → Leaves (affected_by_deed s d) s.body.endpoints
+    (deed_after (tcp h) me moment fresh far s d).body.endpoints
 deed_leaves h me moment fresh far s (Does x) = at_leaves s.body x.lport x.rport _
 deed_leaves h me moment fresh far s (Expires line x) = at_leaves s.body x.lport x.rport _
 deed_leaves h me moment fresh far s (Makes plan) = at_leaves s.body plan.lport plan.rport _
@@ -123,7 +138,9 @@ deed_leaves h me moment fresh far s (Gets line copied wire) = leaves_same kinds.
 deed_leaves h me moment fresh far s (Hears line wire) = leaves_same kinds.Nobody s.body.endpoints
 deed_leaves h me moment fresh far s (Takes line how) = by (waiting line s.inbox)
   where
-    by : (o : Option Emission) → Leaves (on o kinds.Nobody (λ m. affected_at (place_of s.body m.rport m.lport))) s.body.endpoints (on o s.body (λ m. after_taking h s.body how m moment (taker s.body m))).endpoints
+    by : (o : Option Emission)
+        → Leaves (on o kinds.Nobody (λ m. affected_at (place_of s.body m.rport m.lport))) s.body.endpoints
+        (on o s.body (λ m. after_taking h s.body how m moment (taker s.body m))).endpoints
     by None = leaves_same kinds.Nobody s.body.endpoints
     by (Some m) = taking_leaves h s.body how m moment
 deed_leaves h me moment fresh far s (Drops line) = leaves_same kinds.Nobody s.body.endpoints
@@ -135,7 +152,8 @@ deed_leaves h me moment fresh far s (Answers line) = by (waiting line s.inbox)
 
 -- 3. calls
 
-change_leaves : (b : HostTcp) (n : ℕ) (f : Endpoint → Endpoint) → Leaves (option_map_or affected_target (thing_of b n) kinds.Nobody) b.endpoints (change b n f).endpoints
+change_leaves : (b : HostTcp) (n : ℕ) (f : Endpoint → Endpoint)
+    → Leaves (option_map_or affected_target (thing_of b n) kinds.Nobody) b.endpoints (change b n f).endpoints
 change_leaves b n f = by (thing_of b n)
   where
     by : (o : Option SocketTarget) → Leaves (option_map_or affected_target o kinds.Nobody) b.endpoints (option_map_or (change_thing b f) o b).endpoints
@@ -143,15 +161,20 @@ change_leaves b n f = by (thing_of b n)
     by (Some (ListenerAt l)) = leaves_same kinds.Nobody b.endpoints
     by (Some (EndpointAt i)) = leaves_modify b.endpoints i f
 
-gone_leaves : (b : HostTcp) (n : ℕ) (f : Endpoint → Endpoint) → Leaves (option_map_or affected_by_end (thing_of b n) kinds.Nobody) b.endpoints (after_gone b n f).endpoints
+gone_leaves : (b : HostTcp) (n : ℕ) (f : Endpoint → Endpoint)
+    → Leaves (option_map_or affected_by_end (thing_of b n) kinds.Nobody) b.endpoints (after_gone b n f).endpoints
 gone_leaves b n f = by (thing_of b n)
   where
-    by : (o : Option SocketTarget) → Leaves (option_map_or affected_by_end o kinds.Nobody) b.endpoints (option_map_or (λ thing. record (thing_gone b thing f) { sockets = dead b.sockets n }) o b).endpoints
+    by : (o : Option SocketTarget)
+        → Leaves (option_map_or affected_by_end o kinds.Nobody) b.endpoints
+        (option_map_or (λ thing. record (thing_gone b thing f) { sockets = dead b.sockets n }) o b).endpoints
     by None = leaves_same kinds.Nobody b.endpoints
     by (Some (ListenerAt l)) = leaves_map b.endpoints (orphaned l)
     by (Some (EndpointAt i)) = leaves_modify b.endpoints i f
 
-accept_leaves : (b : HostTcp) (h n : ℕ) → Leaves (option_map_or (affected_by_accept b) (thing_of b h) kinds.Nobody) b.endpoints (option_map_or (after_accept b n) (thing_of b h) b).endpoints
+accept_leaves : (b : HostTcp) (h n : ℕ)
+    → Leaves (option_map_or (affected_by_accept b) (thing_of b h) kinds.Nobody) b.endpoints
+    (option_map_or (after_accept b n) (thing_of b h) b).endpoints
 accept_leaves b h n = by (thing_of b h)
   where
     queued : (l : ℕ) (queue : List ℕ) → Leaves (affected_in_queue queue) b.endpoints (accepted_from b l n queue).endpoints
@@ -180,31 +203,41 @@ abbrev pub ends : Host → World tcp_shape → List Endpoint
 ends me w = (pick w.hosts me).body.endpoints
 
 call_at : (p : Profile) (me host : Host) (hosts : Both (HostState tcp_shape)) (call : Call) (answer : Answer)
-    → Leaves (affected_by_call (pick hosts me).body call) (pick hosts me).body.endpoints (pick (with_host hosts host (record (pick hosts host) { body = after_call p (pick hosts host).body call answer })) me).body.endpoints
+    → Leaves (affected_by_call (pick hosts me).body call) (pick hosts me).body.endpoints
+    (pick (with_host hosts host (record (pick hosts host) { body = after_call p (pick hosts host).body call answer }))
+    me).body.endpoints
 call_at p Zero Zero hosts call answer = call_leaves p hosts.zero.body call answer
 call_at p Zero One hosts call answer = leaves_same _ hosts.zero.body.endpoints
 call_at p One Zero hosts call answer = leaves_same _ hosts.one.body.endpoints
 call_at p One One hosts call answer = call_leaves p hosts.one.body call answer
 
-deed_at : (h : Header) (me : Host) (moment : ℕ) (w : World tcp_shape) (d : Deed tcp_shape) → Leaves (affected_by_deed (pick w.hosts me) d) (ends me w) (ends me (after (tcp h) moment w (At me d)))
+deed_at : (h : Header) (me : Host) (moment : ℕ) (w : World tcp_shape) (d : Deed tcp_shape)
+    → Leaves (affected_by_deed (pick w.hosts me) d) (ends me w) (ends me (after (tcp h) moment w (At me d)))
 deed_at h Zero moment w d = deed_leaves h Zero moment (suc w.count) w.hosts.one.wire w.hosts.zero d
 deed_at h One moment w d = deed_leaves h One moment (suc w.count) w.hosts.zero.wire w.hosts.one d
 
 module _ (h : Header) (me : Host) (moment : ℕ) (w : World tcp_shape) where
-  effect_leaves : (t : ℕ) (answer : Answer) (u : Turn tcp_shape) → Leaves (option_map_or (affected_by_call (pick w.hosts me).body) (pending_call u) kinds.Nobody) (ends me w) (ends me (effect_after (tcp h) moment w t answer u))
+  effect_leaves : (t : ℕ) (answer : Answer) (u : Turn tcp_shape)
+      → Leaves (option_map_or (affected_by_call (pick w.hosts me).body) (pending_call u) kinds.Nobody) (ends me w)
+      (ends me (effect_after (tcp h) moment w t answer u))
   effect_leaves t answer Idle = leaves_same kinds.Nobody (ends me w)
   effect_leaves t answer (Answered a) = leaves_same kinds.Nobody (ends me w)
   effect_leaves t answer (Called call) = by (aim_of (tcp h) w.hosts (aim call))
     where
-      by : (o : Option Host) → Leaves (affected_by_call (pick w.hosts me).body call) (ends me w) (pick (call_after (tcp h) moment w.hosts (acts.Calls call answer) o) me).body.endpoints
+      by : (o : Option Host)
+          → Leaves (affected_by_call (pick w.hosts me).body call) (ends me w)
+          (pick (call_after (tcp h) moment w.hosts (acts.Calls call answer) o) me).body.endpoints
       by None = leaves_same _ (ends me w)
       by (Some host) = call_at (profile_of h) me host w.hosts call answer
 
-  pub step_leaves : (step : Step tcp_shape) → ((host : Host) (d : Deed tcp_shape) → step ≡ At host d → host ≡ me) → Leaves (affected_by me w step) (ends me w) (ends me (after (tcp h) moment w step))
+  pub step_leaves : (step : Step tcp_shape) → ((host : Host) (d : Deed tcp_shape) → step ≡ At host d → host ≡ me)
+      → Leaves (affected_by me w step) (ends me w) (ends me (after (tcp h) moment w step))
   step_leaves (Begin line t call) own = leaves_same kinds.Nobody (ends me w)
   step_leaves (Finish line t answer) own = leaves_same kinds.Nobody (ends me w)
   step_leaves (Effect t answer) own = effect_leaves t answer (turn_of t w.threads)
-  step_leaves (At host d) own = subst (λ (x : Host). Leaves (affected_by_deed (pick w.hosts me) d) (ends me w) (ends me (after (tcp h) moment w (At x d)))) (sym (own host d refl)) (deed_at h me moment w d)
+  step_leaves (At host d) own =
+      subst (λ (x : Host). Leaves (affected_by_deed (pick w.hosts me) d) (ends me w)
+      (ends me (after (tcp h) moment w (At x d)))) (sym (own host d refl)) (deed_at h me moment w d)
 
 pub bring_leaves : (h : Header) (me : Host) (f : Flying tcp_shape) (w : World tcp_shape) → ends me (bring (tcp h) (other me) f w) ≡ ends me w
 bring_leaves h Zero f w = refl
@@ -233,13 +266,16 @@ affected_by_call-forget b (calls.Accept n) = by (thing_of b n)
     by (Some (ListenerAt l)) = refl
     by (Some (EndpointAt i)) = refl
 
-pub affected-forget : (b : HostTcp) (o : Option Call) → option_map_or (affected_by_call (forget_body b)) o kinds.Nobody ≡ option_map_or (affected_by_call b) o kinds.Nobody
+pub affected-forget : (b : HostTcp) (o : Option Call)
+    → option_map_or (affected_by_call (forget_body b)) o kinds.Nobody
+    ≡ option_map_or (affected_by_call b) o kinds.Nobody
 affected-forget b None = refl
 affected-forget b (Some call) = affected_by_call-forget b call
 
 -- 6. of a segment that is held
 
-pub held_affected : (c : Core) (line : ℕ) (ports : Ports) (affected : Affected) → IsHeld c line ports → affected ≡ affected_at (place_of (own_body c) ports.lport ports.rport)
+pub held_affected : (c : Core) (line : ℕ) (ports : Ports) (affected : Affected) → IsHeld c line ports
+    → affected ≡ affected_at (place_of (own_body c) ports.lport ports.rport)
     → affected ≡ on (waiting line (pick (world c).hosts c.recorded.me).inbox) kinds.Nobody (λ m. affected_at (place_of (own_body c) m.rport m.lport))
 held_affected c line ports affected (m, waits, same) is = is ∙ ap (λ (p : Ports). affected_at (place_of (own_body c) p.lport p.rport)) same
     ∙ sym (ap (λ (o : Option Emission). on o kinds.Nobody (λ m. affected_at (place_of (own_body c) m.rport m.lport))) waits)

@@ -1,5 +1,7 @@
 -- The answer that a call has is one that it may have.
-use Rattle.std.proofs.Common.{◌≡◌, ◌≤◌, ◌+◌, ◌*◌, ℕ, zero, suc, ◌⊎◌, Bool, true, false, List, [], ◌∷◌, ◌++◌, length, map, take, Option, Some, None, refl, ap, sym, subst, ◌∙◌, inl, inr, nat_eq, nat_lt, nat_le, arith}
+use Rattle.std.proofs.Common.{◌≡◌, ◌≤◌, ◌+◌, ◌*◌, ℕ, zero, suc, ◌⊎◌, Bool, true, false, List, [], ◌∷◌, ◌++◌, length}
+use Rattle.std.proofs.Common.{map, take, Option, Some, None, refl, ap, sym, subst, ◌∙◌, inl, inr, nat_eq, nat_lt}
+use Rattle.std.proofs.Common.{nat_le, arith}
 use Rattle.std.specs.Prelude.{if◌then◌else◌, is_some, not, slice_get, ◌&&◌, ◌==◌}
 use Rattle.std.specs.Map.{lookup}
 use Rattle.std.specs.Option.{IfSome, IsSomeAnd, option_map_or}
@@ -71,8 +73,16 @@ few_taken (suc n) (x ∷ xs) = let few = few_taken n xs in omega arith
 is_le : (a b : ℕ) → a ≤ b → nat_le a b ≡ true
 is_le a b p = grind (arith, nat_tests)
 
-pub read_allowed : (most : ℕ) (bytes waits : List ℕ) → bytes ≡ take most waits → 1 ≤ most → nat_lt 0 (length waits) ≡ true → (nat_le 1 (length bytes) && nat_le (length bytes) most && starts bytes waits) ≡ true
-read_allowed most bytes waits is some there = rw (is, some_taken most waits some there, is_le (length (take most waits)) most (few_taken most waits), starts_taken most waits) refl
+pub read_allowed : (most : ℕ) (bytes waits : List ℕ) → bytes ≡ take most waits → 1 ≤ most
+    → nat_lt 0 (length waits) ≡ true
+    → (nat_le 1 (length bytes) && nat_le (length bytes) most && starts bytes waits) ≡ true
+read_allowed most bytes waits is some there =
+    rw (
+      is,
+      some_taken most waits some there,
+      is_le (length (take most waits)) most (few_taken most waits),
+      starts_taken most waits,
+    ) refl
 
 -- 2. live numbers have their endpoints
 
@@ -84,11 +94,25 @@ nothing_sound : (h : Header) → AreSound (start (tcp h))
 nothing_sound h = record { sound = λ x. sound x; apart = λ n zero one. absurd cc }
   where
     sound : (x : Host) → Sound (pick (start (tcp h)).hosts x).body
-    sound Zero = record { named = λ n i e. absurd (none-some i e); alone = λ m n i e f. absurd (none-some i e); queued = λ l k i e. absurd (none-some i e); once = λ l j k i e f. absurd (none-some i e) }
-    sound One = record { named = λ n i e. absurd (none-some i e); alone = λ m n i e f. absurd (none-some i e); queued = λ l k i e. absurd (none-some i e); once = λ l j k i e f. absurd (none-some i e) }
+    sound Zero =
+        record {
+          named = λ n i e. absurd (none-some i e);
+          alone = λ m n i e f. absurd (none-some i e);
+          queued = λ l k i e. absurd (none-some i e);
+          once = λ l j k i e f. absurd (none-some i e);
+        }
+    sound One =
+        record {
+          named = λ n i e. absurd (none-some i e);
+          alone = λ m n i e f. absurd (none-some i e);
+          queued = λ l k i e. absurd (none-some i e);
+          once = λ l j k i e f. absurd (none-some i e);
+        }
 
-item_sound : (h : Header) (me : Host) (moment : ℕ) (w : World tcp_shape) (item : Item tcp_shape) → AreSound w → FitsItem (tcp h) me moment w item → AreSound (next_item (tcp h) me moment w item)
-item_sound h me moment w (Do step) are fits = let stepped = sound_step h moment w step are.sound are.apart fits.0 in record { sound = stepped.sound; apart = stepped.apart }
+item_sound : (h : Header) (me : Host) (moment : ℕ) (w : World tcp_shape) (item : Item tcp_shape) → AreSound w
+    → FitsItem (tcp h) me moment w item → AreSound (next_item (tcp h) me moment w item)
+item_sound h me moment w (Do step) are fits = let stepped = sound_step h moment w step are.sound are.apart fits.0 in
+    record { sound = stepped.sound; apart = stepped.apart }
 item_sound h Zero moment w (Bring f) are fits = record { sound = by; apart = are.apart }
   where
     by : (x : Host) → Sound (pick (next_item (tcp h) Zero moment w (Bring f)).hosts x).body
@@ -107,7 +131,8 @@ run_sound h me w (x ∷ xs) are runs = run_sound h me (next (tcp h) me w x) xs (
 live_owner : (b : HostTcp) (n i : ℕ) → thing_of b n ≡ Some (EndpointAt i) → owner b n ≡ Some i
 live_owner b n i is = by (lookup (nat_eq n) b.sockets) is
   where
-    live : (alive : Bool) (s : Socket) → (if alive then Some s.thing else None) ≡ Some (EndpointAt i) → option_map_or (λ x. endpoint_place x.thing) (Some s) None ≡ Some i
+    live : (alive : Bool) (s : Socket) → (if alive then Some s.thing else None) ≡ Some (EndpointAt i)
+        → option_map_or (λ x. endpoint_place x.thing) (Some s) None ≡ Some i
     live true s is = ap (λ o. option_map_or endpoint_place o None) is
     live false s is = absurd cc
 
@@ -125,7 +150,8 @@ forgotten_there (x ∷ es) zero e is = tt
 forgotten_there (x ∷ es) (suc i) e is = forgotten_there es i e is
 
 -- in a host's run, as far as it is kept
-pub named_left : (h : Header) (me : Host) (xs : List (Entry tcp_shape)) → HostRun (tcp h) me (start (tcp h)) xs → IsNamed (forget_body (pick (end (tcp h) me (start (tcp h)) xs).hosts me).body)
+pub named_left : (h : Header) (me : Host) (xs : List (Entry tcp_shape)) → HostRun (tcp h) me (start (tcp h)) xs
+    → IsNamed (forget_body (pick (end (tcp h) me (start (tcp h)) xs).hosts me).body)
 named_left h me xs runs n i is =
     let b : HostTcp = (pick (end (tcp h) me (start (tcp h)) xs).hosts me).body in
     let there = ((run_sound h me (start (tcp h)) xs (nothing_sound h) runs).sound me).named n i (live_owner b n i is) in
@@ -147,7 +173,8 @@ module _ (h : Header) (me : Host) (moment : ℕ) (v : World tcp_shape) (own : Is
   abbrev Fresh : Host → Type 0
   Fresh x = (n : ℕ) → gives call answer ≡ Some n → given (pick v.hosts x).body n ≡ false
 
-  fresh_passes : (g : Option ℕ) → ((n : ℕ) → g ≡ Some n → given v.hosts.zero.body n ≡ false) → ((n : ℕ) → g ≡ Some n → given v.hosts.one.body n ≡ false) → (may : Bool) → may ≡ true
+  fresh_passes : (g : Option ℕ) → ((n : ℕ) → g ≡ Some n → given v.hosts.zero.body n ≡ false)
+      → ((n : ℕ) → g ≡ Some n → given v.hosts.one.body n ≡ false) → (may : Bool) → may ≡ true
       → first_broken (fresh_rules (tcp h) v.hosts g ++ (rules.CallAnswer, not may) ∷ []) ≡ None
   fresh_passes None first second may is = rw is refl
   fresh_passes (Some n) first second may is = rw (first n refl, second n refl, is) refl
@@ -183,8 +210,11 @@ module _ (h : Header) (me : Host) (moment : ℕ) (v : World tcp_shape) (own : Is
   stray (calls.Abort n) is may = at_socket n (calls.Abort n) is may
   stray (calls.Status n) is may = at_socket n (calls.Status n) is may
 
-  effect_may : (t : ℕ) → turn_of t v.threads ≡ Called call → call_allows b call answer ≡ true → ((n : ℕ) → gives call answer ≡ Some n → n ≡ next_socket me b) → Permitted (tcp h) moment v (Effect t answer)
-  effect_may t is may next = subst (λ (u : Turn tcp_shape). first_broken (effect_rules (tcp h) moment v.hosts u answer) ≡ None) (sym is) (by (aim_of (tcp h) v.hosts (aim call)) refl (meant h me moment v own (aim call) (own.aims t call is)))
+  effect_may : (t : ℕ) → turn_of t v.threads ≡ Called call → call_allows b call answer ≡ true
+      → ((n : ℕ) → gives call answer ≡ Some n → n ≡ next_socket me b) → Permitted (tcp h) moment v (Effect t answer)
+  effect_may t is may next =
+      subst (λ (u : Turn tcp_shape). first_broken (effect_rules (tcp h) moment v.hosts u answer) ≡ None) (sym is)
+      (by (aim_of (tcp h) v.hosts (aim call)) refl (meant h me moment v own (aim call) (own.aims t call is)))
     where
       here : Fresh me
       here n gives_n = let is_next : n ≡ next_socket me b = next n gives_n in not_given (given b n) (λ there. let low = own.below n there in omega arith)
@@ -200,10 +230,13 @@ module _ (h : Header) (me : Host) (moment : ℕ) (v : World tcp_shape) (own : Is
       at_one Zero p q = q
       at_one One p q = p
 
-      by : (o : Option Host) → aim_of (tcp h) v.hosts (aim call) ≡ o → (o ≡ None) ⊎ (o ≡ Some me) → first_broken (call_rules (tcp h) moment v.hosts call answer o) ≡ None
+      by : (o : Option Host) → aim_of (tcp h) v.hosts (aim call) ≡ o → (o ≡ None) ⊎ (o ≡ Some me)
+          → first_broken (call_rules (tcp h) moment v.hosts call answer o) ≡ None
       by None at to = fresh_passes (gives call answer) (at_zero me here there) (at_one me here there) (is_bad_socket answer) (stray call at may)
       by (Some host) at (inl none) = absurd cc
-      by (Some host) at (inr same) = fresh_passes (gives call answer) (at_zero me here there) (at_one me here there) (call_allows (pick v.hosts host).body call answer)
+      by (Some host) at (inr same) =
+          fresh_passes (gives call answer) (at_zero me here there) (at_one me here there)
+          (call_allows (pick v.hosts host).body call answer)
           (subst (λ (x : Host). call_allows (pick v.hosts x).body call answer ≡ true) (sym (same_Some host me same)) may)
 
 -- 4. in what is kept, and in the whole world
@@ -216,8 +249,11 @@ pub kept_body : (me : Host) (w : World tcp_shape) → (pick (forget w).hosts me)
 kept_body Zero w = refl
 kept_body One w = refl
 
-pub may_have : ForgettingIsFree → (h : Header) (me : Host) (w : World tcp_shape) → IsOwn me w → (t : ℕ) (call : Call) (answer : Answer) → turn_of t w.threads ≡ Called call → call_allows (forget_body (pick w.hosts me).body) call answer ≡ true
-    → ((n : ℕ) → gives call answer ≡ Some n → n ≡ next_socket me (forget_body (pick w.hosts me).body)) → (moment : ℕ) → Permitted (tcp h) moment w (Effect t answer)
+pub may_have : ForgettingIsFree → (h : Header) (me : Host) (w : World tcp_shape) → IsOwn me w
+    → (t : ℕ) (call : Call) (answer : Answer) → turn_of t w.threads ≡ Called call
+    → call_allows (forget_body (pick w.hosts me).body) call answer ≡ true
+    → ((n : ℕ) → gives call answer ≡ Some n → n ≡ next_socket me (forget_body (pick w.hosts me).body)) → (moment : ℕ)
+    → Permitted (tcp h) moment w (Effect t answer)
 may_have free h me w own t call answer is may next moment =
     subst (λ (rs : List (Rule × Bool)). first_broken rs ≡ None) (free.rules h moment w (Effect t answer))
     (effect_may h me moment (forget w) (own_kept me w own) call answer t is
@@ -232,14 +268,19 @@ turn_pending Idle call is = absurd (none-some call is)
 turn_pending (Called c) call is = ap (λ (x : Call). let u : Turn tcp_shape = Called x in u) (same_Some c call is)
 turn_pending (Answered a) call is = absurd (none-some call is)
 
-pub gives_next : (me : Host) (b : HostTcp) (u : Turn tcp_shape) (call : Call) (answer : Answer) → u ≡ Called call → ((n : ℕ) → gives call answer ≡ Some n → n ≡ next_socket me b) → GivesNext me b u answer
+pub gives_next : (me : Host) (b : HostTcp) (u : Turn tcp_shape) (call : Call) (answer : Answer) → u ≡ Called call
+    → ((n : ℕ) → gives call answer ≡ Some n → n ≡ next_socket me b) → GivesNext me b u answer
 gives_next me b u call answer is next = subst (λ (u : Turn tcp_shape). GivesNext me b u answer) (sym is) next
 
 -- 6. the answer that is chosen
 
-pub answers_permitted : {E : Type 0} → ForgettingIsFree → (r : Recorded) → IsOwn r.me (world_left r) → (t : ℕ) (call : Call) (me : Host) (b : HostTcp) (next : ℕ) → pending_call (turn_of t (world_left r).threads) ≡ Some call → me ≡ r.me
-    → b ≡ forget_body (pick (world_left r).hosts r.me).body → next ≡ next_socket me b → (res : Result (Option Answer) E) → IfOk res (λ o. IfSome o (λ a. call_allows b call a ≡ true))
-    → IfOk res (λ o. IfSome o (λ a. (n : ℕ) → gives call a ≡ Some n → n ≡ next)) → IfOk res (λ o. IfSome o (λ a. (moment : ℕ) → Permitted (tcp r.header) moment (world_left r) (Effect t a)))
+pub answers_permitted : {E : Type 0} → ForgettingIsFree → (r : Recorded) → IsOwn r.me (world_left r)
+    → (t : ℕ) (call : Call) (me : Host) (b : HostTcp) (next : ℕ)
+    → pending_call (turn_of t (world_left r).threads) ≡ Some call → me ≡ r.me
+    → b ≡ forget_body (pick (world_left r).hosts r.me).body → next ≡ next_socket me b → (res : Result (Option Answer) E)
+    → IfOk res (λ o. IfSome o (λ a. call_allows b call a ≡ true))
+    → IfOk res (λ o. IfSome o (λ a. (n : ℕ) → gives call a ≡ Some n → n ≡ next))
+    → IfOk res (λ o. IfSome o (λ a. (moment : ℕ) → Permitted (tcp r.header) moment (world_left r) (Effect t a)))
 answers_permitted free r own t call me b next pending is body number (Err error) may next_given = tt
 answers_permitted free r own t call me b next pending is body number (Ok None) may next_given = tt
 answers_permitted free r own t call me b next pending is body number (Ok (Some a)) may next_given =
@@ -261,38 +302,56 @@ lane_next : (me : Host) (b : HostTcp) → lane (next_socket me b) ≡ me
 lane_next Zero b = lane_on 2 (length b.sockets)
 lane_next One b = lane_on 3 (length b.sockets)
 
-lanes : (me : Host) (b : HostTcp) (u : Turn tcp_shape) (a : Answer) → GivesNext me b u a → (call : Call) → u ≡ Called call → (n : ℕ) → gives call a ≡ Some n → lane n ≡ me
+lanes : (me : Host) (b : HostTcp) (u : Turn tcp_shape) (a : Answer) → GivesNext me b u a → (call : Call)
+    → u ≡ Called call → (n : ℕ) → gives call a ≡ Some n → lane n ≡ me
 lanes me b u a next call is n e = ap lane (subst (λ (u : Turn tcp_shape). GivesNext me b u a) is next n e) ∙ lane_next me b
 
-pub effect_fits : (c d : Core) (tick : Tick) (t : ℕ) (a b : Answer) → d ≡ opened c tick → b ≡ a → ((moment : ℕ) → Permitted (tcp c.recorded.header) moment (world c) (Effect t a))
+pub effect_fits : (c d : Core) (tick : Tick) (t : ℕ) (a b : Answer) → d ≡ opened c tick → b ≡ a
+    → ((moment : ℕ) → Permitted (tcp c.recorded.header) moment (world c) (Effect t a))
     → GivesNext c.recorded.me (own_body c) (turn_of t (world c).threads) a → lane t ≡ c.recorded.me → Fits d (Effect t b)
-effect_fits c d tick t a b is same may next lane_is = subst (λ (x : Core). Fits x (Effect t b)) (sym is) (subst (λ (x : Answer). Fits (opened c tick) (Effect t x)) (sym same)
+effect_fits c d tick t a b is same may next lane_is =
+    subst (λ (x : Core). Fits x (Effect t b)) (sym is)
+    (subst (λ (x : Answer). Fits (opened c tick) (Effect t x)) (sym same)
     (may tick.moment, (lane_is, lanes c.recorded.me (own_body c) (turn_of t (world c).threads) a next)))
 
-turn_after : (h : Header) (moment : ℕ) (w : World tcp_shape) (t : ℕ) (a : Answer) → Permitted (tcp h) moment w (Effect t a) → turn_of t (after (tcp h) moment w (Effect t a)).threads ≡ Answered a
+turn_after : (h : Header) (moment : ℕ) (w : World tcp_shape) (t : ℕ) (a : Answer)
+    → Permitted (tcp h) moment w (Effect t a) → turn_of t (after (tcp h) moment w (Effect t a)).threads ≡ Answered a
 turn_after h moment w t a may =
     let o = effect_passes (tcp h) moment w.hosts (turn_of t w.threads) a may in
-    ap (λ (u : Turn tcp_shape). turn_of t (effect_after (tcp h) moment w t a u).threads) o.1 ∙ turn_insert (tcp h) t t (Answered a) w.threads ∙ ap (λ (b : Bool). if b then Answered a else turn_of t w.threads) (key_same t)
+    ap (λ (u : Turn tcp_shape). turn_of t (effect_after (tcp h) moment w t a u).threads) o.1
+    ∙ turn_insert (tcp h) t t (Answered a) w.threads
+    ∙ ap (λ (b : Bool). if b then Answered a else turn_of t w.threads) (key_same t)
   where
     key_same : (n : ℕ) → nat_eq n n ≡ true
     key_same n = grind (arith, nat_tests)
 
-ends : (h : Header) (me : Host) (moment : ℕ) (w : World tcp_shape) (n t : ℕ) (a : Answer) → turn_of t w.threads ≡ Answered a → lane t ≡ me → FitsItem (tcp h) me moment w (Do (Finish n t a))
+ends : (h : Header) (me : Host) (moment : ℕ) (w : World tcp_shape) (n t : ℕ) (a : Answer)
+    → turn_of t w.threads ≡ Answered a → lane t ≡ me → FitsItem (tcp h) me moment w (Do (Finish n t a))
 ends h me moment w n t a is lane_is = (rw (is, answer_same a) refl, lane_is)
 
-pub finish_fits : (c d e : Core) (tick : Tick) (n t : ℕ) (a b x : Answer) → d ≡ opened c tick → b ≡ a → x ≡ a → ((moment : ℕ) → Permitted (tcp c.recorded.header) moment (world c) (Effect t a)) → lane t ≡ c.recorded.me
+pub finish_fits : (c d e : Core) (tick : Tick) (n t : ℕ) (a b x : Answer) → d ≡ opened c tick → b ≡ a → x ≡ a
+    → ((moment : ℕ) → Permitted (tcp c.recorded.header) moment (world c) (Effect t a)) → lane t ≡ c.recorded.me
     → e ≡ with_step d (Effect t b) → Fits e (Finish n t x)
 finish_fits c d e tick n t a b x is same last may lane_is made =
-    let there : e ≡ with_step (opened c tick) (Effect t a) = made ∙ ap (λ (k : Core). with_step k (Effect t b)) is ∙ ap (λ (y : Answer). with_step (opened c tick) (Effect t y)) same in
+    let there : e ≡ with_step (opened c tick) (Effect t a) =
+    made ∙ ap (λ (k : Core). with_step k (Effect t b)) is
+    ∙ ap (λ (y : Answer). with_step (opened c tick) (Effect t y)) same in
     subst (λ (k : Core). Fits k (Finish n t x)) (sym there) (subst (λ (y : Answer). Fits (with_step (opened c tick) (Effect t a)) (Finish n t y)) (sym last)
     (ends c.recorded.header c.recorded.me tick.moment (world (with_step (opened c tick) (Effect t a))) n t a
-    (ap (λ (w : World tcp_shape). turn_of t w.threads) (leads (opened c tick) (with_step (opened c tick) (Effect t a)) (Effect t a) refl) ∙ turn_after c.recorded.header tick.moment (world c) t a (may tick.moment)) lane_is))
+    (ap (λ (w : World tcp_shape). turn_of t w.threads)
+    (leads (opened c tick) (with_step (opened c tick) (Effect t a)) (Effect t a) refl)
+    ∙ turn_after c.recorded.header tick.moment (world c) t a (may tick.moment)) lane_is))
 
 -- an effect takes no line
 pub same_line : (c d e : Core) (tick : Tick) (t : ℕ) (a : Answer) → d ≡ opened c tick → e ≡ with_step d (Effect t a) → line_to_come e ≡ line_to_come c
-same_line c d e tick t a is made = ap line_to_come (made ∙ ap (λ (x : Core). with_step x (Effect t a)) is) ∙ next_more c.recorded.header (first_event_line c.recorded.header) c.recorded.entries (entry_at c.recorded.me tick (Do (Effect t a)) ∷ [])
+same_line c d e tick t a is made =
+    ap line_to_come (made ∙ ap (λ (x : Core). with_step x (Effect t a)) is)
+    ∙ next_more c.recorded.header (first_event_line c.recorded.header) c.recorded.entries
+    (entry_at c.recorded.me tick (Do (Effect t a)) ∷ [])
 
-pub ended_call : (c d e f : Core) (tick : Tick) (n t : ℕ) (a b x : Answer) → d ≡ opened c tick → e ≡ with_step d (Effect t b) → f ≡ with_step e (Finish n t x) → b ≡ a → x ≡ a → n ≡ line_to_come e → f ≡ answered c tick t a
+pub ended_call : (c d e f : Core) (tick : Tick) (n t : ℕ) (a b x : Answer) → d ≡ opened c tick
+    → e ≡ with_step d (Effect t b) → f ≡ with_step e (Finish n t x) → b ≡ a → x ≡ a → n ≡ line_to_come e
+    → f ≡ answered c tick t a
 ended_call c d e f tick n t a b x is made last same ending number =
     last ∙ ap (λ (y : Answer). with_step e (Finish n t y)) ending ∙ ap (λ (m : ℕ). with_step e (Finish m t a)) (number ∙ same_line c d e tick t b is made)
     ∙ ap (λ (k : Core). with_step k (Finish (line_to_come c) t a)) (made ∙ ap (λ (k : Core). with_step k (Effect t b)) is)

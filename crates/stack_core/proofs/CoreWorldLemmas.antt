@@ -56,12 +56,16 @@ module _ (h : Header) (theirs : Recorded) (c : Core) where
     names = tt;
   }
 
-  grew_item : (d : Core) (item : Item tcp_shape) → Names theirs (entry_at d.recorded.me d.last item).key item → Grew h theirs c d → Grew h theirs c (with_item d item)
+  grew_item : (d : Core) (item : Item tcp_shape) → Names theirs (entry_at d.recorded.me d.last item).key item
+      → Grew h theirs c d → Grew h theirs c (with_item d item)
   grew_item d item name g =
       let x : TcpEntry = entry_at d.recorded.me d.last item in
       record {
         more = g.more ++ x ∷ [];
-        recorded = ap (λ (r : Recorded). with_entry r x) g.recorded ∙ ap (λ (es : List TcpEntry). record c.recorded { entries = es }) (append_assoc c.recorded.entries g.more (x ∷ []));
+        recorded =
+            ap (λ (r : Recorded). with_entry r x) g.recorded
+            ∙ ap (λ (es : List TcpEntry). record c.recorded { entries = es })
+            (append_assoc c.recorded.entries g.more (x ∷ []));
         names = names_append h theirs g.more (x ∷ []) g.names (name, tt);
       }
 
@@ -76,7 +80,8 @@ module _ (h : Header) (theirs : Recorded) (c : Core) where
   grew_recovered d e ports (inr r) g = grew_to d e r.0 g
 
   grew_settled : (d e : Core) (n : ℕ) (ports : _) → IsSettled d n ports e → Grew h theirs c d → Grew h theirs c e
-  grew_settled d e n ports (Taken choice keep may recovered) g = grew_recovered (with_step d (At d.recorded.me (Takes n choice))) e ports recovered (grew_step d _ g)
+  grew_settled d e n ports (Taken choice keep may recovered) g =
+      grew_recovered (with_step d (At d.recorded.me (Takes n choice))) e ports recovered (grew_step d _ g)
   grew_settled d e n ports (Reset not_taken may row) g = grew_to _ e row (grew_step d _ g)
   grew_settled d e n ports (Dropped not_taken no_reset row) g = grew_to _ e row (grew_step d _ g)
 
@@ -94,7 +99,9 @@ module _ (h : Header) (theirs : Recorded) (c : Core) where
     grew_short tick d above (Ticked row) = grew_to (opened c tick) d row (grew_none (opened c tick) refl)
     grew_short tick d above (Brought row) = grew_to (brought c tick f) d row (brings tick above)
     grew_short tick d above (Came wire bytes row) = grew_to (came c tick f wire) d row (grew_came tick above wire)
-    grew_short tick d above (Took wire bytes choice keep may due row) = grew_to (with_step (came c tick f wire) (At c.recorded.me (Takes (line_to_come c) choice))) d row (grew_step (came c tick f wire) _ (grew_came tick above wire))
+    grew_short tick d above (Took wire bytes choice keep may due row) =
+        grew_to (with_step (came c tick f wire) (At c.recorded.me (Takes (line_to_come c) choice))) d row
+        (grew_step (came c tick f wire) _ (grew_came tick above wire))
 
   grew_out : (d e : Core) (number : ℕ) (f : Flying tcp_shape) → GoesOut d number f e → Grew h theirs c d → Grew h theirs c e
   grew_out d e number f out g = grew_to (with_step d _) e out.row (grew_step d _ g)
@@ -108,10 +115,12 @@ module _ (h : Header) (theirs : Recorded) (c : Core) where
   grew_made : (tick : Tick) (plan : _) → Grew h theirs c (made c tick plan)
   grew_made tick plan = grew_step (opened c tick) _ (grew_opened tick)
 
-  grew : (flown : List (Flying tcp_shape)) → All (HasFlown theirs) flown → (tick : Tick) (call : CoreCall) (d : Core) → MayCall c flown tick call → Leaves c tick call d → Grew h theirs c d
+  grew : (flown : List (Flying tcp_shape)) → All (HasFlown theirs) flown → (tick : Tick) (call : CoreCall) (d : Core)
+      → MayCall c flown tick call → Leaves c tick call d → Grew h theirs c d
   grew flown flew tick (Begin thread call (Ok done)) d may row = grew_to _ d row (grew_step (opened c tick) _ (grew_opened tick))
   grew flown flew tick (Begin thread call (Err memory)) d may row = grew_to (opened c tick) d row (grew_opened tick)
-  grew flown flew tick (Attempt thread (Ok (Some a))) d may row = grew_to _ d row.1 (grew_step (with_step (opened c tick) _) _ (grew_step (opened c tick) _ (grew_opened tick)))
+  grew flown flew tick (Attempt thread (Ok (Some a))) d may row =
+      grew_to _ d row.1 (grew_step (with_step (opened c tick) _) _ (grew_step (opened c tick) _ (grew_opened tick)))
   grew flown flew tick (Attempt thread (Ok None)) d may row = grew_same d row.0
   grew flown flew tick (Attempt thread (Err memory)) d may (inl row) = grew_to (opened c tick) d row (grew_opened tick)
   grew flown flew tick (Attempt thread (Err memory)) d may (inr row) = grew_to _ d row.2 (grew_step (opened c tick) (Effect thread row.0) (grew_opened tick))
@@ -119,7 +128,8 @@ module _ (h : Header) (theirs : Recorded) (c : Core) where
   grew flown flew tick (Arrive f (Ok false)) d may row = grew_same d row.0
   grew flown flew tick (Arrive f (Err memory)) d may row = grew_short c.recorded.me refl f (All-contains (HasFlown theirs) flown f flew may.0) tick d may.1 row
   grew flown flew tick (Pump (Ok (Some f))) d may (ResetGoes number waited out) = grew_out (opened c tick) d number f out (grew_opened tick)
-  grew flown flew tick (Pump (Ok (Some f))) d may (MadeGoes free plan out) = grew_out (made c tick plan) d (world (made c tick plan)).count f out (grew_made tick plan)
+  grew flown flew tick (Pump (Ok (Some f))) d may (MadeGoes free plan out) =
+      grew_out (made c tick plan) d (world (made c tick plan)).count f out (grew_made tick plan)
   grew flown flew tick (Pump (Ok None)) d may row = grew_same d row.0
   grew flown flew tick (Pump (Err memory)) d may (inl row) = grew_to (opened c tick) d row (grew_opened tick)
   grew flown flew tick (Pump (Err memory)) d may (inr row) = grew_to (made c tick row.1.0) d row.1.1 (grew_made tick row.1.0)
@@ -130,7 +140,8 @@ module _ (h : Header) (theirs : Recorded) (c : Core) where
 -- 2. what flew stays
 
 -- what flew from a core has flown from what it grew to
-stays : (h : Header) (theirs : Recorded) (c d : Core) → Grew h theirs c d → IsRecorded d → (f : Flying tcp_shape) → HasFlown c.recorded f → HasFlown d.recorded f
+stays : (h : Header) (theirs : Recorded) (c d : Core) → Grew h theirs c d → IsRecorded d → (f : Flying tcp_shape)
+    → HasFlown c.recorded f → HasFlown d.recorded f
 stays h theirs c d g kept f flew = subst (λ (r : Recorded). HasFlown r f) (sym g.recorded)
     (flown_stays c.recorded.header c.recorded.me c.recorded.entries g.more f flew
     (subst (λ (r : Recorded). IsKept r.header r.me (first_event_line r.header) r.entries) g.recorded kept))
@@ -140,14 +151,18 @@ flies : (c d : Core) (tick : Tick) (call : CoreCall) → Leaves c tick call d �
 flies c d tick (Begin thread call answer) row kept = All-nil (HasFlown d.recorded)
 flies c d tick (Attempt thread answer) row kept = All-nil (HasFlown d.recorded)
 flies c d tick (Arrive f answer) row kept = All-nil (HasFlown d.recorded)
-flies c d tick (Pump (Ok (Some f))) (ResetGoes number waited out) kept = All-cons (HasFlown d.recorded) f [] (gone_flown (opened c tick) d number f out kept) (All-nil (HasFlown d.recorded))
-flies c d tick (Pump (Ok (Some f))) (MadeGoes free plan out) kept = All-cons (HasFlown d.recorded) f [] (gone_flown (made c tick plan) d (world (made c tick plan)).count f out kept) (All-nil (HasFlown d.recorded))
+flies c d tick (Pump (Ok (Some f))) (ResetGoes number waited out) kept =
+    All-cons (HasFlown d.recorded) f [] (gone_flown (opened c tick) d number f out kept) (All-nil (HasFlown d.recorded))
+flies c d tick (Pump (Ok (Some f))) (MadeGoes free plan out) kept =
+    All-cons (HasFlown d.recorded) f [] (gone_flown (made c tick plan) d (world (made c tick plan)).count f out kept)
+    (All-nil (HasFlown d.recorded))
 flies c d tick (Pump (Ok None)) row kept = All-nil (HasFlown d.recorded)
 flies c d tick (Pump (Err memory)) row kept = All-nil (HasFlown d.recorded)
 flies c d tick (Timers answer) row kept = All-nil (HasFlown d.recorded)
 
 -- what flew from there has flown from what that grew to
-names_stay : (h : Header) (theirs more : Recorded) → ((f : Flying tcp_shape) → HasFlown theirs f → HasFlown more f) → (xs : List TcpEntry) → AllName h theirs xs → AllName h more xs
+names_stay : (h : Header) (theirs more : Recorded) → ((f : Flying tcp_shape) → HasFlown theirs f → HasFlown more f)
+    → (xs : List TcpEntry) → AllName h theirs xs → AllName h more xs
 names_stay h theirs more stay [] p = tt
 names_stay h theirs more stay (x ∷ xs) p = (go x.item p.0, names_stay h theirs more stay xs p.1)
   where
@@ -165,7 +180,9 @@ record IsHonest (h : Header) (me : Host) (t : Side) (theirs : Recorded) : Type 0
   names : AllName h theirs t.core.recorded.entries
 
 -- an event of one leaves both so
-called_honest : (h : Header) (me you : Host) (old new them : Side) (tick : Tick) (call : CoreCall) → IsHonest h me old them.core.recorded → IsHonest h you them old.core.recorded → IsCalled old them.flown tick call new
+called_honest : (h : Header) (me you : Host) (old new them : Side) (tick : Tick) (call : CoreCall)
+    → IsHonest h me old them.core.recorded → IsHonest h you them old.core.recorded
+    → IsCalled old them.flown tick call new
     → IsHonest h me new them.core.recorded × IsHonest h you them new.core.recorded
 called_honest h me you old new them tick call own far called =
     let theirs = them.core.recorded in
@@ -176,8 +193,12 @@ called_honest h me you old new them tick call own far called =
             ∙ ap (λ (r : Recorded). record { header = h; me = me; entries = r.entries }) (sym g.recorded);
         kept = called.kept;
         flown = subst (λ (fs : List (Flying tcp_shape)). All (HasFlown new.core.recorded) fs) (sym called.flown)
-            (All-append (HasFlown new.core.recorded) old.flown (flown_in call) (λ k d below. stay _ (own.flown k d below)) (flies old.core new.core tick call called.leaves called.kept));
-        names = subst (λ (r : Recorded). AllName h theirs r.entries) (sym g.recorded) (names_append h theirs old.core.recorded.entries g.more own.names g.names);
+            (All-append (HasFlown new.core.recorded) old.flown (flown_in call)
+            (λ k d below. stay _ (own.flown k d below))
+            (flies old.core new.core tick call called.leaves called.kept));
+        names =
+            subst (λ (r : Recorded). AllName h theirs r.entries) (sym g.recorded)
+            (names_append h theirs old.core.recorded.entries g.more own.names g.names);
       },
       record {
         recorded = far.recorded;
@@ -190,7 +211,9 @@ called_honest h me you old new them tick call own far called =
 abbrev AreHonest : Header → Both Side → Type 0
 AreHonest h cores = IsHonest h Zero cores.zero cores.one.core.recorded × IsHonest h One cores.one cores.zero.core.recorded
 
-event_honest : (h : Header) (host : Host) (old : Both Side) (new : Side) (tick : Tick) (call : CoreCall) → AreHonest h old → IsCalled (pick old host) (pick old (other host)).flown tick call new → AreHonest h (with_host old host new)
+event_honest : (h : Header) (host : Host) (old : Both Side) (new : Side) (tick : Tick) (call : CoreCall)
+    → AreHonest h old → IsCalled (pick old host) (pick old (other host)).flown tick call new
+    → AreHonest h (with_host old host new)
 event_honest h Zero old new tick call both called = called_honest h Zero One old.zero new old.one tick call both.0 both.1 called
 event_honest h One old new tick call both called =
     let after = called_honest h One Zero old.one new old.zero tick call both.1 both.0 called in
@@ -198,20 +221,25 @@ event_honest h One old new tick call both called =
 
 lead_honest : (h : Header) (events : List Event) (old new : Both Side) → AreHonest h old → Lead events old new → AreHonest h new
 lead_honest h [] old new both is = subst (λ (cores : Both Side). AreHonest h cores) (sym is) both
-lead_honest h (e ∷ es) old new both lead = lead_honest h es (with_host old e.host lead.0) new (event_honest h e.host old lead.0 e.tick e.call both lead.1) lead.2
+lead_honest h (e ∷ es) old new both lead =
+    lead_honest h es (with_host old e.host lead.0) new
+    (event_honest h e.host old lead.0 e.tick e.call both lead.1) lead.2
 
 new_honest : (h : Header) (me : Host) (ring : ℕ) (theirs : Recorded) → IsHonest h me (new_side h me ring) theirs
 new_honest h me ring theirs = record { recorded = refl; kept = record { runs = tt; numbered = tt; keys = tt }; flown = All-nil _; names = tt }
 
 honest : (h : Header) (events : List Event) (cores : Both Side) → IsCoreWorld h events cores → AreHonest h cores
-honest h events cores w = lead_honest h events (record { zero = new_side h Zero w.zero_ring; one = new_side h One w.one_ring }) cores (new_honest h Zero w.zero_ring _, new_honest h One w.one_ring _) w.lead
+honest h events cores w =
+    lead_honest h events (record { zero = new_side h Zero w.zero_ring; one = new_side h One w.one_ring }) cores
+    (new_honest h Zero w.zero_ring _, new_honest h One w.one_ring _) w.lead
 
 -- 4. their books
 
 kept_of : (h : Header) (me : Host) (t : Side) (theirs : Recorded) → IsHonest h me t theirs → IsKept h me (first_event_line h) t.core.recorded.entries
 kept_of h me t theirs p = subst (λ (r : Recorded). IsKept r.header r.me (first_event_line r.header) r.entries) p.recorded p.kept
 
-sent_of : (h : Header) (you : Host) (theirs : List TcpEntry) (xs : List TcpEntry) → AllName h (record { header = h; me = you; entries = theirs }) xs → NamesSent h you xs theirs
+sent_of : (h : Header) (you : Host) (theirs : List TcpEntry) (xs : List TcpEntry)
+    → AllName h (record { header = h; me = you; entries = theirs }) xs → NamesSent h you xs theirs
 sent_of h you theirs [] p = tt
 sent_of h you theirs (x ∷ xs) p = (go x.item p.0, sent_of h you theirs xs p.1)
   where
@@ -222,17 +250,24 @@ sent_of h you theirs (x ∷ xs) p = (go x.item p.0, sent_of h you theirs xs p.1)
     go (Do step) name = tt
     go (Bring f) name = (name.0, name.1.stands, name.1.keyed)
 
-pub world_books : (h : Header) (events : List Event) (cores : Both Side) → IsCoreWorld h events cores → Books (tcp h) (first_event_line h) (entries_of Zero cores) (entries_of One cores)
+pub world_books : (h : Header) (events : List Event) (cores : Both Side) → IsCoreWorld h events cores
+    → Books (tcp h) (first_event_line h) (entries_of Zero cores) (entries_of One cores)
 world_books h events cores w =
     let both = honest h events cores w in
     let zero = kept_of h Zero cores.zero cores.one.core.recorded both.0 in
     let one = kept_of h One cores.one cores.zero.core.recorded both.1 in
     let sent_zero = subst (λ (r : Recorded). AllName h r (entries_of Zero cores)) both.1.recorded both.0.names in
     let sent_one = subst (λ (r : Recorded). AllName h r (entries_of One cores)) both.0.recorded both.1.names in (
-      record { runs = zero.runs; numbered = zero.numbered; keys = zero.keys; arrivals = sent_of h One (entries_of One cores) (entries_of Zero cores) sent_zero },
+      record {
+        runs = zero.runs;
+        numbered = zero.numbered;
+        keys = zero.keys;
+        arrivals = sent_of h One (entries_of One cores) (entries_of Zero cores) sent_zero;
+      },
       record { runs = one.runs; numbered = one.numbered; keys = one.keys; arrivals = sent_of h Zero (entries_of Zero cores) (entries_of One cores) sent_one },
     )
 
 pub world_hosts : (h : Header) (events : List Event) (cores : Both Side) → IsCoreWorld h events cores
-    → (cores.zero.core.recorded ≡ record { header = h; me = Zero; entries = entries_of Zero cores }) × (cores.one.core.recorded ≡ record { header = h; me = One; entries = entries_of One cores })
+    → (cores.zero.core.recorded ≡ record { header = h; me = Zero; entries = entries_of Zero cores })
+    × (cores.one.core.recorded ≡ record { header = h; me = One; entries = entries_of One cores })
 world_hosts h events cores w = let both = honest h events cores w in (both.0.recorded, both.1.recorded)

@@ -32,7 +32,9 @@ abbrev pub Grows : Type 0
 Grows = (h : Header) (me : Host) (first : ℕ) (old new : List TcpEntry) → IsKept h me first old → MayJoin h me first old new → IsKept h me first (old ++ new)
 
 pub step_joins : Grows → (me : Host) (p q : Progress) (moment : ℕ) (step : Step tcp_shape) (key : Key) (es room new : List TcpEntry)
-    → IsRecording me p es → MayJoin p.header me (first_event_line p.header) es (record { key = key; item = Do step } ∷ []) → key.moment ≡ moment → q ≡ after p moment step
+    → IsRecording me p es
+    → MayJoin p.header me (first_event_line p.header) es (record { key = key; item = Do step } ∷ [])
+    → key.moment ≡ moment → q ≡ after p moment step
     → room ≡ es → new ≡ room ++ record { key = key; item = Do step } ∷ [] → IsRecording me q new
 step_joins grows me p q moment step key es room new is join at q_is room_is new_is =
     let x : TcpEntry = record { key = key; item = Do step } in
@@ -46,7 +48,8 @@ step_joins grows me p q moment step key es room new is join at q_is room_is new_
     } in
     subst (λ (m : ℕ). q ≡ after p m step → IsRecording me q new) at
     (λ q_is. subst (λ (r : Progress). IsRecording me r new) (sym q_is)
-    (subst (λ (es2 : List TcpEntry). IsRecording me (after p key.moment step) es2) (sym (new_is ∙ ap (λ (es2 : List TcpEntry). es2 ++ x ∷ []) room_is)) there)) q_is
+    (subst (λ (es2 : List TcpEntry). IsRecording me (after p key.moment step) es2)
+    (sym (new_is ∙ ap (λ (es2 : List TcpEntry). es2 ++ x ∷ []) room_is)) there)) q_is
 
 -- what is brought is forgotten as ever
 brings : (h : Header) (host : Host) (f : Flying tcp_shape) (w : World tcp_shape) → bring (tcp h) host f (forget w) ≡ forget (bring (tcp h) host f w)
@@ -54,7 +57,9 @@ brings h Zero f w = refl
 brings h One f w = refl
 
 pub bring_joins : Grows → (me : Host) (p q : Progress) (key : Key) (f : Flying tcp_shape) (es room new : List TcpEntry)
-    → IsRecording me p es → MayJoin p.header me (first_event_line p.header) es (record { key = key; item = Bring f } ∷ []) → q ≡ brought p (other me) f.line f.emission
+    → IsRecording me p es
+    → MayJoin p.header me (first_event_line p.header) es (record { key = key; item = Bring f } ∷ [])
+    → q ≡ brought p (other me) f.line f.emission
     → room ≡ es → new ≡ room ++ record { key = key; item = Bring f } ∷ [] → IsRecording me q new
 bring_joins grows me p q key f es room new is join q_is room_is new_is =
     let x : TcpEntry = record { key = key; item = Bring f } in
@@ -67,4 +72,5 @@ bring_joins grows me p q key f es room new is join q_is room_is new_is =
       steps = is.steps ∙ sym (steps_more es x);
     } in
     subst (λ (r : Progress). IsRecording me r new) (sym q_is)
-    (subst (λ (es2 : List TcpEntry). IsRecording me (brought p (other me) f.line f.emission) es2) (sym (new_is ∙ ap (λ (es2 : List TcpEntry). es2 ++ x ∷ []) room_is)) there)
+    (subst (λ (es2 : List TcpEntry). IsRecording me (brought p (other me) f.line f.emission) es2)
+    (sym (new_is ∙ ap (λ (es2 : List TcpEntry). es2 ++ x ∷ []) room_is)) there)

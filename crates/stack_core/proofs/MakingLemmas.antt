@@ -1,5 +1,6 @@
 -- Where an endpoint may make any segment without RST that takes new positions, it may make its SYN, one new byte, or its FIN.
-use Rattle.std.proofs.Common.{◌≡◌, ◌≤◌, ◌<◌, ◌+◌, ℕ, zero, suc, Bool, true, false, List, [], ◌∷◌, Option, None, Some, refl, ap, sym, ◌∙◌, subst, nat_lt, min, inl, inr, arith}
+use Rattle.std.proofs.Common.{◌≡◌, ◌≤◌, ◌<◌, ◌+◌, ℕ, zero, suc, Bool, true, false, List, [], ◌∷◌, Option, None, Some}
+use Rattle.std.proofs.Common.{refl, ap, sym, ◌∙◌, subst, nat_lt, min, inl, inr, arith}
 use Rattle.std.proofs.Math.Nat.{add-zero, zero-add}
 use Rattle.std.proofs.lemmas.Option.{none-some, same_Some}
 use Rattle.std.specs.Option.{option_map_or}
@@ -52,7 +53,17 @@ use Rattle.case_forms.specs.declared.calls.Host.TheVariants.{Zero, One}
 
 -- a segment without SYN and RST
 abbrev pub plain : Endpoint → ℕ → ℕ → Bool → Bool → ℕ → Option Word → Option ℕ → SegmentPlan
-plain e pos len ack fin window iss shift = record { lport = e.lport; rport = e.rport; pos = pos; len = len; flags = record { ack = ack; rst = false; syn = false; fin = fin }; window = window; iss = iss; shift = shift }
+plain e pos len ack fin window iss shift =
+    record {
+      lport = e.lport;
+      rport = e.rport;
+      pos = pos;
+      len = len;
+      flags = record { ack = ack; rst = false; syn = false; fin = fin };
+      window = window;
+      iss = iss;
+      shift = shift;
+    }
 
 -- what holds where a plain segment that takes new positions may be made
 pub record Room (e : Endpoint) (pos len : ℕ) (fin : Bool) : Type 0 where
@@ -135,13 +146,23 @@ module _ (e : Endpoint) (pos len : ℕ) (ack fin : Bool) (window : ℕ) (iss : O
       let t = none_all (making_rules e m) h in
       let state = both_true (not (may_not_send e.state) && (len == 0 || may_carry e.state)) (not fin || may_finish e.state) t.1.0 in
       let more = both_hold (not (may_not_send e.state)) (len == 0 || may_carry e.state) state.0 in
-      let payload = neither (nat_lt 0 len && (pos == 0 || nat_lt (end_of e.stream.accepted) (pos + len))) (fin && not (e.stream.ended && pos + len == end_of e.stream.accepted)) t.1.1.1.0 in
-      let bytes : 0 < len → (pos == 0 || nat_lt (end_of e.stream.accepted) (pos + len)) ≡ false = λ p. then_false (nat_lt 0 len) _ payload.0 (is_less 0 len p) in
-      let finish : fin ≡ true → (e.stream.ended ≡ true) × ((pos + len == end_of e.stream.accepted) ≡ true) = λ p. both_true e.stream.ended _ (then_false fin _ payload.1 p) in
-      let place : ((nat_lt pos e.stream.snd_una || nat_lt (snd_max e) pos) || (nat_lt pos (snd_max e) && nat_lt e.recover (old_end e m))) ≡ false = subst (λ (b : Bool). (if b then is_bad_empty_place e m else ((nat_lt pos e.stream.snd_una || nat_lt (snd_max e) pos) || (nat_lt pos (snd_max e) && nat_lt e.recover (old_end e m)))) ≡ false) (is_zero (making_length m) some) t.1.1.1.1.1.0 in
+      let payload =
+      neither (nat_lt 0 len && (pos == 0 || nat_lt (end_of e.stream.accepted) (pos + len)))
+      (fin && not (e.stream.ended && pos + len == end_of e.stream.accepted)) t.1.1.1.0 in
+      let bytes : 0 < len → (pos == 0 || nat_lt (end_of e.stream.accepted) (pos + len)) ≡ false =
+      λ p. then_false (nat_lt 0 len) _ payload.0 (is_less 0 len p) in
+      let finish : fin ≡ true → (e.stream.ended ≡ true) × ((pos + len == end_of e.stream.accepted) ≡ true) =
+      λ p. both_true e.stream.ended _ (then_false fin _ payload.1 p) in
+      let place : ((nat_lt pos e.stream.snd_una || nat_lt (snd_max e) pos)
+      || (nat_lt pos (snd_max e) && nat_lt e.recover (old_end e m))) ≡ false =
+      subst (λ (b : Bool). (if b then is_bad_empty_place e m
+      else ((nat_lt pos e.stream.snd_una || nat_lt (snd_max e) pos)
+      || (nat_lt pos (snd_max e) && nat_lt e.recover (old_end e m)))) ≡ false)
+      (is_zero (making_length m) some) t.1.1.1.1.1.0 in
       let both = neither (nat_lt pos e.stream.snd_una || nat_lt (snd_max e) pos) (nat_lt pos (snd_max e) && nat_lt e.recover (old_end e m)) place in
       let low = neither (nat_lt pos e.stream.snd_una) (nat_lt (snd_max e) pos) both.0 in
-      let fresh : 0 < len → snd_max e < pos + len → (nat_lt 0 len && nat_lt (snd_max e) (pos + len)) ≡ true = λ p q. rw (is_less 0 len p, is_less (snd_max e) (pos + len) q) refl in
+      let fresh : 0 < len → snd_max e < pos + len → (nat_lt 0 len && nat_lt (snd_max e) (pos + len)) ≡ true =
+      λ p q. rw (is_less 0 len p, is_less (snd_max e) (pos + len) q) refl in
       record {
         opened = left_false (is_closed e.state) t.0;
         quiet = not_true (may_not_send e.state) more.0;
@@ -176,7 +197,8 @@ no_test : (b : Bool) → (b && false) ≡ false
 no_test true = refl
 no_test false = refl
 
-pub byte_may : (e : Endpoint) (pos len window : ℕ) (fin : Bool) → Room e pos len fin → 0 < len → snd_max e < pos + len → first_broken (making_rules e (bytes_of e 1 window)) ≡ None
+pub byte_may : (e : Endpoint) (pos len window : ℕ) (fin : Bool) → Room e pos len fin → 0 < len → snd_max e < pos + len
+    → first_broken (making_rules e (bytes_of e 1 window)) ≡ None
 byte_may e pos len window fin r some new =
     let r_max = r.max in
     let r_una = r.snd_una in
@@ -250,7 +272,17 @@ fin_may e pos len window r new =
 
 -- a segment with SYN and without RST
 abbrev pub synned : Endpoint → ℕ → ℕ → Bool → Bool → ℕ → Option Word → Option ℕ → SegmentPlan
-synned e pos len ack fin window iss shift = record { lport = e.lport; rport = e.rport; pos = pos; len = len; flags = record { ack = ack; rst = false; syn = true; fin = fin }; window = window; iss = iss; shift = shift }
+synned e pos len ack fin window iss shift =
+    record {
+      lport = e.lport;
+      rport = e.rport;
+      pos = pos;
+      len = len;
+      flags = record { ack = ack; rst = false; syn = true; fin = fin };
+      window = window;
+      iss = iss;
+      shift = shift;
+    }
 
 ack_is : (n : ℕ) (ack : Bool) → (if ack then n == 0 else nat_le 1 n) ≡ false → nat_le 1 n ≡ ack
 ack_is n true h = grind (arith, nat_tests)
@@ -265,7 +297,8 @@ pub syn_place : (e : Endpoint) (ack : Bool) → e.stream.snd_una ≡ 0 → snd_m
 syn_place e true snd_una max = refl
 syn_place e false snd_una max = rw (snd_una, not_above 0 (snd_max e) (omega arith), not_above (snd_max e) 0 max) refl
 
-pub syn_may : (e : Endpoint) (pos len window w : ℕ) (ack fin : Bool) (iss : Option Word) (shift : Option ℕ) (new : SynOptions) → first_broken (making_rules e (synned e pos len ack fin window iss shift)) ≡ None
+pub syn_may : (e : Endpoint) (pos len window w : ℕ) (ack fin : Bool) (iss : Option Word) (shift : Option ℕ)
+    (new : SynOptions) → first_broken (making_rules e (synned e pos len ack fin window iss shift)) ≡ None
     → snd_max e < pos + making_length (synned e pos len ack fin window iss shift) → (snd_max e ≤ 0) × (first_broken (making_rules e (syn_of e new w)) ≡ None)
 syn_may e pos len window w ack fin iss shift new h past =
     let t = none_all (making_rules e (synned e pos len ack fin window iss shift)) h in
@@ -317,23 +350,41 @@ by_test true yes_ no_ = yes_ refl
 by_test false yes_ no_ = no_ refl
 
 abbrev pub OneMay : Endpoint → SynOptions → (at_syn window : ℕ) → Type 0
-OneMay e new v w = ((snd_max e ≤ 0) × (first_broken (making_rules e (syn_of e new v)) ≡ None)) ⊎ ((first_broken (making_rules e (bytes_of e 1 w)) ≡ None) ⊎ (first_broken (making_rules e (fin_of e w)) ≡ None))
+OneMay e new v w =
+    ((snd_max e ≤ 0) × (first_broken (making_rules e (syn_of e new v)) ≡ None))
+    ⊎ ((first_broken (making_rules e (bytes_of e 1 w)) ≡ None) ⊎ (first_broken (making_rules e (fin_of e w)) ≡ None))
 
 -- so many positions, with the counts of SYN and FIN
 abbrev pub reach : SegmentPlan → Bool → Bool → ℕ
 reach m syn fin = m.pos + (m.len + flag_count syn + flag_count fin)
 
 abbrev pub flagged : SegmentPlan → Bool → Bool → Bool → SegmentPlan
-flagged m rst syn fin = record { lport = m.lport; rport = m.rport; pos = m.pos; len = m.len; flags = record { ack = m.flags.ack; rst = rst; syn = syn; fin = fin }; window = m.window; iss = m.iss; shift = m.shift }
+flagged m rst syn fin =
+    record {
+      lport = m.lport;
+      rport = m.rport;
+      pos = m.pos;
+      len = m.len;
+      flags = record { ack = m.flags.ack; rst = rst; syn = syn; fin = fin };
+      window = m.window;
+      iss = m.iss;
+      shift = m.shift;
+    }
 
 -- an empty one takes no new positions
-not_empty : (e : Endpoint) (m : SegmentPlan) (fin : Bool) → first_broken (making_rules e (flagged m false false fin)) ≡ None → snd_max e < reach m false fin → 0 < making_length (flagged m false false fin)
+not_empty : (e : Endpoint) (m : SegmentPlan) (fin : Bool)
+    → first_broken (making_rules e (flagged m false false fin)) ≡ None → snd_max e < reach m false fin
+    → 0 < making_length (flagged m false false fin)
 not_empty e m fin h past = by_test (making_length (flagged m false false fin) == 0) empty (not_zero (making_length (flagged m false false fin)))
   where
     empty : (making_length (flagged m false false fin) == 0) ≡ true → 0 < making_length (flagged m false false fin)
     empty is =
         let t = none_all (making_rules e (flagged m false false fin)) h in
-        let place : (nat_lt (m.pos + 1) e.stream.snd_una || nat_lt (snd_max e) m.pos) ≡ false = subst (λ (b : Bool). (if b then is_bad_empty_place e (flagged m false false fin) else ((nat_lt m.pos e.stream.snd_una || nat_lt (snd_max e) m.pos) || (nat_lt m.pos (snd_max e) && nat_lt e.recover (old_end e (flagged m false false fin))))) ≡ false) is t.1.1.1.1.1.0 in
+        let place : (nat_lt (m.pos + 1) e.stream.snd_una || nat_lt (snd_max e) m.pos) ≡ false =
+        subst (λ (b : Bool). (if b then is_bad_empty_place e (flagged m false false fin)
+        else ((nat_lt m.pos e.stream.snd_una || nat_lt (snd_max e) m.pos)
+        || (nat_lt m.pos (snd_max e) && nat_lt e.recover (old_end e (flagged m false false fin))))) ≡ false)
+        is t.1.1.1.1.1.0 in
         let low : m.pos ≤ snd_max e = at_most m.pos (snd_max e) (neither (nat_lt (m.pos + 1) e.stream.snd_una) (nat_lt (snd_max e) m.pos) place).1 in
         let zero_long : making_length (flagged m false false fin) ≡ 0 = is_same (making_length (flagged m false false fin)) 0 is in
         let past2 : snd_max e < m.pos + making_length (flagged m false false fin) = past in
@@ -346,15 +397,19 @@ spent : (max pos len : ℕ) (fin : Bool) → max < pos + (len + 0 + flag_count f
 spent max pos len true past is = let top = at_most (pos + len) max is in (refl, omega arith)
 spent max pos len false past is = let top = at_most (pos + len) max is in absurd (omega arith)
 
-plain_may : (e : Endpoint) (new : SynOptions) (v w : ℕ) (m : SegmentPlan) (fin : Bool) → first_broken (making_rules e (flagged m false false fin)) ≡ None → snd_max e < reach m false fin → OneMay e new v w
+plain_may : (e : Endpoint) (new : SynOptions) (v w : ℕ) (m : SegmentPlan) (fin : Bool)
+    → first_broken (making_rules e (flagged m false false fin)) ≡ None → snd_max e < reach m false fin
+    → OneMay e new v w
 plain_may e new v w m fin h past =
     let r : Room e m.pos m.len fin = room e m.pos m.len m.flags.ack fin m.window m.iss m.shift h (not_empty e m fin h past) in
     let low = r.max in
     by_test (nat_lt (snd_max e) (m.pos + m.len))
     (λ is. let new_end : snd_max e < m.pos + m.len = is_more (snd_max e) (m.pos + m.len) is in inr (inl (byte_may e m.pos m.len w fin r (omega arith) new_end)))
-    (λ is. let fins = spent (snd_max e) m.pos m.len fin past is in inr (inr (fin_may e m.pos m.len w (subst (λ (b : Bool). Room e m.pos m.len b) fins.0 r) fins.1)))
+    (λ is. let fins = spent (snd_max e) m.pos m.len fin past is in
+    inr (inr (fin_may e m.pos m.len w (subst (λ (b : Bool). Room e m.pos m.len b) fins.0 r) fins.1)))
 
-pub one_may : (e : Endpoint) (new : SynOptions) (v w : ℕ) (m : SegmentPlan) → m.flags.rst ≡ false → first_broken (making_rules e m) ≡ None → snd_max e < m.pos + making_length m → OneMay e new v w
+pub one_may : (e : Endpoint) (new : SynOptions) (v w : ℕ) (m : SegmentPlan) → m.flags.rst ≡ false
+    → first_broken (making_rules e m) ≡ None → snd_max e < m.pos + making_length m → OneMay e new v w
 one_may e new v w m rst h past = by m.flags.syn (subst (λ (b : Bool). first_broken (making_rules e (flagged m b m.flags.syn m.flags.fin)) ≡ None) rst h) past
   where
     by : (syn : Bool) → first_broken (making_rules e (flagged m false syn m.flags.fin)) ≡ None → snd_max e < reach m syn m.flags.fin → OneMay e new v w
@@ -363,15 +418,20 @@ one_may e new v w m rst h past = by m.flags.syn (subst (λ (b : Bool). first_bro
 
 -- 3. at a host
 
-last_has : {X : Type 0} (test : X → Bool) (xs : List X) (k : ℕ) (found : Option ℕ) (i : ℕ) → last_from test k found xs ≡ Some i → (found ≡ Some i) ⊎ ((j : ℕ) × (x : X) × (i ≡ k + j) × (slice_get xs j ≡ Some x) × (test x ≡ true))
+last_has : {X : Type 0} (test : X → Bool) (xs : List X) (k : ℕ) (found : Option ℕ) (i : ℕ)
+    → last_from test k found xs ≡ Some i
+    → (found ≡ Some i) ⊎ ((j : ℕ) × (x : X) × (i ≡ k + j) × (slice_get xs j ≡ Some x) × (test x ≡ true))
 last_has test [] k found i is = inl is
 last_has {X} test (x ∷ xs) k found i is = go (last_has test xs (suc k) (if test x then Some k else found) i is)
   where
-    here : (b : Bool) → test x ≡ b → (if b then Some k else found) ≡ Some i → (found ≡ Some i) ⊎ ((j : ℕ) × (y : X) × (i ≡ k + j) × (slice_get (x ∷ xs) j ≡ Some y) × (test y ≡ true))
+    here : (b : Bool) → test x ≡ b → (if b then Some k else found) ≡ Some i
+        → (found ≡ Some i) ⊎ ((j : ℕ) × (y : X) × (i ≡ k + j) × (slice_get (x ∷ xs) j ≡ Some y) × (test y ≡ true))
     here true passes same = inr (0, x, sym (same_Some k i same) ∙ sym (add-zero k), refl, passes)
     here false fails same = inl same
 
-    go : ((if test x then Some k else found) ≡ Some i) ⊎ ((j : ℕ) × (y : X) × (i ≡ suc k + j) × (slice_get xs j ≡ Some y) × (test y ≡ true)) → (found ≡ Some i) ⊎ ((j : ℕ) × (y : X) × (i ≡ k + j) × (slice_get (x ∷ xs) j ≡ Some y) × (test y ≡ true))
+    go : ((if test x then Some k else found) ≡ Some i)
+        ⊎ ((j : ℕ) × (y : X) × (i ≡ suc k + j) × (slice_get xs j ≡ Some y) × (test y ≡ true))
+        → (found ≡ Some i) ⊎ ((j : ℕ) × (y : X) × (i ≡ k + j) × (slice_get (x ∷ xs) j ≡ Some y) × (test y ≡ true))
     go (inl same) = here (test x) refl same
     go (inr (j, y, at, there, passes)) = inr (suc j, y, at ∙ omega arith, there, passes)
 
@@ -379,21 +439,26 @@ same_ports : (l r : ℕ) (e : Endpoint) → has_ports l r e ≡ true → (e.lpor
 same_ports l r e is = let both = both_hold (e.lport == l) (e.rport == r) is in (is_same e.lport l both.0, is_same e.rport r both.1)
 
 -- the endpoint of ports has them
-pub of_ports : (b : HostTcp) (l r : ℕ) (e : Endpoint) → endpoint_of b l r ≡ Some e → (i : ℕ) × (slice_get b.endpoints i ≡ Some e) × (e.lport ≡ l) × (e.rport ≡ r)
+pub of_ports : (b : HostTcp) (l r : ℕ) (e : Endpoint) → endpoint_of b l r ≡ Some e
+    → (i : ℕ) × (slice_get b.endpoints i ≡ Some e) × (e.lport ≡ l) × (e.rport ≡ r)
 of_ports b l r e found = by (place_of b l r) refl found
   where
-    by : (o : Option ℕ) → place_of b l r ≡ o → option_map_or (λ i. slice_get b.endpoints i) o None ≡ Some e → (i : ℕ) × (slice_get b.endpoints i ≡ Some e) × (e.lport ≡ l) × (e.rport ≡ r)
+    by : (o : Option ℕ) → place_of b l r ≡ o → option_map_or (λ i. slice_get b.endpoints i) o None ≡ Some e
+        → (i : ℕ) × (slice_get b.endpoints i ≡ Some e) × (e.lport ≡ l) × (e.rport ≡ r)
     by None is found = absurd (none-some e found)
     by (Some i) is found = go (last_has (has_ports l r) b.endpoints 0 None i is)
       where
-        go : (None ≡ Some i) ⊎ ((j : ℕ) × (x : Endpoint) × (i ≡ 0 + j) × (slice_get b.endpoints j ≡ Some x) × (has_ports l r x ≡ true)) → (i : ℕ) × (slice_get b.endpoints i ≡ Some e) × (e.lport ≡ l) × (e.rport ≡ r)
+        go : (None ≡ Some i) ⊎ ((j : ℕ) × (x : Endpoint) × (i ≡ 0 + j) × (slice_get b.endpoints j ≡ Some x)
+            × (has_ports l r x ≡ true)) → (i : ℕ) × (slice_get b.endpoints i ≡ Some e) × (e.lport ≡ l) × (e.rport ≡ r)
         go (inl none) = absurd (none-some i none)
         go (inr (j, x, at, there, passes)) =
             let same : x ≡ e = same_Some x e (sym there ∙ ap (λ (n : ℕ). slice_get b.endpoints n) (sym (at ∙ zero-add j)) ∙ found) in
             let ports = same_ports l r e (subst (λ (y : Endpoint). has_ports l r y ≡ true) same passes) in
             (i, found, ports.0, ports.1)
 
-pub nothing : (h : Header) (me : Host) (w : World tcp_shape) → ((i : ℕ) (e : Endpoint) → slice_get (pick w.hosts me).body.endpoints i ≡ Some e → IsTried h me w e) → NothingToMake h me w
+pub nothing : (h : Header) (me : Host) (w : World tcp_shape)
+    → ((i : ℕ) (e : Endpoint) → slice_get (pick w.hosts me).body.endpoints i ≡ Some e → IsTried h me w e)
+    → NothingToMake h me w
 nothing h me w tried m e rst found past permitted = refute (one_may e t.opening t.at_syn t.window m rst may past)
   where
     b : HostTcp
@@ -412,7 +477,11 @@ nothing h me w tried m e rst found past permitted = refute (one_may e t.opening 
     may = subst (λ (o : Option Endpoint). first_broken (option_map_or (λ x. making_rules x m) o ((rules.NoEndpoint, true) ∷ [])) ≡ None) found permitted
 
     back : (c : SegmentPlan) → c.lport ≡ e.lport → c.rport ≡ e.rport → first_broken (making_rules e c) ≡ None → Permitted (tcp h) 0 w (At me (Makes c))
-    back c l r is = subst (λ (o : Option Endpoint). first_broken (option_map_or (λ x. making_rules x c) o ((rules.NoEndpoint, true) ∷ [])) ≡ None) (sym (subst (λ (p : ℕ). endpoint_of b p c.rport ≡ Some e) (sym l) (subst (λ (q : ℕ). endpoint_of b e.lport q ≡ Some e) (sym r) found2))) is
+    back c l r is =
+        subst (λ (o : Option Endpoint).
+        first_broken (option_map_or (λ x. making_rules x c) o ((rules.NoEndpoint, true) ∷ [])) ≡ None)
+        (sym (subst (λ (p : ℕ). endpoint_of b p c.rport ≡ Some e) (sym l)
+        (subst (λ (q : ℕ). endpoint_of b e.lport q ≡ Some e) (sym r) found2))) is
 
     refute : OneMay e t.opening t.at_syn t.window → ⊥
     refute (inl (low, is)) = t.syn low (back (syn_of e t.opening t.at_syn) refl refl is)
@@ -429,7 +498,9 @@ short_at P [] i x at all = absurd (none-some x at)
 short_at P (y ∷ ys) zero x at all = subst P (same_Some y x at) (All-head P y ys all)
 short_at P (y ∷ ys) (suc i) x at all = short_at P ys i x at (All-tail P y ys all)
 
-far : (h : Header) (me : Host) (w : World tcp_shape) (m : SegmentPlan) (fin : Bool) → All (λ e. IsShort e) (pick w.hosts me).body.endpoints → 0 < m.len + flag_count false + flag_count fin → greatest_position < m.pos → (m.len ≡ 0 → fin ≡ true) → Refuses h me w (flagged m false false fin)
+far : (h : Header) (me : Host) (w : World tcp_shape) (m : SegmentPlan) (fin : Bool)
+    → All (λ e. IsShort e) (pick w.hosts me).body.endpoints → 0 < m.len + flag_count false + flag_count fin
+    → greatest_position < m.pos → (m.len ≡ 0 → fin ≡ true) → Refuses h me w (flagged m false false fin)
 far h me w m fin all some above ends permitted = by (endpoint_of (pick w.hosts me).body m.lport m.rport) refl permitted
   where
     too_far : (e : Endpoint) → IsShort e → Room e m.pos m.len fin → ⊥
@@ -437,14 +508,17 @@ far h me w m fin all some above ends permitted = by (endpoint_of (pick w.hosts m
         (λ is. let behind = r.behind (ends (is_same m.len 0 is)) in absurd (omega arith))
         (λ is. let accepted = r.accepted (not_zero m.len is) in absurd (omega arith))
 
-    by : (o : Option Endpoint) → endpoint_of (pick w.hosts me).body m.lport m.rport ≡ o → first_broken (option_map_or (λ x. making_rules x (flagged m false false fin)) o ((rules.NoEndpoint, true) ∷ [])) ≡ None → ⊥
+    by : (o : Option Endpoint) → endpoint_of (pick w.hosts me).body m.lport m.rport ≡ o
+        → first_broken (option_map_or (λ x. making_rules x (flagged m false false fin)) o
+        ((rules.NoEndpoint, true) ∷ [])) ≡ None → ⊥
     by None is may = absurd cc
     by (Some e) is may =
         let place = of_ports (pick w.hosts me).body m.lport m.rport e is in
         too_far e (short_at IsShort (pick w.hosts me).body.endpoints place.0 e place.1 all) (room e m.pos m.len m.flags.ack fin m.window m.iss m.shift may some)
 
 -- an endpoint with more than that was tried where its SYN was
-pub tried_far : (h : Header) (me : Host) (w : World tcp_shape) (opening : SynOptions) (window : ℕ) (e : Endpoint) → All (λ e. IsShort e) (pick w.hosts me).body.endpoints → greatest_position < snd_max e → IsTried h me w e
+pub tried_far : (h : Header) (me : Host) (w : World tcp_shape) (opening : SynOptions) (window : ℕ) (e : Endpoint)
+    → All (λ e. IsShort e) (pick w.hosts me).body.endpoints → greatest_position < snd_max e → IsTried h me w e
 tried_far h me w opening window e all above = record {
   opening = opening;
   at_syn = window;
@@ -461,13 +535,16 @@ short_body steps b few k = All-weaker (IsKept steps) IsShort (λ e kept. short e
     short : (e : Endpoint) → IsKept steps e → IsShort e
     short e kept = let accepted = kept.accepted in omega arith
 
-pub short_host : (steps : ℕ) (w : World tcp_shape) (me : Host) → steps < most_steps → IsKeptWorld steps w → All (λ e. IsShort e) (pick w.hosts me).body.endpoints
+pub short_host : (steps : ℕ) (w : World tcp_shape) (me : Host) → steps < most_steps → IsKeptWorld steps w
+    → All (λ e. IsShort e) (pick w.hosts me).body.endpoints
 short_host steps w Zero few k = short_body steps w.hosts.zero.body few k.zero.body
 short_host steps w One few k = short_body steps w.hosts.one.body few k.one.body
 
 -- 5. the search
 
-pub one_more : {X : Type 0} (T : X → Type 0) (xs : List X) (p : ℕ) (x : X) → ((j : ℕ) (e : X) → j < p → slice_get xs j ≡ Some e → T e) → slice_get xs p ≡ Some x → T x → (j : ℕ) (e : X) → j < p + 1 → slice_get xs j ≡ Some e → T e
+pub one_more : {X : Type 0} (T : X → Type 0) (xs : List X) (p : ℕ) (x : X)
+    → ((j : ℕ) (e : X) → j < p → slice_get xs j ≡ Some e → T e) → slice_get xs p ≡ Some x → T x → (j : ℕ) (e : X)
+    → j < p + 1 → slice_get xs j ≡ Some e → T e
 one_more {X} T xs p x were here is j e less at = by_test (nat_lt j p) (λ b. were j e (is_more j p b) at)
     (λ b. let low = at_most p j b in let same : j ≡ p = omega arith in subst T (same_Some x e (sym here ∙ ap (λ (n : ℕ). slice_get xs n) (sym same) ∙ at)) is)
 
@@ -480,7 +557,8 @@ inside (y ∷ ys) (suc i) (suc p) x at out = let less = inside ys i p x at out i
 
 -- 6. told of the whole world
 
-pub plan_whole : ForgettingIsFree → (p : Progress) (r : Recorded) (me : Host) → p.header ≡ r.header → p.world ≡ forget (world_left r) → me ≡ r.me → (o : Option SegmentPlan)
+pub plan_whole : ForgettingIsFree → (p : Progress) (r : Recorded) (me : Host) → p.header ≡ r.header
+    → p.world ≡ forget (world_left r) → me ≡ r.me → (o : Option SegmentPlan)
     → IfSome o (λ m. IsMakeable p.header me p.world m) → IfSome o (λ m. IsMakeable r.header r.me (world_left r) m)
 plan_whole free p r me header left is None f = tt
 plan_whole free p r me header left is (Some m) f = (
@@ -496,24 +574,41 @@ plan_whole free p r me header left is (Some m) f = (
 -- the same is refused where nothing was forgotten
 nothing_whole : ForgettingIsFree → (h : Header) (me : Host) (w : World tcp_shape) → NothingToMake h me (forget w) → NothingToMake h me w
 nothing_whole free h me w none m e rst found past permitted = none m (forget_endpoint e) rst
-    (ap (λ (b : HostTcp). endpoint_of b m.lport m.rport) (kept_body me w) ∙ endpoint-forget (pick w.hosts me).body m.lport m.rport ∙ ap (option_map forget_endpoint) found)
+    (ap (λ (b : HostTcp). endpoint_of b m.lport m.rport) (kept_body me w)
+    ∙ endpoint-forget (pick w.hosts me).body m.lport m.rport ∙ ap (option_map forget_endpoint) found)
     (subst (λ (n : ℕ). n < m.pos + making_length m) (sym (snd_max-forget e)) past)
     (subst (λ (rs : List (Rule × Bool)). first_broken rs ≡ None) (sym (free.rules h 0 w (At me (Makes m)))) permitted)
 
-pub none_whole : ForgettingIsFree → (p : Progress) (r : Recorded) (me : Host) → p.header ≡ r.header → p.world ≡ forget (world_left r) → me ≡ r.me → (o : Option SegmentPlan)
+pub none_whole : ForgettingIsFree → (p : Progress) (r : Recorded) (me : Host) → p.header ≡ r.header
+    → p.world ≡ forget (world_left r) → me ≡ r.me → (o : Option SegmentPlan)
     → IfNone o (NothingToMake p.header me p.world) → IfNone o (NothingToMake r.header r.me (world_left r))
 none_whole free p r me header left is (Some m) f = tt
-none_whole free p r me header left is None f = nothing_whole free r.header r.me (world_left r) (subst (λ (h : Header). NothingToMake h r.me (forget (world_left r))) header (subst (λ (w : World tcp_shape). NothingToMake p.header r.me w) left (subst (λ (x : Host). NothingToMake p.header x p.world) is f)))
+none_whole free p r me header left is None f =
+    nothing_whole free r.header r.me (world_left r)
+    (subst (λ (h : Header). NothingToMake h r.me (forget (world_left r))) header
+    (subst (λ (w : World tcp_shape). NothingToMake p.header r.me w) left
+    (subst (λ (x : Host). NothingToMake p.header x p.world) is f)))
 
 -- 7. all three were tried
 
-pub all_tried : (h : Header) (me : Host) (w : World tcp_shape) (opening : SynOptions) (at_syn window : ℕ) (e : Endpoint) (byte fin : SegmentPlan) (o : Option SegmentPlan) → (snd_max e ≤ 0 → Refuses h me w (syn_of e opening at_syn)) → byte ≡ bytes_of e 1 window → Refuses h me w byte
+pub all_tried : (h : Header) (me : Host) (w : World tcp_shape) (opening : SynOptions) (at_syn window : ℕ) (e : Endpoint)
+    (byte fin : SegmentPlan) (o : Option SegmentPlan) → (snd_max e ≤ 0 → Refuses h me w (syn_of e opening at_syn))
+    → byte ≡ bytes_of e 1 window → Refuses h me w byte
     → fin ≡ fin_of e window → IfNone o (Refuses h me w fin) → IfNone o (IsTried h me w e)
 all_tried h me w opening at_syn window e byte fin (Some m) syn byte_is no_byte fin_is no_fin = tt
-all_tried h me w opening at_syn window e byte fin None syn byte_is no_byte fin_is no_fin = record { opening = opening; at_syn = at_syn; window = window; syn = syn; byte = subst (λ (m : SegmentPlan). Refuses h me w m) byte_is no_byte; fin = subst (λ (m : SegmentPlan). Refuses h me w m) fin_is no_fin }
+all_tried h me w opening at_syn window e byte fin None syn byte_is no_byte fin_is no_fin =
+    record {
+      opening = opening;
+      at_syn = at_syn;
+      window = window;
+      syn = syn;
+      byte = subst (λ (m : SegmentPlan). Refuses h me w m) byte_is no_byte;
+      fin = subst (λ (m : SegmentPlan). Refuses h me w m) fin_is no_fin;
+    }
 
 -- a SYN tells the shift that its endpoint is given with its initial number
-pub syn_tells : (v : Version) (e : Endpoint) (opening : SynOptions) (window : ℕ) (plan : SegmentPlan) → MayOpen v opening → plan ≡ syn_of e opening window → TellsWell v plan
+pub syn_tells : (v : Version) (e : Endpoint) (opening : SynOptions) (window : ℕ) (plan : SegmentPlan)
+    → MayOpen v opening → plan ≡ syn_of e opening window → TellsWell v plan
 syn_tells v e opening window plan may is = subst (λ (m : SegmentPlan). TellsWell v m) (sym is) (by (is_some e.iss) opening.shift may)
   where
     by : (known : Bool) (shift : Option ℕ) → IfSome shift (λ n. (scales v ≡ true) × (n ≤ 14))

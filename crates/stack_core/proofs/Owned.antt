@@ -1,5 +1,6 @@
 -- What a core gave and what its threads wait for stays its own with each step.
-use Rattle.std.proofs.Common.{◌≡◌, ◌≤◌, ◌<◌, ◌+◌, ◌*◌, ℕ, suc, ◌⊎◌, Bool, true, false, List, length, Option, Some, None, refl, ap, sym, subst, ◌∙◌, inl, inr, nat_eq, arith}
+use Rattle.std.proofs.Common.{◌≡◌, ◌≤◌, ◌<◌, ◌+◌, ◌*◌, ℕ, suc, ◌⊎◌, Bool, true, false, List, length, Option, Some, None}
+use Rattle.std.proofs.Common.{refl, ap, sym, subst, ◌∙◌, inl, inr, nat_eq, arith}
 use Rattle.std.specs.Prelude.{if◌then◌else◌, is_some}
 use Rattle.std.specs.Map.{lookup}
 use Rattle.std.proofs.lemmas.Option.{same_Some}
@@ -30,7 +31,9 @@ abbrev OwnCalls : Host → List (ℕ × Turn tcp_shape) → Type 0
 OwnCalls me threads = (t : ℕ) (call : Call) → turn_of t threads ≡ Called call → Aims me (aim call) × IsCallWithin call
 
 -- one turn changes, and is none of a call or of one of its own
-turn_own : (h : Header) (me : Host) (threads : List (ℕ × Turn tcp_shape)) (n : ℕ) (u : Turn tcp_shape) → OwnCalls me threads → ((call : Call) → u ≡ Called call → Aims me (aim call) × IsCallWithin call) → OwnCalls me (insert_entry nat_eq threads n u)
+turn_own : (h : Header) (me : Host) (threads : List (ℕ × Turn tcp_shape)) (n : ℕ) (u : Turn tcp_shape)
+    → OwnCalls me threads → ((call : Call) → u ≡ Called call → Aims me (aim call) × IsCallWithin call)
+    → OwnCalls me (insert_entry nat_eq threads n u)
 turn_own h me threads n u own new t call is = by (nat_eq t n) (sym (turn_insert (tcp h) t n u threads) ∙ is)
   where
     by : (b : Bool) → (if b then u else turn_of t threads) ≡ Called call → Aims me (aim call) × IsCallWithin call
@@ -55,14 +58,17 @@ pub record OwnNumbers (me : Host) (b : HostTcp) : Type 0 where
 same_numbers : (me : Host) (b c : HostTcp) → c.sockets ≡ b.sockets → OwnNumbers me b → OwnNumbers me c
 same_numbers me b c same own = record {
   own = λ n is. own.own n (ap (λ (es : Sockets). is_some (lookup (nat_eq n) es)) (sym same) ∙ is);
-  below = λ n is. subst (λ (es : Sockets). n < first_socket me + 2 * length es) (sym same) (own.below n (ap (λ (es : Sockets). is_some (lookup (nat_eq n) es)) (sym same) ∙ is));
+  below =
+      λ n is. subst (λ (es : Sockets). n < first_socket me + 2 * length es) (sym same)
+      (own.below n (ap (λ (es : Sockets). is_some (lookup (nat_eq n) es)) (sym same) ∙ is));
 }
 
 pub not_given : (b : Bool) → (b ≡ true → ⊥) → b ≡ false
 not_given true never = absurd (never refl)
 not_given false never = refl
 
-pub call_numbers : (me : Host) (b c : HostTcp) (o : Option ℕ) → SocketsAfter b.sockets c.sockets o → ((n : ℕ) → o ≡ Some n → n ≡ next_socket me b) → ((n : ℕ) → o ≡ Some n → lane n ≡ me) → OwnNumbers me b
+pub call_numbers : (me : Host) (b c : HostTcp) (o : Option ℕ) → SocketsAfter b.sockets c.sockets o
+    → ((n : ℕ) → o ≡ Some n → n ≡ next_socket me b) → ((n : ℕ) → o ≡ Some n → lane n ≡ me) → OwnNumbers me b
     → OwnNumbers me c × (length c.sockets ≤ suc (length b.sockets))
 call_numbers me b c o (inl same) next lanes own = (same_numbers me b c same own, let count = ap (λ (es : Sockets). length es) same in omega arith)
 call_numbers me b c o (inr (inl (n, gone))) next lanes own =
@@ -77,7 +83,8 @@ call_numbers me b c o (inr (inr (n, s, gives_n, new))) next lanes own =
     let is_next : n ≡ next_socket me b = next n gives_n in
     let fresh : given b n ≡ false = not_given (given b n) (λ is. let low = own.below n is in omega arith) in
     let count : length c.sockets ≡ suc (length b.sockets) = ap (λ (es : Sockets). length es) new ∙ new_length b.sockets n s fresh in
-    let either : (m : ℕ) → given c m ≡ true → (given b m ≡ true) ⊎ (Some n ≡ Some m) = λ m is. given_insert b.sockets n s m (ap (λ (es : Sockets). is_some (lookup (nat_eq m) es)) (sym new) ∙ is) in
+    let either : (m : ℕ) → given c m ≡ true → (given b m ≡ true) ⊎ (Some n ≡ Some m) =
+    λ m is. given_insert b.sockets n s m (ap (λ (es : Sockets). is_some (lookup (nat_eq m) es)) (sym new) ∙ is) in
     (record { own = λ m is. lane_of m (either m is); below = λ m is. below_of m count is_next (either m is) }, omega arith)
   where
     lane_of : (m : ℕ) → (given b m ≡ true) ⊎ (Some n ≡ Some m) → lane m ≡ me
@@ -110,34 +117,66 @@ module _ (h : Header) (me : Host) (moment : ℕ) (w : World tcp_shape) (own : Is
   }
 
   -- this host changes
-  changed : (me2 : Host) (s : HostState tcp_shape) (threads : List (ℕ × Turn tcp_shape)) (count : ℕ) → me2 ≡ me → OwnNumbers me s.body → length s.body.sockets ≤ suc (length (pick w.hosts me).body.sockets) → OwnCalls me threads
+  changed : (me2 : Host) (s : HostState tcp_shape) (threads : List (ℕ × Turn tcp_shape)) (count : ℕ) → me2 ≡ me
+      → OwnNumbers me s.body → length s.body.sockets ≤ suc (length (pick w.hosts me).body.sockets) → OwnCalls me threads
       → OwnStepped me w (record { hosts = with_host w.hosts me2 s; threads = threads; count = count })
-  changed me2 s threads count is numbers few calls = subst (λ (x : Host). OwnStepped me w (record { hosts = with_host w.hosts x s; threads = threads; count = count })) (sym is) (by me own.none numbers few calls)
+  changed me2 s threads count is numbers few calls =
+      subst (λ (x : Host). OwnStepped me w (record { hosts = with_host w.hosts x s; threads = threads; count = count }))
+      (sym is) (by me own.none numbers few calls)
     where
-      by : (x : Host) → ((n : ℕ) → given (pick w.hosts (other x)).body n ≡ false) → OwnNumbers x s.body → length s.body.sockets ≤ suc (length (pick w.hosts x).body.sockets) → OwnCalls x threads → OwnStepped x w (record { hosts = with_host w.hosts x s; threads = threads; count = count })
-      by Zero none numbers few calls = record { own = record { own = numbers.own; below = numbers.below; none = none; aims = λ t call is. (calls t call is).0; within = λ t call is. (calls t call is).1 }; count = few }
-      by One none numbers few calls = record { own = record { own = numbers.own; below = numbers.below; none = none; aims = λ t call is. (calls t call is).0; within = λ t call is. (calls t call is).1 }; count = few }
+      by : (x : Host) → ((n : ℕ) → given (pick w.hosts (other x)).body n ≡ false) → OwnNumbers x s.body
+          → length s.body.sockets ≤ suc (length (pick w.hosts x).body.sockets) → OwnCalls x threads
+          → OwnStepped x w (record { hosts = with_host w.hosts x s; threads = threads; count = count })
+      by Zero none numbers few calls =
+          record {
+            own = record {
+              own = numbers.own;
+              below = numbers.below;
+              none = none;
+              aims = λ t call is. (calls t call is).0;
+              within = λ t call is. (calls t call is).1;
+            };
+            count = few;
+          }
+      by One none numbers few calls =
+          record {
+            own = record {
+              own = numbers.own;
+              below = numbers.below;
+              none = none;
+              aims = λ t call is. (calls t call is).0;
+              within = λ t call is. (calls t call is).1;
+            };
+            count = few;
+          }
 
   -- a call means this host, or a socket number that nobody gave
   pub meant : (a : Aim) → Aims me a → (aim_of (tcp h) w.hosts a ≡ None) ⊎ (aim_of (tcp h) w.hosts a ≡ Some me)
   meant (ThatHost host) is = inr (ap (λ (x : Host). Some x) is)
   meant (ThatSocket n) is = by me own.none
     where
-      first : (b c : Bool) → c ≡ false → ((if b then Some Zero else if c then Some One else None) ≡ None) ⊎ ((if b then Some Zero else if c then Some One else None) ≡ Some Zero)
+      first : (b c : Bool) → c ≡ false
+          → ((if b then Some Zero else if c then Some One else None) ≡ None)
+          ⊎ ((if b then Some Zero else if c then Some One else None) ≡ Some Zero)
       first true c is = inr refl
       first false true is = absurd cc
       first false false is = inl refl
 
-      second : (b c : Bool) → b ≡ false → ((if b then Some Zero else if c then Some One else None) ≡ None) ⊎ ((if b then Some Zero else if c then Some One else None) ≡ Some One)
+      second : (b c : Bool) → b ≡ false
+          → ((if b then Some Zero else if c then Some One else None) ≡ None)
+          ⊎ ((if b then Some Zero else if c then Some One else None) ≡ Some One)
       second true c is = absurd cc
       second false true is = inr refl
       second false false is = inl refl
 
-      by : (x : Host) → ((m : ℕ) → given (pick w.hosts (other x)).body m ≡ false) → (aim_of (tcp h) w.hosts (ThatSocket n) ≡ None) ⊎ (aim_of (tcp h) w.hosts (ThatSocket n) ≡ Some x)
+      by : (x : Host) → ((m : ℕ) → given (pick w.hosts (other x)).body m ≡ false)
+          → (aim_of (tcp h) w.hosts (ThatSocket n) ≡ None) ⊎ (aim_of (tcp h) w.hosts (ThatSocket n) ≡ Some x)
       by Zero none = first (given w.hosts.zero.body n) (given w.hosts.one.body n) (none n)
       by One none = second (given w.hosts.zero.body n) (given w.hosts.one.body n) (none n)
 
-  effect_own : (t : ℕ) (answer : Answer) (u : Turn tcp_shape) → turn_of t w.threads ≡ u → ((call : Call) → u ≡ Called call → (n : ℕ) → gives call answer ≡ Some n → lane n ≡ me) → GivesNext me (pick w.hosts me).body u answer
+  effect_own : (t : ℕ) (answer : Answer) (u : Turn tcp_shape) → turn_of t w.threads ≡ u
+      → ((call : Call) → u ≡ Called call → (n : ℕ) → gives call answer ≡ Some n → lane n ≡ me)
+      → GivesNext me (pick w.hosts me).body u answer
       → OwnStepped me w (effect_after (tcp h) moment w t answer u)
   effect_own t answer Idle is lanes next = turns w.threads calls_own
   effect_own t answer (Answered a) is lanes next = turns w.threads calls_own
@@ -149,23 +188,39 @@ module _ (h : Header) (me : Host) (moment : ℕ) (w : World tcp_shape) (own : Is
       calls : OwnCalls me threads
       calls = turn_own h me w.threads t (Answered answer) calls_own (λ c none. absurd cc)
 
-      by : (o : Option Host) → (o ≡ None) ⊎ (o ≡ Some me) → OwnStepped me w (record { hosts = call_after (tcp h) moment w.hosts (acts.Calls call answer) o; threads = threads; count = w.count })
+      by : (o : Option Host) → (o ≡ None) ⊎ (o ≡ Some me)
+          → OwnStepped me w (record {
+            hosts = call_after (tcp h) moment w.hosts (acts.Calls call answer) o;
+            threads = threads;
+            count = w.count;
+          })
       by None at = turns threads calls
       by (Some host) (inl none) = absurd cc
       by (Some host) (inr at) =
           let same : host ≡ me = same_Some host me at in
           let body : HostTcp = after_call (profile_of h) (pick w.hosts host).body call answer in
-          let numbers = call_numbers me (pick w.hosts me).body body (gives call answer) (subst (λ (x : Host). SocketsAfter (pick w.hosts x).body.sockets body.sockets (gives call answer)) same (call_sockets (profile_of h) (pick w.hosts host).body call answer)) next (lanes call refl) numbers_own in
+          let numbers =
+          call_numbers me (pick w.hosts me).body body (gives call answer)
+          (subst (λ (x : Host). SocketsAfter (pick w.hosts x).body.sockets body.sockets (gives call answer)) same
+          (call_sockets (profile_of h) (pick w.hosts host).body call answer)) next
+          (lanes call refl) numbers_own in
           changed host (record (pick w.hosts host) { body = body }) threads w.count same numbers.0 numbers.1 calls
 
   pub own_step : (step : Step tcp_shape) → FitsItem (tcp h) me moment w (Do step) → IsOrderly me w step → OwnStepped me w (after (tcp h) moment w step)
-  own_step (Begin line t call) fits within = turns (insert_entry nat_eq w.threads t (Called call)) (turn_own h me w.threads t (Called call) calls_own (λ c is. let same = called_same call c is in (subst (λ (x : Call). Aims me (aim x)) same fits.1.1, subst (λ (x : Call). IsCallWithin x) same within)))
+  own_step (Begin line t call) fits within =
+      turns (insert_entry nat_eq w.threads t (Called call))
+      (turn_own h me w.threads t (Called call) calls_own
+      (λ c is. let same = called_same call c is in
+      (subst (λ (x : Call). Aims me (aim x)) same fits.1.1, subst (λ (x : Call). IsCallWithin x) same within)))
   own_step (Finish line t answer) fits orderly = turns (insert_entry nat_eq w.threads t Idle) (turn_own h me w.threads t Idle calls_own (λ c none. absurd cc))
   own_step (Effect t answer) fits next = effect_own t answer (turn_of t w.threads) refl fits.1.1 next
   own_step (At host d) fits orderly =
       let s : HostState tcp_shape = deed_after (tcp h) host moment (suc w.count) (pick w.hosts (other host)).wire (pick w.hosts host) d in
-      let same : s.body.sockets ≡ (pick w.hosts me).body.sockets = deed_sockets h host moment (suc w.count) (pick w.hosts (other host)).wire (pick w.hosts host) d ∙ ap (λ (x : Host). (pick w.hosts x).body.sockets) fits.1 in
-      changed host s w.threads _ fits.1 (same_numbers me (pick w.hosts me).body s.body same numbers_own) (let count = ap (λ (es : Sockets). length es) same in omega arith) calls_own
+      let same : s.body.sockets ≡ (pick w.hosts me).body.sockets =
+      deed_sockets h host moment (suc w.count) (pick w.hosts (other host)).wire (pick w.hosts host) d
+      ∙ ap (λ (x : Host). (pick w.hosts x).body.sockets) fits.1 in
+      changed host s w.threads _ fits.1 (same_numbers me (pick w.hosts me).body s.body same numbers_own)
+      (let count = ap (λ (es : Sockets). length es) same in omega arith) calls_own
 
 -- what is brought changes none of it
 pub own_brought : (h : Header) (me : Host) (f : Flying tcp_shape) (w : World tcp_shape) → IsOwn me w → IsOwn me (bring (tcp h) (other me) f w)

@@ -1,5 +1,6 @@
 -- Each reset that waits stays awaited.
-use Rattle.std.proofs.Common.{◌≡◌, ℕ, suc, Bool, true, false, List, [], ◌∷◌, ◌++◌, length, drop, Option, None, Some, refl, ap, sym, ◌∙◌, subst, nat_eq, inl, inr, arith}
+use Rattle.std.proofs.Common.{◌≡◌, ℕ, suc, Bool, true, false, List, [], ◌∷◌, ◌++◌, length, drop, Option, None, Some}
+use Rattle.std.proofs.Common.{refl, ap, sym, ◌∙◌, subst, nat_eq, inl, inr, arith}
 use Rattle.std.specs.Prelude.{cond, not, ◌&&◌, slice_get}
 use Rattle.std.specs.Map.{lookup}
 use Rattle.std.specs.Option.{option_map, option_map_or}
@@ -12,7 +13,8 @@ use Rattle.case_forms.specs.declared.calls.Host.TheVariants.{Zero, One}
 use Rattle.case_forms.specs.declared.steps.SegmentPlan.{SegmentPlan}
 use Rattle.case_forms.specs.declared.trace.Header.{Header}
 use Rattle.spec_network.specs.Tables.{Both, Made, gone_out, on, other, pick, unsent, waiting, with_host}
-use Rattle.spec_network.specs.Hosts.{Deed, Does, Expires, Makes, Sends, Gets, Hears, Takes, Drops, Answers, HostState, Turn, Idle, Called, Answered, World, Step, Begin, Finish, Effect, At, turn_of}
+use Rattle.spec_network.specs.Hosts.{Deed, Does, Expires, Makes, Sends, Gets, Hears, Takes, Drops, Answers, HostState}
+use Rattle.spec_network.specs.Hosts.{Turn, Idle, Called, Answered, World, Step, Begin, Finish, Effect, At, turn_of}
 use Rattle.spec_network.specs.HostRules.{aim_of}
 use Rattle.spec_network.specs.HostSteps.{after, call_after, deed_after, effect_after, made_gone_out, start}
 use Rattle.spec_network.proofs.Entries.{lookup_insert}
@@ -58,7 +60,8 @@ unsent_same : (a b : Emission) → Some (unsent a) ≡ Some (unsent b) → a ≡
 unsent_same a b is = ap (λ (m : Made Emission). m.emission) (same_Some (unsent a) (unsent b) is)
 
 -- a segment that is no answer
-plain_joins : (made : Table) (xs : List ℕ) (fresh : ℕ) (a : Emission) → a.is_reset_reply ≡ false → AreAwaited made xs → AreAwaited (insert_entry nat_eq made fresh (unsent a)) xs
+plain_joins : (made : Table) (xs : List ℕ) (fresh : ℕ) (a : Emission) → a.is_reset_reply ≡ false → AreAwaited made xs
+    → AreAwaited (insert_entry nat_eq made fresh (unsent a)) xs
 plain_joins made xs fresh a plain are n e waits = by (nat_eq n fresh) (sym (lookup_insert n fresh (unsent a) made) ∙ waits.found)
   where
     by : (b : Bool) → cond b (Some (unsent a)) (lookup (nat_eq n) made) ≡ Some (unsent e) → IsAmong n xs × (length e.payload ≡ 0)
@@ -69,11 +72,16 @@ plain_joins made xs fresh a plain are n e waits = by (nat_eq n fresh) (sym (look
     by false is = are n e (record { found = is; answers = waits.answers })
 
 -- an answer
-answer_joins : (made : Table) (xs : List ℕ) (fresh : ℕ) (a : Emission) → length a.payload ≡ 0 → AreAwaited made xs → AreAwaited (insert_entry nat_eq made fresh (unsent a)) (xs ++ fresh ∷ [])
+answer_joins : (made : Table) (xs : List ℕ) (fresh : ℕ) (a : Emission) → length a.payload ≡ 0 → AreAwaited made xs
+    → AreAwaited (insert_entry nat_eq made fresh (unsent a)) (xs ++ fresh ∷ [])
 answer_joins made xs fresh a empty are n e waits = by (nat_eq n fresh) refl (sym (lookup_insert n fresh (unsent a) made) ∙ waits.found)
   where
-    by : (b : Bool) → nat_eq n fresh ≡ b → cond b (Some (unsent a)) (lookup (nat_eq n) made) ≡ Some (unsent e) → IsAmong n (xs ++ fresh ∷ []) × (length e.payload ≡ 0)
-    by true same is = (subst (λ (m : ℕ). IsAmong m (xs ++ fresh ∷ [])) (sym (same_number n fresh same)) (among_last fresh xs), ap (λ (x : Emission). length x.payload) (sym (unsent_same a e is)) ∙ empty)
+    by : (b : Bool) → nat_eq n fresh ≡ b → cond b (Some (unsent a)) (lookup (nat_eq n) made) ≡ Some (unsent e)
+        → IsAmong n (xs ++ fresh ∷ []) × (length e.payload ≡ 0)
+    by true same is = (
+      subst (λ (m : ℕ). IsAmong m (xs ++ fresh ∷ [])) (sym (same_number n fresh same)) (among_last fresh xs),
+      ap (λ (x : Emission). length x.payload) (sym (unsent_same a e is)) ∙ empty,
+    )
     by false same is = let old = are n e (record { found = is; answers = waits.answers }) in (among_more n xs (fresh ∷ []) old.0, old.1)
 
 -- a segment goes out
@@ -84,7 +92,9 @@ gone made xs number are = by (lookup (nat_eq number) made)
     by None = are
     by (Some m) = λ n e waits. at n e waits (nat_eq n number) (sym (lookup_insert n number (gone_out m) made) ∙ waits.found)
       where
-        at : (n : ℕ) (e : Emission) → IsWaitingReset (insert_entry nat_eq made number (gone_out m)) n e → (b : Bool) → cond b (Some (gone_out m)) (lookup (nat_eq n) made) ≡ Some (unsent e) → IsAmong n xs × (length e.payload ≡ 0)
+        at : (n : ℕ) (e : Emission) → IsWaitingReset (insert_entry nat_eq made number (gone_out m)) n e → (b : Bool)
+            → cond b (Some (gone_out m)) (lookup (nat_eq n) made) ≡ Some (unsent e)
+            → IsAmong n xs × (length e.payload ≡ 0)
         at n e waits true is = absurd (differ (ap (λ (x : Made Emission). x.sent) (same_Some (gone_out m) (unsent e) is)))
           where
             differ : true ≡ false → ⊥
@@ -93,10 +103,13 @@ gone made xs number are = by (lookup (nat_eq number) made)
 
 -- 3. a deed
 
-making_joins : (me : Host) (b : HostTcp) (m : SegmentPlan) (made : Table) (xs : List ℕ) (fresh : ℕ) → AreAwaited made xs → AreAwaited (on (act_makes me b (acts.Makes m)) made (λ e. insert_entry nat_eq made fresh (unsent e))) xs
+making_joins : (me : Host) (b : HostTcp) (m : SegmentPlan) (made : Table) (xs : List ℕ) (fresh : ℕ) → AreAwaited made xs
+    → AreAwaited (on (act_makes me b (acts.Makes m)) made (λ e. insert_entry nat_eq made fresh (unsent e))) xs
 making_joins me b m made xs fresh are = by (place_of b m.lport m.rport)
   where
-    at : (i : ℕ) (o : Option Endpoint) → AreAwaited (on (option_map (λ e. emission_of (record { host = me; number = i }) e m) o) made (λ e. insert_entry nat_eq made fresh (unsent e))) xs
+    at : (i : ℕ) (o : Option Endpoint)
+        → AreAwaited (on (option_map (λ e. emission_of (record { host = me; number = i }) e m) o) made
+        (λ e. insert_entry nat_eq made fresh (unsent e))) xs
     at i None = are
     at i (Some e) = plain_joins made xs fresh (emission_of (record { host = me; number = i }) e m) refl are
 
@@ -104,11 +117,15 @@ making_joins me b m made xs fresh are = by (place_of b m.lport m.rport)
     by None = are
     by (Some i) = at i (slice_get b.endpoints i)
 
-answering_joins : (me : Host) (b : HostTcp) (o : Option Emission) (made : Table) (xs : List ℕ) (fresh : ℕ) → AreAwaited made xs → AreAwaited (on o made (λ e. on (act_makes me b (acts.Resets e)) made (λ r. insert_entry nat_eq made fresh (unsent r)))) (xs ++ fresh ∷ [])
+answering_joins : (me : Host) (b : HostTcp) (o : Option Emission) (made : Table) (xs : List ℕ) (fresh : ℕ)
+    → AreAwaited made xs → AreAwaited
+    (on o made (λ e. on (act_makes me b (acts.Resets e)) made (λ r. insert_entry nat_eq made fresh (unsent r))))
+    (xs ++ fresh ∷ [])
 answering_joins me b None made xs fresh are = more_awaited made xs (fresh ∷ []) are
 answering_joins me b (Some e) made xs fresh are = answer_joins made xs fresh (reset_of e) refl are
 
-deed_awaited : (h : Header) (me : Host) (moment fresh : ℕ) (far : List (ℕ × Emission)) (s : HostState tcp_shape) (xs : List ℕ) (d : Deed tcp_shape) → AreAwaited s.made xs
+deed_awaited : (h : Header) (me : Host) (moment fresh : ℕ) (far : List (ℕ × Emission)) (s : HostState tcp_shape)
+    (xs : List ℕ) (d : Deed tcp_shape) → AreAwaited s.made xs
     → AreAwaited (deed_after (tcp h) me moment fresh far s d).made (awaited xs (At me d) fresh)
 deed_awaited h me moment fresh far s xs (Does x) are = are
 deed_awaited h me moment fresh far s xs (Expires line x) are = are
@@ -126,7 +143,8 @@ picked : (me : Host) (hosts : Both (HostState tcp_shape)) (s : HostState tcp_sha
 picked Zero hosts s = refl
 picked One hosts s = refl
 
-called_made : (me host : Host) (hosts : Both (HostState tcp_shape)) (b : HostTcp) → (pick (with_host hosts host (record (pick hosts host) { body = b })) me).made ≡ (pick hosts me).made
+called_made : (me host : Host) (hosts : Both (HostState tcp_shape)) (b : HostTcp)
+    → (pick (with_host hosts host (record (pick hosts host) { body = b })) me).made ≡ (pick hosts me).made
 called_made Zero Zero hosts b = refl
 called_made Zero One hosts b = refl
 called_made One Zero hosts b = refl
@@ -142,15 +160,22 @@ module _ (h : Header) (me : Host) (moment : ℕ) (w : World tcp_shape) (xs : Lis
       by None = are
       by (Some host) = subst (λ (made : Table). AreAwaited made xs) (sym (called_made me host w.hosts _)) are
 
-  pub step_awaited : (step : Step tcp_shape) → ((host : Host) (d : Deed tcp_shape) → step ≡ At host d → host ≡ me) → AreAwaited (pick (after (tcp h) moment w step).hosts me).made (awaited xs step (suc w.count))
+  pub step_awaited : (step : Step tcp_shape) → ((host : Host) (d : Deed tcp_shape) → step ≡ At host d → host ≡ me)
+      → AreAwaited (pick (after (tcp h) moment w step).hosts me).made (awaited xs step (suc w.count))
   step_awaited (Begin line t call) own = are
   step_awaited (Finish line t answer) own = are
   step_awaited (Effect t answer) own = effect_awaited t answer (turn_of t w.threads)
-  step_awaited (At host d) own = subst (λ (x : Host). AreAwaited (pick (with_host w.hosts x (deed_after (tcp h) x moment (suc w.count) (pick w.hosts (other x)).wire (pick w.hosts x) d)) me).made (awaited xs (At x d) (suc w.count))) (sym (own host d refl))
-      (subst (λ (s : HostState tcp_shape). AreAwaited s.made (awaited xs (At me d) (suc w.count))) (sym (picked me w.hosts (deed_after (tcp h) me moment (suc w.count) (pick w.hosts (other me)).wire (pick w.hosts me) d)))
+  step_awaited (At host d) own =
+      subst (λ (x : Host). AreAwaited
+      (pick (with_host w.hosts x (deed_after (tcp h) x moment (suc w.count) (pick w.hosts (other x)).wire
+      (pick w.hosts x) d)) me).made (awaited xs (At x d) (suc w.count))) (sym (own host d refl))
+      (subst (λ (s : HostState tcp_shape). AreAwaited s.made (awaited xs (At me d) (suc w.count)))
+      (sym (picked me w.hosts (deed_after (tcp h) me moment (suc w.count) (pick w.hosts (other me)).wire
+      (pick w.hosts me) d)))
       (deed_awaited h me moment (suc w.count) (pick w.hosts (other me)).wire (pick w.hosts me) xs d are))
 
-pub bring_awaited : (h : Header) (me : Host) (f : Flying tcp_shape) (w : World tcp_shape) (xs : List ℕ) → AreAwaited (pick w.hosts me).made xs → AreAwaited (pick (bring (tcp h) (other me) f w).hosts me).made xs
+pub bring_awaited : (h : Header) (me : Host) (f : Flying tcp_shape) (w : World tcp_shape) (xs : List ℕ)
+    → AreAwaited (pick w.hosts me).made xs → AreAwaited (pick (bring (tcp h) (other me) f w).hosts me).made xs
 bring_awaited h Zero f w xs are = are
 bring_awaited h One f w xs are = are
 
@@ -183,7 +208,8 @@ first_leaves made x xs never are n e waits = by (are n e waits)
     by (inl same, empty) = absurd (never e (subst (λ (m : ℕ). IsWaitingReset made m e) same waits))
     by (inr later, empty) = (later, empty)
 
-pub leaves : (made : Table) (x : ℕ) (xs ys : List ℕ) → Some x ≡ slice_get xs 0 → ys ≡ drop 1 xs → ((e : Emission) → IsWaitingReset made x e → ⊥) → AreAwaited made xs → AreAwaited made ys
+pub leaves : (made : Table) (x : ℕ) (xs ys : List ℕ) → Some x ≡ slice_get xs 0 → ys ≡ drop 1 xs
+    → ((e : Emission) → IsWaitingReset made x e → ⊥) → AreAwaited made xs → AreAwaited made ys
 leaves made x [] ys first rest never are = absurd (none-some x (sym first))
 leaves made x (y ∷ xs) ys first rest never are = subst (λ (numbers : List ℕ). AreAwaited made numbers) (sym rest)
     (first_leaves made y xs (subst (λ (n : ℕ). (e : Emission) → IsWaitingReset made n e → ⊥) (same_Some x y first) never) are)
@@ -201,40 +227,55 @@ waits_so m is = by m.sent m.emission.is_reset_reply refl refl is
     by false true sent answers is = (ap (λ (b : Bool). record { emission = m.emission; sent = b }) sent, answers)
     by false false sent answers is = absurd cc
 
-pub waits_there : (made : Table) (n : ℕ) (m : Made Emission) → Some m ≡ lookup (nat_eq n) made → (not m.sent && m.emission.is_reset_reply) ≡ true → (e : Emission) × IsWaitingReset made n e
+pub waits_there : (made : Table) (n : ℕ) (m : Made Emission) → Some m ≡ lookup (nat_eq n) made
+    → (not m.sent && m.emission.is_reset_reply) ≡ true → (e : Emission) × IsWaitingReset made n e
 waits_there made n m found is = let so = waits_so m is in (m.emission, record { found = sym found ∙ ap (λ (x : Made Emission). Some x) so.0; answers = so.1 })
 
-pub waits_not : (made : Table) (n : ℕ) (m : Made Emission) → Some m ≡ lookup (nat_eq n) made → (not m.sent && m.emission.is_reset_reply) ≡ false → (e : Emission) → IsWaitingReset made n e → ⊥
-waits_not made n m found is e waits = differ (sym is ∙ ap (λ (x : Made Emission). not x.sent && x.emission.is_reset_reply) (same_Some m (unsent e) (found ∙ waits.found)) ∙ waits.answers)
+pub waits_not : (made : Table) (n : ℕ) (m : Made Emission) → Some m ≡ lookup (nat_eq n) made
+    → (not m.sent && m.emission.is_reset_reply) ≡ false → (e : Emission) → IsWaitingReset made n e → ⊥
+waits_not made n m found is e waits =
+    differ (sym is ∙ ap (λ (x : Made Emission). not x.sent && x.emission.is_reset_reply)
+    (same_Some m (unsent e) (found ∙ waits.found)) ∙ waits.answers)
   where
     differ : false ≡ true → ⊥
     differ is = absurd cc
 
 -- 6. a core
 
-pub own_host : (h : Header) (me : Host) (w : World tcp_shape) (step : Step tcp_shape) → OwnStep (tcp h) me w step → (host : Host) (d : Deed tcp_shape) → step ≡ At host d → host ≡ me
+pub own_host : (h : Header) (me : Host) (w : World tcp_shape) (step : Step tcp_shape) → OwnStep (tcp h) me w step
+    → (host : Host) (d : Deed tcp_shape) → step ≡ At host d → host ≡ me
 own_host h me w step own host d is = subst (λ (x : Step tcp_shape). OwnStep (tcp h) me w x) is own
 
-pub core_awaits : (r s : Recorded) (last : Tick) (step : Step tcp_shape) (xs ys : List ℕ) (count : ℕ) → FitsItem (tcp r.header) r.me last.moment (world_left r) (Do step) → s ≡ with_entry r (entry_at r.me last (Do step))
+pub core_awaits : (r s : Recorded) (last : Tick) (step : Step tcp_shape) (xs ys : List ℕ) (count : ℕ)
+    → FitsItem (tcp r.header) r.me last.moment (world_left r) (Do step)
+    → s ≡ with_entry r (entry_at r.me last (Do step))
     → count ≡ (world_left r).count → ys ≡ awaited xs step (suc count) → AreAwaited (made_of r) xs → AreAwaited (made_of s) ys
 core_awaits r s last step xs ys count fits same count_is ys_is are =
     subst (λ (numbers : List ℕ). AreAwaited (made_of s) numbers) (sym (ys_is ∙ ap (λ (n : ℕ). awaited xs step (suc n)) count_is))
     (subst (λ (t : Recorded). AreAwaited (made_of t) (awaited xs step (suc (world_left r).count))) (sym same)
-    (subst (λ (w : World tcp_shape). AreAwaited (pick w.hosts r.me).made (awaited xs step (suc (world_left r).count))) (sym (end_more (tcp r.header) r.me (start (tcp r.header)) r.entries (entry_at r.me last (Do step) ∷ [])))
+    (subst (λ (w : World tcp_shape). AreAwaited (pick w.hosts r.me).made (awaited xs step (suc (world_left r).count)))
+    (sym (end_more (tcp r.header) r.me (start (tcp r.header)) r.entries (entry_at r.me last (Do step) ∷ [])))
     (step_awaited r.header r.me last.moment (world_left r) xs are step (own_host r.header r.me (world_left r) step fits.1))))
 
-pub core_awaits_brought : (r s : Recorded) (last : Tick) (f : Flying tcp_shape) (xs : List ℕ) → s ≡ with_entry r (entry_at r.me last (Bring f)) → AreAwaited (made_of r) xs → AreAwaited (made_of s) xs
+pub core_awaits_brought : (r s : Recorded) (last : Tick) (f : Flying tcp_shape) (xs : List ℕ)
+    → s ≡ with_entry r (entry_at r.me last (Bring f)) → AreAwaited (made_of r) xs → AreAwaited (made_of s) xs
 core_awaits_brought r s last f xs same are =
     subst (λ (t : Recorded). AreAwaited (made_of t) xs) (sym same)
-    (subst (λ (w : World tcp_shape). AreAwaited (pick w.hosts r.me).made xs) (sym (end_more (tcp r.header) r.me (start (tcp r.header)) r.entries (entry_at r.me last (Bring f) ∷ [])))
+    (subst (λ (w : World tcp_shape). AreAwaited (pick w.hosts r.me).made xs)
+    (sym (end_more (tcp r.header) r.me (start (tcp r.header)) r.entries (entry_at r.me last (Bring f) ∷ [])))
     (bring_awaited r.header r.me f (world_left r) xs are))
 
-pub core_awaits_none : (h : Header) (me : Host) (r : Recorded) (xs : List ℕ) → r ≡ record { header = h; me = me; entries = [] } → xs ≡ [] → AreAwaited (made_of r) xs
-core_awaits_none h me r xs is empty = subst (λ (numbers : List ℕ). AreAwaited (made_of r) numbers) (sym empty) (subst (λ (t : Recorded). AreAwaited (made_of t) []) (sym is) (none_awaited h me))
+pub core_awaits_none : (h : Header) (me : Host) (r : Recorded) (xs : List ℕ)
+    → r ≡ record { header = h; me = me; entries = [] } → xs ≡ [] → AreAwaited (made_of r) xs
+core_awaits_none h me r xs is empty =
+    subst (λ (numbers : List ℕ). AreAwaited (made_of r) numbers) (sym empty)
+    (subst (λ (t : Recorded). AreAwaited (made_of t) []) (sym is) (none_awaited h me))
 
 pub core_tried : (made : Table) (xs ys : List ℕ) (step : Step tcp_shape) (n : ℕ) → ys ≡ awaited xs step n → AreAwaited made xs → AreAwaited made ys
 core_tried made xs ys step n is are = subst (λ (numbers : List ℕ). AreAwaited made numbers) (sym is) (tried_awaited made xs step n are)
 
 -- the reset that goes waits in an event that began
 pub reset_waits : (c d : Core) (tick : Tick) (n : ℕ) → IsResetToGo c.recorded n → d ≡ opened c tick → WaitsToGo d n
-reset_waits c d tick n is same = subst (λ (x : Core). WaitsToGo x n) (sym same) (let empty = is.empty in record { emission = is.emission; found = is.waits.found; short = omega arith })
+reset_waits c d tick n is same =
+    subst (λ (x : Core). WaitsToGo x n) (sym same)
+    (let empty = is.empty in record { emission = is.emission; found = is.waits.found; short = omega arith })

@@ -16,7 +16,8 @@ or_true : (a : Bool) → (a || true) ≡ true
 or_true true = refl
 or_true false = refl
 
-bits : (ack rst syn fin : Bool) (s : Segment) → let f : Flags = record { ack = ack; rst = rst; syn = syn; fin = fin } in s.flags ≡ flag_bits f → same_flags s f ≡ true
+bits : (ack rst syn fin : Bool) (s : Segment) → let f : Flags = record { ack = ack; rst = rst; syn = syn; fin = fin } in
+    s.flags ≡ flag_bits f → same_flags s f ≡ true
 bits true true true true s is = rw is refl
 bits true true true false s is = rw is refl
 bits true true false true s is = rw is refl
@@ -35,13 +36,27 @@ bits false false false true s is = rw is refl
 bits false false false false s is = rw is refl
 
 pub shown : (m : Emission) (mss : Option ℕ) → header_matches (as_written (segment_of m mss)) m ≡ true
-shown m mss = rw (number_same m.lport, number_same m.rport, number_same m.seq.0, number_same m.ack_seq.0, number_same m.window, bits m.flags.ack m.flags.rst m.flags.syn m.flags.fin (as_written (segment_of m mss)) refl, or_true m.is_reset_reply, or_true (not m.flags.ack), bytes_same m.payload) refl
+shown m mss =
+    rw (
+      number_same m.lport,
+      number_same m.rport,
+      number_same m.seq.0,
+      number_same m.ack_seq.0,
+      number_same m.window,
+      bits m.flags.ack m.flags.rst m.flags.syn m.flags.fin (as_written (segment_of m mss)) refl,
+      or_true m.is_reset_reply,
+      or_true (not m.flags.ack),
+      bytes_same m.payload,
+    ) refl
 
 -- the shift that a SYN tells is the one that its sender gave
-shift_shown : (syn : Bool) (shift : Option ℕ) → option_map_or (λ told. option_map_or (λ given. min told 14 == min given 14) shift false) (if syn then shift else None) true ≡ true
+shift_shown : (syn : Bool) (shift : Option ℕ)
+    → option_map_or (λ told. option_map_or (λ given. min told 14 == min given 14) shift false)
+    (if syn then shift else None) true ≡ true
 shift_shown false shift = refl
 shift_shown true None = refl
 shift_shown true (Some n) = number_same (min n 14)
 
-pub all_shown : (h : Header) (s : Segment) (m : Emission) (mss : Option ℕ) → s ≡ as_written (segment_of m mss) → (header_matches s m && (not (scales h.version && m.flags.syn) || shift_matches s m)) ≡ true
+pub all_shown : (h : Header) (s : Segment) (m : Emission) (mss : Option ℕ) → s ≡ as_written (segment_of m mss)
+    → (header_matches s m && (not (scales h.version && m.flags.syn) || shift_matches s m)) ≡ true
 all_shown h s m mss is = rw (is, shown m mss, shift_shown m.flags.syn m.shift) (or_true (not (scales h.version && m.flags.syn)))

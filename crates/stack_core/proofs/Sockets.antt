@@ -43,14 +43,17 @@ taking_sockets h b how m moment Nobody = refl
 taking_sockets h b how m moment (AtListener l) = refl
 taking_sockets h b how m moment (AtEndpoint i e) = refl
 
-pub deed_sockets : (h : Header) (me : Host) (moment fresh : ℕ) (far : List (ℕ × Emission)) (s : HostState tcp_shape) (d : Deed tcp_shape) → (deed_after (tcp h) me moment fresh far s d).body.sockets ≡ s.body.sockets
+pub deed_sockets : (h : Header) (me : Host) (moment fresh : ℕ) (far : List (ℕ × Emission)) (s : HostState tcp_shape)
+    (d : Deed tcp_shape) → (deed_after (tcp h) me moment fresh far s d).body.sockets ≡ s.body.sockets
 deed_sockets h me moment fresh far s (Does x) = at_sockets s.body x.lport x.rport _
 deed_sockets h me moment fresh far s (Expires line x) = at_sockets s.body x.lport x.rport _
 deed_sockets h me moment fresh far s (Makes plan) = at_sockets s.body plan.lport plan.rport _
 deed_sockets h me moment fresh far s (Sends line number wire) = refl
 deed_sockets h me moment fresh far s (Gets line copied wire) = refl
 deed_sockets h me moment fresh far s (Hears line wire) = refl
-deed_sockets h me moment fresh far s (Takes line how) = on_cases (λ (b : HostTcp). b.sockets ≡ s.body.sockets) (waiting line s.inbox) s.body _ refl (λ m e. taking_sockets h s.body how m moment (taker s.body m))
+deed_sockets h me moment fresh far s (Takes line how) =
+    on_cases (λ (b : HostTcp). b.sockets ≡ s.body.sockets) (waiting line s.inbox) s.body _ refl
+    (λ m e. taking_sockets h s.body how m moment (taker s.body m))
 deed_sockets h me moment fresh far s (Drops line) = refl
 deed_sockets h me moment fresh far s (Answers line) = on_cases (λ (b : HostTcp). b.sockets ≡ s.body.sockets) (waiting line s.inbox) s.body _ refl (λ m e. refl)
 
@@ -68,7 +71,10 @@ change_sockets b n f = map_or_cases (λ (c : HostTcp). c.sockets ≡ b.sockets) 
     by (EndpointAt i) = refl
 
 gone_sockets : (b : HostTcp) (n : ℕ) (f : Endpoint → Endpoint) → SocketsAfter b.sockets (after_gone b n f).sockets None
-gone_sockets b n f = map_or_cases (λ (c : HostTcp). SocketsAfter b.sockets c.sockets None) (thing_of b n) b (λ thing. record (thing_gone b thing f) { sockets = dead b.sockets n }) (λ e. inl refl) (λ thing e. inr (inl (n, refl)))
+gone_sockets b n f =
+    map_or_cases (λ (c : HostTcp). SocketsAfter b.sockets c.sockets None) (thing_of b n) b
+    (λ thing. record (thing_gone b thing f) { sockets = dead b.sockets n }) (λ e. inl refl)
+    (λ thing e. inr (inl (n, refl)))
 
 accept_sockets : (b : HostTcp) (n : ℕ) (thing : SocketTarget) → SocketsAfter b.sockets (after_accept b n thing).sockets (Some n)
 accept_sockets b n (EndpointAt i) = inl refl
@@ -82,7 +88,8 @@ pub call_sockets : (p : Profile) (b : HostTcp) (call : Call) (answer : Answer) �
 call_sockets p b (calls.Listen host port backlog) (answers.Given n) = inr (inr (n, record { thing = ListenerAt (length b.listeners); live = true }, refl, refl))
 call_sockets p b (calls.Connect host lport rport) (answers.Given n) = inr (inr (n, record { thing = EndpointAt (length b.endpoints); live = true }, refl, refl))
 call_sockets p b (calls.Accept h) (answers.Given n) =
-    map_or_cases (λ (c : HostTcp). SocketsAfter b.sockets c.sockets (Some n)) (thing_of b h) b (after_accept b n) (λ e. inl refl) (λ thing e. accept_sockets b n thing)
+    map_or_cases (λ (c : HostTcp). SocketsAfter b.sockets c.sockets (Some n)) (thing_of b h) b (after_accept b n)
+    (λ e. inl refl) (λ thing e. accept_sockets b n thing)
 call_sockets p b (calls.Send h bytes) (answers.Given n) = inl (change_sockets b h (after_send bytes n))
 call_sockets p b (calls.Recv h most) (answers.Bytes bytes) = inl (change_sockets b h (after_recv bytes))
 call_sockets p b (calls.Shut h) answers.Done = inl (change_sockets b h after_shut)
@@ -96,7 +103,9 @@ length_new : (es : Sockets) (n : ℕ) (s : Socket) → lookup (nat_eq n) es ≡ 
 length_new [] n s none = refl
 length_new (e ∷ es) n s none = by (nat_eq n e.0) refl (length_new es n s) none
   where
-    by : (b : Bool) → nat_eq n e.0 ≡ b → (lookup (nat_eq n) es ≡ None → length (insert_entry nat_eq es n s) ≡ suc (length es)) → lookup (nat_eq n) (e ∷ es) ≡ None → length (insert_entry nat_eq (e ∷ es) n s) ≡ suc (length (e ∷ es))
+    by : (b : Bool) → nat_eq n e.0 ≡ b
+        → (lookup (nat_eq n) es ≡ None → length (insert_entry nat_eq es n s) ≡ suc (length es))
+        → lookup (nat_eq n) (e ∷ es) ≡ None → length (insert_entry nat_eq (e ∷ es) n s) ≡ suc (length (e ∷ es))
     by true is rest none = absurd (none-some e.1 (sym (rw is at none)))
     by false is rest none = rw is (ap suc (rest (rw is at none)))
 
@@ -104,12 +113,17 @@ length_old : (es : Sockets) (n : ℕ) (s x : Socket) → lookup (nat_eq n) es �
 length_old [] n s x some = absurd (none-some x some)
 length_old (e ∷ es) n s x some = by (nat_eq n e.0) refl (length_old es n s x) some
   where
-    by : (b : Bool) → nat_eq n e.0 ≡ b → (lookup (nat_eq n) es ≡ Some x → length (insert_entry nat_eq es n s) ≡ length es) → lookup (nat_eq n) (e ∷ es) ≡ Some x → length (insert_entry nat_eq (e ∷ es) n s) ≡ length (e ∷ es)
+    by : (b : Bool) → nat_eq n e.0 ≡ b
+        → (lookup (nat_eq n) es ≡ Some x → length (insert_entry nat_eq es n s) ≡ length es)
+        → lookup (nat_eq n) (e ∷ es) ≡ Some x → length (insert_entry nat_eq (e ∷ es) n s) ≡ length (e ∷ es)
     by true is rest some = rw is refl
     by false is rest some = rw is (ap suc (rest (rw is at some)))
 
 pub dead_length : (es : Sockets) (n : ℕ) → length (dead es n) ≡ length es
-dead_length es n = map_or_cases (λ (fs : Sockets). length fs ≡ length es) (lookup (nat_eq n) es) es (λ s. insert_entry nat_eq es n (record s { live = false })) (λ e. refl) (λ s e. length_old es n (record s { live = false }) s e)
+dead_length es n =
+    map_or_cases (λ (fs : Sockets). length fs ≡ length es) (lookup (nat_eq n) es) es
+    (λ s. insert_entry nat_eq es n (record s { live = false })) (λ e. refl)
+    (λ s e. length_old es n (record s { live = false }) s e)
 
 pub new_length : (es : Sockets) (n : ℕ) (s : Socket) → is_some (lookup (nat_eq n) es) ≡ false → length (insert_entry nat_eq es n s) ≡ suc (length es)
 new_length es n s new = length_new es n s (by (lookup (nat_eq n) es) new)

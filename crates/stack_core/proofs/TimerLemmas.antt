@@ -37,7 +37,8 @@ never x = grind (arith, nat_tests)
 no_more : (x y : ℕ) → (nat_lt x 0 || nat_lt y 0) ≡ false
 no_more x y = rw (never x, never y) refl
 
-timer_may : (h : Header) (moment : ℕ) (e : Endpoint) (x : Expired) → first_broken (expiry_rules h moment e x) ≡ None → first_broken (expiry_rules h moment e (least x)) ≡ None
+timer_may : (h : Header) (moment : ℕ) (e : Endpoint) (x : Expired) → first_broken (expiry_rules h moment e x) ≡ None
+    → first_broken (expiry_rules h moment e (least x)) ≡ None
 timer_may h moment e (Rto growth) may =
     let t = none_all (expiry_rules h moment e (Rto growth)) may in
     all_none (expiry_rules h moment e (least (Rto growth)))
@@ -59,12 +60,20 @@ by_kind r moment ports is Giveup not = absurd (not refl)
 
 -- the rules at the endpoint of ports
 at_ports : (r : Recorded) (moment : ℕ) (x : Expiring) (o : Option Endpoint) → endpoint_of (pick (world_left r).hosts r.me).body x.lport x.rport ≡ o
-    → Permitted (tcp r.header) moment (world_left r) (At r.me (Expires 0 x)) → first_broken (option_map_or (λ e. expiry_rules r.header moment e x.expired) o ((rules.NoEndpoint, true) ∷ [])) ≡ None
-at_ports r moment x o is may = subst (λ (o : Option Endpoint). first_broken (option_map_or (λ e. expiry_rules r.header moment e x.expired) o ((rules.NoEndpoint, true) ∷ [])) ≡ None) is may
+    → Permitted (tcp r.header) moment (world_left r) (At r.me (Expires 0 x))
+    → first_broken (option_map_or (λ e. expiry_rules r.header moment e x.expired) o ((rules.NoEndpoint, true) ∷ []))
+    ≡ None
+at_ports r moment x o is may =
+    subst (λ (o : Option Endpoint).
+    first_broken (option_map_or (λ e. expiry_rules r.header moment e x.expired) o ((rules.NoEndpoint, true) ∷ []))
+    ≡ None) is may
 
 back_at : (r : Recorded) (moment : ℕ) (x : Expiring) (e : Endpoint) → endpoint_of (pick (world_left r).hosts r.me).body x.lport x.rport ≡ Some e
     → first_broken (expiry_rules r.header moment e x.expired) ≡ None → Permitted (tcp r.header) moment (world_left r) (At r.me (Expires 0 x))
-back_at r moment x e is may = subst (λ (o : Option Endpoint). first_broken (option_map_or (λ e. expiry_rules r.header moment e x.expired) o ((rules.NoEndpoint, true) ∷ [])) ≡ None) (sym is) may
+back_at r moment x e is may =
+    subst (λ (o : Option Endpoint).
+    first_broken (option_map_or (λ e. expiry_rules r.header moment e x.expired) o ((rules.NoEndpoint, true) ∷ []))
+    ≡ None) (sym is) may
 
 pub none_due : (r : Recorded) (moment : ℕ) (b : HostTcp) → b ≡ forget_body (pick (world_left r).hosts r.me).body
     → ((i : ℕ) (e : Endpoint) → slice_get b.endpoints i ≡ Some e → IsRefused r moment (record { lport = e.lport; rport = e.rport })) → NoneDueAt r moment
@@ -74,12 +83,19 @@ none_due r moment b is refused x not may = by (endpoint_of (pick (world_left r).
     by None at = absurd (let none = at_ports r moment x None at may in cc)
     by (Some e) at =
         let place = of_ports (pick (world_left r).hosts r.me).body x.lport x.rport e at in
-        let there : slice_get b.endpoints place.0 ≡ Some (forget_endpoint e) = ap (λ (c : HostTcp). slice_get c.endpoints place.0) is ∙ kept_there (pick (world_left r).hosts r.me).body.endpoints place.0 e place.1 in
-        let refuses : IsRefused r moment (record { lport = x.lport; rport = x.rport }) = subst (λ (p : ℕ). IsRefused r moment (record { lport = x.lport; rport = p })) place.3
+        let there : slice_get b.endpoints place.0 ≡ Some (forget_endpoint e) =
+        ap (λ (c : HostTcp). slice_get c.endpoints place.0) is
+        ∙ kept_there (pick (world_left r).hosts r.me).body.endpoints place.0 e place.1 in
+        let refuses : IsRefused r moment (record { lport = x.lport; rport = x.rport }) =
+        subst (λ (p : ℕ). IsRefused r moment (record { lport = x.lport; rport = p })) place.3
         (subst (λ (p : ℕ). IsRefused r moment (record { lport = p; rport = e.rport })) place.2 (refused place.0 (forget_endpoint e) there)) in
-        by_kind r moment (record { lport = x.lport; rport = x.rport }) refuses x.expired not (back_at r moment (record x { expired = least x.expired }) e at (timer_may r.header moment e x.expired (at_ports r moment x (Some e) at may)))
+        by_kind r moment (record { lport = x.lport; rport = x.rport }) refuses x.expired
+        not (back_at r moment (record x { expired = least x.expired }) e at
+        (timer_may r.header moment e x.expired (at_ports r moment x (Some e) at may)))
 
 -- the line of a timer that may expire fits
 pub expiry_fits : (c d : Core) (tick : Tick) (n : ℕ) (me : Host) (ports : Ports) (e : Expired) → d ≡ opened c tick → me ≡ d.recorded.me
     → ((m : ℕ) → Permitted (tcp c.recorded.header) tick.moment (world c) (expiry_step c.recorded.me m ports e)) → Fits d (expiry_step me n ports e)
-expiry_fits c d tick n me ports e is me_is may = subst (λ (h : Host). Fits d (expiry_step h n ports e)) (sym me_is) (subst (λ (x : Core). Fits x (expiry_step x.recorded.me n ports e)) (sym is) (may n, refl))
+expiry_fits c d tick n me ports e is me_is may =
+    subst (λ (h : Host). Fits d (expiry_step h n ports e)) (sym me_is)
+    (subst (λ (x : Core). Fits x (expiry_step x.recorded.me n ports e)) (sym is) (may n, refl))

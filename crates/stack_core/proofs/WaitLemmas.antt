@@ -24,7 +24,8 @@ named_forget b n e = by (thing_of b n)
     at (ListenerAt l) is = absurd (none-some e is)
     at (EndpointAt i) is = slice_get-map forget_endpoint b.endpoints i ∙ ap (option_map forget_endpoint) is
 
-    by : (o : Option SocketTarget) → option_map_or (thing_endpoint b) o None ≡ Some e → option_map_or (thing_endpoint (forget_body b)) o None ≡ Some (forget_endpoint e)
+    by : (o : Option SocketTarget) → option_map_or (thing_endpoint b) o None ≡ Some e
+        → option_map_or (thing_endpoint (forget_body b)) o None ≡ Some (forget_endpoint e)
     by None is = absurd (none-some e is)
     by (Some t) is = at t is
 
@@ -33,7 +34,10 @@ send_waits ring e (inl early) = inl early
 send_waits ring e (inr full) = inr (subst (λ (n : ℕ). ring ≤ n - max e.stream.snd_una 1) (end_of-forget e) full)
 
 waits_whole : (ring : ℕ) (b : HostTcp) (call : Call) → Waits ring (forget_body b) call → Waits ring b call
-waits_whole ring b (calls.Send n bytes) waits = (sym (call_allows-forget b (calls.Send n bytes) answers.Again) ∙ waits.0, λ e is. send_waits ring e (waits.1 (forget_endpoint e) (named_forget b n e is)))
+waits_whole ring b (calls.Send n bytes) waits = (
+  sym (call_allows-forget b (calls.Send n bytes) answers.Again) ∙ waits.0,
+  λ e is. send_waits ring e (waits.1 (forget_endpoint e) (named_forget b n e is)),
+)
 waits_whole ring b (calls.Listen host port backlog) waits = (sym (call_allows-forget b (calls.Listen host port backlog) answers.Again) ∙ waits.0, tt)
 waits_whole ring b (calls.Connect host lport rport) waits = (sym (call_allows-forget b (calls.Connect host lport rport) answers.Again) ∙ waits.0, tt)
 waits_whole ring b (calls.Await n) waits = (sym (call_allows-forget b (calls.Await n) answers.Again) ∙ waits.0, tt)

@@ -60,10 +60,14 @@ fade-put (suc n) (x ∷ xs) (suc p) c = let rest = fade-put n xs p c in let here
 pub fade-put_all : (n : ℕ) (xs : List (Option Cell)) (p : ℕ) (cs : List Cell) → fade n (put_all (fade n xs) p cs) ≡ fade n (put_all xs p cs)
 fade-put_all n xs p [] = fade-fade n n xs (omega arith)
 fade-put_all n xs p (c ∷ cs) =
-    sym (fade-put_all n (put (fade n xs) p c) (suc p) cs) ∙ (ap (λ (ys : List (Option Cell)). fade n (put_all ys (suc p) cs)) (fade-put n xs p c) ∙ fade-put_all n (put xs p c) (suc p) cs)
+    sym (fade-put_all n (put (fade n xs) p c) (suc p) cs)
+    ∙ (ap (λ (ys : List (Option Cell)). fade n (put_all ys (suc p) cs)) (fade-put n xs p c)
+    ∙ fade-put_all n (put xs p c) (suc p) cs)
 
 -- marking what was discarded as made again leaves it as it is
-pub below-mark : (snd_una position count : ℕ) (all new : List Transmission) → made_below snd_una (mark position count (made_below snd_una all) ++ new) ≡ made_below snd_una (mark position count all ++ new)
+pub below-mark : (snd_una position count : ℕ) (all new : List Transmission)
+    → made_below snd_una (mark position count (made_below snd_una all) ++ new)
+    ≡ made_below snd_una (mark position count all ++ new)
 below-mark zero position count all new = refl
 below-mark (suc snd_una) position count [] new = refl
 below-mark (suc snd_una) (suc position) count (x ∷ all) new = ap (λ (xs : List Transmission). once 0 ∷ xs) (below-mark snd_una position count all new)

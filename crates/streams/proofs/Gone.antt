@@ -1,5 +1,6 @@
 -- A receive buffer against what it shows: the cells that were discarded stand in front of those that it keeps.
-use Rattle.std.proofs.Common.{ℕ, ◌+◌, ◌-◌, ◌<◌, ◌≤◌, List, [], ◌∷◌, ◌++◌, length, drop, replicate, Option, None, Some, Bool, false, ◌≡◌, refl, sym, ap, ◌∙◌, arith, append_assoc, zero, suc}
+use Rattle.std.proofs.Common.{ℕ, ◌+◌, ◌-◌, ◌<◌, ◌≤◌, List, [], ◌∷◌, ◌++◌, length, drop, replicate, Option, None, Some}
+use Rattle.std.proofs.Common.{Bool, false, ◌≡◌, refl, sym, ap, ◌∙◌, arith, append_assoc, zero, suc}
 use Rattle.std.proofs.lemmas.List.{replicate-append-replicate}
 use Rattle.streams.specs.declared.cell.Cell.{Cell}
 use Rattle.streams.specs.declared.cell.Cell.TheVariants.{Syn, Byte, Fin}
@@ -26,7 +27,8 @@ put_behind (suc n) x xs p c = let same : suc n + p ≡ suc (n + p) = omega arith
 
 pub put_gone : (n : ℕ) (xs : List (Option Cell)) (p : ℕ) (c : Cell) → put (gone_cells n ++ xs) (n + p) c ≡ gone_cells n ++ put xs p c
 put_gone zero xs p c = let same : 0 + p ≡ p = omega arith in rw same refl
-put_gone (suc n) xs p c = let same : suc n + p ≡ suc (n + p) = omega arith in rw same (ap (λ (ys : List (Option Cell)). Some Syn ∷ ys) (put_behind n (Some (Byte 0)) xs p c))
+put_gone (suc n) xs p c = let same : suc n + p ≡ suc (n + p) = omega arith in
+    rw same (ap (λ (ys : List (Option Cell)). Some Syn ∷ ys) (put_behind n (Some (Byte 0)) xs p c))
 
 pub put_all_gone : (n : ℕ) (xs : List (Option Cell)) (p : ℕ) (cs : List Cell) → put_all (gone_cells n ++ xs) (n + p) cs ≡ gone_cells n ++ put_all xs p cs
 put_all_gone n xs p [] = refl
@@ -45,9 +47,11 @@ fade_leading (suc n) (Some Fin ∷ xs) h = absurd (omega arith)
 
 fade_behind : (d n : ℕ) (xs : List (Option Cell)) → fade (d + n) (replicate d (Some (Byte 0)) ++ xs) ≡ replicate d (Some (Byte 0)) ++ fade n xs
 fade_behind zero n xs = let same : 0 + n ≡ n = omega arith in rw same refl
-fade_behind (suc d) n xs = let same : suc d + n ≡ suc (d + n) = omega arith in rw same (ap (λ (ys : List (Option Cell)). Some (Byte 0) ∷ ys) (fade_behind d n xs))
+fade_behind (suc d) n xs = let same : suc d + n ≡ suc (d + n) = omega arith in
+    rw same (ap (λ (ys : List (Option Cell)). Some (Byte 0) ∷ ys) (fade_behind d n xs))
 
-pub fade_gone : (d n : ℕ) (xs : List (Option Cell)) → n ≤ length (leading xs) → fade (suc (d + n)) (gone_cells (suc d) ++ xs) ≡ gone_cells (suc (d + n)) ++ drop n xs
+pub fade_gone : (d n : ℕ) (xs : List (Option Cell)) → n ≤ length (leading xs)
+    → fade (suc (d + n)) (gone_cells (suc d) ++ xs) ≡ gone_cells (suc (d + n)) ++ drop n xs
 fade_gone d n xs h = ap (λ (ys : List (Option Cell)). Some Syn ∷ ys)
     (fade_behind d n xs ∙ (ap (λ (ys : List (Option Cell)). replicate d (Some (Byte 0)) ++ ys) (fade_leading n xs h)
     ∙ (sym (append_assoc (replicate d (Some (Byte 0))) (replicate n (Some (Byte 0))) (drop n xs))
@@ -68,7 +72,8 @@ waiting_gone (suc d) xs empty =
     let same : suc d - 1 ≡ d = omega arith in
     rw same (ap leading (drop_gone d xs))
 
-pub deliver_view : (gone n : ℕ) (xs : List (Option Cell)) → (gone ≡ 0 → length xs ≡ 0) → n ≤ length (leading xs) → gone_cells (gone + n) ++ drop n xs ≡ fade (suc ((gone - 1) + n)) (gone_cells gone ++ xs)
+pub deliver_view : (gone n : ℕ) (xs : List (Option Cell)) → (gone ≡ 0 → length xs ≡ 0) → n ≤ length (leading xs)
+    → gone_cells (gone + n) ++ drop n xs ≡ fade (suc ((gone - 1) + n)) (gone_cells gone ++ xs)
 deliver_view zero zero [] empty h = refl
 deliver_view zero (suc n) [] empty h = absurd (omega arith)
 deliver_view zero n (x ∷ xs) empty h = let no = empty refl in absurd (omega arith)
@@ -82,7 +87,9 @@ deliver_count zero n [] empty h = omega arith
 deliver_count zero n (x ∷ xs) empty h = let no = empty refl in absurd (omega arith)
 deliver_count (suc d) n xs empty h = omega arith
 
-pub keep_long : (gone position bound : ℕ) (xs : List (Option Cell)) (bytes : List ℕ) (fin : Bool) → gone ≤ position → gone + length xs < bound → position + length bytes + 1 < bound → gone + length (put_all xs (position - gone) (body bytes fin)) < bound
+pub keep_long : (gone position bound : ℕ) (xs : List (Option Cell)) (bytes : List ℕ) (fin : Bool) → gone ≤ position
+    → gone + length xs < bound → position + length bytes + 1 < bound
+    → gone + length (put_all xs (position - gone) (body bytes fin)) < bound
 keep_long gone position bound xs bytes fin h k l =
     let most = length_body bytes fin in
     let long = length_put_all xs (position - gone) (body bytes fin) ((bound - 1) - gone) (omega arith) (omega arith) in
@@ -108,16 +115,21 @@ gone_fin zero (x ∷ xs) h = let no = h refl in absurd (omega arith)
 gone_fin (suc zero) xs h = refl
 gone_fin (suc (suc n)) xs h = let same : suc (suc n) - 1 ≡ suc n = omega arith in rw same (faded_fin (suc n) xs n (omega arith))
 
-ended_none : (gone : ℕ) (xs : List (Option Cell)) → (gone ≡ 0 → length xs ≡ 0) → length (front xs) ≡ 0 → is_ended (record { taken = gone_cells gone ++ xs; delivered = gone - 1 }) ≡ false
+ended_none : (gone : ℕ) (xs : List (Option Cell)) → (gone ≡ 0 → length xs ≡ 0) → length (front xs) ≡ 0
+    → is_ended (record { taken = gone_cells gone ++ xs; delivered = gone - 1 }) ≡ false
 ended_none gone xs empty none =
     let all = front_gone gone xs in
     let here : length (front (gone_cells gone ++ xs)) ≡ gone = omega arith in
     rw here (gone_fin gone xs empty)
 
-pub ended_gone : (gone : ℕ) (xs : List (Option Cell)) → (gone ≡ 0 → length xs ≡ 0) → is_ended (record { taken = gone_cells gone ++ xs; delivered = gone - 1 }) ≡ is_fin (slice_get xs (length (front xs) - 1))
+pub ended_gone : (gone : ℕ) (xs : List (Option Cell)) → (gone ≡ 0 → length xs ≡ 0)
+    → is_ended (record { taken = gone_cells gone ++ xs; delivered = gone - 1 })
+    ≡ is_fin (slice_get xs (length (front xs) - 1))
 ended_gone gone xs empty = by (length (front xs)) refl
   where
-    by : (n : ℕ) → length (front xs) ≡ n → is_ended (record { taken = gone_cells gone ++ xs; delivered = gone - 1 }) ≡ is_fin (slice_get xs (length (front xs) - 1))
+    by : (n : ℕ) → length (front xs) ≡ n
+        → is_ended (record { taken = gone_cells gone ++ xs; delivered = gone - 1 })
+        ≡ is_fin (slice_get xs (length (front xs) - 1))
     by zero none = let here : length (front xs) - 1 ≡ 0 = omega arith in ended_none gone xs empty none ∙ sym (rw here (front_none xs none))
     by (suc n) some =
         let all = front_gone gone xs in

@@ -1,5 +1,6 @@
 -- What is kept of bytes and of a FIN behind them: a part of both, and the same whether or not what was delivered is there.
-use Rattle.std.proofs.Common.{◌≡◌, ℕ, zero, suc, ◌+◌, ◌-◌, ◌≤◌, Bool, true, false, not, ◌&&◌, List, [], ◌∷◌, ◌++◌, length, take, replicate, Option, Some, refl, sym, ap, ◌∙◌, arith}
+use Rattle.std.proofs.Common.{◌≡◌, ℕ, zero, suc, ◌+◌, ◌-◌, ◌≤◌, Bool, true, false, not, ◌&&◌, List, [], ◌∷◌, ◌++◌}
+use Rattle.std.proofs.Common.{length, take, replicate, Option, Some, refl, sym, ap, ◌∙◌, arith}
 use Rattle.std.specs.Prelude.{nat_le, if◌then◌else◌}
 use Rattle.std.proofs.lemmas.Bool.{le-leb, leb-false, leb-true, lt-leb}
 use Rattle.std.proofs.lemmas.List.{length-append, length-replicate, length-take}
@@ -47,7 +48,8 @@ part_short taken position bytes = go (has_end taken)
     go false = omega arith
 
 -- nothing of it goes by what was forgotten
-pub body_kept-fade : (n : ℕ) (taken : List (Option Cell)) (position : ℕ) (bytes : List ℕ) (fin : Bool) → body_kept (fade n taken) position bytes fin ≡ body_kept taken position bytes fin
+pub body_kept-fade : (n : ℕ) (taken : List (Option Cell)) (position : ℕ) (bytes : List ℕ) (fin : Bool)
+    → body_kept (fade n taken) position bytes fin ≡ body_kept taken position bytes fin
 body_kept-fade n taken position bytes fin = rw (length-fade n taken, is_fin-fade n taken (length taken - 1)) refl
 
 pub same_order : (n a b : ℕ) → nat_le (n + a) (n + b) ≡ nat_le a b
@@ -64,9 +66,14 @@ length_gone (suc n) xs = let all = length-append (replicate n (Some (Byte 0))) x
 -- nor by what was discarded
 last_gone : (gone : ℕ) (xs : List (Option Cell)) → (gone ≡ 0 → length xs ≡ 0) → has_end (gone_cells gone ++ xs) ≡ has_end xs
 last_gone gone [] empty = rw (length_gone gone []) (let same : gone + 0 - 1 ≡ gone - 1 = omega arith in rw same (gone_fin gone [] empty))
-last_gone gone (x ∷ xs) empty = rw (length_gone gone (x ∷ xs)) (let same : gone + suc (length xs) - 1 ≡ gone + length xs = omega arith in let last : suc (length xs) - 1 ≡ length xs = omega arith in rw (same, last) (ap is_fin (get_gone gone (x ∷ xs) (length xs))))
+last_gone gone (x ∷ xs) empty =
+    rw (length_gone gone (x ∷ xs))
+    (let same : gone + suc (length xs) - 1 ≡ gone + length xs = omega arith in
+    let last : suc (length xs) - 1 ≡ length xs = omega arith in
+    rw (same, last) (ap is_fin (get_gone gone (x ∷ xs) (length xs))))
 
-pub body_kept_gone : (gone at : ℕ) (xs : List (Option Cell)) (bytes : List ℕ) (fin : Bool) → (gone ≡ 0 → length xs ≡ 0) → body_kept (gone_cells gone ++ xs) (gone + at) bytes fin ≡ body_kept xs at bytes fin
+pub body_kept_gone : (gone at : ℕ) (xs : List (Option Cell)) (bytes : List ℕ) (fin : Bool) → (gone ≡ 0 → length xs ≡ 0)
+    → body_kept (gone_cells gone ++ xs) (gone + at) bytes fin ≡ body_kept xs at bytes fin
 body_kept_gone gone at xs bytes fin empty =
     let long = length_gone gone xs in
     let before : gone + length xs - 1 - (gone + at) ≡ length xs - 1 - at = omega arith in
@@ -75,14 +82,18 @@ body_kept_gone gone at xs bytes fin empty =
 
 -- what is kept, of a buffer whose cells stand behind those that were discarded
 pub kept_gone : (gone at : ℕ) (xs : List (Option Cell)) (bytes : List ℕ) (fin : Bool) → (gone ≡ 0 → length xs ≡ 0)
-    → kept (record { taken = gone_cells gone ++ xs; delivered = gone - 1 }) (gone + at) bytes fin ≡ record { taken = gone_cells gone ++ put_all xs at (body_kept xs at bytes fin); delivered = gone - 1 }
+    → kept (record { taken = gone_cells gone ++ xs; delivered = gone - 1 }) (gone + at) bytes fin
+    ≡ record { taken = gone_cells gone ++ put_all xs at (body_kept xs at bytes fin); delivered = gone - 1 }
 kept_gone gone at xs bytes fin empty =
     ap (λ (ys : List (Option Cell)). let r : Receiving = record { taken = ys; delivered = gone - 1 } in r)
-    (ap (λ (cs : List Cell). put_all (gone_cells gone ++ xs) (gone + at) cs) (body_kept_gone gone at xs bytes fin empty) ∙ put_all_gone gone xs at (body_kept xs at bytes fin))
+    (ap (λ (cs : List Cell). put_all (gone_cells gone ++ xs) (gone + at) cs) (body_kept_gone gone at xs bytes fin empty)
+    ∙ put_all_gone gone xs at (body_kept xs at bytes fin))
 
 -- keeping reads nothing that is forgotten
-pub kept_forgotten : (r : Receiving) (position : ℕ) (bytes : List ℕ) (fin : Bool) → forgotten (kept (forgotten r) position bytes fin) ≡ forgotten (kept r position bytes fin)
+pub kept_forgotten : (r : Receiving) (position : ℕ) (bytes : List ℕ) (fin : Bool)
+    → forgotten (kept (forgotten r) position bytes fin) ≡ forgotten (kept r position bytes fin)
 kept_forgotten r position bytes fin =
     ap (λ (ys : List (Option Cell)). let q : Receiving = record { taken = ys; delivered = r.delivered } in q)
-    (ap (λ (cs : List Cell). fade (suc r.delivered) (put_all (fade (suc r.delivered) r.taken) position cs)) (body_kept-fade (suc r.delivered) r.taken position bytes fin)
+    (ap (λ (cs : List Cell). fade (suc r.delivered) (put_all (fade (suc r.delivered) r.taken) position cs))
+    (body_kept-fade (suc r.delivered) r.taken position bytes fin)
     ∙ fade-put_all (suc r.delivered) r.taken position (body_kept r.taken position bytes fin))

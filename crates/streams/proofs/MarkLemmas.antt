@@ -53,11 +53,14 @@ apart_covers : (from to p : ℕ) → covers (from, to) p ≡ true → (from ≤ 
 apart_covers from to p is = (grind (arith, nat_tests, is), grind (arith, nat_tests, is))
 
 -- one more range, which reaches at least as far as one that began there
-inserted : (es : List (ℕ × ℕ)) (from upto p : ℕ) → unwrap_or (lookup (is_at (nat_cmp from)) es) 0 ≤ upto → in_ranges (insert_entry nat_cmp es from upto) p ≡ (in_ranges es p || covers (from, upto) p)
+inserted : (es : List (ℕ × ℕ)) (from upto p : ℕ) → unwrap_or (lookup (is_at (nat_cmp from)) es) 0 ≤ upto
+    → in_ranges (insert_entry nat_cmp es from upto) p ≡ (in_ranges es p || covers (from, upto) p)
 inserted [] from upto p h = or_comm (covers (from, upto) p) false
 inserted (e ∷ es) from upto p h = by (nat_cmp from e.0) refl (λ later. inserted es from upto p later)
   where
-    by : (o : Ordering) → nat_cmp from e.0 ≡ o → (unwrap_or (lookup (is_at (nat_cmp from)) es) 0 ≤ upto → in_ranges (insert_entry nat_cmp es from upto) p ≡ (in_ranges es p || covers (from, upto) p))
+    by : (o : Ordering) → nat_cmp from e.0 ≡ o
+        → (unwrap_or (lookup (is_at (nat_cmp from)) es) 0 ≤ upto
+        → in_ranges (insert_entry nat_cmp es from upto) p ≡ (in_ranges es p || covers (from, upto) p))
         → in_ranges (insert_entry nat_cmp (e ∷ es) from upto) p ≡ (in_ranges (e ∷ es) p || covers (from, upto) p)
     by Less is rest = rw is (or_comm (covers (from, upto) p) (in_ranges (e ∷ es) p))
     by Equal is rest =
@@ -71,7 +74,9 @@ own : (es : List (ℕ × ℕ)) (from p : ℕ) → covers (from, unwrap_or (looku
 own [] from p is = absurd (let far = (apart_covers from 0 p is).1 in omega arith)
 own (e ∷ es) from p is = by (nat_cmp from e.0) refl (λ later. own es from p later)
   where
-    by : (o : Ordering) → nat_cmp from e.0 ≡ o → (covers (from, unwrap_or (lookup (is_at (nat_cmp from)) es) 0) p ≡ true → in_ranges es p ≡ true) → in_ranges (e ∷ es) p ≡ true
+    by : (o : Ordering) → nat_cmp from e.0 ≡ o
+        → (covers (from, unwrap_or (lookup (is_at (nat_cmp from)) es) 0) p ≡ true → in_ranges es p ≡ true)
+        → in_ranges (e ∷ es) p ≡ true
     by Less o rest = or_true (covers e p) (in_ranges es p) (rest (rw o at is))
     by Equal o rest =
         let same : from ≡ e.0 = grind (arith, nat_tests, o) in
@@ -80,7 +85,8 @@ own (e ∷ es) from p is = by (nat_cmp from e.0) refl (λ later. own es from p l
         rw covered refl
     by Greater o rest = or_true (covers e p) (in_ranges es p) (rest (rw o at is))
 
-pub added : (es : List (ℕ × ℕ)) (from upto far : ℕ) → far ≡ max upto (unwrap_or (lookup (is_at (nat_cmp from)) es) 0) → (p : ℕ) → in_ranges (insert_entry nat_cmp es from far) p ≡ (in_ranges es p || (nat_le from p && nat_lt p upto))
+pub added : (es : List (ℕ × ℕ)) (from upto far : ℕ) → far ≡ max upto (unwrap_or (lookup (is_at (nat_cmp from)) es) 0)
+    → (p : ℕ) → in_ranges (insert_entry nat_cmp es from far) p ≡ (in_ranges es p || (nat_le from p && nat_lt p upto))
 added es from upto far is p = inserted es from far p (omega arith) ∙ by (in_ranges es p) refl
   where
     old : ℕ
@@ -98,26 +104,33 @@ old_below : (es : List (ℕ × ℕ)) (floor end from : ℕ) → AreRanges floor 
 old_below [] floor end from h = omega arith
 old_below (e ∷ es) floor end from h = by (is_at (nat_cmp from) e.0) refl (old_below es floor end from h.1)
   where
-    by : (b : Bool) → is_at (nat_cmp from) e.0 ≡ b → unwrap_or (lookup (is_at (nat_cmp from)) es) 0 ≤ end → unwrap_or (lookup (is_at (nat_cmp from)) (e ∷ es)) 0 ≤ end
+    by : (b : Bool) → is_at (nat_cmp from) e.0 ≡ b → unwrap_or (lookup (is_at (nat_cmp from)) es) 0 ≤ end
+        → unwrap_or (lookup (is_at (nat_cmp from)) (e ∷ es)) 0 ≤ end
     by true here rest = rw here h.0.2
     by false other rest = rw other rest
 
-ranges_with : (es : List (ℕ × ℕ)) (floor end from far : ℕ) → floor ≤ from → from < far → far ≤ end → AreRanges floor end es → AreRanges floor end (insert_entry nat_cmp es from far)
+ranges_with : (es : List (ℕ × ℕ)) (floor end from far : ℕ) → floor ≤ from → from < far → far ≤ end
+    → AreRanges floor end es → AreRanges floor end (insert_entry nat_cmp es from far)
 ranges_with [] floor end from far l f e h = ((l, f, e), tt)
 ranges_with (x ∷ es) floor end from far l f e h = by (nat_cmp from x.0) refl (ranges_with es floor end from far l f e h.1)
   where
-    by : (o : Ordering) → nat_cmp from x.0 ≡ o → AreRanges floor end (insert_entry nat_cmp es from far) → AreRanges floor end (insert_entry nat_cmp (x ∷ es) from far)
+    by : (o : Ordering) → nat_cmp from x.0 ≡ o → AreRanges floor end (insert_entry nat_cmp es from far)
+        → AreRanges floor end (insert_entry nat_cmp (x ∷ es) from far)
     by Less is rest = rw is ((l, f, e), h)
     by Equal is rest =
         let same : from ≡ x.0 = grind (arith, nat_tests, is) in
         rw is ((h.0.0, omega arith, e), h.1)
     by Greater is rest = rw is (h.0, rest)
 
-pub ranges_more : (es : List (ℕ × ℕ)) (floor end from upto far : ℕ) → from < upto → floor ≤ from → upto ≤ end → far ≡ max upto (unwrap_or (lookup (is_at (nat_cmp from)) es) 0) → AreRanges floor end es → AreRanges floor end (insert_entry nat_cmp es from far)
-ranges_more es floor end from upto far some low high is h = let old = old_below es floor end from h in ranges_with es floor end from far low (omega arith) (omega arith) h
+pub ranges_more : (es : List (ℕ × ℕ)) (floor end from upto far : ℕ) → from < upto → floor ≤ from → upto ≤ end
+    → far ≡ max upto (unwrap_or (lookup (is_at (nat_cmp from)) es) 0) → AreRanges floor end es
+    → AreRanges floor end (insert_entry nat_cmp es from far)
+ranges_more es floor end from upto far some low high is h = let old = old_below es floor end from h in
+    ranges_with es floor end from far low (omega arith) (omega arith) h
 
 -- ranges that begin no lower
-pub ranges_from : (es : List (ℕ × ℕ)) (floor start snd_una end : ℕ) → snd_una ≤ start → All (IsLeBy nat_cmp start) (keys_of es) → AreRanges floor end es → AreRanges snd_una end es
+pub ranges_from : (es : List (ℕ × ℕ)) (floor start snd_una end : ℕ) → snd_una ≤ start
+    → All (IsLeBy nat_cmp start) (keys_of es) → AreRanges floor end es → AreRanges snd_una end es
 ranges_from es floor start snd_una end low all h = go es (recursion_from_All (IsLeBy nat_cmp start) (keys_of es) all) h
   where
     go : (es : List (ℕ × ℕ)) → AllByRecursion (IsLeBy nat_cmp start) (keys_of es) → AreRanges floor end es → AreRanges snd_una end es
@@ -125,7 +138,8 @@ ranges_from es floor start snd_una end low all h = go es (recursion_from_All (Is
     go (e ∷ es) k h = let under : start ≤ e.0 = grind (arith, nat_tests, k.0) in ((omega arith, h.0.1, h.0.2), go es k.1 h.1)
 
 -- the first range goes, and what it covers from a position on is kept by its end
-pub dropped : (old new : List (ℕ × ℕ)) (start end far snd_una p : ℕ) → old ≡ (start, end) ∷ new → start < snd_una → snd_una ≤ p → (in_ranges new p || nat_lt p (max far end)) ≡ (in_ranges old p || nat_lt p far)
+pub dropped : (old new : List (ℕ × ℕ)) (start end far snd_una p : ℕ) → old ≡ (start, end) ∷ new → start < snd_una
+    → snd_una ≤ p → (in_ranges new p || nat_lt p (max far end)) ≡ (in_ranges old p || nat_lt p far)
 dropped old new start end far snd_una p is low from =
     let reached : nat_lt p (max far end) ≡ (nat_lt p end || nat_lt p far) = grind (arith, nat_tests) in
     let begun : nat_le start p ≡ true = grind (arith, nat_tests, low, from) in
@@ -135,11 +149,15 @@ pub rest_ranges : (old new : List (ℕ × ℕ)) (e : ℕ × ℕ) (floor end : �
 rest_ranges old new e floor end is h = let both : AreRanges floor end (e ∷ new) = subst (AreRanges floor end) is h in (both.0.2, both.1)
 
 -- a range that meets others has a position that is marked
-pub met : (es : List (ℕ × ℕ)) (floor end from upto : ℕ) → from < upto → AreRanges floor end es → list_any (λ e. nat_lt e.0 upto && nat_lt from e.1) es ≡ true → (p : ℕ) × (from ≤ p) × (p < upto) × (p < end) × (in_ranges es p ≡ true)
+pub met : (es : List (ℕ × ℕ)) (floor end from upto : ℕ) → from < upto → AreRanges floor end es
+    → list_any (λ e. nat_lt e.0 upto && nat_lt from e.1) es ≡ true
+    → (p : ℕ) × (from ≤ p) × (p < upto) × (p < end) × (in_ranges es p ≡ true)
 met [] floor end from upto some h is = absurd cc
 met (e ∷ es) floor end from upto some h is = by (nat_lt e.0 upto && nat_lt from e.1) refl (λ later. met es floor end from upto some h.1 later)
   where
-    by : (b : Bool) → (nat_lt e.0 upto && nat_lt from e.1) ≡ b → (list_any (λ e. nat_lt e.0 upto && nat_lt from e.1) es ≡ true → (p : ℕ) × (from ≤ p) × (p < upto) × (p < end) × (in_ranges es p ≡ true))
+    by : (b : Bool) → (nat_lt e.0 upto && nat_lt from e.1) ≡ b
+        → (list_any (λ e. nat_lt e.0 upto && nat_lt from e.1) es ≡ true
+        → (p : ℕ) × (from ≤ p) × (p < upto) × (p < end) × (in_ranges es p ≡ true))
         → (p : ℕ) × (from ≤ p) × (p < upto) × (p < end) × (in_ranges (e ∷ es) p ≡ true)
     by true here rest =
         let low : e.0 < upto = grind (arith, nat_tests, here) in
@@ -157,19 +175,27 @@ pub unmet : (es : List (ℕ × ℕ)) (from upto p : ℕ) → list_any (λ e. nat
 unmet [] from upto p is low high = refl
 unmet (e ∷ es) from upto p is low high = by (nat_lt e.0 upto && nat_lt from e.1) refl (λ later. unmet es from upto p later low high)
   where
-    by : (b : Bool) → (nat_lt e.0 upto && nat_lt from e.1) ≡ b → (list_any (λ e. nat_lt e.0 upto && nat_lt from e.1) es ≡ false → in_ranges es p ≡ false) → in_ranges (e ∷ es) p ≡ false
+    by : (b : Bool) → (nat_lt e.0 upto && nat_lt from e.1) ≡ b
+        → (list_any (λ e. nat_lt e.0 upto && nat_lt from e.1) es ≡ false → in_ranges es p ≡ false)
+        → in_ranges (e ∷ es) p ≡ false
     by true here rest = absurd (let all : list_any (λ e. nat_lt e.0 upto && nat_lt from e.1) (e ∷ es) ≡ true = rw here refl in cc)
     by false other rest =
         let apart : covers e p ≡ false = grind (arith, nat_tests, other, low, high) in
         rw apart (rest (rw other at is))
 
 -- only those that begin below the end can meet it
-pub any_between : (es : List (ℕ × ℕ)) (from upto : ℕ) → list_any (λ e. nat_lt e.0 upto && nat_lt from e.1) (entries_between nat_cmp Unbounded (Excluded upto) es) ≡ list_any (λ e. nat_lt e.0 upto && nat_lt from e.1) es
+pub any_between : (es : List (ℕ × ℕ)) (from upto : ℕ)
+    → list_any (λ e. nat_lt e.0 upto && nat_lt from e.1) (entries_between nat_cmp Unbounded (Excluded upto) es)
+    ≡ list_any (λ e. nat_lt e.0 upto && nat_lt from e.1) es
 any_between [] from upto = refl
 any_between (e ∷ es) from upto = by (range_contains nat_cmp Unbounded (Excluded upto) e.0) refl (any_between es from upto)
   where
-    by : (b : Bool) → range_contains nat_cmp Unbounded (Excluded upto) e.0 ≡ b → list_any (λ e. nat_lt e.0 upto && nat_lt from e.1) (entries_between nat_cmp Unbounded (Excluded upto) es) ≡ list_any (λ e. nat_lt e.0 upto && nat_lt from e.1) es
-        → list_any (λ e. nat_lt e.0 upto && nat_lt from e.1) (entries_between nat_cmp Unbounded (Excluded upto) (e ∷ es)) ≡ list_any (λ e. nat_lt e.0 upto && nat_lt from e.1) (e ∷ es)
+    by : (b : Bool) → range_contains nat_cmp Unbounded (Excluded upto) e.0 ≡ b
+        → list_any (λ e. nat_lt e.0 upto && nat_lt from e.1) (entries_between nat_cmp Unbounded (Excluded upto) es)
+        ≡ list_any (λ e. nat_lt e.0 upto && nat_lt from e.1) es
+        → list_any (λ e. nat_lt e.0 upto && nat_lt from e.1)
+        (entries_between nat_cmp Unbounded (Excluded upto) (e ∷ es))
+        ≡ list_any (λ e. nat_lt e.0 upto && nat_lt from e.1) (e ∷ es)
     by true inside rest = rw inside (ap (λ (b : Bool). (nat_lt e.0 upto && nat_lt from e.1) || b) rest)
     by false outside rest =
         let behind : nat_lt e.0 upto ≡ false = grind (arith, nat_tests, outside) in
@@ -208,7 +234,9 @@ or_last false a f = or_comm a f
 pub front_in : (r a n : Bool) → n ≡ false → ((r || a) || n) ≡ (r || a)
 front_in r a n none = rw none (or_comm (r || a) false)
 
-pub met_marked : (m : Marks) (from upto end : ℕ) → list_any (λ e. nat_lt e.0 upto && nat_lt from e.1) m.ranges.entries ≡ true → from < upto → IsBelow end m → (p : ℕ) × (from ≤ p) × (p < upto) × (p < end) × (is_marked m p ≡ true)
+pub met_marked : (m : Marks) (from upto end : ℕ)
+    → list_any (λ e. nat_lt e.0 upto && nat_lt from e.1) m.ranges.entries ≡ true → from < upto → IsBelow end m
+    → (p : ℕ) × (from ≤ p) × (p < upto) × (p < end) × (is_marked m p ≡ true)
 met_marked m from upto end is some h =
     let found = met m.ranges.entries m.floor end from upto some h.0 is in
     (found.0, found.1, found.2, found.3, rw found.4 refl)
@@ -230,7 +258,9 @@ pub still_marked : (old new : List (ℕ × ℕ)) (floor reached far snd_una end 
     → (in_ranges new p || (nat_le snd_una p && nat_lt p far)) ≡ (nat_le snd_una p && (in_ranges old p || (nat_le floor p && nat_lt p reached)))
 still_marked old new floor reached far snd_una end p low h same = by (nat_le snd_una p) refl
   where
-    by : (b : Bool) → nat_le snd_una p ≡ b → (in_ranges new p || (nat_le snd_una p && nat_lt p far)) ≡ (nat_le snd_una p && (in_ranges old p || (nat_le floor p && nat_lt p reached)))
+    by : (b : Bool) → nat_le snd_una p ≡ b
+        → (in_ranges new p || (nat_le snd_una p && nat_lt p far))
+        ≡ (nat_le snd_una p && (in_ranges old p || (nat_le floor p && nat_lt p reached)))
     by true is =
         let from : snd_una ≤ p = grind (arith, nat_tests, is) in
         let begun : nat_le floor p ≡ true = grind (arith, nat_tests, from, low) in

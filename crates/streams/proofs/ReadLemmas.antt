@@ -1,5 +1,6 @@
 -- What reads are given, where what was taken is what the peer sends.
-use Rattle.std.proofs.Common.{◌≡◌, ℕ, zero, suc, ◌+◌, ◌-◌, ◌≤◌, ◌<◌, Bool, true, false, List, [], ◌∷◌, ◌++◌, length, length-append, length-drop, take, drop, Option, None, Some, refl, sym, ap, ◌∙◌, arith}
+use Rattle.std.proofs.Common.{◌≡◌, ℕ, zero, suc, ◌+◌, ◌-◌, ◌≤◌, ◌<◌, Bool, true, false, List, [], ◌∷◌, ◌++◌, length}
+use Rattle.std.proofs.Common.{length-append, length-drop, take, drop, Option, None, Some, refl, sym, ap, ◌∙◌, arith}
 use Rattle.std.specs.Prelude.{◌==◌, ◌&&◌, slice_get}
 use Rattle.std.proofs.lemmas.Bool.Decides.{nat_tests}
 use Rattle.streams.specs.declared.cell.Cell.{Cell}
@@ -18,7 +19,9 @@ nothing_front (None ∷ xs) rest e = refl
 nothing_front (Some x ∷ xs) rest e = absurd (cc)
 
 -- behind the SYN, what waits are the bytes in front that were not delivered
-leading_front : (xs : List (Option Cell)) (rest : List Cell) (accepted : List ℕ) (ended : Bool) (delivered : ℕ) → front xs ++ rest ≡ body accepted ended → delivered ≤ length (bytes_of (front xs)) → leading (drop delivered xs) ≡ drop delivered (bytes_of (front xs))
+leading_front : (xs : List (Option Cell)) (rest : List Cell) (accepted : List ℕ) (ended : Bool) (delivered : ℕ)
+    → front xs ++ rest ≡ body accepted ended → delivered ≤ length (bytes_of (front xs))
+    → leading (drop delivered xs) ≡ drop delivered (bytes_of (front xs))
 leading_front [] rest accepted ended zero e h = refl
 leading_front [] rest accepted ended (suc d) e h = absurd (omega arith)
 leading_front (None ∷ xs) rest accepted ended zero e h = refl
@@ -45,7 +48,10 @@ leading_front (Some Fin ∷ xs) rest [] false d e h = absurd (cc)
 leading_front (Some Fin ∷ xs) rest (b ∷ accepted) ended d e h = absurd (cc)
 
 -- what waits is what came in order and was not delivered
-waiting_behind : (taken : List (Option Cell)) (rest : List Cell) (accepted : List ℕ) (ended : Bool) (delivered : ℕ) → 0 < length (front taken) → front taken ++ rest ≡ cells accepted ended → delivered ≤ length (bytes_of (front taken)) → leading (drop (suc delivered) taken) ≡ drop delivered (bytes_of (front taken))
+waiting_behind : (taken : List (Option Cell)) (rest : List Cell) (accepted : List ℕ) (ended : Bool) (delivered : ℕ)
+    → 0 < length (front taken) → front taken ++ rest ≡ cells accepted ended
+    → delivered ≤ length (bytes_of (front taken))
+    → leading (drop (suc delivered) taken) ≡ drop delivered (bytes_of (front taken))
 waiting_behind [] rest accepted ended d some e h = absurd (omega arith)
 waiting_behind (None ∷ taken) rest accepted ended d some e h = absurd (omega arith)
 waiting_behind (Some Syn ∷ taken) rest accepted ended d some e h =
@@ -54,7 +60,9 @@ waiting_behind (Some Syn ∷ taken) rest accepted ended d some e h =
 waiting_behind (Some (Byte v) ∷ taken) rest accepted ended d some e h = absurd (cc)
 waiting_behind (Some Fin ∷ taken) rest accepted ended d some e h = absurd (cc)
 
-pub waiting_arrived : (r : Receiving) (rest : List Cell) (accepted : List ℕ) (ended : Bool) → 0 < length (front r.taken) → front r.taken ++ rest ≡ cells accepted ended → r.delivered ≤ length (arrived r) → waiting r ≡ drop r.delivered (arrived r)
+pub waiting_arrived : (r : Receiving) (rest : List Cell) (accepted : List ℕ) (ended : Bool) → 0 < length (front r.taken)
+    → front r.taken ++ rest ≡ cells accepted ended → r.delivered ≤ length (arrived r)
+    → waiting r ≡ drop r.delivered (arrived r)
 waiting_arrived r rest accepted ended some e h = waiting_behind r.taken rest accepted ended r.delivered some e h
 
 take_then : {X : Type 0} (m n : ℕ) (xs : List X) → take (m + n) xs ≡ take m xs ++ take n (drop m xs)
@@ -68,7 +76,8 @@ pub received_told : (r : Receiving) (count : ℕ) → waiting r ≡ drop r.deliv
 received_told r count e = take_then r.delivered count (arrived r) ∙ ap (λ (bytes : List ℕ). received r ++ take count bytes) (sym e)
 
 -- no more is delivered than arrived
-pub told_within : (r : Receiving) (count : ℕ) → waiting r ≡ drop r.delivered (arrived r) → r.delivered ≤ length (arrived r) → count ≤ length (waiting r) → (told r count).delivered ≤ length (arrived r)
+pub told_within : (r : Receiving) (count : ℕ) → waiting r ≡ drop r.delivered (arrived r)
+    → r.delivered ≤ length (arrived r) → count ≤ length (waiting r) → (told r count).delivered ≤ length (arrived r)
 told_within r count e h k =
     let long = length-drop r.delivered (arrived r) in
     let same = ap (λ (bytes : List ℕ). length bytes) e in
@@ -137,7 +146,8 @@ prefix_starts (x ∷ xs) (y ∷ ys) p =
     rw same (prefix_starts xs ys (p.0, tail))
 
 -- a FIN in front stands behind all that the peer accepted
-all_came : (front rest : List Cell) (accepted : List ℕ) (ended : Bool) → has_fin front ≡ true → front ++ rest ≡ cells accepted ended → (bytes_of front ≡ accepted) × (ended ≡ true)
+all_came : (front rest : List Cell) (accepted : List ℕ) (ended : Bool) → has_fin front ≡ true
+    → front ++ rest ≡ cells accepted ended → (bytes_of front ≡ accepted) × (ended ≡ true)
 all_came [] rest accepted ended f e = absurd (cc)
 all_came (Syn ∷ front) rest accepted ended f e = fin_body front rest accepted ended f (cc)
 all_came (Byte v ∷ front) rest accepted ended f e = absurd (cc)
@@ -148,6 +158,9 @@ in_order r accepted ended of =
     let begin = front_prefix r.taken (cells accepted ended) of in
     record {
       arrives = (bytes_of begin.0, sym (bytes_of-append (front r.taken) begin.0) ∙ (ap bytes_of begin.1 ∙ bytes_of-body accepted ended));
-      waits = λ some within. ap (λ (bytes : List ℕ). received r ++ bytes) (waiting_arrived r begin.0 accepted ended (omega arith) begin.1 within) ∙ take-append-drop r.delivered (arrived r);
+      waits =
+          λ some within. ap (λ (bytes : List ℕ). received r ++ bytes)
+          (waiting_arrived r begin.0 accepted ended (omega arith) begin.1 within)
+          ∙ take-append-drop r.delivered (arrived r);
       ends = λ told. all_came (front r.taken) begin.0 accepted ended (ended_has_fin r told) begin.1;
     }

@@ -1,5 +1,6 @@
 -- Runs of positions.
-use Rattle.std.proofs.Common.{◌≡◌, Some, None, ℕ, ◌+◌, ◌-◌, ◌<◌, ◌≤◌, List, [], ◌∷◌, ◌++◌, length, drop, get_or, replicate, refl, sym, ap, ◌∙◌, arith, append_assoc, zero, suc, length-append}
+use Rattle.std.proofs.Common.{◌≡◌, Some, None, ℕ, ◌+◌, ◌-◌, ◌<◌, ◌≤◌, List, [], ◌∷◌, ◌++◌, length, drop, get_or}
+use Rattle.std.proofs.Common.{replicate, refl, sym, ap, ◌∙◌, arith, append_assoc, zero, suc, length-append}
 use Rattle.std.proofs.lemmas.List.{drop_more, drop_all, append-nil, length-replicate}
 use Rattle.streams.specs.declared.transmission.Transmission.{Transmission}
 use Rattle.streams.specs.declared.runs.Run.{Run}
@@ -31,7 +32,8 @@ forget_inside k r rs h = sym (drop-run k r.count (once r.moment) (expand rs) (om
 pub forget_run : (k : ℕ) (r : Run) (rs : List Run) → r.count ≤ k → drop (k - r.count) (expand rs) ≡ drop k (expand (r ∷ rs))
 forget_run k r rs h = sym (drop-past k r.count (once r.moment) (expand rs) h)
 
-pub pop_inside : (all rest now : List Run) (r : Run) (k : ℕ) → all ≡ r ∷ rest → k < r.count → now ≡ record { count = r.count - k; moment = r.moment } ∷ rest → expand now ≡ drop k (expand all)
+pub pop_inside : (all rest now : List Run) (r : Run) (k : ℕ) → all ≡ r ∷ rest → k < r.count
+    → now ≡ record { count = r.count - k; moment = r.moment } ∷ rest → expand now ≡ drop k (expand all)
 pop_inside all rest now r k e h f = rw (e, f) (forget_inside k r rest h)
 
 pub pop_run : (all rest : List Run) (r : Run) (k : ℕ) → all ≡ r ∷ rest → r.count ≤ k → drop (k - r.count) (expand rest) ≡ drop k (expand all)
@@ -63,10 +65,12 @@ moment_past p n x all h = rw (get_past p n x all h) refl
 pub moment_inside : (p n : ℕ) (x : Transmission) (all : List Transmission) → p < n → made_moment (replicate n x ++ all) p ≡ Some x.moment
 moment_inside p n x all h = rw (get_inside p n x all h) refl
 
-pub moment_on : (xs : List Run) (i skip : ℕ) (r : Run) → i < length xs → r ≡ get_or xs i r → r.count ≤ skip → made_moment (expand (drop (i + 1) xs)) (skip - r.count) ≡ made_moment (expand (drop i xs)) skip
+pub moment_on : (xs : List Run) (i skip : ℕ) (r : Run) → i < length xs → r ≡ get_or xs i r → r.count ≤ skip
+    → made_moment (expand (drop (i + 1) xs)) (skip - r.count) ≡ made_moment (expand (drop i xs)) skip
 moment_on xs i skip r h e l = rw (here xs i r h e) (sym (moment_past skip r.count (once r.moment) (expand (drop (i + 1) xs)) l))
 
-pub moment_found : (xs : List Run) (i skip : ℕ) (r : Run) → i < length xs → r ≡ get_or xs i r → skip < r.count → made_moment (expand (drop i xs)) skip ≡ Some r.moment
+pub moment_found : (xs : List Run) (i skip : ℕ) (r : Run) → i < length xs → r ≡ get_or xs i r → skip < r.count
+    → made_moment (expand (drop i xs)) skip ≡ Some r.moment
 moment_found xs i skip r h e l = rw (here xs i r h e) (moment_inside skip r.count (once r.moment) (expand (drop (i + 1) xs)) l)
 
 pub moment_none : (xs : List Run) (i skip : ℕ) → length xs ≤ i → made_moment (expand (drop i xs)) skip ≡ None

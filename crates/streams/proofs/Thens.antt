@@ -1,5 +1,6 @@
 -- Bytes that were taken, and what stands behind them.
-use Rattle.std.proofs.Common.{◌≡◌, ℕ, zero, suc, ◌+◌, ◌-◌, ◌<◌, Bool, true, false, List, [], ◌∷◌, ◌++◌, length, take, drop, get_or, min, Option, Some, refl, sym, ap, ◌∙◌, arith, append_assoc}
+use Rattle.std.proofs.Common.{◌≡◌, ℕ, zero, suc, ◌+◌, ◌-◌, ◌<◌, Bool, true, false, List, [], ◌∷◌, ◌++◌, length, take}
+use Rattle.std.proofs.Common.{drop, get_or, min, Option, Some, refl, sym, ap, ◌∙◌, arith, append_assoc}
 use Rattle.std.specs.Prelude.{nat_eq, slice_get}
 use Rattle.std.specs.Cmp.Lexicographic.{pointwise}
 use Rattle.std.proofs.lemmas.Bool.{le-leb}
@@ -41,7 +42,8 @@ byte_no_fin (v ∷ b) xs zero h = refl
 byte_no_fin (v ∷ b) xs (suc i) h = byte_no_fin b xs i (omega arith)
 
 -- whether the last place in front of the first gap has a FIN
-pub ended_bytes : (b : List ℕ) (xs : List (Option Cell)) → length (front xs) ≡ 0 → is_fin (slice_get (bytes_then b xs) (length (front (bytes_then b xs)) - 1)) ≡ false
+pub ended_bytes : (b : List ℕ) (xs : List (Option Cell)) → length (front xs) ≡ 0
+    → is_fin (slice_get (bytes_then b xs) (length (front (bytes_then b xs)) - 1)) ≡ false
 ended_bytes [] xs none = let here : length (front xs) - 1 ≡ 0 = omega arith in rw here (front_none xs none)
 ended_bytes (v ∷ b) xs none = let all = front_then (v ∷ b) xs in byte_no_fin (v ∷ b) xs (length (front (bytes_then (v ∷ b) xs)) - 1) (omega arith)
 
@@ -56,11 +58,13 @@ ended_rest b ready xs x e h r =
 -- what is kept, behind the bytes
 put_then : (b : List ℕ) (xs : List (Option Cell)) (p : ℕ) (c : Cell) → put (bytes_then b xs) (length b + p) c ≡ bytes_then b (put xs p c)
 put_then [] xs p c = let same : 0 + p ≡ p = omega arith in rw same refl
-put_then (v ∷ b) xs p c = let same : suc (length b) + p ≡ suc (length b + p) = omega arith in rw same (ap (λ (ys : List (Option Cell)). Some (Byte v) ∷ ys) (put_then b xs p c))
+put_then (v ∷ b) xs p c = let same : suc (length b) + p ≡ suc (length b + p) = omega arith in
+    rw same (ap (λ (ys : List (Option Cell)). Some (Byte v) ∷ ys) (put_then b xs p c))
 
 put_all_then : (b : List ℕ) (xs : List (Option Cell)) (p : ℕ) (cs : List Cell) → put_all (bytes_then b xs) (length b + p) cs ≡ bytes_then b (put_all xs p cs)
 put_all_then b xs p [] = refl
-put_all_then b xs p (c ∷ cs) = let same : suc (length b + p) ≡ length b + suc p = omega arith in rw (put_then b xs p c, same) (put_all_then b (put xs p c) (suc p) cs)
+put_all_then b xs p (c ∷ cs) = let same : suc (length b + p) ≡ length b + suc p = omega arith in
+    rw (put_then b xs p c, same) (put_all_then b (put xs p c) (suc p) cs)
 
 has_end_then : (b : List ℕ) (xs : List (Option Cell)) → has_end (bytes_then b xs) ≡ has_end xs
 has_end_then [] xs = refl
@@ -71,7 +75,8 @@ has_end_then (v ∷ b) (x ∷ xs) =
     let last : suc (length xs) - 1 ≡ length xs = omega arith in
     rw (here, last) (ap is_fin (get_then (v ∷ b) (x ∷ xs) (length xs)))
 
-body_kept_then : (b : List ℕ) (xs : List (Option Cell)) (at : ℕ) (bytes : List ℕ) (fin : Bool) → body_kept (bytes_then b xs) (length b + at) bytes fin ≡ body_kept xs at bytes fin
+body_kept_then : (b : List ℕ) (xs : List (Option Cell)) (at : ℕ) (bytes : List ℕ) (fin : Bool)
+    → body_kept (bytes_then b xs) (length b + at) bytes fin ≡ body_kept xs at bytes fin
 body_kept_then b xs at bytes fin =
     let long = length_then b xs in
     let before : length b + length xs - 1 - (length b + at) ≡ length xs - 1 - at = omega arith in
@@ -79,8 +84,11 @@ body_kept_then b xs at bytes fin =
     rw (has_end_then b xs, long, before, behind, same_order (length b) (length xs) (at + length bytes)) refl
 
 pub kept_then : (b : List ℕ) (xs : List (Option Cell)) (at : ℕ) (bytes : List ℕ) (fin : Bool)
-    → put_all (bytes_then b xs) (length b + at) (body_kept (bytes_then b xs) (length b + at) bytes fin) ≡ bytes_then b (put_all xs at (body_kept xs at bytes fin))
-kept_then b xs at bytes fin = ap (λ (cs : List Cell). put_all (bytes_then b xs) (length b + at) cs) (body_kept_then b xs at bytes fin) ∙ put_all_then b xs at (body_kept xs at bytes fin)
+    → put_all (bytes_then b xs) (length b + at) (body_kept (bytes_then b xs) (length b + at) bytes fin)
+    ≡ bytes_then b (put_all xs at (body_kept xs at bytes fin))
+kept_then b xs at bytes fin =
+    ap (λ (cs : List Cell). put_all (bytes_then b xs) (length b + at) cs) (body_kept_then b xs at bytes fin)
+    ∙ put_all_then b xs at (body_kept xs at bytes fin)
 
 -- what is kept right behind the last cell
 put_all_end : (xs : List (Option Cell)) (bytes : List ℕ) (fin : Bool) → put_all xs (length xs) (body bytes fin) ≡ xs ++ bytes_then bytes (fin_alone fin)
@@ -101,14 +109,17 @@ all_kept : (bytes : List ℕ) (fin : Bool) → body_kept [] 0 bytes fin ≡ body
 all_kept bytes true = let all = le-leb 0 (0 + length bytes) (omega arith) in rw all refl
 all_kept bytes false = refl
 
-pub kept_end : (b : List ℕ) (bytes : List ℕ) (fin : Bool) → put_all (bytes_then b []) (length b + 0) (body_kept (bytes_then b []) (length b + 0) bytes fin) ≡ bytes_then (b ++ bytes) (fin_alone fin)
+pub kept_end : (b : List ℕ) (bytes : List ℕ) (fin : Bool)
+    → put_all (bytes_then b []) (length b + 0) (body_kept (bytes_then b []) (length b + 0) bytes fin)
+    ≡ bytes_then (b ++ bytes) (fin_alone fin)
 kept_end b bytes fin =
     kept_then b [] 0 bytes fin
     ∙ (ap (λ (cs : List Cell). bytes_then b (put_all [] 0 cs)) (all_kept bytes fin)
     ∙ (ap (bytes_then b) (put_all_end [] bytes fin) ∙ sym (then_then b bytes (fin_alone fin))))
 
 -- what is dropped in front, of the bytes first
-pub drop_then : (b : List ℕ) (xs : List (Option Cell)) (count n : ℕ) → n ≡ min count (length b) → drop count (bytes_then b xs) ≡ bytes_then (drop n b) (drop (count - n) xs)
+pub drop_then : (b : List ℕ) (xs : List (Option Cell)) (count n : ℕ) → n ≡ min count (length b)
+    → drop count (bytes_then b xs) ≡ bytes_then (drop n b) (drop (count - n) xs)
 drop_then [] xs count n h = let none : n ≡ 0 = omega arith in let all : count - 0 ≡ count = omega arith in rw (none, all) refl
 drop_then (v ∷ b) xs zero n h = let none : n ≡ 0 = omega arith in rw none refl
 drop_then (v ∷ b) xs (suc count) zero h = absurd (omega arith)

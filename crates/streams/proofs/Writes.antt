@@ -31,7 +31,8 @@ length_put_all xs p [] n h k = h
 length_put_all xs p (c ∷ cs) n h k = length_put_all (put xs p c) (suc p) cs n (length_put xs p c n h (omega arith)) (omega arith)
 
 -- a FIN behind the bytes, or none
-pub put_all_body_true : (xs : List (Option Cell)) (p : ℕ) (bytes : List ℕ) → put_all xs p (body bytes true) ≡ put (put_all xs p (cells_of bytes)) (p + length bytes) Fin
+pub put_all_body_true : (xs : List (Option Cell)) (p : ℕ) (bytes : List ℕ)
+    → put_all xs p (body bytes true) ≡ put (put_all xs p (cells_of bytes)) (p + length bytes) Fin
 put_all_body_true xs p [] = let same : p + 0 ≡ p = omega arith in rw same refl
 put_all_body_true xs p (b ∷ bytes) =
     let same : p + suc (length bytes) ≡ suc p + length bytes = omega arith in

@@ -1,5 +1,7 @@
 -- What stands in the slots of a queue.
-use Rattle.std.proofs.Common.{◌≡◌, ℕ, zero, suc, ◌+◌, ◌<◌, ◌≤◌, Bool, true, false, not, filter, List, [], ◌∷◌, ◌++◌, length, Option, None, Some, slice_get, slice_set, slice_index_or, length-append, nat_eq, refl, sym, ap, ◌∙◌, arith}
+use Rattle.std.proofs.Common.{◌≡◌, ℕ, zero, suc, ◌+◌, ◌<◌, ◌≤◌, Bool, true, false, not, filter, List, [], ◌∷◌, ◌++◌}
+use Rattle.std.proofs.Common.{length, Option, None, Some, slice_get, slice_set, slice_index_or, length-append, nat_eq}
+use Rattle.std.proofs.Common.{refl, sym, ap, ◌∙◌, arith}
 use Rattle.std.specs.Map.{lookup}
 use Rattle.std.specs.Option.{option_flatten}
 use Rattle.tables.specs.Queues.{Queue, standing, IsTrimmed}
@@ -22,7 +24,8 @@ module _ {V : Type 0} where
   there (slot ∷ slots) (suc place) x low is = there slots place x (omega arith) is
 
   -- what stands under a number is what its slot has
-  pub slot_is : (n first place : ℕ) (slots : List (Option V)) → n ≡ first + place → lookup (nat_eq n) (standing first slots) ≡ option_flatten (slice_get slots place)
+  pub slot_is : (n first place : ℕ) (slots : List (Option V)) → n ≡ first + place
+      → lookup (nat_eq n) (standing first slots) ≡ option_flatten (slice_get slots place)
   slot_is n first place [] is = refl
   slot_is n first zero (None ∷ slots) is = none_below n (first + 1) slots (omega (arith, is))
   slot_is n first zero (Some item ∷ slots) is = rw (same n first (omega (arith, is))) refl
@@ -40,13 +43,17 @@ module _ {V : Type 0} where
   slot_has n first place slots x is low here = slot_is n first place slots is ∙ ap option_flatten (there slots place x low here)
 
   -- one item more stands last
-  pub one_more : (first : ℕ) (slots : List (Option V)) (item : V) → standing first (slots ++ Some item ∷ []) ≡ standing first slots ++ (first + length slots, item) ∷ []
+  pub one_more : (first : ℕ) (slots : List (Option V)) (item : V)
+      → standing first (slots ++ Some item ∷ []) ≡ standing first slots ++ (first + length slots, item) ∷ []
   one_more first [] item = ap (λ (k : ℕ). (k, item) ∷ []) (omega arith)
   one_more first (None ∷ slots) item = one_more (first + 1) slots item ∙ ap (λ (k : ℕ). standing (first + 1) slots ++ (k, item) ∷ []) (omega arith)
   one_more first (Some other ∷ slots) item =
-      ap (λ (es : List (ℕ × V)). (first, other) ∷ es) (one_more (first + 1) slots item ∙ ap (λ (k : ℕ). standing (first + 1) slots ++ (k, item) ∷ []) (omega arith))
+      ap (λ (es : List (ℕ × V)). (first, other) ∷ es)
+      (one_more (first + 1) slots item
+      ∙ ap (λ (k : ℕ). standing (first + 1) slots ++ (k, item) ∷ []) (omega arith))
 
-  pub pushed : (first : ℕ) (slots : List (Option V)) (item : V) (q : Queue V) → ◌≡◌ {A = Queue V} (record { entries = standing first slots; next = first + length slots }) q
+  pub pushed : (first : ℕ) (slots : List (Option V)) (item : V) (q : Queue V)
+      → ◌≡◌ {A = Queue V} (record { entries = standing first slots; next = first + length slots }) q
       → ◌≡◌ {A = Queue V} (record { entries = standing first (slots ++ Some item ∷ []); next = first + length (slots ++ Some item ∷ []) })
       (record { entries = q.entries ++ (q.next, item) ∷ []; next = q.next + 1 })
   pushed first slots item q is =
@@ -73,21 +80,26 @@ module _ {V : Type 0} where
   none_gone n [] none = refl
   none_gone n (e ∷ es) none = by (none_gone n es) (nat_eq n e.0) refl
     where
-      by : (lookup (nat_eq n) es ≡ None → filter (λ e. not (nat_eq n e.0)) es ≡ es) → (b : Bool) → nat_eq n e.0 ≡ b → filter (λ e. not (nat_eq n e.0)) (e ∷ es) ≡ e ∷ es
+      by : (lookup (nat_eq n) es ≡ None → filter (λ e. not (nat_eq n e.0)) es ≡ es) → (b : Bool) → nat_eq n e.0 ≡ b
+          → filter (λ e. not (nat_eq n e.0)) (e ∷ es) ≡ e ∷ es
       by rest true is = let some : lookup (nat_eq n) (e ∷ es) ≡ Some e.1 = rw is refl in absurd cc
       by rest false is = rw is (ap (λ (xs : List (ℕ × V)). e ∷ xs) (rest (rw is at none)))
 
   -- the item of an emptied slot goes, and no other
-  pub one_less : (n first place : ℕ) (slots : List (Option V)) → n ≡ first + place → standing first (slice_set slots place None) ≡ filter (λ e. not (nat_eq n e.0)) (standing first slots)
+  pub one_less : (n first place : ℕ) (slots : List (Option V)) → n ≡ first + place
+      → standing first (slice_set slots place None) ≡ filter (λ e. not (nat_eq n e.0)) (standing first slots)
   one_less n first place [] is = refl
   one_less n first zero (None ∷ slots) is = sym (none_gone n (standing (first + 1) slots) (none_below n (first + 1) slots (omega (arith, is))))
-  one_less n first zero (Some item ∷ slots) is = rw (same n first (omega (arith, is))) (sym (none_gone n (standing (first + 1) slots) (none_below n (first + 1) slots (omega (arith, is)))))
+  one_less n first zero (Some item ∷ slots) is =
+      rw (same n first (omega (arith, is)))
+      (sym (none_gone n (standing (first + 1) slots) (none_below n (first + 1) slots (omega (arith, is)))))
   one_less n first (suc place) (None ∷ slots) is = one_less n (first + 1) place slots (omega (arith, is))
   one_less n first (suc place) (Some item ∷ slots) is =
       rw (smaller n first (omega (arith, is))) (ap (λ (es : List (ℕ × V)). (first, item) ∷ es) (one_less n (first + 1) place slots (omega (arith, is))))
 
   -- so there is one item fewer
-  pub fewer : (first place : ℕ) (slots : List (Option V)) (item : V) → slice_get slots place ≡ Some (Some item) → suc (length (standing first (slice_set slots place None))) ≡ length (standing first slots)
+  pub fewer : (first place : ℕ) (slots : List (Option V)) (item : V) → slice_get slots place ≡ Some (Some item)
+      → suc (length (standing first (slice_set slots place None))) ≡ length (standing first slots)
   fewer first place [] item at = absurd cc
   fewer first zero (None ∷ slots) item at = absurd cc
   fewer first zero (Some other ∷ slots) item at = refl

@@ -46,7 +46,8 @@ found_none : (xs : List (ℕ × ℕ)) (n : ℕ) → ((i : ℕ) → i < length xs
 found_none [] n apart = refl
 found_none (x ∷ xs) n apart = rw (apart 0 (omega arith)) (found_none xs n (λ i within. apart (suc i) (omega arith)))
 
-pub not_found : (xs : List (ℕ × ℕ)) (i n : ℕ) → IsRising xs → AreBelow xs i n → AreNotBelow xs i n → (i < length xs → number_at xs i ≢ n) → None ≡ lookup (nat_eq n) xs
+pub not_found : (xs : List (ℕ × ℕ)) (i n : ℕ) → IsRising xs → AreBelow xs i n → AreNotBelow xs i n
+    → (i < length xs → number_at xs i ≢ n) → None ≡ lookup (nat_eq n) xs
 not_found xs i n rising below from other = found_none xs n (λ k within. by k within (nat_lt k i) refl)
   where
     by : (k : ℕ) → k < length xs → (b : Bool) → nat_lt k i ≡ b → nat_eq n (number_at xs k) ≡ false

@@ -1,5 +1,6 @@
 -- Entries and where they stand.
-use Rattle.std.proofs.Common.{◌≡◌, ℕ, zero, suc, ◌<◌, Bool, true, false, cond, List, [], ◌∷◌, ◌++◌, length, get_or, Option, None, Some, Result, Ok, Err, OnErr, refl, sym, ap, ◌∙◌, subst, arith, rules}
+use Rattle.std.proofs.Common.{◌≡◌, ℕ, zero, suc, ◌<◌, Bool, true, false, cond, List, [], ◌∷◌, ◌++◌, length, get_or}
+use Rattle.std.proofs.Common.{Option, None, Some, Result, Ok, Err, OnErr, refl, sym, ap, ◌∙◌, subst, arith, rules}
 use Rattle.std.proofs.lemmas.Bool.Decides.{nat_tests}
 use Rattle.std.specs.Prelude.{nat_eq, slice_set, if◌then◌else◌}
 use Rattle.std.specs.Map.{lookup}
@@ -81,8 +82,12 @@ module _ {V : Type 0} where
   -- and all stay where they were
   pub place_set : (es : List (ℕ × V)) (k p : ℕ) (v : V) → place_of es k ≡ Some p → (n : ℕ) → place_of es n ≡ place_of (slice_set es p (k, v)) n
   place_set [] k p v at n = absurd cc
-  place_set (x ∷ es) k zero v at n = ap (λ (m : ℕ). if nat_eq n m then Some 0 else option_map (λ place. suc place) (place_of es n)) (sym (equal k x.0 (first x es k at)))
-  place_set (x ∷ es) k (suc q) v at n = ap (λ (o : Option ℕ). if nat_eq n x.0 then Some 0 else option_map (λ place. suc place) o) (place_set es k q v (later x es k q at).1 n)
+  place_set (x ∷ es) k zero v at n =
+      ap (λ (m : ℕ). if nat_eq n m then Some 0 else option_map (λ place. suc place) (place_of es n))
+      (sym (equal k x.0 (first x es k at)))
+  place_set (x ∷ es) k (suc q) v at n =
+      ap (λ (o : Option ℕ). if nat_eq n x.0 then Some 0 else option_map (λ place. suc place) o)
+      (place_set es k q v (later x es k q at).1 n)
 
   -- a new entry goes last
   pub push_is : (es : List (ℕ × V)) (k : ℕ) (v : V) → place_of es k ≡ None → es ++ (k, v) ∷ [] ≡ insert_entry nat_eq es k v
@@ -90,7 +95,8 @@ module _ {V : Type 0} where
   push_is (x ∷ es) k v at = let rest = nowhere x es k at in rw rest.0 (ap (λ (ys : List (ℕ × V)). x ∷ ys) (push_is es k v rest.1))
 
   -- and stands there
-  pub place_push : (es : List (ℕ × V)) (k : ℕ) (v : V) → place_of es k ≡ None → (n : ℕ) → cond (nat_eq k n) (Some (length es)) (place_of es n) ≡ place_of (es ++ (k, v) ∷ []) n
+  pub place_push : (es : List (ℕ × V)) (k : ℕ) (v : V) → place_of es k ≡ None → (n : ℕ)
+      → cond (nat_eq k n) (Some (length es)) (place_of es n) ≡ place_of (es ++ (k, v) ∷ []) n
   place_push [] k v at n = by (nat_eq k n) refl
     where
       by : (b : Bool) → nat_eq k n ≡ b → cond (nat_eq k n) (Some 0) None ≡ place_of ((k, v) ∷ []) n
@@ -150,11 +156,14 @@ at_is : (n k : ℕ) → is_at (nat_cmp n) k ≡ nat_eq n k
 at_is n k = search rules
 
 -- a number is led to one more place
-led : (old new : List (ℕ × Option ℕ)) (k : ℕ) (to : Option ℕ) → ((q : ℕ) → lookup (is_at (nat_cmp q)) new ≡ cond (is_at (nat_cmp k) q) (Some to) (lookup (is_at (nat_cmp q)) old))
+led : (old new : List (ℕ × Option ℕ)) (k : ℕ) (to : Option ℕ)
+    → ((q : ℕ) → lookup (is_at (nat_cmp q)) new ≡ cond (is_at (nat_cmp k) q) (Some to) (lookup (is_at (nat_cmp q)) old))
     → (n : ℕ) → led_in new n ≡ cond (nat_eq k n) to (led_in old n)
 led old new k to updates n = ap (λ (o : Option (Option ℕ)). option_flatten o) (updates n) ∙ by (nat_eq k n) refl
   where
-    by : (b : Bool) → nat_eq k n ≡ b → option_flatten (cond (is_at (nat_cmp k) n) (Some to) (lookup (is_at (nat_cmp n)) old)) ≡ cond (nat_eq k n) to (led_in old n)
+    by : (b : Bool) → nat_eq k n ≡ b
+        → option_flatten (cond (is_at (nat_cmp k) n) (Some to) (lookup (is_at (nat_cmp n)) old))
+        ≡ cond (nat_eq k n) to (led_in old n)
     by true is = rw (at_is k n, is) refl
     by false is = rw (at_is k n, is) refl
 
@@ -168,16 +177,22 @@ pub led_other : (risen : List (ℕ × ℕ)) (old new : List (ℕ × Option ℕ))
     → ((q : ℕ) → lookup (is_at (nat_cmp q)) new ≡ cond (is_at (nat_cmp k) q) (Some (Some to)) (lookup (is_at (nat_cmp q)) old))
     → place_in risen old k ≡ None
     → (n : ℕ) → place_in risen new n ≡ cond (nat_eq k n) (Some to) (place_in risen old n)
-led_other risen old new k to updates none n = ap (λ (o : Option ℕ). option_or (lookup (nat_eq n) risen) o) (led old new k (Some to) updates n) ∙ by (nat_eq k n) refl
+led_other risen old new k to updates none n =
+    ap (λ (o : Option ℕ). option_or (lookup (nat_eq n) risen) o) (led old new k (Some to) updates n)
+    ∙ by (nat_eq k n) refl
   where
     by : (b : Bool) → nat_eq k n ≡ b
-        → option_or (lookup (nat_eq n) risen) (cond (nat_eq k n) (Some to) (led_in old n)) ≡ cond (nat_eq k n) (Some to) (option_or (lookup (nat_eq n) risen) (led_in old n))
+        → option_or (lookup (nat_eq n) risen) (cond (nat_eq k n) (Some to) (led_in old n))
+        ≡ cond (nat_eq k n) (Some to) (option_or (lookup (nat_eq n) risen) (led_in old n))
     by true is =
-        let absent : lookup (nat_eq n) risen ≡ None = subst (λ (m : ℕ). lookup (nat_eq m) risen ≡ None) (equal k n is) (nowhere_in (lookup (nat_eq k) risen) (led_in old k) none) in
+        let absent : lookup (nat_eq n) risen ≡ None =
+        subst (λ (m : ℕ). lookup (nat_eq m) risen ≡ None) (equal k n is)
+        (nowhere_in (lookup (nat_eq k) risen) (led_in old k) none) in
         rw (is, absent) refl
     by false is = rw is refl
 
-found_behind : (risen : List (ℕ × ℕ)) (k to n : ℕ) → lookup (nat_eq k) risen ≡ None → lookup (nat_eq n) (risen ++ (k, to) ∷ []) ≡ cond (nat_eq k n) (Some to) (lookup (nat_eq n) risen)
+found_behind : (risen : List (ℕ × ℕ)) (k to n : ℕ) → lookup (nat_eq k) risen ≡ None
+    → lookup (nat_eq n) (risen ++ (k, to) ∷ []) ≡ cond (nat_eq k n) (Some to) (lookup (nat_eq n) risen)
 found_behind [] k to n none = by (nat_eq k n) refl
   where
     by : (b : Bool) → nat_eq k n ≡ b → lookup (nat_eq n) ((k, to) ∷ []) ≡ cond (nat_eq k n) (Some to) None
@@ -200,9 +215,12 @@ found_behind (x ∷ xs) k to n none = by (nat_eq k x.0) refl (nat_eq n x.0) refl
 pub led_risen : (risen : List (ℕ × ℕ)) (others : List (ℕ × Option ℕ)) (k to : ℕ) → place_in risen others k ≡ None
     → (n : ℕ) → place_in (risen ++ (k, to) ∷ []) others n ≡ cond (nat_eq k n) (Some to) (place_in risen others n)
 led_risen risen others k to none n =
-    ap (λ (o : Option ℕ). option_or o (led_in others n)) (found_behind risen k to n (nowhere_in (lookup (nat_eq k) risen) (led_in others k) none)) ∙ by (nat_eq k n)
+    ap (λ (o : Option ℕ). option_or o (led_in others n))
+    (found_behind risen k to n (nowhere_in (lookup (nat_eq k) risen) (led_in others k) none)) ∙ by (nat_eq k n)
   where
-    by : (b : Bool) → option_or (cond b (Some to) (lookup (nat_eq n) risen)) (led_in others n) ≡ cond b (Some to) (option_or (lookup (nat_eq n) risen) (led_in others n))
+    by : (b : Bool)
+        → option_or (cond b (Some to) (lookup (nat_eq n) risen)) (led_in others n)
+        ≡ cond b (Some to) (option_or (lookup (nat_eq n) risen) (led_in others n))
     by true = refl
     by false = refl
 
@@ -233,7 +251,9 @@ module _ {V : Type 0} (top : Option ℕ) (risen : List (ℕ × ℕ)) (others : L
   -- an entry of a number that is above all goes last
   pub placed_risen : (k : ℕ) (v : V) → is_above top k ≡ true → IsPlaced (Some k) (risen ++ (k, length es) ∷ []) others (es ++ (k, v) ∷ [])
   placed_risen k v above = record {
-    leads = λ n. led_risen risen others k (length es) (are.leads k ∙ absent) n ∙ ap (λ (o : Option ℕ). cond (nat_eq k n) (Some (length es)) o) (are.leads n) ∙ place_push es k v absent n;
+    leads =
+        λ n. led_risen risen others k (length es) (are.leads k ∙ absent) n
+        ∙ ap (λ (o : Option ℕ). cond (nat_eq k n) (Some (length es)) o) (are.leads n) ∙ place_push es k v absent n;
     rises = rising_more risen (k, length es) are.rises (are.below k above);
     below = λ n is. below_more risen (k, length es) n (are.below n (above_later top k n above (higher n is))) (higher n is);
     new = λ n is. sym (place_push es k v absent n) ∙ rw (smaller_apart n (higher n is)) (are.new n (above_later top k n above (higher n is)));
@@ -254,7 +274,9 @@ module _ {V : Type 0} (top : Option ℕ) (risen : List (ℕ × ℕ)) (others : L
       → ((q : ℕ) → lookup (is_at (nat_cmp q)) new ≡ cond (is_at (nat_cmp k) q) (Some (Some (length es))) (lookup (is_at (nat_cmp q)) others))
       → IsPlaced top risen new (es ++ (k, v) ∷ [])
   placed_other new k v low absent updates = record {
-    leads = λ n. led_other risen others new k (length es) updates (are.leads k ∙ absent) n ∙ ap (λ (o : Option ℕ). cond (nat_eq k n) (Some (length es)) o) (are.leads n) ∙ place_push es k v absent n;
+    leads =
+        λ n. led_other risen others new k (length es) updates (are.leads k ∙ absent) n
+        ∙ ap (λ (o : Option ℕ). cond (nat_eq k n) (Some (length es)) o) (are.leads n) ∙ place_push es k v absent n;
     rises = are.rises;
     below = are.below;
     new = λ n above. sym (place_push es k v absent n) ∙ rw (above_apart top k n low above) (are.new n above);

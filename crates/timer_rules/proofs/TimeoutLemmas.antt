@@ -22,7 +22,8 @@ given t r h srtt rttvar (first none same half) = rw none (grind arith)
 given t r h srtt rttvar (later smoothed is mean spread) = rw is (grind arith)
 
 -- at each value of the old SRTT
-found : (t : Timers) (r : ℕ) (h : Header) (srtt rttvar : ℕ) (old : Option ℕ) → t.srtt ≡ old → ((sampled t r h).srtt ≡ Some srtt) × ((sampled t r h).rttvar ≡ rttvar) → IsSampled t r srtt rttvar
+found : (t : Timers) (r : ℕ) (h : Header) (srtt rttvar : ℕ) (old : Option ℕ) → t.srtt ≡ old
+    → ((sampled t r h).srtt ≡ Some srtt) × ((sampled t r h).rttvar ≡ rttvar) → IsSampled t r srtt rttvar
 found t r h srtt rttvar None is equal =
     let e = rw is at equal in
     let same : srtt ≡ r = cc in

@@ -41,15 +41,23 @@ words_named words.Status = refl
 
 module _ (v : Version) where
   abbrev IsListen : Call → List (List ℕ) → Type 0
-  IsListen c ws = (h : Host) × (p : ℕ) × (b : ℕ) × (c ≡ calls.Listen h p b) × IsCall v (calls.Listen h p b) × (ws ≡ decimal (host_number h) ∷ decimal p ∷ decimal b ∷ [])
+  IsListen c ws =
+      (h : Host) × (p : ℕ) × (b : ℕ) × (c ≡ calls.Listen h p b) × IsCall v (calls.Listen h p b)
+      × (ws ≡ decimal (host_number h) ∷ decimal p ∷ decimal b ∷ [])
 
   reads_listen : IsReader (listen_fields v) IsListen
   unfolding listen_fields
   reads_listen =
       reads_as Any (listen_fields v) _ IsListen
-      (reads_then Any (host_field v) (IsHostField v) (λ h r. number_field 1 65535 r >>= λ p. number_field 0 65535 p.1 >>= λ b. Ok (calls.Listen h p.0 b.0, b.1)) _ (reads_host v)
-      (λ h. reads_then Any (number_field 1 65535) (IsNumberField 1 65535) (λ p r. number_field 0 65535 r >>= λ b. Ok (calls.Listen h p b.0, b.1)) _ (reads_number 1 65535 (omega arith))
-      (λ p. reads_then Any (number_field 0 65535) (IsNumberField 0 65535) (λ b r. Ok (calls.Listen h p b, r)) (λ b c ws. (c ≡ calls.Listen h p b) × (ws ≡ [])) (reads_number 0 65535 (omega arith)) (λ b. reads_done Any (calls.Listen h p b)))))
+      (reads_then Any (host_field v) (IsHostField v)
+      (λ h r. number_field 1 65535 r >>= λ p. number_field 0 65535 p.1 >>= λ b.
+      Ok (calls.Listen h p.0 b.0, b.1)) _ (reads_host v)
+      (λ h. reads_then Any (number_field 1 65535) (IsNumberField 1 65535)
+      (λ p r. number_field 0 65535 r >>= λ b. Ok (calls.Listen h p b.0, b.1)) _
+      (reads_number 1 65535 (omega arith))
+      (λ p. reads_then Any (number_field 0 65535) (IsNumberField 0 65535) (λ b r. Ok (calls.Listen h p b, r))
+      (λ b c ws. (c ≡ calls.Listen h p b) × (ws ≡ [])) (reads_number 0 65535 (omega arith))
+      (λ b. reads_done Any (calls.Listen h p b)))))
       (λ c ws d. let e = d.4 in let f = e.4 in
       (d.0, e.0, f.0, f.4.0, (d.3.0, e.3.0, e.3.1, f.3.1), rw (d.5, d.3.1, e.5, e.3.2, f.5, f.3.2, f.4.1) refl))
       (λ c ws s. (
@@ -62,15 +70,23 @@ module _ (v : Version) where
       ))
 
   abbrev IsOpen : Call → List (List ℕ) → Type 0
-  IsOpen c ws = (h : Host) × (p : ℕ) × (q : ℕ) × (c ≡ calls.Connect h p q) × IsCall v (calls.Connect h p q) × (ws ≡ decimal (host_number h) ∷ decimal p ∷ decimal q ∷ [])
+  IsOpen c ws =
+      (h : Host) × (p : ℕ) × (q : ℕ) × (c ≡ calls.Connect h p q) × IsCall v (calls.Connect h p q)
+      × (ws ≡ decimal (host_number h) ∷ decimal p ∷ decimal q ∷ [])
 
   reads_open : IsReader (open_fields v) IsOpen
   unfolding open_fields
   reads_open =
       reads_as Any (open_fields v) _ IsOpen
-      (reads_then Any (host_field v) (IsHostField v) (λ h r. number_field 1 65535 r >>= λ p. number_field 1 65535 p.1 >>= λ q. Ok (calls.Connect h p.0 q.0, q.1)) _ (reads_host v)
-      (λ h. reads_then Any (number_field 1 65535) (IsNumberField 1 65535) (λ p r. number_field 1 65535 r >>= λ q. Ok (calls.Connect h p q.0, q.1)) _ (reads_number 1 65535 (omega arith))
-      (λ p. reads_then Any (number_field 1 65535) (IsNumberField 1 65535) (λ q r. Ok (calls.Connect h p q, r)) (λ q c ws. (c ≡ calls.Connect h p q) × (ws ≡ [])) (reads_number 1 65535 (omega arith)) (λ q. reads_done Any (calls.Connect h p q)))))
+      (reads_then Any (host_field v) (IsHostField v)
+      (λ h r. number_field 1 65535 r >>= λ p. number_field 1 65535 p.1 >>= λ q.
+      Ok (calls.Connect h p.0 q.0, q.1)) _ (reads_host v)
+      (λ h. reads_then Any (number_field 1 65535) (IsNumberField 1 65535)
+      (λ p r. number_field 1 65535 r >>= λ q. Ok (calls.Connect h p q.0, q.1)) _
+      (reads_number 1 65535 (omega arith))
+      (λ p. reads_then Any (number_field 1 65535) (IsNumberField 1 65535) (λ q r. Ok (calls.Connect h p q, r))
+      (λ q c ws. (c ≡ calls.Connect h p q) × (ws ≡ [])) (reads_number 1 65535 (omega arith))
+      (λ q. reads_done Any (calls.Connect h p q)))))
       (λ c ws d. let e = d.4 in let f = e.4 in
       (d.0, e.0, f.0, f.4.0, (d.3.0, e.3.0, e.3.1, f.3.0, f.3.1), rw (d.5, d.3.1, e.5, e.3.2, f.5, f.3.2, f.4.1) refl))
       (λ c ws s. (
@@ -83,14 +99,18 @@ module _ (v : Version) where
       ))
 
   abbrev IsSend : Call → List (List ℕ) → Type 0
-  IsSend c ws = (socket : ℕ) × (bytes : List ℕ) × (t : List ℕ) × (c ≡ calls.Send socket bytes) × IsCall v (calls.Send socket bytes) × IsWritten (hex bytes) t × (ws ≡ decimal socket ∷ t ∷ [])
+  IsSend c ws =
+      (socket : ℕ) × (bytes : List ℕ) × (t : List ℕ) × (c ≡ calls.Send socket bytes)
+      × IsCall v (calls.Send socket bytes) × IsWritten (hex bytes) t × (ws ≡ decimal socket ∷ t ∷ [])
 
   reads_send : IsReader send_fields IsSend
   unfolding send_fields
   reads_send =
       reads_as Any send_fields _ IsSend
-      (reads_then Any (number_field 0 4294967295) (IsNumberField 0 4294967295) (λ s r. hex_field 65535 r >>= λ b. Ok (calls.Send s b.0, b.1)) _ (reads_number 0 4294967295 (omega arith))
-      (λ s. reads_then Any (hex_field 65535) (IsHexField 65535) (λ b r. Ok (calls.Send s b, r)) (λ b c ws. (c ≡ calls.Send s b) × (ws ≡ [])) (reads_hex 65535) (λ b. reads_done Any (calls.Send s b))))
+      (reads_then Any (number_field 0 4294967295) (IsNumberField 0 4294967295)
+      (λ s r. hex_field 65535 r >>= λ b. Ok (calls.Send s b.0, b.1)) _ (reads_number 0 4294967295 (omega arith))
+      (λ s. reads_then Any (hex_field 65535) (IsHexField 65535) (λ b r. Ok (calls.Send s b, r))
+      (λ b c ws. (c ≡ calls.Send s b) × (ws ≡ [])) (reads_hex 65535) (λ b. reads_done Any (calls.Send s b))))
       (λ c ws d. let e = d.4 in
       (d.0, e.0, e.3.0, e.4.0, (d.3.1, e.3.1.0.1, e.3.1.1), e.3.1.0.0, rw (d.5, d.3.2, e.5, e.3.2, e.4.1) refl))
       (λ c ws s. (
@@ -109,8 +129,12 @@ module _ (v : Version) where
   unfolding recv_fields
   reads_recv =
       reads_as Any recv_fields _ IsRecv
-      (reads_then Any (number_field 0 4294967295) (IsNumberField 0 4294967295) (λ s r. number_field 1 65535 r >>= λ m. Ok (calls.Recv s m.0, m.1)) _ (reads_number 0 4294967295 (omega arith))
-      (λ s. reads_then Any (number_field 1 65535) (IsNumberField 1 65535) (λ m r. Ok (calls.Recv s m, r)) (λ m c ws. (c ≡ calls.Recv s m) × (ws ≡ [])) (reads_number 1 65535 (omega arith)) (λ m. reads_done Any (calls.Recv s m))))
+      (reads_then Any (number_field 0 4294967295) (IsNumberField 0 4294967295)
+      (λ s r. number_field 1 65535 r >>= λ m. Ok (calls.Recv s m.0, m.1)) _
+      (reads_number 0 4294967295 (omega arith))
+      (λ s. reads_then Any (number_field 1 65535) (IsNumberField 1 65535) (λ m r. Ok (calls.Recv s m, r))
+      (λ m c ws. (c ≡ calls.Recv s m) × (ws ≡ [])) (reads_number 1 65535 (omega arith))
+      (λ m. reads_done Any (calls.Recv s m))))
       (λ c ws d. let e = d.4 in
       (d.0, e.0, e.4.0, (d.3.1, e.3.0, e.3.1), rw (d.5, d.3.2, e.5, e.3.2, e.4.1) refl))
       (λ c ws s. (
@@ -128,7 +152,9 @@ module _ (v : Version) where
   reads_socket : (call : ℕ → Call) → IsReader (socket_field call) (IsOnSocket call)
   reads_socket call =
       reads_as Any (socket_field call) _ (IsOnSocket call)
-      (reads_then Any (number_field 0 4294967295) (IsNumberField 0 4294967295) (λ s r. Ok (call s, r)) (λ s c ws. (c ≡ call s) × (ws ≡ [])) (reads_number 0 4294967295 (omega arith)) (λ s. reads_done Any (call s)))
+      (reads_then Any (number_field 0 4294967295) (IsNumberField 0 4294967295) (λ s r. Ok (call s, r))
+      (λ s c ws. (c ≡ call s) × (ws ≡ [])) (reads_number 0 4294967295 (omega arith))
+      (λ s. reads_done Any (call s)))
       (λ c ws d. (d.0, d.4.0, d.3.1, d.5 ∙ ap (λ (us : List (List ℕ)). us ++ d.2) d.3.2 ∙ ap (λ (vs : List (List ℕ)). decimal d.0 ∷ vs) d.4.1))
       (λ c ws s. (s.0, decimal s.0 ∷ [], [], (omega arith, s.2, refl), (s.1, refl), s.3))
 
@@ -138,16 +164,21 @@ module _ (v : Version) where
   abbrev Behind : CallWord → Rest → Call × Rest → Type 0
   Behind k r x = IsBehind call_word call_tail (IsCall v) k r x.0 x.1
 
-  known : (k : CallWord) (r : Rest) (x : Call × Rest) (c : Call) (us ts : List (List ℕ)) → x.0 ≡ c → IsCall v c → call_word c ≡ k → AreWritten (call_tail c) ts → us ≡ ts → texts r ≡ us ++ texts x.1 → Behind k r x
-  known k r x c us ts same fits first written are e = is_known call_word call_tail (IsCall v) k r x.1 x.0 c us same fits first (subst (λ (vs : List (List ℕ)). AreWritten (call_tail c) vs) (sym are) written) e
+  known : (k : CallWord) (r : Rest) (x : Call × Rest) (c : Call) (us ts : List (List ℕ)) → x.0 ≡ c → IsCall v c
+      → call_word c ≡ k → AreWritten (call_tail c) ts → us ≡ ts → texts r ≡ us ++ texts x.1 → Behind k r x
+  known k r x c us ts same fits first written are e =
+      is_known call_word call_tail (IsCall v) k r x.1 x.0 c us same fits first
+      (subst (λ (vs : List (List ℕ)). AreWritten (call_tail c) vs) (sym are) written) e
 
   behind_takes : (k : CallWord) (r : Rest) (x : Call × Rest) → call_behind v k r ≡ Ok x → Behind k r x
   behind_takes words.Listen r x e =
       let p = reads_listen.takes r x e in let s = p.1 in
-      known words.Listen r x (calls.Listen s.0 s.1 s.2) p.0 (decimal (host_number s.0) ∷ decimal s.1 ∷ decimal s.2 ∷ []) s.3 s.4 refl (refl, (refl, (refl, tt))) s.5 p.2
+      known words.Listen r x (calls.Listen s.0 s.1 s.2) p.0
+      (decimal (host_number s.0) ∷ decimal s.1 ∷ decimal s.2 ∷ []) s.3 s.4 refl (refl, (refl, (refl, tt))) s.5 p.2
   behind_takes words.Open r x e =
       let p = reads_open.takes r x e in let s = p.1 in
-      known words.Open r x (calls.Connect s.0 s.1 s.2) p.0 (decimal (host_number s.0) ∷ decimal s.1 ∷ decimal s.2 ∷ []) s.3 s.4 refl (refl, (refl, (refl, tt))) s.5 p.2
+      known words.Open r x (calls.Connect s.0 s.1 s.2) p.0
+      (decimal (host_number s.0) ∷ decimal s.1 ∷ decimal s.2 ∷ []) s.3 s.4 refl (refl, (refl, (refl, tt))) s.5 p.2
   behind_takes words.Send r x e =
       let p = reads_send.takes r x e in let s = p.1 in
       known words.Send r x (calls.Send s.0 s.1) p.0 (decimal s.0 ∷ s.2 ∷ []) s.3 s.4 refl (refl, (s.5, tt)) s.6 p.2
@@ -177,16 +208,30 @@ module _ (v : Version) where
   Gets c r more = (rest : Rest) × (call_behind v (call_word c) r ≡ Ok (c, rest)) × (texts rest ≡ more)
 
   behind_again : (c : Call) (r : Rest) (us more : List (List ℕ)) → Any more → IsCall v c → AreWritten (call_tail c) us → texts r ≡ us ++ more → Gets c r more
-  behind_again (calls.Listen h p b) r us more any fits w e = reads_listen.again r (calls.Listen h p b) us more tt (h, p, b, refl, fits, plains_are (decimal (host_number h) ∷ decimal p ∷ decimal b ∷ []) us w) e
-  behind_again (calls.Connect h p q) r us more any fits w e = reads_open.again r (calls.Connect h p q) us more tt (h, p, q, refl, fits, plains_are (decimal (host_number h) ∷ decimal p ∷ decimal q ∷ []) us w) e
-  behind_again (calls.Send s b) r us more any fits w e = let h = hex_is (decimal s ∷ []) b us w in reads_send.again r (calls.Send s b) us more tt (s, b, h.0, refl, fits, h.1, h.2) e
-  behind_again (calls.Recv s m) r us more any fits w e = reads_recv.again r (calls.Recv s m) us more tt (s, m, refl, fits, plains_are (decimal s ∷ decimal m ∷ []) us w) e
-  behind_again (calls.Await s) r us more any fits w e = (reads_socket calls.Await).again r (calls.Await s) us more tt (s, refl, fits, plains_are (decimal s ∷ []) us w) e
-  behind_again (calls.Accept s) r us more any fits w e = (reads_socket calls.Accept).again r (calls.Accept s) us more tt (s, refl, fits, plains_are (decimal s ∷ []) us w) e
-  behind_again (calls.Shut s) r us more any fits w e = (reads_socket calls.Shut).again r (calls.Shut s) us more tt (s, refl, fits, plains_are (decimal s ∷ []) us w) e
-  behind_again (calls.Close s) r us more any fits w e = (reads_socket calls.Close).again r (calls.Close s) us more tt (s, refl, fits, plains_are (decimal s ∷ []) us w) e
-  behind_again (calls.Abort s) r us more any fits w e = (reads_socket calls.Abort).again r (calls.Abort s) us more tt (s, refl, fits, plains_are (decimal s ∷ []) us w) e
-  behind_again (calls.Status s) r us more any fits w e = (reads_socket calls.Status).again r (calls.Status s) us more tt (s, refl, fits, plains_are (decimal s ∷ []) us w) e
+  behind_again (calls.Listen h p b) r us more any fits w e =
+      reads_listen.again r (calls.Listen h p b) us more tt
+      (h, p, b, refl, fits, plains_are (decimal (host_number h) ∷ decimal p ∷ decimal b ∷ []) us w) e
+  behind_again (calls.Connect h p q) r us more any fits w e =
+      reads_open.again r (calls.Connect h p q) us more tt
+      (h, p, q, refl, fits, plains_are (decimal (host_number h) ∷ decimal p ∷ decimal q ∷ []) us w) e
+  behind_again (calls.Send s b) r us more any fits w e = let h = hex_is (decimal s ∷ []) b us w in
+      reads_send.again r (calls.Send s b) us more tt (s, b, h.0, refl, fits, h.1, h.2) e
+  behind_again (calls.Recv s m) r us more any fits w e =
+      reads_recv.again r (calls.Recv s m) us more tt (s, m, refl, fits, plains_are (decimal s ∷ decimal m ∷ []) us w) e
+  behind_again (calls.Await s) r us more any fits w e =
+      (reads_socket calls.Await).again r (calls.Await s) us more tt (s, refl, fits, plains_are (decimal s ∷ []) us w) e
+  behind_again (calls.Accept s) r us more any fits w e =
+      (reads_socket calls.Accept).again r (calls.Accept s) us more tt
+      (s, refl, fits, plains_are (decimal s ∷ []) us w) e
+  behind_again (calls.Shut s) r us more any fits w e =
+      (reads_socket calls.Shut).again r (calls.Shut s) us more tt (s, refl, fits, plains_are (decimal s ∷ []) us w) e
+  behind_again (calls.Close s) r us more any fits w e =
+      (reads_socket calls.Close).again r (calls.Close s) us more tt (s, refl, fits, plains_are (decimal s ∷ []) us w) e
+  behind_again (calls.Abort s) r us more any fits w e =
+      (reads_socket calls.Abort).again r (calls.Abort s) us more tt (s, refl, fits, plains_are (decimal s ∷ []) us w) e
+  behind_again (calls.Status s) r us more any fits w e =
+      (reads_socket calls.Status).again r (calls.Status s) us more tt
+      (s, refl, fits, plains_are (decimal s ∷ []) us w) e
 
   -- what is read as a call is spelled so, and what is spelled so is read
   pub reads_call : IsReader (call_field v) (IsSpelledCall v)

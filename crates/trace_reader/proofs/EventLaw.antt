@@ -76,7 +76,10 @@ module _ (version : Version) where
   -- ---- an expired timer
 
   abbrev IsExpired : Event → List (List ℕ) → Type 0
-  IsExpired v ws = (h : Host) × (p : ℕ) × (q : ℕ) × (timer : Timer) × (v ≡ events.Expired h p q timer) × IsEvent version (events.Expired h p q timer) × (ws ≡ decimal (host_number h) ∷ decimal p ∷ decimal q ∷ timer_name timer ∷ [])
+  IsExpired v ws =
+      (h : Host) × (p : ℕ) × (q : ℕ) × (timer : Timer) × (v ≡ events.Expired h p q timer)
+      × IsEvent version (events.Expired h p q timer)
+      × (ws ≡ decimal (host_number h) ∷ decimal p ∷ decimal q ∷ timer_name timer ∷ [])
 
   abbrev IsTimer : Timer → List (List ℕ) → Type 0
   IsTimer timer ws = ws ≡ timer_name timer ∷ []
@@ -88,10 +91,15 @@ module _ (version : Version) where
   unfolding expired_fields
   reads_expired =
       reads_as Any (expired_fields version) _ IsExpired
-      (reads_then Any (host_field version) (IsHostField version) (λ h r. number_field 1 65535 r >>= λ p. number_field 1 65535 p.1 >>= λ q. expires h p.0 q.0 q.1) _ (reads_host version)
-      (λ h. reads_then Any (number_field 1 65535) (IsNumberField 1 65535) (λ p r. number_field 1 65535 r >>= λ q. expires h p q.0 q.1) _ (reads_number 1 65535 (omega arith))
+      (reads_then Any (host_field version) (IsHostField version)
+      (λ h r. number_field 1 65535 r >>= λ p. number_field 1 65535 p.1 >>= λ q. expires h p.0 q.0 q.1) _
+      (reads_host version)
+      (λ h. reads_then Any (number_field 1 65535) (IsNumberField 1 65535)
+      (λ p r. number_field 1 65535 r >>= λ q. expires h p q.0 q.1) _ (reads_number 1 65535 (omega arith))
       (λ p. reads_then Any (number_field 1 65535) (IsNumberField 1 65535) (λ q r. expires h p q r) _ (reads_number 1 65535 (omega arith))
-      (λ q. reads_then Any (kind_field timer_name all_timers) IsTimer (λ timer r. Ok (events.Expired h p q timer, r)) (λ timer v ws. (v ≡ events.Expired h p q timer) × (ws ≡ [])) (reads_kind timer_name all_timers timers_named) (λ timer. reads_done Any (events.Expired h p q timer))))))
+      (λ q. reads_then Any (kind_field timer_name all_timers) IsTimer (λ timer r. Ok (events.Expired h p q timer, r))
+      (λ timer v ws. (v ≡ events.Expired h p q timer) × (ws ≡ []))
+      (reads_kind timer_name all_timers timers_named) (λ timer. reads_done Any (events.Expired h p q timer))))))
       (λ v ws d. let e = d.4 in let f = e.4 in let g = f.4 in
       (d.0, e.0, f.0, g.0, g.4.0, (d.3.0, e.3.0, e.3.1, f.3.0, f.3.1), rw (d.5, d.3.1, e.5, e.3.2, f.5, f.3.2, g.5, g.3, g.4.1) refl))
       (λ v ws s. (
@@ -128,8 +136,11 @@ module _ (version : Version) where
   abbrev Behind : Letter → Rest → Event × Rest → Type 0
   Behind k r x = IsBehind event_letter event_tail (IsEvent version) k r x.0 x.1
 
-  known : (k : Letter) (r : Rest) (x : Event × Rest) (v : Event) (us ts : List (List ℕ)) → x.0 ≡ v → IsEvent version v → event_letter v ≡ k → AreWritten (event_tail v) ts → us ≡ ts → texts r ≡ us ++ texts x.1 → Behind k r x
-  known k r x v us ts same fits first written are e = is_known event_letter event_tail (IsEvent version) k r x.1 x.0 v us same fits first (subst (λ (vs : List (List ℕ)). AreWritten (event_tail v) vs) (sym are) written) e
+  known : (k : Letter) (r : Rest) (x : Event × Rest) (v : Event) (us ts : List (List ℕ)) → x.0 ≡ v → IsEvent version v
+      → event_letter v ≡ k → AreWritten (event_tail v) ts → us ≡ ts → texts r ≡ us ++ texts x.1 → Behind k r x
+  known k r x v us ts same fits first written are e =
+      is_known event_letter event_tail (IsEvent version) k r x.1 x.0 v us same fits first
+      (subst (λ (vs : List (List ℕ)). AreWritten (event_tail v) vs) (sym are) written) e
 
   behind_takes : (k : Letter) (r : Rest) (x : Event × Rest) → event_behind version k r ≡ Ok x → Behind k r x
   behind_takes letters.B r x e =
@@ -145,22 +156,27 @@ module _ (version : Version) where
       let p = reads_seen.takes r b.0 b.1 in
       let s = p.1 in
       subst (Behind letters.O r) (ok_is (events.Sent b.0.0.0 b.0.0.1, b.0.1) x b.2)
-      (known letters.O r (events.Sent b.0.0.0 b.0.0.1, b.0.1) (events.Sent b.0.0.0 b.0.0.1) p.0 (decimal (host_number b.0.0.0) ∷ s.0 ∷ []) refl (s.1, s.2.1) refl (refl, (s.2.0, tt)) s.3 p.2)
+      (known letters.O r (events.Sent b.0.0.0 b.0.0.1, b.0.1) (events.Sent b.0.0.0 b.0.0.1) p.0
+      (decimal (host_number b.0.0.0) ∷ s.0 ∷ []) refl (s.1, s.2.1) refl (refl, (s.2.0, tt)) s.3 p.2)
   behind_takes letters.I r x e =
       let b = bind_ok (host_wire version r) came x e in
       let p = reads_seen.takes r b.0 b.1 in
       let s = p.1 in
       subst (Behind letters.I r) (ok_is (events.Came b.0.0.0 b.0.0.1, b.0.1) x b.2)
-      (known letters.I r (events.Came b.0.0.0 b.0.0.1, b.0.1) (events.Came b.0.0.0 b.0.0.1) p.0 (decimal (host_number b.0.0.0) ∷ s.0 ∷ []) refl (s.1, s.2.1) refl (refl, (s.2.0, tt)) s.3 p.2)
+      (known letters.I r (events.Came b.0.0.0 b.0.0.1, b.0.1) (events.Came b.0.0.0 b.0.0.1) p.0
+      (decimal (host_number b.0.0.0) ∷ s.0 ∷ []) refl (s.1, s.2.1) refl (refl, (s.2.0, tt)) s.3 p.2)
   behind_takes letters.T r x e =
       let p = reads_expired.takes r x e in
       let s = p.1 in
-      known letters.T r x (events.Expired s.0 s.1 s.2 s.3) p.0 (decimal (host_number s.0) ∷ decimal s.1 ∷ decimal s.2 ∷ timer_name s.3 ∷ []) s.4 s.5 refl (refl, (refl, (refl, (refl, tt)))) s.6 p.2
+      known letters.T r x (events.Expired s.0 s.1 s.2 s.3) p.0
+      (decimal (host_number s.0) ∷ decimal s.1 ∷ decimal s.2 ∷ timer_name s.3 ∷ []) s.4 s.5 refl
+      (refl, (refl, (refl, (refl, tt)))) s.6 p.2
 
   abbrev Gets : Event → Rest → List (List ℕ) → Type 0
   Gets e r more = (rest : Rest) × (event_behind version (event_letter e) r ≡ Ok (e, rest)) × (texts rest ≡ more)
 
-  behind_again : (v : Event) (r : Rest) (us more : List (List ℕ)) → Nothing more → IsEvent version v → AreWritten (event_tail v) us → texts r ≡ us ++ more → Gets v r more
+  behind_again : (v : Event) (r : Rest) (us more : List (List ℕ)) → Nothing more → IsEvent version v
+      → AreWritten (event_tail v) us → texts r ≡ us ++ more → Gets v r more
   behind_again (events.CallBegin c) r us more last fits w e =
       let q = (reads_call version).again r c us more tt (fits, w) e in
       (q.0, ap (λ (x : Result (Call × Rest) TextFault). x >>= begun) q.1, q.2)
@@ -176,12 +192,23 @@ module _ (version : Version) where
       let q = reads_seen.again r (h, wire) us more tt (t.0, fits.0, (t.1, fits.1), t.2) e in
       (q.0, ap (λ (x : Result (Seen × Rest) TextFault). x >>= came) q.1, q.2)
   behind_again (events.Expired h p q timer) r us more last fits w e =
-      reads_expired.again r (events.Expired h p q timer) us more tt (h, p, q, timer, refl, fits, plains_are (decimal (host_number h) ∷ decimal p ∷ decimal q ∷ timer_name timer ∷ []) us w) e
+      reads_expired.again r (events.Expired h p q timer) us more tt (
+        h,
+        p,
+        q,
+        timer,
+        refl,
+        fits,
+        plains_are
+            (decimal (host_number h) ∷ decimal p ∷ decimal q ∷ timer_name timer ∷ []) us w,
+      ) e
 
   -- what is read as an event is spelled so, and what is spelled so is read
   pub reads_event : IsLastReader (event_field version) (IsSpelledEvent version)
   unfolding event_field
-  reads_event = reads_choice Nothing letter_name all_letters letters_named (event_behind version) event_letter event_tail (IsEvent version) behind_takes behind_again
+  reads_event =
+      reads_choice Nothing letter_name all_letters letters_named (event_behind version) event_letter event_tail
+      (IsEvent version) behind_takes behind_again
 
 -- ---- the fields of an event are clean
 
@@ -197,7 +224,13 @@ tail_clean version (events.CallBegin c) fits = call_clean version c fits
 tail_clean version (events.CallEnd a) fits = answer_clean a fits
 tail_clean version (events.Sent h wire) fits = (host_clean h, (tt, tt))
 tail_clean version (events.Came h wire) fits = (host_clean h, (tt, tt))
-tail_clean version (events.Expired h p q timer) fits = (host_clean h, (IsClean-decimal p (omega (arith, fits.2)), (IsClean-decimal q (omega (arith, fits.4)), (timer_clean timer, tt))))
+tail_clean version (events.Expired h p q timer) fits = (
+  host_clean h,
+  (
+    IsClean-decimal p (omega (arith, fits.2)),
+    (IsClean-decimal q (omega (arith, fits.4)), (timer_clean timer, tt)),
+  ),
+)
 
 pub event_clean : (version : Version) (v : Event) → IsEvent version v → AllByRecursion IsCleanPiece (event_pieces v)
 event_clean version v fits = (letter_clean (event_letter v), tail_clean version v fits)

@@ -85,11 +85,22 @@ module _ (version : Version) where
       m.2 ∙ ap (λ (us : List (List ℕ)). us ++ texts a.0.1) (m.1.2 ∙ ap (λ (x : List ℕ). x ∷ []) m.1.1.0.0)
       ∙ ap (λ (us : List (List ℕ)). decimal a.0.0 ∷ us) (t.2 ∙ ap (λ (us : List (List ℕ)). us ++ texts b.0.1) t.1.2)
       ∙ ap (λ (us : List (List ℕ)). decimal a.0.0 ∷ decimal b.0.0 ∷ us) (v.2 ∙ ap (λ (us : List (List ℕ)). v.0 ++ us) none ∙ append-nil v.0) in
-      subst (λ (g : Values). AreValues before g (texts r)) (ok_is made f d.2) (record { behind = v.0; words = spelled; written = v.1.1; rises = m.1.1.1; moment = m.1.1.0.2; thread = t.1.1; event = v.1.0 })
+      subst (λ (g : Values). AreValues before g (texts r)) (ok_is made f d.2)
+      (record {
+        behind = v.0;
+        words = spelled;
+        written = v.1.1;
+        rises = m.1.1.1;
+        moment = m.1.1.0.2;
+        thread = t.1.1;
+        event = v.1.0;
+      })
 
   values_again : (before : ℕ) (r : Rest) (f : Values) → AreValues before f (texts r) → event_fields version before r ≡ Ok f
   values_again before r f s =
-      let m = (reads_moment before).again r f.0 (decimal f.0 ∷ []) (decimal f.1 ∷ s.behind) tt (decimal f.0, ((refl, omega arith, s.moment), s.rises), refl) s.words in
+      let m =
+      (reads_moment before).again r f.0 (decimal f.0 ∷ []) (decimal f.1 ∷ s.behind) tt
+      (decimal f.0, ((refl, omega arith, s.moment), s.rises), refl) s.words in
       let t = (reads_number 0 4294967295 (omega arith)).again m.0 f.1 (decimal f.1 ∷ []) s.behind tt (omega arith, s.thread, refl) m.2 in
       let v = (reads_event version).again t.0 f.2 s.behind [] refl (s.event, s.written) (t.2 ∙ sym (append-nil s.behind)) in
       let none = no_more_again v.0 v.2 in
@@ -148,7 +159,17 @@ module _ (version : Version) where
   line_again place raw l t =
       let cut = are_cut l t.texts t.written in
       let rest = fields_read place.1 raw t.texts (decimal l.moment) (decimal l.thread ∷ cut.behind) cut.words (texts_clean place l raw t) t.text in
-      let fields = values_again place.0 (rest_of place.1 (joined t.texts)) (l.moment, l.thread, l.event) (record { behind = cut.behind; words = rest.1 ∙ cut.words; written = cut.written; rises = t.rises; moment = t.moment; thread = t.thread; event = t.event }) in
+      let fields =
+      values_again place.0 (rest_of place.1 (joined t.texts)) (l.moment, l.thread, l.event)
+      (record {
+        behind = cut.behind;
+        words = rest.1 ∙ cut.words;
+        written = cut.written;
+        rises = t.rises;
+        moment = t.moment;
+        thread = t.thread;
+        event = t.event;
+      }) in
       let same : made place (rest_of place.1 (joined t.texts)) (l.moment, l.thread, l.event) ≡ l = rw (← t.span, ← t.number) refl in
       let read = rest.0 in
       rw (read, fields) (ap done same)

@@ -1,5 +1,6 @@
 -- What the reader of a header answers is its first fault.
-use Rattle.std.proofs.Common.{◌≡◌, ℕ, ◌+◌, Bool, true, false, List, [], ◌∷◌, ◌++◌, length, Option, Some, None, Result, Ok, Err, refl, ap, sym, subst, ◌∙◌, inl, inr, ◌⊎◌, arith}
+use Rattle.std.proofs.Common.{◌≡◌, ℕ, ◌+◌, Bool, true, false, List, [], ◌∷◌, ◌++◌, length, Option, Some, None, Result}
+use Rattle.std.proofs.Common.{Ok, Err, refl, ap, sym, subst, ◌∙◌, inl, inr, ◌⊎◌, arith}
 use Rattle.std.specs.Prelude.{if◌then◌else◌, ◌==◌, ◌||◌, ◌&&◌, ◌↔◌, nat_le, codes}
 use Rattle.std.specs.Fmt.{decimal, digits}
 use Rattle.std.specs.Str.{bytes_eq}
@@ -49,7 +50,8 @@ agrees_ok (Ok x) k w agree is = (x, refl)
 agrees_ok (Err e) None w agree is = absurd agree
 agrees_ok (Err e) (Some kind) w agree is = absurd cc
 
-agrees_err : {A : Type 0} (v : Result A TextFault) (k : Option FaultKind) (w : Word) (kind : FaultKind) → Agrees v k w → k ≡ Some kind → v ≡ Err (fault_at kind w)
+agrees_err : {A : Type 0} (v : Result A TextFault) (k : Option FaultKind) (w : Word) (kind : FaultKind) → Agrees v k w
+    → k ≡ Some kind → v ≡ Err (fault_at kind w)
 agrees_err (Ok x) None w kind agree is = absurd cc
 agrees_err (Ok x) (Some other) w kind agree is = absurd agree
 agrees_err (Err e) None w kind agree is = absurd agree
@@ -59,7 +61,8 @@ ok_agrees : {A : Type 0} (x : A) (k : Option FaultKind) (w : Word) → Agrees (O
 ok_agrees x None w agree = refl
 ok_agrees x (Some kind) w agree = absurd agree
 
-err_agrees : (A : Type 0) (e : TextFault) (k : Option FaultKind) (w : Word) → Agrees (bad {A = A} e) k w → (kind : FaultKind) × (k ≡ Some kind) × (e ≡ fault_at kind w)
+err_agrees : (A : Type 0) (e : TextFault) (k : Option FaultKind) (w : Word) → Agrees (bad {A = A} e) k w
+    → (kind : FaultKind) × (k ≡ Some kind) × (e ≡ fault_at kind w)
 err_agrees A e None w agree = absurd agree
 err_agrees A e (Some kind) w agree = (kind, refl, agree)
 
@@ -81,18 +84,21 @@ module _ {A : Type 0} (value : Word → Result A TextFault) (r : Row) (agree : (
       let test = (bytes_eq-Decides name.text r.name).1 named in
       rw (test, is) refl
 
-  fits_read : (header : TextFault) (line stop : ℕ) (name u : Word) → name.text ≡ r.name → r.value u ≡ None → (x : A) × (fields_in header line stop name u [] ≡ Ok x)
+  fits_read : (header : TextFault) (line stop : ℕ) (name u : Word) → name.text ≡ r.name → r.value u ≡ None
+      → (x : A) × (fields_in header line stop name u [] ≡ Ok x)
   fits_read header line stop name u named fits =
       let x = agrees_ok (value u) (r.value u) u (agree u) fits in
       (x.0, alone_read header line stop name u x.0 named x.1)
 
-  bad_read : (header : TextFault) (line stop : ℕ) (name u : Word) (more : List Word) (kind : FaultKind) → name.text ≡ r.name → r.value u ≡ Some kind → fields_in header line stop name u more ≡ Err (fault_at kind u)
+  bad_read : (header : TextFault) (line stop : ℕ) (name u : Word) (more : List Word) (kind : FaultKind)
+      → name.text ≡ r.name → r.value u ≡ Some kind → fields_in header line stop name u more ≡ Err (fault_at kind u)
   bad_read header line stop name u more kind named is =
       let test = (bytes_eq-Decides name.text r.name).1 named in
       let fails = agrees_err (value u) (r.value u) u kind (agree u) is in
       rw (test, fails) refl
 
-  more_read : (header : TextFault) (line stop : ℕ) (name u w : Word) (more : List Word) → name.text ≡ r.name → r.value u ≡ None → fields_in header line stop name u (w ∷ more) ≡ Err header
+  more_read : (header : TextFault) (line stop : ℕ) (name u w : Word) (more : List Word) → name.text ≡ r.name
+      → r.value u ≡ None → fields_in header line stop name u (w ∷ more) ≡ Err header
   more_read header line stop name u w more named fits =
       let test = (bytes_eq-Decides name.text r.name).1 named in
       let x = agrees_ok (value u) (r.value u) u (agree u) fits in
@@ -113,12 +119,18 @@ module _ {A : Type 0} (value : Word → Result A TextFault) (r : Row) (agree : (
           let clash : false ≡ true = sym is ∙ (bytes_eq-Decides name.text r.name).1 (ap (λ (w : Word). w.text) same ∙ x.2) in
           absurd cc
 
-      valued : bytes_eq name.text r.name ≡ true → (v : Result A TextFault) → value u ≡ v → Agrees v (r.value u) u → (ws : List Word) → Outcome header (name ∷ u ∷ ws) ((v >>= λ x. good {A = A × Rest} (x, record { line = line; stop = stop; words = ws })) >>= λ a. alone header a.0 a.1.words)
-      valued test (Err e) is fails ws = let kind = err_agrees A e (r.value u) u fails in Bad u ws kind.0 (name, refl, (bytes_eq-Decides name.text r.name).0 test) kind.1 kind.2
+      valued : bytes_eq name.text r.name ≡ true → (v : Result A TextFault) → value u ≡ v → Agrees v (r.value u) u
+          → (ws : List Word) → Outcome header (name ∷ u ∷ ws)
+          ((v >>= λ x. good {A = A × Rest} (x, record { line = line; stop = stop; words = ws })) >>= λ a.
+          alone header a.0 a.1.words)
+      valued test (Err e) is fails ws = let kind = err_agrees A e (r.value u) u fails in
+          Bad u ws kind.0 (name, refl, (bytes_eq-Decides name.text r.name).0 test) kind.1 kind.2
       valued test (Ok x) is fits [] = (u, (name, refl, (bytes_eq-Decides name.text r.name).0 test), ok_agrees x (r.value u) u fits)
       valued test (Ok x) is fits (w ∷ ws) = More u w ws (name, refl, (bytes_eq-Decides name.text r.name).0 test) (ok_agrees x (r.value u) u fits) refl
 
-      named : (b : Bool) → bytes_eq name.text r.name ≡ b → Outcome header (name ∷ u ∷ more) ((if b then Ok (record { line = line; stop = stop; words = u ∷ more }, header) else Err header) >>= last)
+      named : (b : Bool) → bytes_eq name.text r.name ≡ b
+          → Outcome header (name ∷ u ∷ more)
+          ((if b then Ok (record { line = line; stop = stop; words = u ∷ more }, header) else Err header) >>= last)
       named false is = Other (misnamed is) refl
       named true is = valued is (value u) refl (agree u) more
 
@@ -140,7 +152,8 @@ module _ {A : Type 0} (value : Word → Result A TextFault) (r : Row) (agree : (
   all_outcomes none header line stop (w ∷ []) some = subst (Outcome header (w ∷ [])) (sym (lone_read none header line stop w)) (Other (lone_wrong w) refl)
   all_outcomes none header line stop (w ∷ u ∷ more) some = outcome header line stop w u more
 
-  breaks_read : (none header : TextFault) (line stop : ℕ) (ws : List Word) (e : TextFault) → (ws ≡ [] → ⊥) → Breaks r header ws e → words_in none header line stop ws ≡ Err e
+  breaks_read : (none header : TextFault) (line stop : ℕ) (ws : List Word) (e : TextFault) → (ws ≡ [] → ⊥)
+      → Breaks r header ws e → words_in none header line stop ws ≡ Err e
   breaks_read none header line stop ws e some (Bad u more kind named is same) =
       ap (words_in none header line stop) named.1 ∙ bad_read header line stop named.0 u more kind named.2 is ∙ ap bad (sym same)
   breaks_read none header line stop ws e some (More u w more named fits same) =
@@ -149,7 +162,9 @@ module _ {A : Type 0} (value : Word → Result A TextFault) (r : Row) (agree : (
   breaks_read none header line stop (w ∷ []) e some (Other wrong same) = lone_read none header line stop w ∙ ap bad (sym same)
   breaks_read none header line stop (w ∷ u ∷ more) e some (Other wrong same) = go (bytes_eq w.text r.name) refl
     where
-      go : (b : Bool) → bytes_eq w.text r.name ≡ b → ((if b then Ok (record { line = line; stop = stop; words = u ∷ more }, header) else Err header) >>= last) ≡ Err e
+      go : (b : Bool) → bytes_eq w.text r.name ≡ b
+          → ((if b then Ok (record { line = line; stop = stop; words = u ∷ more }, header) else Err header) >>= last)
+          ≡ Err e
       go false is = ap bad (sym same)
       go true is = absurd (wrong u more (w, refl, (bytes_eq-Decides w.text r.name).0 is))
 
@@ -174,7 +189,12 @@ module _ {A : Type 0} (value : Word → Result A TextFault) (r : Row) (agree : (
     where
       go : (o : Result Rest TextFault) → line_rest number raw ≡ o → rest_read number o ≡ Ok x → IsRow r number raw
       go (Err f) is same = absurd cc
-      go (Ok q) is same = (q, is, subst (Outcome (header_fault number q) q.words) same (all_outcomes (missing q) (header_fault number q) q.line q.stop q.words (some_word number raw q is)))
+      go (Ok q) is same = (
+        q,
+        is,
+        subst (Outcome (header_fault number q) q.words) same
+            (all_outcomes (missing q) (header_fault number q) q.line q.stop q.words (some_word number raw q is)),
+      )
 
   row_read : (number : ℕ) (raw : List ℕ) → IsRow r number raw → (x : A) × (line_read number raw ≡ Ok x)
   row_read number raw g =
@@ -186,11 +206,19 @@ module _ {A : Type 0} (value : Word → Result A TextFault) (r : Row) (agree : (
     where
       there : (o : Result Rest TextFault) → line_rest number raw ≡ o → rest_read number o ≡ Err e → IsRowFault r number raw e
       there (Err f) is same = let one : f ≡ e = cc in inl ((whole_is number raw e).0 (is ∙ ap bad one))
-      there (Ok q) is same = inr (q, is, subst (Outcome (header_fault number q) q.words) same (all_outcomes (missing q) (header_fault number q) q.line q.stop q.words (some_word number raw q is)))
+      there (Ok q) is same =
+          inr (
+            q,
+            is,
+            subst (Outcome (header_fault number q) q.words) same
+                (all_outcomes (missing q) (header_fault number q) q.line q.stop q.words (some_word number raw q is)),
+          )
 
       back : IsRowFault r number raw e → rest_read number (line_rest number raw) ≡ Err e
       back (inl whole) = ap (rest_read number) ((whole_is number raw e).1 whole)
-      back (inr x) = ap (rest_read number) x.1 ∙ breaks_read (missing x.0) (header_fault number x.0) x.0.line x.0.stop x.0.words e (some_word number raw x.0 x.1) x.2
+      back (inr x) =
+          ap (rest_read number) x.1 ∙ breaks_read (missing x.0) (header_fault number x.0) x.0.line x.0.stop x.0.words e
+          (some_word number raw x.0 x.1) x.2
 
 -- ---- lines of the header
 
@@ -202,8 +230,30 @@ Faulty number (r ∷ rows) (raw ∷ raws) e = IsRowFault r number raw e ⊎ (IsR
 
 faulty_rows : (number : ℕ) (rows : List Row) (raws : Raws) (e : TextFault) → Faulty number rows raws e → IsRowsFault number rows raws e
 faulty_rows number [] raws e g = absurd g
-faulty_rows number (r ∷ rows) [] e g = record { done = []; next = r; left = rows; front = []; rest = []; forms = refl; split = refl; good = tt; fault = subst (λ (n : ℕ). e ≡ missing_line n) (omega arith) g }
-faulty_rows number (r ∷ rows) (raw ∷ raws) e (inl g) = record { done = []; next = r; left = rows; front = []; rest = raw ∷ raws; forms = refl; split = refl; good = tt; fault = subst (λ (n : ℕ). IsRowFault r n raw e) (omega arith) g }
+faulty_rows number (r ∷ rows) [] e g =
+    record {
+      done = [];
+      next = r;
+      left = rows;
+      front = [];
+      rest = [];
+      forms = refl;
+      split = refl;
+      good = tt;
+      fault = subst (λ (n : ℕ). e ≡ missing_line n) (omega arith) g;
+    }
+faulty_rows number (r ∷ rows) (raw ∷ raws) e (inl g) =
+    record {
+      done = [];
+      next = r;
+      left = rows;
+      front = [];
+      rest = raw ∷ raws;
+      forms = refl;
+      split = refl;
+      good = tt;
+      fault = subst (λ (n : ℕ). IsRowFault r n raw e) (omega arith) g;
+    }
 faulty_rows number (r ∷ rows) (raw ∷ raws) e (inr g) =
     let x = faulty_rows (number + 1) rows raws e g.1 in
     record {
@@ -218,7 +268,9 @@ faulty_rows number (r ∷ rows) (raw ∷ raws) e (inr g) =
       fault = subst (λ (n : ℕ). IsNextFault (IsRowFault x.next) n x.rest e) (omega arith) x.fault;
     }
 
-rows_faulty : (number : ℕ) (done left : List Row) (next : Row) (front rest : Raws) (e : TextFault) → AreRows number done front → IsNextFault (IsRowFault next) (number + length done) rest e → Faulty number (done ++ next ∷ left) (front ++ rest) e
+rows_faulty : (number : ℕ) (done left : List Row) (next : Row) (front rest : Raws) (e : TextFault)
+    → AreRows number done front → IsNextFault (IsRowFault next) (number + length done) rest e
+    → Faulty number (done ++ next ∷ left) (front ++ rest) e
 rows_faulty number [] left next [] [] e good fault = subst (λ (n : ℕ). e ≡ missing_line n) (omega arith) fault
 rows_faulty number [] left next [] (raw ∷ rest) e good fault = inl (subst (λ (n : ℕ). IsRowFault next n raw e) (omega arith) fault)
 rows_faulty number [] left next (raw ∷ front) rest e good fault = absurd good
@@ -230,20 +282,23 @@ rows_faulty number (r ∷ done) left next (raw ∷ front) rest e good fault =
 abbrev Heads : {B : Type 0} → ℕ → List Row → (Raws → Result B TextFault) → Type 0
 Heads number rows read = (raws : Raws) (e : TextFault) → (read raws ≡ Err e) ↔ Faulty number rows raws e
 
-row_then : {A B : Type 0} (value : Word → Result A TextFault) (r : Row) → ((w : Word) → Agrees (value w) (r.value w) w) → (number : ℕ) (rows : List Row) (next : A × Raws → Result B TextFault)
+row_then : {A B : Type 0} (value : Word → Result A TextFault) (r : Row) → ((w : Word) → Agrees (value w) (r.value w) w)
+    → (number : ℕ) (rows : List Row) (next : A × Raws → Result B TextFault)
     → ((a : A) → Heads (number + 1) rows (λ raws. next (a, raws))) → Heads number (r ∷ rows) (λ raws. next_value number r.name (field_by value) raws >>= next)
 unfolding next_value
 row_then {A} {B} value r agree number rows next on [] e = (λ same. cc, λ same. ap (λ (x : TextFault). bad {A = B} x) (sym same))
 row_then {A} {B} value r agree number rows next on (raw ∷ raws) e = go (value_line number r.name (field_by value) raw) refl
   where
-    go : (o : Result A TextFault) → value_line number r.name (field_by value) raw ≡ o → (((o >>= λ a. good (a, raws)) >>= next) ≡ Err e) ↔ Faulty number (r ∷ rows) (raw ∷ raws) e
+    go : (o : Result A TextFault) → value_line number r.name (field_by value) raw ≡ o
+        → (((o >>= λ a. good (a, raws)) >>= next) ≡ Err e) ↔ Faulty number (r ∷ rows) (raw ∷ raws) e
     go (Err f) is = (
       λ same. let one : f ≡ e = cc in inl ((row_faults value r agree number raw e).0 (is ∙ ap (λ (x : TextFault). bad {A = A} x) one)),
       λ g. back g,
     )
       where
         back : Faulty number (r ∷ rows) (raw ∷ raws) e → bad {A = B} f ≡ Err e
-        back (inl g) = let same : bad {A = A} f ≡ Err e = sym is ∙ (row_faults value r agree number raw e).1 g in let one : f ≡ e = cc in ap (λ (x : TextFault). bad {A = B} x) one
+        back (inl g) = let same : bad {A = A} f ≡ Err e = sym is ∙ (row_faults value r agree number raw e).1 g in
+            let one : f ≡ e = cc in ap (λ (x : TextFault). bad {A = B} x) one
         back (inr g) = let x = row_read value r agree number raw g.0 in let clash : bad {A = A} f ≡ Ok x.0 = sym is ∙ x.1 in absurd cc
     go (Ok a) is = (λ same. inr (row_fits value r agree number raw a is, (on a raws e).0 same), λ g. back g)
       where
@@ -252,14 +307,18 @@ row_then {A} {B} value r agree number rows next on (raw ∷ raws) e = go (value_
         back (inr g) = (on a raws e).1 g.1
 
 number_then : {B : Type 0} (name : List ℕ) (least most : ℕ) (number : ℕ) (rows : List Row) (next : ℕ × Raws → Result B TextFault)
-    → ((n : ℕ) → Heads (number + 1) rows (λ raws. next (n, raws))) → Heads number (row name (numeric least most) ∷ rows) (λ raws. next_value number name (number_field least most) raws >>= next)
+    → ((n : ℕ) → Heads (number + 1) rows (λ raws. next (n, raws)))
+    → Heads number (row name (numeric least most) ∷ rows)
+    (λ raws. next_value number name (number_field least most) raws >>= next)
 unfolding number_field
-number_then name least most number rows next on = row_then (number_value least most) (row name (numeric least most)) (number_agrees least most) number rows next on
+number_then name least most number rows next on =
+    row_then (number_value least most) (row name (numeric least most)) (number_agrees least most) number rows next on
 
 -- the RFC of the first congestion window
 abbrev value_at : Word → List ℕ → Result Initial TextFault
 value_at w t =
-    (if length t == 0 then Err (fault_at kinds.Field w) else if is_number 5681 6928 t (digits_value 10 t) then Ok (digits_value 10 t) else Err (fault_at kinds.Number w)) >>= initial_of w
+    (if length t == 0 then Err (fault_at kinds.Field w) else if is_number 5681 6928 t (digits_value 10 t)
+    then Ok (digits_value 10 t) else Err (fault_at kinds.Number w)) >>= initial_of w
 
 abbrev want_at : List ℕ → Option FaultKind
 want_at t = if length t == 0 then Some kinds.Field else (if bytes_eq t (codes "5681") || bytes_eq t (codes "6928") then None else Some kinds.Number)
@@ -294,12 +353,15 @@ initial_at w t = go (bytes_eq t (codes "5681")) refl (bytes_eq t (codes "6928"))
         (bytes_eq-Decides t (spells i)).1 (text ∙ ap decimal (eqb-true n (initial_number i) same) ∙ written i)
 
     neither : bytes_eq t (codes "5681") ≡ false → bytes_eq t (codes "6928") ≡ false → (d c : Bool) → is_number 5681 6928 t n ≡ c
-        → Agrees ((if d then Err (fault_at kinds.Field w) else if c then Ok n else Err (fault_at kinds.Number w)) >>= initial_of w) (if d then Some kinds.Field else Some kinds.Number) w
+        → Agrees ((if d then Err (fault_at kinds.Field w) else if c then Ok n else Err (fault_at kinds.Number w))
+        >>= initial_of w) (if d then Some kinds.Field else Some kinds.Number) w
     neither x y true c is = refl
     neither x y false false is = refl
     neither x y false true is = numbers (n == 5681) refl (n == 6928) refl
       where
-        numbers : (f : Bool) → (n == 5681) ≡ f → (g : Bool) → (n == 6928) ≡ g → Agrees (if f then Ok Rfc5681 else if g then Ok Rfc6928 else Err (fault_at kinds.Number w)) (Some kinds.Number) w
+        numbers : (f : Bool) → (n == 5681) ≡ f → (g : Bool) → (n == 6928) ≡ g
+            → Agrees (if f then Ok Rfc5681 else if g then Ok Rfc6928 else Err (fault_at kinds.Number w))
+            (Some kinds.Number) w
         numbers true same g other = let clash : false ≡ true = sym x ∙ spelled Rfc5681 is same in absurd cc
         numbers false same true other = let clash : false ≡ true = sym y ∙ spelled Rfc6928 is other in absurd cc
         numbers false same false other = refl
@@ -313,7 +375,9 @@ initial_agrees : (w : Word) → Agrees (initial_value w) (initial_want w) w
 unfolding number_value
 initial_agrees w = initial_at w w.text
 
-initial_then : {B : Type 0} (rows : List Row) (next : Initial × Raws → Result B TextFault) → ((i : Initial) → Heads 8 rows (λ raws. next (i, raws))) → Heads 7 (row (codes "initial") initial_want ∷ rows) (λ raws. initial_line raws >>= next)
+initial_then : {B : Type 0} (rows : List Row) (next : Initial × Raws → Result B TextFault)
+    → ((i : Initial) → Heads 8 rows (λ raws. next (i, raws)))
+    → Heads 7 (row (codes "initial") initial_want ∷ rows) (λ raws. initial_line raws >>= next)
 unfolding initial_field
 initial_then rows next on = row_then initial_value (row (codes "initial") initial_want) initial_agrees 7 rows next on
 
@@ -467,7 +531,8 @@ header_faults (raw ∷ raws) e = go (first_version raw) refl
     go (Err f) is = (λ same. let one : f ≡ e = cc in First ((first_faults raw e).0 (is ∙ ap (λ (x : TextFault). bad {A = Version} x) one)), λ g. back g)
       where
         back : IsHeaderFault (raw ∷ raws) e → bad {A = Headed} f ≡ Err e
-        back (First fault) = let same : bad {A = Version} f ≡ Err e = sym is ∙ (first_faults raw e).1 fault in let one : f ≡ e = cc in ap (λ (x : TextFault). bad {A = Headed} x) one
+        back (First fault) = let same : bad {A = Version} f ≡ Err e = sym is ∙ (first_faults raw e).1 fault in
+            let one : f ≡ e = cc in ap (λ (x : TextFault). bad {A = Headed} x) one
         back (Rows v first others split line fault) =
             let one : first ≡ raw = cc in
             let clash : bad {A = Version} f ≡ Ok (named_as v) = sym is ∙ ap first_version (sym one) ∙ version_again v first line in absurd cc

@@ -100,7 +100,8 @@ alone_takes fault a b [] e = (ok_is a b e, refl)
 alone_takes fault a b (w ∷ ws) e = absurd cc
 
 -- the value of one field
-module _ {A : Type 0} (number : ℕ) (name : List ℕ) (read : Rest → Result (A × Rest) TextFault) (V : A → List ℕ → Type 0) (law : IsReader read (λ a ws. (t : List ℕ) × V a t × (ws ≡ t ∷ []))) where
+module _ {A : Type 0} (number : ℕ) (name : List ℕ) (read : Rest → Result (A × Rest) TextFault) (V : A → List ℕ → Type 0)
+    (law : IsReader read (λ a ws. (t : List ℕ) × V a t × (ws ≡ t ∷ []))) where
   record IsValued (a : A) (raw : List ℕ) : Type 0 where
     text : List ℕ
     value : V a text
@@ -121,7 +122,8 @@ module _ {A : Type 0} (number : ℕ) (name : List ℕ) (read : Rest → Result (
         line = subst (λ (ws : Raws). IsLine number (joined (name ∷ ws)) raw) one line;
       }
 
-  value_again : (raw t : List ℕ) (a : A) → IsClean name → IsClean t → IsLine number (joined (name ∷ t ∷ [])) raw → V a t → value_line number name read raw ≡ Ok a
+  value_again : (raw t : List ℕ) (a : A) → IsClean name → IsClean t → IsLine number (joined (name ∷ t ∷ [])) raw → V a t
+      → value_line number name read raw ≡ Ok a
   unfolding value_line
   value_again raw t a clean field line value =
       let named = named_again number name raw t clean field line in
@@ -135,7 +137,8 @@ raw_takes number [] x e = absurd cc
 raw_takes number (raw ∷ raws) x e = subst (λ (y : List ℕ × Raws). raw ∷ raws ≡ y.0 ∷ y.1) (ok_is (raw, raws) x e) refl
 
 -- the same of the next line
-module _ {A : Type 0} (number : ℕ) (name : List ℕ) (read : Rest → Result (A × Rest) TextFault) (V : A → List ℕ → Type 0) (law : IsReader read (λ a ws. (t : List ℕ) × V a t × (ws ≡ t ∷ []))) where
+module _ {A : Type 0} (number : ℕ) (name : List ℕ) (read : Rest → Result (A × Rest) TextFault) (V : A → List ℕ → Type 0)
+    (law : IsReader read (λ a ws. (t : List ℕ) × V a t × (ws ≡ t ∷ []))) where
   record IsNext (raws : Raws) (x : A × Raws) : Type 0 where
     raw : List ℕ
     first : raws ≡ raw ∷ x.1
@@ -146,9 +149,15 @@ module _ {A : Type 0} (number : ℕ) (name : List ℕ) (read : Rest → Result (
   next_takes raws x e =
       let a = bind_ok (next_raw number raws) (λ y. value_line number name read y.0 >>= λ n. Ok (n, y.1)) x e in
       let b = bind_ok (value_line number name read a.0.0) (λ n. Ok (n, a.0.1)) x a.2 in
-      subst (λ (y : A × Raws). IsNext raws y) (ok_is (b.0, a.0.1) x b.2) (record { raw = a.0.0; first = raw_takes number raws a.0 a.1; valued = value_takes number name read V law a.0.0 b.0 b.1 })
+      subst (λ (y : A × Raws). IsNext raws y) (ok_is (b.0, a.0.1) x b.2)
+      (record {
+        raw = a.0.0;
+        first = raw_takes number raws a.0 a.1;
+        valued = value_takes number name read V law a.0.0 b.0 b.1;
+      })
 
-  next_again : (raw t : List ℕ) (raws : Raws) (a : A) → IsClean name → IsClean t → IsLine number (joined (name ∷ t ∷ [])) raw → V a t → next_value number name read (raw ∷ raws) ≡ Ok (a, raws)
+  next_again : (raw t : List ℕ) (raws : Raws) (a : A) → IsClean name → IsClean t
+      → IsLine number (joined (name ∷ t ∷ [])) raw → V a t → next_value number name read (raw ∷ raws) ≡ Ok (a, raws)
   unfolding next_value
   next_again raw t raws a clean field line value =
       ap (λ (x : Result A TextFault). x >>= λ b. Ok (b, raws)) (value_again number name read V law raw t a clean field line value)
@@ -166,7 +175,8 @@ record IsNumbered (number : ℕ) (name : List ℕ) (least most : ℕ) (raws : Ra
   low : least ≤ x.0
   high : x.0 ≤ most
 
-number_takes : (number : ℕ) (name : List ℕ) (least most : ℕ) → most < 2 ^ 64 → (raws : Raws) (x : ℕ × Raws) → next_value number name (number_field least most) raws ≡ Ok x → IsNumbered number name least most raws x
+number_takes : (number : ℕ) (name : List ℕ) (least most : ℕ) → most < 2 ^ 64 → (raws : Raws) (x : ℕ × Raws)
+    → next_value number name (number_field least most) raws ≡ Ok x → IsNumbered number name least most raws x
 number_takes number name least most fits raws x e =
     let n = next_takes number name (number_field least most) (IsNumber least most) (reads_one least most fits) raws x e in
     let v = n.valued in
@@ -178,10 +188,12 @@ number_takes number name least most fits raws x e =
       high = v.value.2;
     }
 
-number_again : (number : ℕ) (name : List ℕ) (least most : ℕ) → most < 2 ^ 64 → IsClean name → (raw : List ℕ) (raws : Raws) (n : ℕ) → IsLine number (joined (name ∷ decimal n ∷ [])) raw → least ≤ n → n ≤ most
+number_again : (number : ℕ) (name : List ℕ) (least most : ℕ) → most < 2 ^ 64 → IsClean name
+    → (raw : List ℕ) (raws : Raws) (n : ℕ) → IsLine number (joined (name ∷ decimal n ∷ [])) raw → least ≤ n → n ≤ most
     → next_value number name (number_field least most) (raw ∷ raws) ≡ Ok (n, raws)
 number_again number name least most fits clean raw raws n line low high =
-    next_again number name (number_field least most) (IsNumber least most) (reads_one least most fits) raw (decimal n) raws n clean (IsClean-decimal n (omega arith)) line (refl, low, high)
+    next_again number name (number_field least most) (IsNumber least most) (reads_one least most fits) raw
+    (decimal n) raws n clean (IsClean-decimal n (omega arith)) line (refl, low, high)
 
 -- ---- the RFC of the first congestion window
 
@@ -189,7 +201,9 @@ number_again number name least most fits clean raw raws n line low high =
 abbrev IsInitial : Initial → List ℕ → Type 0
 IsInitial i text = text ≡ decimal (initial_number i)
 
-guard_initial : (a b : Bool) (fault : TextFault) (i : Initial) → cond a (Ok Rfc5681) (cond b (Ok Rfc6928) (Err fault)) ≡ Ok i → ((a ≡ true) × (i ≡ Rfc5681)) ⊎ ((b ≡ true) × (i ≡ Rfc6928))
+guard_initial : (a b : Bool) (fault : TextFault) (i : Initial)
+    → cond a (Ok Rfc5681) (cond b (Ok Rfc6928) (Err fault)) ≡ Ok i
+    → ((a ≡ true) × (i ≡ Rfc5681)) ⊎ ((b ≡ true) × (i ≡ Rfc6928))
 guard_initial true b fault i e = inl (refl, sym (ok_is Rfc5681 i e))
 guard_initial false true fault i e = inr (refl, sym (ok_is Rfc6928 i e))
 guard_initial false false fault i e = absurd cc
@@ -216,7 +230,9 @@ is_initial = record {
       v.0 ∙ ap decimal (initial_taken w b.0 i b.2);
   again = λ w i v.
       let within = initial_within i in
-      ap (λ (x : Result ℕ TextFault). x >>= initial_of w) ((is_number_value 5681 6928 (omega arith)).again w (initial_number i) (v, within.0, within.1)) ∙ initial_given w i;
+      ap (λ (x : Result ℕ TextFault). x >>= initial_of w)
+      ((is_number_value 5681 6928 (omega arith)).again w (initial_number i) (v, within.0, within.1))
+      ∙ initial_given w i;
 }
 
 reads_initial : IsReader initial_field (λ i ws. (t : List ℕ) × IsInitial i t × (ws ≡ t ∷ []))
@@ -243,7 +259,9 @@ initial_takes raws x e =
     }
 
 initial_again : (i : Initial) (raw : List ℕ) (rest : Raws) → IsLine 7 (joined (initial_words i)) raw → initial_line (raw ∷ rest) ≡ Ok (i, rest)
-initial_again i raw rest line = next_again 7 (codes "initial") initial_field IsInitial reads_initial raw (decimal (initial_number i)) rest i (clean_by (codes "initial") refl) (initial_clean i) line refl
+initial_again i raw rest line =
+    next_again 7 (codes "initial") initial_field IsInitial reads_initial raw (decimal (initial_number i)) rest i
+    (clean_by (codes "initial") refl) (initial_clean i) line refl
 
 -- ---- how much of congestion control is judged
 
@@ -434,7 +452,9 @@ version_takes raw v e =
 pub version_again : (v : Version) (raw : List ℕ) → IsLine 1 (joined (first_words v)) raw → first_version raw ≡ Ok (named_as v)
 unfolding first_version
 version_again v raw line =
-    ap (λ (x : Result (List ℕ) TextFault). x >>= version_in) (text_again 1 raw (joined (first_words v)) (joined_no_return (first_words v) (first_clean v)) line) ∙ version_given v
+    ap (λ (x : Result (List ℕ) TextFault). x >>= version_in)
+    (text_again 1 raw (joined (first_words v)) (joined_no_return (first_words v) (first_clean v)) line)
+    ∙ version_given v
 
 -- it is known from the first line alone
 named_text : (v : Version) (raw : List ℕ) (raws : Raws)
@@ -455,7 +475,8 @@ unfolding first_line
 first_taken raws x e =
     let a = bind_ok (next_raw 1 raws) (λ y. first_version y.0 >>= λ v. Ok (v, y.1)) x e in
     let b = bind_ok (first_version a.0.0) (λ v. Ok (v, a.0.1)) x a.2 in
-    subst (λ (y : Version × Raws). IsFirst raws y) (ok_is (b.0, a.0.1) x b.2) (record { raw = a.0.0; first = raw_takes 1 raws a.0 a.1; line = version_takes a.0.0 b.0 b.1 })
+    subst (λ (y : Version × Raws). IsFirst raws y) (ok_is (b.0, a.0.1) x b.2)
+    (record { raw = a.0.0; first = raw_takes 1 raws a.0 a.1; line = version_takes a.0.0 b.0 b.1 })
 
 first_given : (v : Version) (raw : List ℕ) (rest : Raws) → IsLine 1 (joined (first_words v)) raw → first_line (raw ∷ rest) ≡ Ok (named_as v, rest)
 unfolding first_line
@@ -534,7 +555,12 @@ header_takes raws x e =
     let words : first_words v ≡ first_words k.0.0.version = sym (words_named v) ∙ ap first_words (sym l.named) ∙ words_named k.0.0.version in
     subst (λ (y : Headed). IsHeaded raws y) (ok_is (made, k.0.1) x k.2) (record {
       heads = h.raw ∷ s.raw ∷ m.raw ∷ n.raw ∷ i.raw ∷ t.raw ∷ l.heads;
-      front = h.first ∙ ap (λ (us : Raws). h.raw ∷ us) (s.first ∙ ap (λ (us : Raws). s.raw ∷ us) (m.first ∙ ap (λ (us : Raws). m.raw ∷ us) (n.first ∙ ap (λ (us : Raws). n.raw ∷ us) (i.first ∙ ap (λ (us : Raws). i.raw ∷ us) (t.first ∙ ap (λ (us : Raws). t.raw ∷ us) l.front)))));
+      front =
+          h.first ∙ ap (λ (us : Raws). h.raw ∷ us)
+          (s.first ∙ ap (λ (us : Raws). s.raw ∷ us)
+          (m.first ∙ ap (λ (us : Raws). m.raw ∷ us)
+          (n.first ∙ ap (λ (us : Raws). n.raw ∷ us)
+          (i.first ∙ ap (λ (us : Raws). i.raw ∷ us) (t.first ∙ ap (λ (us : Raws). t.raw ∷ us) l.front)))));
       limits = record {
         skew = s.high;
         msl_least = m.low;
@@ -633,13 +659,26 @@ header_again h heads rest limits lines =
     let g = has_line 6 (codes "extra" ∷ decimal h.extra ∷ []) (late_of h) f.rest f.others in
     let last = g.rest in
     let all : heads ≡ a.raw ∷ b.raw ∷ c.raw ∷ d.raw ∷ f.raw ∷ g.raw ∷ last =
-    a.first ∙ ap (λ (us : Raws). a.raw ∷ us) (b.first ∙ ap (λ (us : Raws). b.raw ∷ us) (c.first ∙ ap (λ (us : Raws). c.raw ∷ us) (d.first ∙ ap (λ (us : Raws). d.raw ∷ us) (f.first ∙ ap (λ (us : Raws). f.raw ∷ us) g.first)))) in
+    a.first ∙ ap (λ (us : Raws). a.raw ∷ us)
+    (b.first ∙ ap (λ (us : Raws). b.raw ∷ us)
+    (c.first ∙ ap (λ (us : Raws). c.raw ∷ us)
+    (d.first ∙ ap (λ (us : Raws). d.raw ∷ us) (f.first ∙ ap (λ (us : Raws). f.raw ∷ us) g.first)))) in
     let first = first_given h.version a.raw (b.raw ∷ c.raw ∷ d.raw ∷ f.raw ∷ g.raw ∷ (last ++ rest)) a.line in
-    let skew = number_again 2 (codes "skew") 0 1000000000 (omega arith) (clean_by (codes "skew") refl) b.raw (c.raw ∷ d.raw ∷ f.raw ∷ g.raw ∷ (last ++ rest)) h.skew b.line (omega arith) limits.skew in
-    let msl = number_again 3 (codes "msl") 1 3600000000 (omega arith) (clean_by (codes "msl") refl) c.raw (d.raw ∷ f.raw ∷ g.raw ∷ (last ++ rest)) h.msl c.line limits.msl_least limits.msl in
-    let grain = number_again 4 (codes "grain") 0 60000000 (omega arith) (clean_by (codes "grain") refl) d.raw (f.raw ∷ g.raw ∷ (last ++ rest)) h.grain d.line (omega arith) limits.grain in
-    let minrto = number_again 5 (codes "minrto") 0 60000000 (omega arith) (clean_by (codes "minrto") refl) f.raw (g.raw ∷ (last ++ rest)) h.minrto f.line (omega arith) limits.minrto in
-    let extra = number_again 6 (codes "extra") 0 65535 (omega arith) (clean_by (codes "extra") refl) g.raw (last ++ rest) h.extra g.line (omega arith) limits.extra in
+    let skew =
+    number_again 2 (codes "skew") 0 1000000000 (omega arith) (clean_by (codes "skew") refl) b.raw
+    (c.raw ∷ d.raw ∷ f.raw ∷ g.raw ∷ (last ++ rest)) h.skew b.line (omega arith) limits.skew in
+    let msl =
+    number_again 3 (codes "msl") 1 3600000000 (omega arith) (clean_by (codes "msl") refl) c.raw
+    (d.raw ∷ f.raw ∷ g.raw ∷ (last ++ rest)) h.msl c.line limits.msl_least limits.msl in
+    let grain =
+    number_again 4 (codes "grain") 0 60000000 (omega arith) (clean_by (codes "grain") refl) d.raw
+    (f.raw ∷ g.raw ∷ (last ++ rest)) h.grain d.line (omega arith) limits.grain in
+    let minrto =
+    number_again 5 (codes "minrto") 0 60000000 (omega arith) (clean_by (codes "minrto") refl) f.raw
+    (g.raw ∷ (last ++ rest)) h.minrto f.line (omega arith) limits.minrto in
+    let extra =
+    number_again 6 (codes "extra") 0 65535 (omega arith) (clean_by (codes "extra") refl) g.raw
+    (last ++ rest) h.extra g.line (omega arith) limits.extra in
     let late_read = late_again h.version h.initial h.congestion last rest limits.initial limits.congestion g.others in
     ap (λ (us : Raws). first_line (us ++ rest) >>= with_first) all ∙ rw (first, skew, msl, grain, minrto, extra, late_read) refl
 
@@ -677,7 +716,8 @@ header_clean h limits =
       ),
     )
 
-lines_raw : (number : ℕ) (lines : List (List (List ℕ))) (raws : Raws) → AllByRecursion (AllByRecursion IsClean) lines → AreLines number lines raws → AllByRecursion IsRaw raws
+lines_raw : (number : ℕ) (lines : List (List (List ℕ))) (raws : Raws) → AllByRecursion (AllByRecursion IsClean) lines
+    → AreLines number lines raws → AllByRecursion IsRaw raws
 lines_raw number [] [] clean h = tt
 lines_raw number [] (raw ∷ raws) clean h = absurd h
 lines_raw number (ws ∷ lines) [] clean h = absurd h
@@ -694,5 +734,6 @@ header_named h heads rest lines =
     let a = has_line 1 (first_words h.version) (from_skew h) heads lines in
     let behind = concat a.rest ++ rest in
     let cut : lines_of (concat heads ++ rest) ≡ a.raw ∷ lines_of behind =
-    ap (λ (us : Raws). lines_of (concat us ++ rest)) a.first ∙ ap lines_of (append_assoc a.raw (concat a.rest) rest) ∙ lines_of-raw a.raw behind (is_raw 1 (first_words h.version) a.raw (first_clean h.version) a.line) in
+    ap (λ (us : Raws). lines_of (concat us ++ rest)) a.first ∙ ap lines_of (append_assoc a.raw (concat a.rest) rest)
+    ∙ lines_of-raw a.raw behind (is_raw 1 (first_words h.version) a.raw (first_clean h.version) a.line) in
     ap version_named cut ∙ named_by h.version a.raw (lines_of behind) a.line

@@ -26,7 +26,8 @@ module _ {A B : Type 0} (value : Raws → Result (A × Raws) TextFault) (next : 
   abbrev pub both : Raws → Result (B × Raws) TextFault
   both raws = value raws >>= next
 
-  pub value_then : (a b c : Known) (x : A) (r : Result B SourceFault) → Reads with_rest value a b (Ok x) → Heads (λ rest. next (x, rest)) b c r → Heads both a c r
+  pub value_then : (a b c : Known) (x : A) (r : Result B SourceFault) → Reads with_rest value a b (Ok x)
+      → Heads (λ rest. next (x, rest)) b c r → Heads both a c r
   value_then a b c x r p q = reads_then with_rest value with_rest next a b c x r p q
 
   pub value_not : (a b : Known) (f : SourceFault) → Reads with_rest value a b (Err f) → Heads both a b (Err f)

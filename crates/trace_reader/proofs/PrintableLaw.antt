@@ -34,7 +34,8 @@ use Rattle.trace_reader.specs.Events.{event_pieces, IsEvent}
 use Rattle.trace_reader.specs.EventLines.{Place, behind, line_pieces, IsEventLine}
 use Rattle.trace_reader.specs.TraceText.{first_place, IsTraceText}
 use Rattle.trace_reader.specs.Printed.{trace_text}
-use Rattle.trace_reader.specs.Printable.{HasEventBits, IsCallOf, IsInMemory, IsWithinEvent, IsWithinLine, IsWithinTrace, IsPrintableLine, IsPrintableTrace, at_columns, with_columns}
+use Rattle.trace_reader.specs.Printable.{HasEventBits, IsCallOf, IsInMemory, IsWithinEvent, IsWithinLine, IsWithinTrace}
+use Rattle.trace_reader.specs.Printable.{IsPrintableLine, IsPrintableTrace, at_columns, with_columns}
 use Rattle.trace_reader.proofs.ShortLines.{line_short}
 
 -- ---- the header
@@ -42,7 +43,9 @@ use Rattle.trace_reader.proofs.ShortLines.{line_short}
 fed : (number : ℕ) (ws : List (List ℕ)) → length (joined ws) ≤ 140000 → number ≤ 10000000 → IsLine number (joined ws) (printed ws)
 fed number ws short count = record { ends = (10 ∷ [], inl refl, refl); short = short; count = count }
 
-number_fed : (number : ℕ) (name : List ℕ) (n : ℕ) → length (joined (name ∷ decimal n ∷ [])) ≤ length name + 1 + length (decimal n) → length name ≤ 20 → n < 2 ^ 64 → number ≤ 10000000
+number_fed : (number : ℕ) (name : List ℕ) (n : ℕ)
+    → length (joined (name ∷ decimal n ∷ [])) ≤ length name + 1 + length (decimal n) → length name ≤ 20 → n < 2 ^ 64
+    → number ≤ 10000000
     → IsLine number (joined (name ∷ decimal n ∷ [])) (printed (name ∷ decimal n ∷ []))
 number_fed number name n len short lt count = fed number (name ∷ decimal n ∷ []) (let own = short_decimal n lt in omega (arith, len, own)) count
 
@@ -96,7 +99,8 @@ header_printed h limits =
 
 -- ---- the event lines
 
-line_printed : (v : Version) (place : Place) (l : Line) → l.number ≡ place.1 → place.0 ≤ l.moment → place.1 ≤ 10000000 → IsPrintableLine v l → IsEventLine v place (at_columns l) (printed_line (line_pieces l))
+line_printed : (v : Version) (place : Place) (l : Line) → l.number ≡ place.1 → place.0 ≤ l.moment → place.1 ≤ 10000000
+    → IsPrintableLine v l → IsEventLine v place (at_columns l) (printed_line (line_pieces l))
 line_printed v place l number rises count p = record {
   texts = piece_texts (line_pieces l);
   written = (refl, (refl, pieces_written (event_pieces l.event) p.bytes));
@@ -109,7 +113,8 @@ line_printed v place l number rises count p = record {
   span = ap (λ (n : ℕ). record { line = n; start = 0; stop = length (joined (piece_texts (line_pieces l))) }) number;
 }
 
-lines_printed : (v : Version) (place : Place) (lines : List Line) → IsRecorded place.1 place.0 lines → place.1 + length lines ≤ 10000001 → AllByRecursion (IsPrintableLine v) lines
+lines_printed : (v : Version) (place : Place) (lines : List Line) → IsRecorded place.1 place.0 lines
+    → place.1 + length lines ≤ 10000001 → AllByRecursion (IsPrintableLine v) lines
     → AreSpelled (IsEventLine v) behind place (map at_columns lines) (map (λ l. printed_line (line_pieces l)) lines)
 lines_printed v place [] recorded few all = tt
 lines_printed v place (l ∷ ls) recorded few all =
@@ -138,7 +143,8 @@ record AreWithin (v : Version) (place : Place) (ls : List Line) : Type 0 where
   few : place.1 + length ls ≤ 10000001
   lines : AllByRecursion (IsPrintableLine v) ls
 
-within : (v : Version) (place : Place) (lines : List Line) (raws : List (List ℕ)) → place.1 ≤ 10000001 → AreSpelled (IsEventLine v) behind place (map at_columns lines) raws → AreWithin v place lines
+within : (v : Version) (place : Place) (lines : List Line) (raws : List (List ℕ)) → place.1 ≤ 10000001
+    → AreSpelled (IsEventLine v) behind place (map at_columns lines) raws → AreWithin v place lines
 within v place [] raws le h = record { recorded = tt; few = omega arith; lines = tt }
 within v place (l ∷ ls) [] le h = absurd h
 within v place (l ∷ ls) (raw ∷ raws) le h =
@@ -148,7 +154,15 @@ within v place (l ∷ ls) (raw ∷ raws) le h =
     let few = others.few in record {
       recorded = (own.number, own.rises, others.recorded);
       few = omega arith;
-      lines = (record { moment = own.moment; thread = own.thread; event = own.event; bytes = (written_bytes (line_pieces l) own.texts own.written).1.1 }, others.lines);
+      lines = (
+        record {
+          moment = own.moment;
+          thread = own.thread;
+          event = own.event;
+          bytes = (written_bytes (line_pieces l) own.texts own.written).1.1;
+        },
+        others.lines,
+      );
     }
 
 first_small : (v : Version) → first_line_of v ≤ 10000001
@@ -169,10 +183,12 @@ both : {X : Type 0} (P : X → Type 0) (xs ys : List X) → AllByRecursion P xs 
 both P [] ys p q = q
 both P (x ∷ xs) ys p q = (p.0, both P xs ys p.1 q)
 
-pub all_more : {X : Type 0} (P : X → Type 0) (xs : List X) (i : ℕ) (d : X) → i < length xs → AllByRecursion P (take i xs) → P (get_or xs i d) → AllByRecursion P (take (i + 1) xs)
+pub all_more : {X : Type 0} (P : X → Type 0) (xs : List X) (i : ℕ) (d : X) → i < length xs
+    → AllByRecursion P (take i xs) → P (get_or xs i d) → AllByRecursion P (take (i + 1) xs)
 all_more {X = X} P xs i d lt before here =
     let one : suc i ≡ i + 1 = omega arith in
-    subst (λ (ys : List X). AllByRecursion P ys) (sym (take-suc xs i d lt) ∙ ap (λ (n : ℕ). take n xs) one) (both P (take i xs) (get_or xs i d ∷ []) before (here, tt))
+    subst (λ (ys : List X). AllByRecursion P ys) (sym (take-suc xs i d lt) ∙ ap (λ (n : ℕ). take n xs) one)
+    (both P (take i xs) (get_or xs i d ∷ []) before (here, tt))
 
 -- ---- values in memory
 
@@ -210,12 +226,20 @@ event_within v (events.Sent host wire) p b = (p, b)
 event_within v (events.Came host wire) p b = (p, b)
 event_within v (events.Expired host local remote timer) p b = (p.0, p.1, b.0, p.2, b.1)
 
-lines_print : (v : Version) (lines : List Line) → AllByRecursion (IsWithinLine v) lines → AllByRecursion IsInMemory lines → AllByRecursion (IsPrintableLine v) lines
+lines_print : (v : Version) (lines : List Line) → AllByRecursion (IsWithinLine v) lines
+    → AllByRecursion IsInMemory lines → AllByRecursion (IsPrintableLine v) lines
 lines_print v [] p b = tt
 lines_print v (l ∷ ls) p b =
     let own = p.0 in
-    let memory = b.0 in
-    (record { moment = own.moment; thread = memory.thread; event = event_within v l.event own.event memory.event; bytes = memory.bytes }, lines_print v ls p.1 b.1)
+    let memory = b.0 in (
+      record {
+        moment = own.moment;
+        thread = memory.thread;
+        event = event_within v l.event own.event memory.event;
+        bytes = memory.bytes;
+      },
+      lines_print v ls p.1 b.1,
+    )
 
 pub within_prints : (t : Trace) → IsWithinTrace t → AllByRecursion IsInMemory t.lines → IsPrintableTrace t
 within_prints t p b = record { header = p.header; recorded = p.recorded; few = p.few; lines = lines_print t.header.version t.lines p.lines b }

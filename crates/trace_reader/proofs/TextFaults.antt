@@ -20,7 +20,8 @@ use Rattle.trace_reader.proofs.EventLineLaw.{reads_line}
 use Rattle.trace_reader.proofs.HeaderFaults.{header_faults}
 use Rattle.trace_reader.proofs.HeaderLaw.{Headed, header_takes, header_again}
 
-pub events_fault : (v : Version) (place : Place) (raws : List (List ℕ)) (e : TextFault) → (read_lines (line_of v) behind place raws ≡ Err e) ↔ IsEventsFault v place raws e
+pub events_fault : (v : Version) (place : Place) (raws : List (List ℕ)) (e : TextFault)
+    → (read_lines (line_of v) behind place raws ≡ Err e) ↔ IsEventsFault v place raws e
 events_fault v place raws e = faults_among (line_of v) (IsEventLine v) (IsLineFault v) behind (reads_line v) (line_faults v) place raws e
 
 abbrev bad : {A : Type 0} → TextFault → Result A TextFault
@@ -33,14 +34,16 @@ abbrev trace_with : Header → List Line → Result Trace TextFault
 trace_with h ls = Ok (record { header = h; lines = ls })
 
 -- what is behind the header
-behind_faults : (h : Header) (raws : List (List ℕ)) (e : TextFault) → ((events_of h raws >>= trace_with h) ≡ Err e) ↔ IsEventsFault h.version (first_place h) raws e
+behind_faults : (h : Header) (raws : List (List ℕ)) (e : TextFault)
+    → ((events_of h raws >>= trace_with h) ≡ Err e) ↔ IsEventsFault h.version (first_place h) raws e
 behind_faults h raws e = go (events_of h raws) refl
   where
     go : (o : Result (List Line) TextFault) → events_of h raws ≡ o → ((o >>= trace_with h) ≡ Err e) ↔ IsEventsFault h.version (first_place h) raws e
     go (Ok lines) is = (λ same. absurd cc, λ g. let clash : good lines ≡ Err e = sym is ∙ (events_fault h.version (first_place h) raws e).1 g in absurd cc)
     go (Err f) is = (
       λ same. let one : f ≡ e = cc in (events_fault h.version (first_place h) raws e).0 (is ∙ ap (λ (x : TextFault). bad {A = List Line} x) one),
-      λ g. let same : bad {A = List Line} f ≡ Err e = sym is ∙ (events_fault h.version (first_place h) raws e).1 g in let one : f ≡ e = cc in ap (λ (x : TextFault). bad {A = Trace} x) one,
+      λ g. let same : bad {A = List Line} f ≡ Err e = sym is ∙ (events_fault h.version (first_place h) raws e).1 g in
+          let one : f ≡ e = cc in ap (λ (x : TextFault). bad {A = Trace} x) one,
     )
 
 pub trace_faults : (text : List ℕ) (e : TextFault) → (trace_of text ≡ Err e) ↔ IsTraceFault text e
@@ -48,10 +51,16 @@ unfolding trace_of
 trace_faults text e = go (header_of (lines_of text)) refl
   where
     go : (o : Result Headed TextFault) → header_of (lines_of text) ≡ o → ((o >>= λ h. events_of h.0 h.1 >>= trace_with h.0) ≡ Err e) ↔ IsTraceFault text e
-    go (Err f) is = (λ same. let one : f ≡ e = cc in Headers ((header_faults (lines_of text) e).0 (is ∙ ap (λ (x : TextFault). bad {A = Headed} x) one)), λ g. back g)
+    go (Err f) is = (
+      λ same. let one : f ≡ e = cc in
+          Headers ((header_faults (lines_of text) e).0 (is ∙ ap (λ (x : TextFault). bad {A = Headed} x) one)),
+      λ g. back g,
+    )
       where
         back : IsTraceFault text e → bad {A = Trace} f ≡ Err e
-        back (Headers fault) = let same : bad {A = Headed} f ≡ Err e = sym is ∙ (header_faults (lines_of text) e).1 fault in let one : f ≡ e = cc in ap (λ (x : TextFault). bad {A = Trace} x) one
+        back (Headers fault) = let same : bad {A = Headed} f ≡ Err e =
+            sym is ∙ (header_faults (lines_of text) e).1 fault in let one : f ≡ e = cc in
+            ap (λ (x : TextFault). bad {A = Trace} x) one
         back (Events h heads raws split limits lines fault) =
             let clash : bad {A = Headed} f ≡ Ok (h, raws) = sym is ∙ ap header_of split ∙ header_again h heads raws limits lines in absurd cc
     go (Ok x) is = (λ same. there same, λ g. back g)

@@ -24,7 +24,8 @@ wire_of bytes seg = record { bytes = bytes; seg = seg }
 abbrev found : Segment → Result Segment SegFault
 found seg = Ok seg
 
-with_segment_ok : (w : Word) (bytes : List ℕ) (read : Result Segment SegFault) (x : Wire) → with_segment w bytes read ≡ Ok x → (seg : Segment) × (read ≡ Ok seg) × (wire_of bytes seg ≡ x)
+with_segment_ok : (w : Word) (bytes : List ℕ) (read : Result Segment SegFault) (x : Wire)
+    → with_segment w bytes read ≡ Ok x → (seg : Segment) × (read ≡ Ok seg) × (wire_of bytes seg ≡ x)
 with_segment_ok w bytes (Ok seg) x e = (seg, refl, ok_is (wire_of bytes seg) x e)
 with_segment_ok w bytes (Err fault) x e = absurd cc
 

@@ -45,7 +45,8 @@ grow_below c acked v (avoiding calm above avoided) most = let b = avoid_below c 
 grow_below c acked v (recovered fast le) most = rw fast (omega arith)
 
 -- one of two values by an order, the greater of both at equality
-split : (a b slow above v : ℕ) → v ≤ (if nat_lt a b then slow else (if nat_lt b a then above else max slow above)) → ((a ≤ b) × (v ≤ slow)) ⊎ ((b ≤ a) × (v ≤ above))
+split : (a b slow above v : ℕ) → v ≤ (if nat_lt a b then slow else (if nat_lt b a then above else max slow above))
+    → ((a ≤ b) × (v ≤ slow)) ⊎ ((b ≤ a) × (v ≤ above))
 split a b slow above v h = grind (arith, nat_tests)
 
 -- outside fast recovery: up to ssthresh in slow start, from it on in congestion avoidance

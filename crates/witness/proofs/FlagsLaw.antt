@@ -1,5 +1,6 @@
 -- The spelling of flags, both ways.
-use Rattle.std.proofs.Common.{◌≡◌, ◌<◌, ℕ, List, [], ◌∷◌, ◌++◌, Bool, true, false, cond, eqb, length, Option, Some, None, Result, Ok, refl, sym, ap, subst, ◌∙◌, arith}
+use Rattle.std.proofs.Common.{◌≡◌, ◌<◌, ℕ, List, [], ◌∷◌, ◌++◌, Bool, true, false, cond, eqb, length, Option, Some}
+use Rattle.std.proofs.Common.{None, Result, Ok, refl, sym, ap, subst, ◌∙◌, arith}
 use Rattle.std.specs.Prelude.{codes}
 use Rattle.std.specs.Str.{bytes_eq}
 use Rattle.std.proofs.lemmas.Bool.{and_parts, eqb-true, ltb-true}
@@ -23,7 +24,8 @@ use Rattle.witness.proofs.Made.{IsBy}
 abbrev taken_by : ℕ → List ℕ → ℕ → Bool → Bool × List ℕ
 taken_by b bs letter same = cond same (true, bs) (false, b ∷ bs)
 
-letter_test : (b letter : ℕ) (bs : List ℕ) (same : Bool) → eqb b letter ≡ same → b ∷ bs ≡ letter_if (taken_by b bs letter same).0 (letter ∷ []) ++ (taken_by b bs letter same).1
+letter_test : (b letter : ℕ) (bs : List ℕ) (same : Bool) → eqb b letter ≡ same
+    → b ∷ bs ≡ letter_if (taken_by b bs letter same).0 (letter ∷ []) ++ (taken_by b bs letter same).1
 letter_test b letter bs true hit = ap (λ (a : ℕ). a ∷ bs) (eqb-true b letter hit)
 letter_test b letter bs false miss = refl
 
@@ -49,9 +51,12 @@ letters_are text f e =
     let g = guard_some _ own f e in
     let parts = and_parts _ _ g.0 in
     let last : n.1 ≡ [] = none_left n.1 (eqb-true _ _ parts.1) in
-    let four : s.1 ≡ letter_if n.0 (codes "F") = letter_taken 70 s.1 ∙ ap (λ (t : List ℕ). letter_if n.0 (codes "F") ++ t) last ∙ append-nil (letter_if n.0 (codes "F")) in
+    let four : s.1 ≡ letter_if n.0 (codes "F") =
+    letter_taken 70 s.1 ∙ ap (λ (t : List ℕ). letter_if n.0 (codes "F") ++ t) last
+    ∙ append-nil (letter_if n.0 (codes "F")) in
     let three : r.1 ≡ letter_if s.0 (codes "S") ++ letter_if n.0 (codes "F") = letter_taken 83 r.1 ∙ ap (λ (t : List ℕ). letter_if s.0 (codes "S") ++ t) four in
-    let two : a.1 ≡ letter_if r.0 (codes "R") ++ (letter_if s.0 (codes "S") ++ letter_if n.0 (codes "F")) = letter_taken 82 a.1 ∙ ap (λ (t : List ℕ). letter_if r.0 (codes "R") ++ t) three in
+    let two : a.1 ≡ letter_if r.0 (codes "R") ++ (letter_if s.0 (codes "S") ++ letter_if n.0 (codes "F")) =
+    letter_taken 82 a.1 ∙ ap (λ (t : List ℕ). letter_if r.0 (codes "R") ++ t) three in
     let one : text ≡ letters_of own = letter_taken 65 text ∙ ap (λ (t : List ℕ). letter_if a.0 (codes "A") ++ t) two in
     (ltb-true _ _ parts.0, one ∙ ap letters_of g.1)
 
@@ -63,7 +68,8 @@ or_fault_takes : (e : TextFault) (o : Option Flags) (f : Flags) → or_fault e o
 or_fault_takes e (Some g) f h = ap (λ (x : Flags). Some x) (ok_is g f h)
 or_fault_takes e None f h = absurd (fails_never e f h)
 
-flags_test : (w : Word) (f : Flags) (dash : Bool) → bytes_eq w.text (codes "-") ≡ dash → cond dash (Ok no_flags) (or_fault (fault_at Field w) (letters_named w.text)) ≡ Ok f → w.text ≡ flags_text f
+flags_test : (w : Word) (f : Flags) (dash : Bool) → bytes_eq w.text (codes "-") ≡ dash
+    → cond dash (Ok no_flags) (or_fault (fault_at Field w) (letters_named w.text)) ≡ Ok f → w.text ≡ flags_text f
 flags_test w f true hit e = (bytes_eq-Decides w.text (codes "-")).0 hit ∙ ap flags_text (ok_is no_flags f e)
 flags_test w f false miss e =
     let letters = letters_are w.text f (or_fault_takes (fault_at Field w) (letters_named w.text) f e) in
@@ -75,7 +81,9 @@ flags_test w f false miss e =
 abbrev flags_in : TextFault → List ℕ → Result Flags TextFault
 flags_in e text = cond (bytes_eq text (codes "-")) (Ok no_flags) (or_fault e (letters_named text))
 
-flags_again : (e : TextFault) (ack rst syn fin : Bool) → flags_in e (flags_text (record { ack = ack; rst = rst; syn = syn; fin = fin })) ≡ Ok (record { ack = ack; rst = rst; syn = syn; fin = fin })
+flags_again : (e : TextFault) (ack rst syn fin : Bool)
+    → flags_in e (flags_text (record { ack = ack; rst = rst; syn = syn; fin = fin }))
+    ≡ Ok (record { ack = ack; rst = rst; syn = syn; fin = fin })
 flags_again e false false false false = refl
 flags_again e false false false true = refl
 flags_again e false false true false = refl

@@ -30,11 +30,15 @@ use Rattle.witness.specs.declared.labels.LabelWord.{LabelWord}
 use Rattle.witness.specs.declared.labels.LabelWord.TheVariants as words
 use Rattle.witness.specs.Flags.{flags_field}
 use Rattle.witness.specs.Parts.{endpoint_field, entry_field, bit_field, extras_field, Start, start_field}
-use Rattle.witness.specs.Labels.{label_name, all_label_words, bit_number, extras_pieces, AreExtras, iss_pieces, IsIss, shift_pieces, IsStart, label_tail, label_word, label_pieces, IsLabel, IsSpelledLabel}
-use Rattle.witness.specs.LabelFields.{line_label, effect_label, segment_label, taking_label, dropping_label, refusing_label, recovery_label, label_behind, label_field}
+use Rattle.witness.specs.Labels.{label_name, all_label_words, bit_number, extras_pieces, AreExtras, iss_pieces, IsIss}
+use Rattle.witness.specs.Labels.{shift_pieces, IsStart, label_tail, label_word, label_pieces, IsLabel, IsSpelledLabel}
+use Rattle.witness.specs.LabelFields.{line_label, effect_label, segment_label, taking_label, dropping_label}
+use Rattle.witness.specs.LabelFields.{refusing_label, recovery_label, label_behind, label_field}
 use Rattle.witness.proofs.Made.{IsMade, reads_made, reads_part}
 use Rattle.witness.proofs.FlagsLaw.{flags_piece, reads_flags, flags_clean}
-use Rattle.witness.proofs.PartLaw.{IsWithin, one_piece, reads_within, bit_piece, reads_bit, FitsEndpoint, pieces_at, reads_endpoint, FitsEntry, pieces_in, reads_entry, reads_extras, FitsStart, start_pieces, reads_start}
+use Rattle.witness.proofs.PartLaw.{IsWithin, one_piece, reads_within, bit_piece, reads_bit, FitsEndpoint, pieces_at}
+use Rattle.witness.proofs.PartLaw.{reads_endpoint, FitsEntry, pieces_in, reads_entry, reads_extras, FitsStart}
+use Rattle.witness.proofs.PartLaw.{start_pieces, reads_start}
 
 -- ---- a line
 
@@ -47,7 +51,8 @@ FitsLine y = IsWithin 0 4294967295 y.0 × AreExtras y.1
 reads_line : IsLastReader line_label (IsMade make_line FitsLine (λ y. one_piece y.0 ++ extras_pieces y.1))
 unfolding line_label
 reads_line =
-    reads_part Nothing (number_field 0 4294967295) (IsWithin 0 4294967295) one_piece _ make_line AreExtras extras_pieces (reads_within 0 4294967295 (omega arith))
+    reads_part Nothing (number_field 0 4294967295) (IsWithin 0 4294967295) one_piece _ make_line AreExtras extras_pieces
+    (reads_within 0 4294967295 (omega arith))
     (λ line. reads_made Nothing extras_field (λ extras. make_line (line, extras)) AreExtras extras_pieces reads_extras)
 
 -- ---- an effect
@@ -58,7 +63,9 @@ make_effect y = D y.0 y.1
 reads_effect : IsLastReader effect_label (IsMade make_effect (λ y. IsWithin 0 4294967295 y.0 × IsAnswer y.1) (λ y. one_piece y.0 ++ answer_pieces y.1))
 unfolding effect_label
 reads_effect =
-    reads_part Nothing (number_field 0 4294967295) (IsWithin 0 4294967295) one_piece _ make_effect IsAnswer answer_pieces (reads_within 0 4294967295 (omega arith))
+    reads_part Nothing (number_field 0 4294967295)
+    (IsWithin 0 4294967295) one_piece _ make_effect IsAnswer answer_pieces
+    (reads_within 0 4294967295 (omega arith))
     (λ thread. reads_made Nothing answer_field (λ answer. make_effect (thread, answer)) IsAnswer answer_pieces reads_answer)
 
 -- ---- a segment that is made
@@ -67,10 +74,22 @@ abbrev At : Type 0
 At = Host × ℕ × ℕ
 
 abbrev make_segment : At × (ℕ × (ℕ × (Flags × (ℕ × Start)))) → Label NamedLine
-make_segment y = M y.0.0 (record { lport = y.0.1; rport = y.0.2; pos = y.1.0; len = y.1.1.0; flags = y.1.1.1.0; window = y.1.1.1.1.0; iss = y.1.1.1.1.1.0; shift = y.1.1.1.1.1.1 })
+make_segment y =
+    M y.0.0 (record {
+      lport = y.0.1;
+      rport = y.0.2;
+      pos = y.1.0;
+      len = y.1.1.0;
+      flags = y.1.1.1.0;
+      window = y.1.1.1.1.0;
+      iss = y.1.1.1.1.1.0;
+      shift = y.1.1.1.1.1.1;
+    })
 
 abbrev FitsSegment : Version → At × (ℕ × (ℕ × (Flags × (ℕ × Start)))) → Type 0
-FitsSegment v y = FitsEndpoint v y.0 × (IsWithin 0 1000000000000000000 y.1.0 × (IsWithin 0 65515 y.1.1.0 × (Unit {0} × (IsWithin 0 65535 y.1.1.1.1.0 × FitsStart v y.1.1.1.1.1))))
+FitsSegment v y =
+    FitsEndpoint v y.0 × (IsWithin 0 1000000000000000000 y.1.0
+    × (IsWithin 0 65515 y.1.1.0 × (Unit {0} × (IsWithin 0 65535 y.1.1.1.1.0 × FitsStart v y.1.1.1.1.1))))
 
 abbrev window_pieces : ℕ × Start → List Piece
 window_pieces y = one_piece y.0 ++ start_pieces y.1
@@ -91,11 +110,16 @@ reads_segment : (v : Version) → IsLastReader (segment_label v) (IsMade make_se
 unfolding segment_label
 reads_segment v =
     reads_part Nothing (endpoint_field v) (FitsEndpoint v) pieces_at _ make_segment _ position_pieces (reads_endpoint v)
-    (λ at. reads_part Nothing (number_field 0 1000000000000000000) (IsWithin 0 1000000000000000000) one_piece _ (λ x. make_segment (at, x)) _ len_pieces (reads_within 0 1000000000000000000 (omega arith))
-    (λ position. reads_part Nothing (number_field 0 65515) (IsWithin 0 65515) one_piece _ (λ x. make_segment (at, (position, x))) _ flags_pieces (reads_within 0 65515 (omega arith))
+    (λ at. reads_part Nothing (number_field 0 1000000000000000000) (IsWithin 0 1000000000000000000) one_piece _
+    (λ x. make_segment (at, x)) _ len_pieces (reads_within 0 1000000000000000000 (omega arith))
+    (λ position. reads_part Nothing (number_field 0 65515) (IsWithin 0 65515) one_piece _
+    (λ x. make_segment (at, (position, x))) _ flags_pieces (reads_within 0 65515 (omega arith))
     (λ len. reads_part Nothing flags_field (λ f. Unit {0}) flags_piece _ (λ x. make_segment (at, (position, (len, x)))) _ window_pieces reads_flags
-    (λ flags. reads_part Nothing (number_field 0 65535) (IsWithin 0 65535) one_piece _ (λ x. make_segment (at, (position, (len, (flags, x))))) _ start_pieces (reads_within 0 65535 (omega arith))
-    (λ window. reads_made Nothing (start_field v) (λ start. make_segment (at, (position, (len, (flags, (window, start)))))) (FitsStart v) start_pieces (reads_start v))))))
+    (λ flags. reads_part Nothing (number_field 0 65535) (IsWithin 0 65535) one_piece _
+    (λ x. make_segment (at, (position, (len, (flags, x))))) _ start_pieces (reads_within 0 65535 (omega arith))
+    (λ window. reads_made Nothing (start_field v)
+    (λ start. make_segment (at, (position, (len, (flags, (window, start)))))) (FitsStart v) start_pieces
+    (reads_start v))))))
 
 -- ---- an inbox entry that is taken, dropped or refused
 
@@ -115,7 +139,8 @@ reads_taking : (v : Version) → IsReader (taking_label v) (IsMade make_taking (
 unfolding taking_label
 reads_taking v =
     reads_part Any (entry_field v) (FitsEntry v) pieces_in _ make_taking _ cwnd_pieces (reads_entry v)
-    (λ entry. reads_part Any (number_field 0 4294967295) (IsWithin 0 4294967295) one_piece _ (λ x. make_taking (entry, x)) _ bits_pieces (reads_within 0 4294967295 (omega arith))
+    (λ entry. reads_part Any (number_field 0 4294967295) (IsWithin 0 4294967295) one_piece _
+    (λ x. make_taking (entry, x)) _ bits_pieces (reads_within 0 4294967295 (omega arith))
     (λ cwnd. reads_part Any bit_field (λ b. Unit {0}) bit_piece _ (λ x. make_taking (entry, (cwnd, x))) _ bit_piece reads_bit
     (λ keep. reads_made Any bit_field (λ sample. make_taking (entry, (cwnd, (keep, sample)))) (λ b. Unit {0}) bit_piece reads_bit)))
 
@@ -146,8 +171,10 @@ reads_recovery : (v : Version) → IsReader (recovery_label v) (IsMade make_reco
 unfolding recovery_label
 reads_recovery v =
     reads_part Any (endpoint_field v) (FitsEndpoint v) pieces_at _ make_recovery _ windows_pieces (reads_endpoint v)
-    (λ at. reads_part Any (number_field 0 4294967295) (IsWithin 0 4294967295) one_piece _ (λ x. make_recovery (at, x)) _ one_piece (reads_within 0 4294967295 (omega arith))
-    (λ cwnd. reads_made Any (number_field 0 4294967295) (λ ssthresh. make_recovery (at, (cwnd, ssthresh))) (IsWithin 0 4294967295) one_piece (reads_within 0 4294967295 (omega arith))))
+    (λ at. reads_part Any (number_field 0 4294967295) (IsWithin 0 4294967295) one_piece _
+    (λ x. make_recovery (at, x)) _ one_piece (reads_within 0 4294967295 (omega arith))
+    (λ cwnd. reads_made Any (number_field 0 4294967295) (λ ssthresh. make_recovery (at, (cwnd, ssthresh)))
+    (IsWithin 0 4294967295) one_piece (reads_within 0 4294967295 (omega arith))))
 
 -- ---- a label
 
@@ -167,7 +194,9 @@ module _ (v : Version) where
   Behind k r x = IsBehind label_word label_tail (IsLabel v) k r x.0 x.1
 
   -- what was made of parts is known by the parts
-  takes_made : {Y : Type 0} (k : LabelWord) (make : Y → Label NamedLine) (Fits : Y → Type 0) (pieces : Y → List Piece) (r : Rest) (x : Label NamedLine × Rest) → ((ws : List (List ℕ)) × IsMade make Fits pieces x.0 ws × (texts r ≡ ws ++ texts x.1))
+  takes_made : {Y : Type 0} (k : LabelWord) (make : Y → Label NamedLine) (Fits : Y → Type 0) (pieces : Y → List Piece)
+      (r : Rest) (x : Label NamedLine × Rest)
+      → ((ws : List (List ℕ)) × IsMade make Fits pieces x.0 ws × (texts r ≡ ws ++ texts x.1))
       → ((y : Y) → Fits y → IsLabel v (make y) × (label_word (make y) ≡ k) × (pieces y ≡ label_tail (make y))) → Behind k r x
   takes_made k make Fits pieces r x p is =
       let s = p.1 in
@@ -178,27 +207,54 @@ module _ (v : Version) where
   behind_takes words.Line r x e = takes_made words.Line make_line _ _ r x (reads_line.takes r x e) (λ y fits. ((fits.0.1, fits.1), refl, refl))
   behind_takes words.Effect r x e = takes_made words.Effect make_effect _ _ r x (reads_effect.takes r x e) (λ y fits. ((fits.0.1, fits.1), refl, refl))
   behind_takes words.Making r x e =
-      takes_made words.Making make_segment (FitsSegment v) all_pieces r x ((reads_segment v).takes r x e) (λ y fits. ((fits.0, fits.1.0.1, fits.1.1.0.1, fits.1.1.1.1.0.1, fits.1.1.1.1.1), refl, refl))
-  behind_takes words.Taking r x e = takes_made words.Taking make_taking (FitsTaking v) _ r x ((reads_taking v).takes r x e) (λ y fits. ((fits.0, fits.1.0.1), refl, refl))
-  behind_takes words.Dropping r x e = takes_made words.Dropping make_dropping (FitsEntry v) pieces_in r x ((reads_dropping v).takes r x e) (λ y fits. (fits, refl, refl))
-  behind_takes words.Refusing r x e = takes_made words.Refusing make_refusing (FitsEntry v) pieces_in r x ((reads_refusing v).takes r x e) (λ y fits. (fits, refl, refl))
-  behind_takes words.Recovery r x e = takes_made words.Recovery make_recovery (FitsRecovery v) _ r x ((reads_recovery v).takes r x e) (λ y fits. ((fits.0, fits.1.0.1, fits.1.1.1), refl, refl))
+      takes_made words.Making make_segment (FitsSegment v) all_pieces r x ((reads_segment v).takes r x e)
+      (λ y fits. ((fits.0, fits.1.0.1, fits.1.1.0.1, fits.1.1.1.1.0.1, fits.1.1.1.1.1), refl, refl))
+  behind_takes words.Taking r x e =
+      takes_made words.Taking make_taking (FitsTaking v) _ r x ((reads_taking v).takes r x e)
+      (λ y fits. ((fits.0, fits.1.0.1), refl, refl))
+  behind_takes words.Dropping r x e =
+      takes_made words.Dropping make_dropping (FitsEntry v) pieces_in r x ((reads_dropping v).takes r x e)
+      (λ y fits. (fits, refl, refl))
+  behind_takes words.Refusing r x e =
+      takes_made words.Refusing make_refusing (FitsEntry v) pieces_in r x ((reads_refusing v).takes r x e)
+      (λ y fits. (fits, refl, refl))
+  behind_takes words.Recovery r x e =
+      takes_made words.Recovery make_recovery (FitsRecovery v) _ r x ((reads_recovery v).takes r x e)
+      (λ y fits. ((fits.0, fits.1.0.1, fits.1.1.1), refl, refl))
 
   abbrev Gets : Label NamedLine → Rest → List (List ℕ) → Type 0
   Gets label r more = (rest : Rest) × (label_behind v (label_word label) r ≡ Ok (label, rest)) × (texts rest ≡ more)
 
-  behind_again : (label : Label NamedLine) (r : Rest) (us more : List (List ℕ)) → Nothing more → IsLabel v label → AreWritten (label_tail label) us → texts r ≡ us ++ more → Gets label r more
-  behind_again (L line) r us more last fits w e = reads_line.again r (L line) us more last ((line.number, line.extras), refl, ((omega arith, fits.0), fits.1), w) e
-  behind_again (D thread answer) r us more last fits w e = reads_effect.again r (D thread answer) us more last ((thread, answer), refl, ((omega arith, fits.0), fits.1), w) e
+  behind_again : (label : Label NamedLine) (r : Rest) (us more : List (List ℕ)) → Nothing more → IsLabel v label
+      → AreWritten (label_tail label) us → texts r ≡ us ++ more → Gets label r more
+  behind_again (L line) r us more last fits w e =
+      reads_line.again r (L line) us more last ((line.number, line.extras), refl, ((omega arith, fits.0), fits.1), w) e
+  behind_again (D thread answer) r us more last fits w e =
+      reads_effect.again r (D thread answer) us more last ((thread, answer), refl, ((omega arith, fits.0), fits.1), w) e
   behind_again (M host plan) r us more last fits w e =
-      (reads_segment v).again r (M host plan) us more last
-      (((host, plan.lport, plan.rport), (plan.pos, (plan.len, (plan.flags, (plan.window, (plan.iss, plan.shift)))))), refl, (fits.0, ((omega arith, fits.1), ((omega arith, fits.2), (tt, ((omega arith, fits.3), fits.4))))), w) e
+      (reads_segment v).again r (M host plan) us more last (
+        ((host, plan.lport, plan.rport), (plan.pos, (plan.len, (plan.flags, (plan.window, (plan.iss, plan.shift)))))),
+        refl,
+        (fits.0, ((omega arith, fits.1), ((omega arith, fits.2), (tt, ((omega arith, fits.3), fits.4))))),
+        w,
+      )
+      e
   behind_again (T host line choice) r us more last fits w e =
-      (reads_taking v).again r (T host line choice) us more tt (((host, line), (choice.cwnd, (choice.keep, choice.sample))), refl, (fits.0, ((omega arith, fits.1), (tt, tt))), w) e
+      (reads_taking v).again r (T host line choice) us more tt (
+        ((host, line), (choice.cwnd, (choice.keep, choice.sample))),
+        refl,
+        (fits.0, ((omega arith, fits.1), (tt, tt))),
+        w,
+      ) e
   behind_again (K host line) r us more last fits w e = (reads_dropping v).again r (K host line) us more tt ((host, line), refl, fits, w) e
   behind_again (R host line) r us more last fits w e = (reads_refusing v).again r (R host line) us more tt ((host, line), refl, fits, w) e
   behind_again (F host recovery) r us more last fits w e =
-      (reads_recovery v).again r (F host recovery) us more tt (((host, recovery.lport, recovery.rport), (recovery.cwnd, recovery.ssthresh)), refl, (fits.0, ((omega arith, fits.1), (omega arith, fits.2))), w) e
+      (reads_recovery v).again r (F host recovery) us more tt (
+        ((host, recovery.lport, recovery.rport), (recovery.cwnd, recovery.ssthresh)),
+        refl,
+        (fits.0, ((omega arith, fits.1), (omega arith, fits.2))),
+        w,
+      ) e
 
   -- what is read is spelled so, and what is spelled so is read
   pub reads_label : IsLastReader (label_field v) (IsSpelledLabel v)
@@ -246,12 +302,38 @@ label_clean v (M host plan) fits =
         host_clean host,
         (
           number_clean plan.lport (omega arith),
-          (number_clean plan.rport (omega arith), (number_clean plan.pos fits.1, (number_clean plan.len (omega arith), (flags_clean plan.flags, (number_clean plan.window (omega arith), start_clean v plan.iss plan.shift fits.4))))),
+          (
+            number_clean plan.rport (omega arith),
+            (
+              number_clean plan.pos fits.1,
+              (
+                number_clean plan.len (omega arith),
+                (
+                  flags_clean plan.flags,
+                  (
+                    number_clean plan.window (omega arith),
+                    start_clean v plan.iss plan.shift fits.4,
+                  ),
+                ),
+              ),
+            ),
+          ),
         ),
       ),
     )
-label_clean v (T host line choice) fits =
-    (clean_by (codes "T") refl, (host_clean host, (number_clean line (let h = fits.0.1 in omega arith), (number_clean choice.cwnd (let h = fits.1 in omega arith), (bit_clean choice.keep, (bit_clean choice.sample, tt))))))
+label_clean v (T host line choice) fits = (
+  clean_by (codes "T") refl,
+  (
+    host_clean host,
+    (
+      number_clean line (let h = fits.0.1 in omega arith),
+      (
+        number_clean choice.cwnd (let h = fits.1 in omega arith),
+        (bit_clean choice.keep, (bit_clean choice.sample, tt)),
+      ),
+    ),
+  ),
+)
 label_clean v (K host line) fits = (clean_by (codes "K") refl, (host_clean host, (number_clean line (let h = fits.1 in omega arith), tt)))
 label_clean v (R host line) fits = (clean_by (codes "R") refl, (host_clean host, (number_clean line (let h = fits.1 in omega arith), tt)))
 label_clean v (F host recovery) fits =
@@ -259,5 +341,16 @@ label_clean v (F host recovery) fits =
     let from = ports.2 in
     let to = ports.4 in
     let low = fits.1 in
-    let high = fits.2 in
-    (clean_by (codes "F") refl, (host_clean host, (number_clean recovery.lport (omega arith), (number_clean recovery.rport (omega arith), (number_clean recovery.cwnd (omega arith), (number_clean recovery.ssthresh (omega arith), tt))))))
+    let high = fits.2 in (
+      clean_by (codes "F") refl,
+      (
+        host_clean host,
+        (
+          number_clean recovery.lport (omega arith),
+          (
+            number_clean recovery.rport (omega arith),
+            (number_clean recovery.cwnd (omega arith), (number_clean recovery.ssthresh (omega arith), tt)),
+          ),
+        ),
+      ),
+    )

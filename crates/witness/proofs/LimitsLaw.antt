@@ -42,8 +42,14 @@ record AreLimited (v : Version) (number : ℕ) (steps : List Step) : Type 0 wher
   within : All (λ s. IsWithinLimits s.label) steps
   shifts : All (λ s. TellsShift v s.label) steps
 
-steps_limited : (v : Version) (number : ℕ) (steps : List Step) (raws : List (List ℕ)) → number ≤ 10000001 → AreSpelled (IsStepText v) number_after number steps raws → AreLimited v number steps
-steps_limited v number [] [] le spelled = record { few = omega arith; within = All-nil (λ s. IsWithinLimits s.label); shifts = All-nil (λ s. TellsShift v s.label) }
+steps_limited : (v : Version) (number : ℕ) (steps : List Step) (raws : List (List ℕ)) → number ≤ 10000001
+    → AreSpelled (IsStepText v) number_after number steps raws → AreLimited v number steps
+steps_limited v number [] [] le spelled =
+    record {
+      few = omega arith;
+      within = All-nil (λ s. IsWithinLimits s.label);
+      shifts = All-nil (λ s. TellsShift v s.label);
+    }
 steps_limited v number [] (raw ∷ raws) le spelled = absurd spelled
 steps_limited v number (s ∷ steps) [] le spelled = absurd spelled
 steps_limited v number (s ∷ steps) (raw ∷ raws) le spelled =

@@ -41,29 +41,36 @@ abbrev pub IsMade : {Y B : Type 0} → (Y → B) → (Y → Type 0) → (Y → L
 IsMade {Y = Y} make Fits pieces b ws = (y : Y) × (b ≡ make y) × Fits y × AreWritten (pieces y) ws
 
 -- the last part
-pub reads_made : {Y B : Type 0} (F : List (List ℕ) → Type 0) (read : Rest → Result (Y × Rest) TextFault) (make : Y → B) (Fits : Y → Type 0) (pieces : Y → List Piece) → IsReaderBefore F read (IsBy Fits pieces)
+pub reads_made : {Y B : Type 0} (F : List (List ℕ) → Type 0) (read : Rest → Result (Y × Rest) TextFault) (make : Y → B)
+    (Fits : Y → Type 0) (pieces : Y → List Piece) → IsReaderBefore F read (IsBy Fits pieces)
     → IsReaderBefore F (λ r. read r >>= λ y. Ok (make y.0, y.1)) (IsMade make Fits pieces)
 reads_made {Y = Y} {B = B} F read make Fits pieces law = record {
   takes = λ r x e.
       let b = bind_ok (read r) (λ y. Ok (make y.0, y.1)) x e in
       let p = law.takes r b.0 b.1 in
-      subst (λ (z : B × Rest). (ws : List (List ℕ)) × IsMade make Fits pieces z.0 ws × (texts r ≡ ws ++ texts z.1)) (ok_is (make b.0.0, b.0.1) x b.2) (p.0, (b.0.0, refl, p.1.0, p.1.1), p.2);
+      subst (λ (z : B × Rest). (ws : List (List ℕ)) × IsMade make Fits pieces z.0 ws × (texts r ≡ ws ++ texts z.1))
+      (ok_is (make b.0.0, b.0.1) x b.2) (p.0, (b.0.0, refl, p.1.0, p.1.1), p.2);
   again = λ r b ws more follows s e.
       let q = law.again r s.0 ws more follows (s.2, s.3) e in
       (q.0, ap (λ (z : Result (Y × Rest) TextFault). z >>= λ y. Ok (make y.0, y.1)) q.1 ∙ ap (λ (x : B). Ok (x, q.0)) (sym s.1), q.2);
 }
 
 -- a part, and the others behind it
-pub reads_part : {A X B : Type 0} (F : List (List ℕ) → Type 0) (read : Rest → Result (A × Rest) TextFault) (FitsA : A → Type 0) (front : A → List Piece) (next : A → Rest → Result (B × Rest) TextFault)
-    (make : A × X → B) (FitsX : X → Type 0) (behind : X → List Piece) → IsReader read (IsBy FitsA front) → ((a : A) → IsReaderBefore F (next a) (IsMade (λ x. make (a, x)) FitsX behind))
+pub reads_part : {A X B : Type 0} (F : List (List ℕ) → Type 0) (read : Rest → Result (A × Rest) TextFault)
+    (FitsA : A → Type 0) (front : A → List Piece) (next : A → Rest → Result (B × Rest) TextFault)
+    (make : A × X → B) (FitsX : X → Type 0) (behind : X → List Piece) → IsReader read (IsBy FitsA front)
+    → ((a : A) → IsReaderBefore F (next a) (IsMade (λ x. make (a, x)) FitsX behind))
     → IsReaderBefore F (λ r. read r >>= λ a. next a.0 a.1) (IsMade make (λ y. FitsA y.0 × FitsX y.1) (λ y. front y.0 ++ behind y.1))
 reads_part F read FitsA front next make FitsX behind first second = record {
   takes = λ r x e.
       let b = bind_ok (read r) (λ a. next a.0 a.1) x e in
       let p = first.takes r b.0 b.1 in
       let q = (second b.0.0).takes b.0.1 x b.2 in
-      let s = q.1 in
-      (p.0 ++ q.0, ((b.0.0, s.0), s.1, (p.1.0, s.2), written_both (front b.0.0) (behind s.0) p.0 q.0 p.1.1 s.3), p.2 ∙ ap (λ (ws : List (List ℕ)). p.0 ++ ws) q.2 ∙ sym (append_assoc p.0 q.0 (texts x.1)));
+      let s = q.1 in (
+        p.0 ++ q.0,
+        ((b.0.0, s.0), s.1, (p.1.0, s.2), written_both (front b.0.0) (behind s.0) p.0 q.0 p.1.1 s.3),
+        p.2 ∙ ap (λ (ws : List (List ℕ)). p.0 ++ ws) q.2 ∙ sym (append_assoc p.0 q.0 (texts x.1)),
+      );
   again = λ r b ws more follows s e.
       let w = written_parts (front s.0.0) (behind s.0.1) ws s.3 in
       let p = first.again r s.0.0 w.us (w.vs ++ more) tt (s.2.0, w.front) (e ∙ ap (λ (us : List (List ℕ)). us ++ more) w.parts ∙ append_assoc w.us w.vs more) in

@@ -1,5 +1,6 @@
 -- The spelling of the parts of labels, both ways.
-use Rattle.std.proofs.Common.{◌≡◌, ◌≤◌, ◌<◌, ◌^◌, zero, suc, ℕ, List, [], ◌∷◌, ◌++◌, Bool, true, false, eqb, Option, Some, None, Result, Ok, refl, sym, ap, subst, ◌∙◌, arith, inl, inr, ◌⊎◌}
+use Rattle.std.proofs.Common.{◌≡◌, ◌≤◌, ◌<◌, ◌^◌, zero, suc, ℕ, List, [], ◌∷◌, ◌++◌, Bool, true, false, eqb, Option}
+use Rattle.std.proofs.Common.{Some, None, Result, Ok, refl, sym, ap, subst, ◌∙◌, arith, inl, inr, ◌⊎◌}
 use Rattle.std.specs.Fmt.{decimal}
 use Rattle.std.specs.Prelude.{IfSome}
 use Rattle.seqno.specs.declared.word.Word.{Word}
@@ -67,7 +68,8 @@ bit_piece b = number (bit_number b) ∷ []
 pub reads_bit : IsReader bit_field (IsBy (λ b. Unit {0}) bit_piece)
 unfolding bit_field
 reads_bit =
-    reads_as Any bit_field _ (IsBy (λ b. Unit {0}) bit_piece) (reads_made Any (number_field 0 1) (λ n. eqb n 1) (IsWithin 0 1) one_piece (reads_within 0 1 (omega arith)))
+    reads_as Any bit_field _ (IsBy (λ b. Unit {0}) bit_piece)
+    (reads_made Any (number_field 0 1) (λ n. eqb n 1) (IsWithin 0 1) one_piece (reads_within 0 1 (omega arith)))
     (λ b ws s. (tt, subst (λ (n : ℕ). AreWritten (one_piece n) ws) (sym (ap bit_number s.1 ∙ number_back s.0 s.2.1)) s.3))
     (λ b ws s. (bit_number b, sym (bit_back b), (omega arith, at_most_one b), s.1))
 
@@ -93,9 +95,13 @@ unfolding endpoint_field
 reads_endpoint v =
     reads_as Any (endpoint_field v) _ (IsBy (FitsEndpoint v) pieces_at)
     (reads_part Any (host_field v) (IsHost v) host_piece _ made_endpoint ArePortsIn port_pieces (reads_host_piece v)
-    (λ h. reads_part Any (number_field 1 65535) (IsWithin 1 65535) one_piece _ (λ x. made_endpoint (h, x)) (IsWithin 1 65535) one_piece (reads_within 1 65535 (omega arith))
+    (λ h. reads_part Any (number_field 1 65535) (IsWithin 1 65535) one_piece _ (λ x. made_endpoint (h, x))
+    (IsWithin 1 65535) one_piece (reads_within 1 65535 (omega arith))
     (λ l. reads_made Any (number_field 1 65535) (λ p. made_endpoint (h, (l, p))) (IsWithin 1 65535) one_piece (reads_within 1 65535 (omega arith)))))
-    (λ at ws s. let fits = s.2.1 in (subst (FitsEndpoint v) (sym s.1) (s.2.0, fits.0.0, fits.0.1, fits.1.0, fits.1.1), subst (λ (a : Host × ℕ × ℕ). AreWritten (pieces_at a) ws) (sym s.1) s.3))
+    (λ at ws s. let fits = s.2.1 in (
+      subst (FitsEndpoint v) (sym s.1) (s.2.0, fits.0.0, fits.0.1, fits.1.0, fits.1.1),
+      subst (λ (a : Host × ℕ × ℕ). AreWritten (pieces_at a) ws) (sym s.1) s.3,
+    ))
     (λ at ws s. let fits = s.0 in ((at.0, (at.1, at.2)), refl, (fits.0, ((fits.1, fits.2), (fits.3, fits.4))), s.1))
 
 abbrev pub FitsEntry : Version → Host × ℕ → Type 0
@@ -134,16 +140,21 @@ module _ (most : ℕ) (small : most < 2 ^ 64) where
 
   reads_given : {B : Type 0} (some : ℕ → B) → IsLastReader (given some) (IsMade some (IsWithin 0 most) one_piece)
   reads_given some =
-      reads_made Nothing (number_field 0 most) some (IsWithin 0 most) one_piece (reads_last (number_field 0 most) (IsBy (IsWithin 0 most) one_piece) (reads_within 0 most small))
+      reads_made Nothing (number_field 0 most) some (IsWithin 0 most) one_piece
+      (reads_last (number_field 0 most) (IsBy (IsWithin 0 most) one_piece) (reads_within 0 most small))
 
-  back_by : {B : Type 0} (none : B) (some : ℕ → B) (o : Option ℕ) (b : B) (ws : List (List ℕ)) → b ≡ maybe none some o → IsMaybe most o → AreWritten (maybe_pieces o) ws → ((b ≡ none) × (ws ≡ [])) ⊎ IsMade some (IsWithin 0 most) one_piece b ws
+  back_by : {B : Type 0} (none : B) (some : ℕ → B) (o : Option ℕ) (b : B) (ws : List (List ℕ)) → b ≡ maybe none some o
+      → IsMaybe most o → AreWritten (maybe_pieces o) ws
+      → ((b ≡ none) × (ws ≡ [])) ⊎ IsMade some (IsWithin 0 most) one_piece b ws
   back_by none some None b ws same fits h = inl (same, none_written ws h)
   back_by none some (Some n) b ws same fits h = inr (n, same, (omega arith, fits), h)
 
-  reads_maybe : {B : Type 0} (none : B) (some : ℕ → B) → IsLastReader (λ r. or_end none (given some) r.words r) (IsMade (maybe none some) (IsMaybe most) maybe_pieces)
+  reads_maybe : {B : Type 0} (none : B) (some : ℕ → B)
+      → IsLastReader (λ r. or_end none (given some) r.words r) (IsMade (maybe none some) (IsMaybe most) maybe_pieces)
   reads_maybe none some =
       reads_as Nothing (λ r. or_end none (given some) r.words r) _ (IsMade (maybe none some) (IsMaybe most) maybe_pieces)
-      (reads_or_end none (given some) (IsMade some (IsWithin 0 most) one_piece) (reads_given some) (λ b ws s empty. subst (λ (us : List (List ℕ)). AreWritten (one_piece s.0) us) empty s.3))
+      (reads_or_end none (given some) (IsMade some (IsWithin 0 most) one_piece) (reads_given some)
+      (λ b ws s empty. subst (λ (us : List (List ℕ)). AreWritten (one_piece s.0) us) empty s.3))
       (λ b ws s. elim s [
         | inl bare ↦ (None, bare.0, tt, subst (λ (us : List (List ℕ)). AreWritten [] us) (sym bare.1) tt)
         | inr own ↦ (Some own.0, own.1, own.2.1, own.3)
@@ -174,14 +185,19 @@ shift_back : (v : Version) (o : Option ℕ) → FitsShift v o → IsMaybe 14 o
 shift_back v None fits = tt
 shift_back v (Some s) fits = fits.1
 
-no_shift : (iss : Word) (o : Option ℕ) (b : Start) (ws : List (List ℕ)) → b ≡ with_shift iss o → FitsShift versions.One o → AreWritten (maybe_pieces o) ws → (b ≡ (Some iss, None)) × (ws ≡ [])
+no_shift : (iss : Word) (o : Option ℕ) (b : Start) (ws : List (List ℕ)) → b ≡ with_shift iss o
+    → FitsShift versions.One o → AreWritten (maybe_pieces o) ws → (b ≡ (Some iss, None)) × (ws ≡ [])
 no_shift iss None b ws same fits h = (same, none_written ws h)
 no_shift iss (Some s) b ws same fits h = let never = fits.0 in absurd cc
 
 -- where windows may be scaled
-reads_scaled : (v : Version) (iss : Word) → scales v ≡ true → IsLastReader (λ r. or_end (Some iss, None) (given_shift iss) r.words r) (IsMade (with_shift iss) (FitsShift v) maybe_pieces)
+reads_scaled : (v : Version) (iss : Word) → scales v ≡ true
+    → IsLastReader (λ r. or_end (Some iss, None) (given_shift iss) r.words r)
+    (IsMade (with_shift iss) (FitsShift v) maybe_pieces)
 reads_scaled v iss scaled =
-    reads_as Nothing (λ r. or_end (Some iss, None) (given_shift iss) r.words r) _ (IsMade (with_shift iss) (FitsShift v) maybe_pieces) (reads_maybe 14 (omega arith) (Some iss, None) (λ s. (Some iss, Some s)))
+    reads_as Nothing (λ r. or_end (Some iss, None) (given_shift iss) r.words r) _
+    (IsMade (with_shift iss) (FitsShift v) maybe_pieces)
+    (reads_maybe 14 (omega arith) (Some iss, None) (λ s. (Some iss, Some s)))
     (λ b ws s. (s.0, s.1 ∙ maybe_shift iss s.0, shift_there v s.0 scaled s.2, s.3))
     (λ b ws s. (s.0, s.1 ∙ sym (maybe_shift iss s.0), shift_back v s.0 s.2, s.3))
 
@@ -206,7 +222,8 @@ given_pieces y = one_piece y.0 ++ maybe_pieces y.1
 
 reads_given_start : (v : Version) → IsLastReader (given_start v) (IsMade make_start (FitsGiven v) given_pieces)
 reads_given_start v =
-    reads_part Nothing (number_field 0 4294967295) (IsWithin 0 4294967295) one_piece _ make_start (FitsShift v) maybe_pieces (reads_within 0 4294967295 (omega arith)) (λ n. reads_shift v (word n))
+    reads_part Nothing (number_field 0 4294967295) (IsWithin 0 4294967295) one_piece _ make_start
+    (FitsShift v) maybe_pieces (reads_within 0 4294967295 (omega arith)) (λ n. reads_shift v (word n))
 
 some_start : (v : Version) (start : Start) (ws : List (List ℕ)) → IsMade make_start (FitsGiven v) given_pieces start ws → ws ≡ [] → ⊥
 some_start v start ws s empty = subst (λ (us : List (List ℕ)). AreWritten (given_pieces s.0) us) empty s.3
@@ -217,11 +234,13 @@ FitsStart v start = IsStart v start.0 start.1
 abbrev pub start_pieces : Start → List Piece
 start_pieces start = iss_pieces start.0 ++ shift_pieces start.1
 
-start_there : (v : Version) (n : ℕ) (o : Option ℕ) (ws : List (List ℕ)) → FitsGiven v (n, o) → AreWritten (given_pieces (n, o)) ws → IsBy (FitsStart v) start_pieces (make_start (n, o)) ws
+start_there : (v : Version) (n : ℕ) (o : Option ℕ) (ws : List (List ℕ)) → FitsGiven v (n, o)
+    → AreWritten (given_pieces (n, o)) ws → IsBy (FitsStart v) start_pieces (make_start (n, o)) ws
 start_there v n None ws fits h = ((fits.0.1, tt), h)
 start_there v n (Some s) ws fits h = ((fits.0.1, (fits.1.0, refl, fits.1.1)), h)
 
-start_back : (v : Version) (start : Start) (ws : List (List ℕ)) → IsBy (FitsStart v) start_pieces start ws → ((start ≡ (None, None)) × (ws ≡ [])) ⊎ IsMade make_start (FitsGiven v) given_pieces start ws
+start_back : (v : Version) (start : Start) (ws : List (List ℕ)) → IsBy (FitsStart v) start_pieces start ws
+    → ((start ≡ (None, None)) × (ws ≡ [])) ⊎ IsMade make_start (FitsGiven v) given_pieces start ws
 start_back v (None, None) ws s = inl (refl, none_written ws s.1)
 start_back v (None, Some shift) ws s = let never = s.0.1.1 in absurd cc
 start_back v (Some iss, None) ws s = inr ((iss.0, None), refl, ((omega arith, s.0.0), tt), s.1)
@@ -230,9 +249,12 @@ start_back v (Some iss, Some shift) ws s = inr ((iss.0, Some shift), refl, ((ome
 pub reads_start : (v : Version) → IsLastReader (start_field v) (IsBy (FitsStart v) start_pieces)
 unfolding start_field
 reads_start v =
-    reads_as Nothing (start_field v) _ (IsBy (FitsStart v) start_pieces) (reads_or_end (None, None) (given_start v) (IsMade make_start (FitsGiven v) given_pieces) (reads_given_start v) (some_start v))
+    reads_as Nothing (start_field v) _ (IsBy (FitsStart v) start_pieces)
+    (reads_or_end (None, None) (given_start v) (IsMade make_start (FitsGiven v) given_pieces)
+    (reads_given_start v) (some_start v))
     (λ start ws s. elim s [
-      | inl bare ↦ subst (λ (x : Start). IsBy (FitsStart v) start_pieces x ws) (sym bare.0) ((tt, tt), subst (λ (us : List (List ℕ)). AreWritten [] us) (sym bare.1) tt)
+      | inl bare ↦ subst (λ (x : Start). IsBy (FitsStart v) start_pieces x ws) (sym bare.0)
+          ((tt, tt), subst (λ (us : List (List ℕ)). AreWritten [] us) (sym bare.1) tt)
       | inr own ↦ subst (λ (x : Start). IsBy (FitsStart v) start_pieces x ws) (sym own.1) (start_there v own.0.0 own.0.1 ws own.2 own.3)
     ])
     (start_back v)
@@ -252,16 +274,21 @@ abbrev first_pieces : ℕ × Option ℕ → List Piece
 first_pieces y = one_piece y.0 ++ maybe_pieces y.1
 
 reads_first : IsLastReader first_field (IsMade make_first FitsFirst first_pieces)
-reads_first = reads_part Nothing (number_field 0 4294967295) (IsWithin 0 4294967295) one_piece _ make_first (IsMaybe 4294967295) maybe_pieces (reads_within 0 4294967295 (omega arith)) (λ x. reads_maybe 4294967295 (omega arith) (One x) (λ y. Two x y))
+reads_first =
+    reads_part Nothing (number_field 0 4294967295) (IsWithin 0 4294967295) one_piece _ make_first
+    (IsMaybe 4294967295) maybe_pieces (reads_within 0 4294967295 (omega arith))
+    (λ x. reads_maybe 4294967295 (omega arith) (One x) (λ y. Two x y))
 
 some_first : (extras : Extras) (ws : List (List ℕ)) → IsMade make_first FitsFirst first_pieces extras ws → ws ≡ [] → ⊥
 some_first extras ws s empty = subst (λ (us : List (List ℕ)). AreWritten (first_pieces s.0) us) empty s.3
 
-first_there : (x : ℕ) (o : Option ℕ) (ws : List (List ℕ)) → FitsFirst (x, o) → AreWritten (first_pieces (x, o)) ws → IsBy AreExtras extras_pieces (with_second x o) ws
+first_there : (x : ℕ) (o : Option ℕ) (ws : List (List ℕ)) → FitsFirst (x, o) → AreWritten (first_pieces (x, o)) ws
+    → IsBy AreExtras extras_pieces (with_second x o) ws
 first_there x None ws fits h = (fits.0.1, h)
 first_there x (Some y) ws fits h = ((fits.0.1, fits.1), h)
 
-extras_back : (extras : Extras) (ws : List (List ℕ)) → IsBy AreExtras extras_pieces extras ws → ((extras ≡ Bare) × (ws ≡ [])) ⊎ IsMade make_first FitsFirst first_pieces extras ws
+extras_back : (extras : Extras) (ws : List (List ℕ)) → IsBy AreExtras extras_pieces extras ws
+    → ((extras ≡ Bare) × (ws ≡ [])) ⊎ IsMade make_first FitsFirst first_pieces extras ws
 extras_back Bare ws s = inl (refl, none_written ws s.1)
 extras_back (One x) ws s = inr ((x, None), refl, ((omega arith, s.0), tt), s.1)
 extras_back (Two x y) ws s = inr ((x, Some y), refl, ((omega arith, s.0.0), s.0.1), s.1)
@@ -269,7 +296,8 @@ extras_back (Two x y) ws s = inr ((x, Some y), refl, ((omega arith, s.0.0), s.0.
 pub reads_extras : IsLastReader extras_field (IsBy AreExtras extras_pieces)
 unfolding extras_field
 reads_extras =
-    reads_as Nothing extras_field _ (IsBy AreExtras extras_pieces) (reads_or_end Bare first_field (IsMade make_first FitsFirst first_pieces) reads_first some_first)
+    reads_as Nothing extras_field _ (IsBy AreExtras extras_pieces)
+    (reads_or_end Bare first_field (IsMade make_first FitsFirst first_pieces) reads_first some_first)
     (λ extras ws s. elim s [
       | inl bare ↦ subst (λ (x : Extras). IsBy AreExtras extras_pieces x ws) (sym bare.0) (tt, subst (λ (us : List (List ℕ)). AreWritten [] us) (sym bare.1) tt)
       | inr own ↦ subst (λ (x : Extras). IsBy AreExtras extras_pieces x ws) (sym own.1) (first_there own.0.0 own.0.1 ws own.2 own.3)

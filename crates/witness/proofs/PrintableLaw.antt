@@ -1,5 +1,6 @@
 -- A witness is printed as a text that stands for it, with its spans, exactly where it is within the limits.
-use Rattle.std.proofs.Common.{◌≡◌, ◌≤◌, ◌<◌, ◌+◌, ℕ, List, [], ◌∷◌, ◌++◌, Bool, true, false, Option, Some, None, length, take, get_or, suc, subst, refl, sym, ap, ◌∙◌, inl, arith}
+use Rattle.std.proofs.Common.{◌≡◌, ◌≤◌, ◌<◌, ◌+◌, ℕ, List, [], ◌∷◌, ◌++◌, Bool, true, false, Option, Some, None, length}
+use Rattle.std.proofs.Common.{take, get_or, suc, subst, refl, sym, ap, ◌∙◌, inl, arith}
 use Rattle.std.specs.Prelude.{map}
 use Rattle.std.specs.Fmt.{decimal}
 use Rattle.std.specs.List.{AllByRecursion}
@@ -30,7 +31,8 @@ use Rattle.witness.specs.Labels.{bit_number, extras_pieces, AreExtras, iss_piece
 use Rattle.witness.specs.Steps.{step_pieces, IsStepText}
 use Rattle.witness.specs.WitnessText.{number_after, IsWitnessText}
 use Rattle.witness.specs.Printed.{witness_text}
-use Rattle.witness.specs.Printable.{HasLabelBits, IsInMemory, IsWithinLabel, IsWithinStep, IsWithinWitness, TellShifts, IsPrintableStep, IsPrintableWitness, step_at, steps_at, with_columns}
+use Rattle.witness.specs.Printable.{HasLabelBits, IsInMemory, IsWithinLabel, IsWithinStep, IsWithinWitness, TellShifts}
+use Rattle.witness.specs.Printable.{IsPrintableStep, IsPrintableWitness, step_at, steps_at, with_columns}
 
 -- ---- the fields of a label are short
 
@@ -122,13 +124,36 @@ label_short v (M host plan) fits =
           number_short plan.lport (omega arith),
           (
             number_short plan.rport (omega arith),
-            (number_short plan.pos fits.1, (number_short plan.len (omega arith), (flags_short plan.flags, (number_short plan.window (omega arith), start_short v plan.iss plan.shift fits.4)))),
+            (
+              number_short plan.pos fits.1,
+              (
+                number_short plan.len (omega arith),
+                (
+                  flags_short plan.flags,
+                  (
+                    number_short plan.window (omega arith),
+                    start_short v plan.iss plan.shift fits.4,
+                  ),
+                ),
+              ),
+            ),
           ),
         ),
       ),
     )
-label_short v (T host line choice) fits =
-    (omega arith, (host_short host, (number_short line (let h = fits.0.1 in omega arith), (number_short choice.cwnd (let h = fits.1 in omega arith), (bit_short choice.keep, (bit_short choice.sample, tt))))))
+label_short v (T host line choice) fits = (
+  omega arith,
+  (
+    host_short host,
+    (
+      number_short line (let h = fits.0.1 in omega arith),
+      (
+        number_short choice.cwnd (let h = fits.1 in omega arith),
+        (bit_short choice.keep, (bit_short choice.sample, tt)),
+      ),
+    ),
+  ),
+)
 label_short v (K host line) fits = (omega arith, (host_short host, (number_short line (let h = fits.1 in omega arith), tt)))
 label_short v (R host line) fits = (omega arith, (host_short host, (number_short line (let h = fits.1 in omega arith), tt)))
 label_short v (F host recovery) fits =
@@ -136,8 +161,19 @@ label_short v (F host recovery) fits =
     let from = ports.2 in
     let to = ports.4 in
     let low = fits.1 in
-    let high = fits.2 in
-    (omega arith, (host_short host, (number_short recovery.lport (omega arith), (number_short recovery.rport (omega arith), (number_short recovery.cwnd (omega arith), (number_short recovery.ssthresh (omega arith), tt))))))
+    let high = fits.2 in (
+      omega arith,
+      (
+        host_short host,
+        (
+          number_short recovery.lport (omega arith),
+          (
+            number_short recovery.rport (omega arith),
+            (number_short recovery.cwnd (omega arith), (number_short recovery.ssthresh (omega arith), tt)),
+          ),
+        ),
+      ),
+    )
 
 label_room : (label : Label NamedLine) → room (label_pieces label) ≤ 131155
 label_room (L line) = let own = extras_room line.extras in omega arith
@@ -156,7 +192,8 @@ step_short v s moment label =
 
 -- ---- the steps
 
-step_printed : (v : Version) (number : ℕ) (s : Step) → number ≤ 10000000 → IsPrintableStep v s → IsStepText v number (step_at number s) (printed_line (step_pieces s))
+step_printed : (v : Version) (number : ℕ) (s : Step) → number ≤ 10000000 → IsPrintableStep v s
+    → IsStepText v number (step_at number s) (printed_line (step_pieces s))
 step_printed v number s count p = record {
   texts = piece_texts (step_pieces s);
   written = (refl, pieces_written (label_pieces s.label) p.bytes);
@@ -193,7 +230,8 @@ record AreWithin (v : Version) (number : ℕ) (ss : List Step) : Type 0 where
   few : number + length ss ≤ 10000001
   steps : AllByRecursion (IsPrintableStep v) ss
 
-within : (v : Version) (number : ℕ) (steps : List Step) (raws : List (List ℕ)) → number ≤ 10000001 → AreSpelled (IsStepText v) number_after number (steps_at number steps) raws → AreWithin v number steps
+within : (v : Version) (number : ℕ) (steps : List Step) (raws : List (List ℕ)) → number ≤ 10000001
+    → AreSpelled (IsStepText v) number_after number (steps_at number steps) raws → AreWithin v number steps
 within v number [] raws le h = record { few = omega arith; steps = tt }
 within v number (s ∷ steps) [] le h = absurd h
 within v number (s ∷ steps) (raw ∷ raws) le h =
@@ -213,10 +251,12 @@ is_printable w text t =
 
 -- ---- what holds of the elements so far, and of one more
 
-pub all_more : {X : Type 0} (P : X → Type 0) (xs : List X) (i : ℕ) (d : X) → i < length xs → AllByRecursion P (take i xs) → P (get_or xs i d) → AllByRecursion P (take (i + 1) xs)
+pub all_more : {X : Type 0} (P : X → Type 0) (xs : List X) (i : ℕ) (d : X) → i < length xs
+    → AllByRecursion P (take i xs) → P (get_or xs i d) → AllByRecursion P (take (i + 1) xs)
 all_more {X = X} P xs i d lt before here =
     let one : suc i ≡ i + 1 = omega arith in
-    subst (λ (ys : List X). AllByRecursion P ys) (sym (take-suc xs i d lt) ∙ ap (λ (n : ℕ). take n xs) one) (both P (take i xs) (get_or xs i d ∷ []) before (here, tt))
+    subst (λ (ys : List X). AllByRecursion P ys) (sym (take-suc xs i d lt) ∙ ap (λ (n : ℕ). take n xs) one)
+    (both P (take i xs) (get_or xs i d ∷ []) before (here, tt))
 
 -- ---- values in memory
 
@@ -249,7 +289,8 @@ label_within v (K host line) p shift bits = p
 label_within v (R host line) p shift bits = p
 label_within v (F host x) p shift bits = ((p.0, p.1, bits.0, p.2, bits.1), bits.2, bits.3)
 
-steps_print : (v : Version) (steps : List Step) → AllByRecursion (IsWithinStep v) steps → TellShifts v steps → AllByRecursion IsInMemory steps → AllByRecursion (IsPrintableStep v) steps
+steps_print : (v : Version) (steps : List Step) → AllByRecursion (IsWithinStep v) steps → TellShifts v steps
+    → AllByRecursion IsInMemory steps → AllByRecursion (IsPrintableStep v) steps
 steps_print v [] p t b = tt
 steps_print v (s ∷ steps) p t b =
     let own = p.0 in

@@ -47,7 +47,9 @@ module _ (v : Version) where
       let l = (reads_label v).takes a.0.1 b.0 b.1 in
       let none = no_more_takes b.0.1 c.0 c.1 in
       let behind : texts a.0.1 ≡ l.0 = l.2 ∙ ap (λ (us : List (List ℕ)). l.0 ++ us) none ∙ append-nil l.0 in
-      let spelled : texts r ≡ decimal a.0.0 ∷ l.0 = m.2 ∙ ap (λ (us : List (List ℕ)). us ++ texts a.0.1) m.1.2 ∙ ap (λ (us : List (List ℕ)). decimal a.0.0 ∷ us) behind in
+      let spelled : texts r ≡ decimal a.0.0 ∷ l.0 =
+      m.2 ∙ ap (λ (us : List (List ℕ)). us ++ texts a.0.1) m.1.2
+      ∙ ap (λ (us : List (List ℕ)). decimal a.0.0 ∷ us) behind in
       let written = subst (λ (us : List (List ℕ)). AreWritten (number a.0.0 ∷ label_pieces b.0.0) us) (sym spelled) (refl, l.1.1) in
       subst (λ (g : ℕ × Label NamedLine). AreFields g (texts r)) (ok_is (a.0.0, b.0.0) f c.2) (record { written = written; moment = m.1.1; label = l.1.0 })
 
@@ -87,7 +89,9 @@ module _ (v : Version) where
       })
 
   step_clean : (number : ℕ) (raw : List ℕ) (s : Step) (t : IsStepText v number s raw) → AllByRecursion IsClean t.texts
-  step_clean number raw s t = written_clean (step_pieces s) t.texts (IsClean-decimal s.moment (let h = t.moment in omega arith), label_clean v s.label t.label) t.written
+  step_clean number raw s t =
+      written_clean (step_pieces s) t.texts
+      (IsClean-decimal s.moment (let h = t.moment in omega arith), label_clean v s.label t.label) t.written
 
   step_again : (number : ℕ) (raw : List ℕ) (s : Step) → IsStepText v number s raw → step_of v number raw ≡ Ok s
   unfolding step_of

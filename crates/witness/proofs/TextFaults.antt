@@ -73,24 +73,32 @@ witness_faults v text e = go (lines_of text) refl
       where
         by : (o : Result (Unit {0}) TextFault) → expect_line 1 (first_text v) raw ≡ o → ((o >>= λ begun. behind v raws) ≡ Err e) ↔ IsWitnessFault v text e
         by (Err f) is = (
-          λ same. let one : f ≡ e = cc in First (subst (λ (l : List (List ℕ)). IsNextFault (Text v) 1 l e) (sym lines) ((exact_faults 1 (first_text v) raw e).0 (is ∙ ap bad_line one))),
+          λ same. let one : f ≡ e = cc in
+              First (subst (λ (l : List (List ℕ)). IsNextFault (Text v) 1 l e) (sym lines)
+              ((exact_faults 1 (first_text v) raw e).0 (is ∙ ap bad_line one))),
           λ g. back g,
         )
           where
             back : IsWitnessFault v text e → bad f ≡ Err e
             back (First fault) =
-                let same : bad_line f ≡ Err e = sym is ∙ (exact_faults 1 (first_text v) raw e).1 (subst (λ (l : List (List ℕ)). IsNextFault (Text v) 1 l e) lines fault) in
+                let same : bad_line f ≡ Err e =
+                sym is ∙ (exact_faults 1 (first_text v) raw e).1
+                (subst (λ (l : List (List ℕ)). IsNextFault (Text v) 1 l e) lines fault) in
                 let one : f ≡ e = cc in ap bad one
             back (Steps first rest split line fault) =
                 let same : first ∷ rest ≡ raw ∷ raws = sym split ∙ lines in
                 let one : first ≡ raw = cc in
-                let clash : bad_line f ≡ Ok tt = sym is ∙ ap (expect_line 1 (first_text v)) (sym one) ∙ exact_again 1 (first_text v) first (first_ends v) line in
+                let clash : bad_line f ≡ Ok tt =
+                sym is ∙ ap (expect_line 1 (first_text v)) (sym one)
+                ∙ exact_again 1 (first_text v) first (first_ends v) line in
                 absurd cc
         by (Ok u) is = (λ same. Steps raw raws lines (exact_takes 1 (first_text v) raw u is) ((behind_err v raws e).0 same), λ g. back g)
           where
             back : IsWitnessFault v text e → behind v raws ≡ Err e
             back (First fault) =
-                let clash : good_line u ≡ Err e = sym is ∙ (exact_faults 1 (first_text v) raw e).1 (subst (λ (l : List (List ℕ)). IsNextFault (Text v) 1 l e) lines fault) in
+                let clash : good_line u ≡ Err e =
+                sym is ∙ (exact_faults 1 (first_text v) raw e).1
+                (subst (λ (l : List (List ℕ)). IsNextFault (Text v) 1 l e) lines fault) in
                 absurd cc
             back (Steps first rest split line fault) =
                 let same : first ∷ rest ≡ raw ∷ raws = sym split ∙ lines in

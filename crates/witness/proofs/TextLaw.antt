@@ -57,7 +57,8 @@ text_takes v w text e =
       },
     )
 
-pub is_found : (v : Version) (text : List ℕ) (r : Result Witness TextFault) → Gives (λ w. w) r (witness_for v text) → IfOk r (λ w. (w.version ≡ v) × IsWitnessText w text)
+pub is_found : (v : Version) (text : List ℕ) (r : Result Witness TextFault) → Gives (λ w. w) r (witness_for v text)
+    → IfOk r (λ w. (w.version ≡ v) × IsWitnessText w text)
 is_found v text (Ok w) given = text_takes v w text given
 is_found v text (Err e) given = tt
 
@@ -95,7 +96,9 @@ first_ends v = subst NoReturn (words_joined v) (joined_no_return (first_words v)
 -- what spells a witness are lines
 pub text_raws : (w : Witness) (text : List ℕ) (t : IsWitnessText w text) → AllByRecursion IsRaw (t.first ∷ t.raws)
 text_raws w text t =
-    let one : IsRaw t.first = is_raw 1 (first_words w.version) t.first (words_clean w.version) (subst (λ (line : List ℕ). IsLine 1 line t.first) (sym (words_joined w.version)) t.begins) in
+    let one : IsRaw t.first =
+    is_raw 1 (first_words w.version) t.first (words_clean w.version)
+    (subst (λ (line : List ℕ). IsLine 1 line t.first) (sym (words_joined w.version)) t.begins) in
     (one, spelled_raws number_after (IsStepText w.version) (is_step_raw w.version) 2 w.steps t.raws t.steps)
 
 text_lines : (w : Witness) (text : List ℕ) (t : IsWitnessText w text) → lines_of text ≡ t.first ∷ t.raws
@@ -130,7 +133,8 @@ some_again w text t =
 
 -- ---- the first line alone
 
-pub begins_exactly : (v : Version) (raw text : List ℕ) (begins : Bool) → is_ended raw ≡ true → text ≡ without_terminator raw → begins ≡ bytes_eq text (first_text v) → IsTrue begins ↔ Ends raw (first_text v)
+pub begins_exactly : (v : Version) (raw text : List ℕ) (begins : Bool) → is_ended raw ≡ true
+    → text ≡ without_terminator raw → begins ≡ bytes_eq text (first_text v) → IsTrue begins ↔ Ends raw (first_text v)
 begins_exactly v raw text begins ended without same = (there, back)
   where
     there : IsTrue begins → Ends raw (first_text v)

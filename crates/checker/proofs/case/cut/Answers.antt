@@ -10,12 +10,14 @@ split_at-requires c =
 pub returns-then-begins_witness-clause-trace : goal.returns-then-begins_witness-clause-trace
 returns-then-begins_witness-clause-trace c =
     let so_far = rw c.in-Some.ensures.steps at c.loop-raw.invariant in
-    c.split_at.ensures.front ∙ (cut_found c.args.version c.args.text.now c.loop-raw.at c.in-Some.raw.now c.next.new.self so_far (sym c.if-begins_witness.ensures.value)).0
+    c.split_at.ensures.front ∙ (cut_found c.args.version c.args.text.now c.loop-raw.at c.in-Some.raw.now c.next.new.self
+    so_far (sym c.if-begins_witness.ensures.value)).0
 
 pub returns-then-begins_witness-clause-witness : goal.returns-then-begins_witness-clause-witness
 returns-then-begins_witness-clause-witness c =
     let so_far = rw c.in-Some.ensures.steps at c.loop-raw.invariant in
-    c.split_at.ensures.back ∙ (cut_found c.args.version c.args.text.now c.loop-raw.at c.in-Some.raw.now c.next.new.self so_far (sym c.if-begins_witness.ensures.value)).1
+    c.split_at.ensures.back ∙ (cut_found c.args.version c.args.text.now c.loop-raw.at c.in-Some.raw.now c.next.new.self
+    so_far (sym c.if-begins_witness.ensures.value)).1
 
 pub overflow_add-at : goal.overflow_add-at
 overflow_add-at c =

@@ -10,7 +10,8 @@ abbrev pub invariant-loop-lines : goal.invariant-loop-lines
 invariant-loop-lines g l = record {
   ahead : IsAhead l.lines;
   step : IsInStep l.window (line_ahead l.lines);
-  offered : (items : List Line) × Passes (left_ahead g.A.Read.remaining l.fn.lines) (left_ahead g.A.Read.remaining l.lines) items × (l.window ≡ with_lines l.fn.window items);
+  offered : (items : List Line) × Passes (left_ahead g.A.Read.remaining l.fn.lines)
+      (left_ahead g.A.Read.remaining l.lines) items × (l.window ≡ with_lines l.fn.window items);
   counts : failures_of (source_ahead l.lines) ≡ failures_of (source_ahead l.fn.lines);
 }
 

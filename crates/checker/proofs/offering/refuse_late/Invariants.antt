@@ -11,7 +11,9 @@ use Rattle.checker.proofs.offering.refuse_late.Given as goal
 abbrev pub invariant-loop-threads : goal.invariant-loop-threads
 invariant-loop-threads g l = record {
   ahead : IsAhead l.lines;
-  so_far : (between : List Line) × Between l.window (left_ahead g.A.Read.remaining l.fn.lines) (left_ahead g.A.Read.remaining l.lines) (line_ahead l.lines) (λ t. contains nat_cmp l.threads t) l.number l.moment between;
+  so_far : (between : List Line)
+      × Between l.window (left_ahead g.A.Read.remaining l.fn.lines) (left_ahead g.A.Read.remaining l.lines)
+      (line_ahead l.lines) (λ t. contains nat_cmp l.threads t) l.number l.moment between;
   counts : failures_of (source_ahead l.lines) ≡ failures_of (source_ahead l.fn.lines);
 }
 

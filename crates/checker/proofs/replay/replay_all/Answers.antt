@@ -12,35 +12,55 @@ use Rattle.checker.proofs.replay.replay_all.Goals as goal
 pub returns-in-Some : goal.returns-in-Some
 returns-in-Some c = λ lines offered.
     let at = c.index-steps-place.is in
-    let rule = subst (λ (s : Step). c.in_ok-rule.field-0 ≡ kept_broken c.loop-place.world.header c.loop-place.window c.loop-place.world.world s) at c.in_ok-rule.ensures.rule in
+    let rule =
+    subst (λ (s : Step). c.in_ok-rule.field-0
+    ≡ kept_broken c.loop-place.world.header c.loop-place.window c.loop-place.world.world s) at
+    c.in_ok-rule.ensures.rule in
     rw c.line_named.ensures
     (ap (λ (s : Step). No (c.loop-place.place + 2) (line_named s.label) c.in-Some.rule) at
-    ∙ sym (turn_no c.args.world.now.header lines c.args.steps.now c.loop-place.place _ c.loop-place.window c.loop-place.world c.in_ok-rule.field-0 c.loop-place-test.true (c.loop-place.invariant.come lines offered) rule c.in-Some.rule c.in-Some.is)
+    ∙ sym (turn_no c.args.world.now.header lines c.args.steps.now c.loop-place.place _ c.loop-place.window
+    c.loop-place.world c.in_ok-rule.field-0 c.loop-place-test.true
+    (c.loop-place.invariant.come lines offered) rule c.in-Some.rule c.in-Some.is)
     ∙ c.loop-place.invariant.told lines offered)
 
 pub loop-place-preserved : goal.loop-place-preserved
 loop-place-preserved c =
     let at = c.index-steps-place.is in
-    let rule = subst (λ (s : Step). c.in_ok-rule.field-0 ≡ kept_broken c.loop-place.world.header c.loop-place.window c.loop-place.world.world s) at c.in_ok-rule.ensures.rule in
-    let order = subst (λ (s : Step). IfNone c.in_ok-rule.field-0 (c.replay.new.window ≡ order_after c.loop-place.window (move_of s))) at c.in_ok-rule.ensures.order in
-    let world = subst (λ (s : Step). IfNone c.in_ok-rule.field-0 (c.replay.new.world ≡ kept_progress c.loop-place.window c.loop-place.world s)) at c.in_ok-rule.ensures.world in
+    let rule =
+    subst (λ (s : Step). c.in_ok-rule.field-0
+    ≡ kept_broken c.loop-place.world.header c.loop-place.window c.loop-place.world.world s) at
+    c.in_ok-rule.ensures.rule in
+    let order =
+    subst (λ (s : Step). IfNone c.in_ok-rule.field-0
+    (c.replay.new.window ≡ order_after c.loop-place.window (move_of s))) at c.in_ok-rule.ensures.order in
+    let world =
+    subst (λ (s : Step). IfNone c.in_ok-rule.field-0
+    (c.replay.new.world ≡ kept_progress c.loop-place.window c.loop-place.world s)) at
+    c.in_ok-rule.ensures.world in
     record {
       done = turn_done c.loop-place.world c.replay.new.world _ c.in_ok-rule.field-0 c.loop-place.place c.in_default.is world c.loop-place.invariant.done;
       come = λ lines offered.
-          turn_come c.args.world.now.header lines c.args.steps.now c.loop-place.place _ c.loop-place.window c.loop-place.world c.in_ok-rule.field-0 c.loop-place-test.true (c.loop-place.invariant.come lines offered) rule c.replay.new.window c.replay.new.world c.in_default.is order world;
+          turn_come c.args.world.now.header lines c.args.steps.now c.loop-place.place _ c.loop-place.window
+          c.loop-place.world c.in_ok-rule.field-0 c.loop-place-test.true
+          (c.loop-place.invariant.come lines offered) rule c.replay.new.window c.replay.new.world c.in_default.is
+          order world;
       told = λ lines offered.
-          turn_more c.args.world.now.header lines c.args.steps.now c.loop-place.place _ c.loop-place.window c.loop-place.world c.in_ok-rule.field-0 c.loop-place-test.true (c.loop-place.invariant.come lines offered) rule c.in_default.is
+          turn_more c.args.world.now.header lines c.args.steps.now c.loop-place.place _ c.loop-place.window
+          c.loop-place.world c.in_ok-rule.field-0 c.loop-place-test.true
+          (c.loop-place.invariant.come lines offered) rule c.in_default.is
           ∙ c.loop-place.invariant.told lines offered;
     }
 
 pub returns-in-Some-first_left : goal.returns-in-Some-first_left
 returns-in-Some-first_left c = λ lines offered.
     sym (left_some c.loop-place.window.held c.args.steps.now c.first_left.result c.in-Some-first_left.number c.first_left.ensures c.in-Some-first_left.is)
-    ∙ sym (turn_end c.args.world.now.header lines c.args.steps.now c.loop-place.place c.loop-place.window c.loop-place.world c.loop-place-test.false (c.loop-place.invariant.come lines offered))
+    ∙ sym (turn_end c.args.world.now.header lines c.args.steps.now c.loop-place.place c.loop-place.window
+    c.loop-place.world c.loop-place-test.false (c.loop-place.invariant.come lines offered))
     ∙ c.loop-place.invariant.told lines offered
 
 pub returns-in-None : goal.returns-in-None
 returns-in-None c = λ lines offered.
     c.counted.ensures ∙ sym (left_none c.loop-place.window.held c.args.steps.now c.first_left.result c.first_left.ensures c.in-None.is)
-    ∙ sym (turn_end c.args.world.now.header lines c.args.steps.now c.loop-place.place c.loop-place.window c.loop-place.world c.loop-place-test.false (c.loop-place.invariant.come lines offered))
+    ∙ sym (turn_end c.args.world.now.header lines c.args.steps.now c.loop-place.place c.loop-place.window
+    c.loop-place.world c.loop-place-test.false (c.loop-place.invariant.come lines offered))
     ∙ c.loop-place.invariant.told lines offered

@@ -9,6 +9,9 @@ loop-preserved g c =
     let inv = c.loop.invariant in
     record {
       working = c.in_ok-skip_step.ensures.working;
-      passed = skipped _ _ _ inv.passed.0 inv.passed.1 (subst (λ (more : Bool). Skips more (steps_left g.B.Read.remaining c.loop.steps) (steps_left g.B.Read.remaining c.skip_step.new.steps)) c.if-branch.true c.in_ok-skip_step.ensures.next);
+      passed =
+          skipped _ _ _ inv.passed.0 inv.passed.1
+          (subst (λ (more : Bool). Skips more (steps_left g.B.Read.remaining c.loop.steps)
+          (steps_left g.B.Read.remaining c.skip_step.new.steps)) c.if-branch.true c.in_ok-skip_step.ensures.next);
       counts = search rules;
     }

@@ -7,17 +7,30 @@ use Rattle.checker.proofs.turns.replay_next.Goals as goal
 
 pub returns-clause-tells : goal.returns-clause-tells
 returns-clause-tells g c = λ header t s offered earlier so_far.
-    let next = subst (λ (item : Option Step). Yields (steps_left g.B.Read.remaining c.args.steps.now) (steps_left g.B.Read.remaining c.next_step.new.steps) item) c.in-Some.is c.in_ok-step.ensures.next in
+    let next =
+    subst (λ (item : Option Step).
+    Yields (steps_left g.B.Read.remaining c.args.steps.now)
+    (steps_left g.B.Read.remaining c.next_step.new.steps) item) c.in-Some.is c.in_ok-step.ensures.next in
     let lines = c.in_ok-offer_reached.ensures.offered in
-    turn_is g.A.Read.remaining header t s offered earlier c.args.lines.now c.next_step.new.lines c.offer_reached.new.lines c.judge_step.new.lines _ _ c.args.window.now c.offer_reached.new.window c.judge_step.new.window c.args.world.now c.judge_step.new.world
+    turn_is g.A.Read.remaining header t s offered earlier c.args.lines.now c.next_step.new.lines
+    c.offer_reached.new.lines c.judge_step.new.lines _ _ c.args.window.now c.offer_reached.new.window
+    c.judge_step.new.window c.args.world.now c.judge_step.new.world
     lines.0 c.in-Some.step c.in_ok-broken.broken c.turn_of.result
-    so_far c.in_ok-step.ensures.lines next lines.1 lines.2 c.in_ok-offer_reached.ensures.ahead c.in_ok-offer_reached.ensures.later c.in_ok-broken.ensures.done c.in_ok-broken.ensures.refused c.turn_of.ensures
+    so_far c.in_ok-step.ensures.lines next lines.1 lines.2 c.in_ok-offer_reached.ensures.ahead
+    c.in_ok-offer_reached.ensures.later c.in_ok-broken.ensures.done c.in_ok-broken.ensures.refused
+    c.turn_of.ensures
 
 pub returns-clause-in_step : goal.returns-clause-in_step
-returns-clause-in_step g c = more_in_step c.offer_reached.new.lines c.judge_step.new.lines c.offer_reached.new.window c.judge_step.new.window c.args.world.now c.judge_step.new.world c.in-Some.step c.in_ok-broken.broken c.turn_of.result c.in_ok-offer_reached.ensures.step c.in_ok-broken.ensures.done c.turn_of.ensures
+returns-clause-in_step g c =
+    more_in_step c.offer_reached.new.lines c.judge_step.new.lines c.offer_reached.new.window c.judge_step.new.window
+    c.args.world.now c.judge_step.new.world c.in-Some.step c.in_ok-broken.broken c.turn_of.result
+    c.in_ok-offer_reached.ensures.step c.in_ok-broken.ensures.done c.turn_of.ensures
 
 pub returns-clause-steps : goal.returns-clause-steps
-returns-clause-steps g c = more_steps c.offer_reached.new.lines c.judge_step.new.lines c.offer_reached.new.window c.judge_step.new.window c.args.world.now c.judge_step.new.world c.in-Some.step c.in_ok-broken.broken c.turn_of.result c.in_ok-broken.ensures.done c.turn_of.ensures
+returns-clause-steps g c =
+    more_steps c.offer_reached.new.lines c.judge_step.new.lines c.offer_reached.new.window c.judge_step.new.window
+    c.args.world.now c.judge_step.new.world c.in-Some.step c.in_ok-broken.broken c.turn_of.result
+    c.in_ok-broken.ensures.done c.turn_of.ensures
 
 pub returns-clause-place : goal.returns-clause-place
 returns-clause-place g c = λ _. rw c.in-Some.is at c.in_ok-step.ensures.place

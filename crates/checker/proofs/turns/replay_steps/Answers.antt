@@ -42,11 +42,13 @@ loop-takes_line-preserved g c =
           let after = rw c.in-More.is at (c.in_ok-takes_line.ensures.tells header t s so_far.0 so_far.1 so_far.2) in
           let len = length-append so_far.1 (after.1 ∷ []) in
           let long = so_far.4 in
-          let told : c.with-tally.result ≡ counted_with c.loop-takes_line.tally (takes_line after.1.label) = c.with-tally.ensures ∙ ap (counted_with c.loop-takes_line.tally) after.3 in (
+          let told : c.with-tally.result ≡ counted_with c.loop-takes_line.tally (takes_line after.1.label) =
+          c.with-tally.ensures ∙ ap (counted_with c.loop-takes_line.tally) after.3 in (
             so_far.0 ++ after.0,
             so_far.1 ++ after.1 ∷ [],
             after.2,
-            subst (λ (x : StepCounts). Tallied (so_far.1 ++ after.1 ∷ []) x.lines x.hidden) (sym told) (tally_more so_far.1 after.1 c.loop-takes_line.tally so_far.3),
+            subst (λ (x : StepCounts). Tallied (so_far.1 ++ after.1 ∷ []) x.lines x.hidden) (sym told)
+                (tally_more so_far.1 after.1 c.loop-takes_line.tally so_far.3),
             omega (arith, len, long, sum),
           );
     }

@@ -22,7 +22,9 @@ invariant-loop-takes_line g l = record {
   steps_count : reader_failures l.steps ≡ reader_failures l.fn.steps;
   goes : (header : Header) (t : Option (Result (List Line) TextFault)) (s : Option (Result (List Step) TextFault))
       → SoFar header t (left_ahead g.A.Read.remaining l.fn.lines) s (steps_left g.B.Read.remaining l.fn.steps) l.fn.window l.fn.world [] []
-      → (offered : List Line) × (earlier : List Step) × SoFar header t (left_ahead g.A.Read.remaining l.lines) s (steps_left g.B.Read.remaining l.steps) l.window l.world offered earlier
+      → (offered : List Line) × (earlier : List Step)
+      × SoFar header t (left_ahead g.A.Read.remaining l.lines) s
+      (steps_left g.B.Read.remaining l.steps) l.window l.world offered earlier
       × Tallied earlier l.tally.lines l.tally.hidden × (length earlier ≡ l.tally.lines + l.tally.hidden);
 }
 

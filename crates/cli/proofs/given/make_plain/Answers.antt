@@ -12,4 +12,6 @@ pub returns-clause-plain : goal.returns-clause-plain
 returns-clause-plain c = c.loop-byte.invariant ∙ all_plain c.loop-byte.byte-index c.args.word.now (omega arith)
 
 pub returns-clause-segment : goal.returns-clause-segment
-returns-clause-segment c = ap segment_in (c.loop-byte.invariant ∙ all_plain c.loop-byte.byte-index c.args.word.now (omega arith)) ∙ plain_segment c.args.word.now
+returns-clause-segment c =
+    ap segment_in (c.loop-byte.invariant ∙ all_plain c.loop-byte.byte-index c.args.word.now (omega arith))
+    ∙ plain_segment c.args.word.now

@@ -13,13 +13,15 @@ returns-in-Ok-Some-clause-check g c asks no_device =
 
 pub returns-in-Ok-Some-clause-segment : goal.returns-in-Ok-Some-clause-segment
 returns-in-Ok-Some-clause-segment g c text asks no_device =
-    let asked = rw c.in-Ok-Some.field-0-is at c.in-Ok-Some.ensures in absurd (not_segment (map (λ word. word.now) c.args.words.now) c.in-Ok-Some.plan text asked asks.0)
+    let asked = rw c.in-Ok-Some.field-0-is at c.in-Ok-Some.ensures in
+    absurd (not_segment (map (λ word. word.now) c.args.words.now) c.in-Ok-Some.plan text asked asks.0)
 
 pub returns-in-Ok-Some-clause-recorded : goal.returns-in-Ok-Some-clause-recorded
 returns-in-Ok-Some-clause-recorded g c plan asks no_device =
     let asked = rw c.in-Ok-Some.field-0-is at c.in-Ok-Some.ensures in
     let words = map (λ word. word.now) c.args.words.now in
-    ends_alike c.in-Ok-Some.plan plan c.answer_record.result _ _ (one_count words c.in-Ok-Some.plan plan asked asks) (one_version words c.in-Ok-Some.plan plan asked asks) (c.answer_record.ensures.recorded no_device)
+    ends_alike c.in-Ok-Some.plan plan c.answer_record.result _ _ (one_count words c.in-Ok-Some.plan plan asked asks)
+    (one_version words c.in-Ok-Some.plan plan asked asks) (c.answer_record.ensures.recorded no_device)
 
 pub returns-in-Ok-Some-clause-usage : goal.returns-in-Ok-Some-clause-usage
 returns-in-Ok-Some-clause-usage g c nothing no_record =

@@ -12,4 +12,6 @@ returns-in-Ok c =
     c.in-Ok.ensures.exact c.in-Ok.ensures.ok (λ t one. c.get_one.ensures.value t (ap (one_text (found_of c.in-Ok.matches)) c.name_of.ensures ∙ one))
 
 pub returns : goal.returns
-returns c n told = refused_option c.args.setting _ c.in-Err.error n c.in-Err.ensures.exact (λ memory. c.in_default.not-OutOfMemory (c.kind.ensures ∙ memory)) told
+returns c n told =
+    refused_option c.args.setting _ c.in-Err.error n c.in-Err.ensures.exact
+    (λ memory. c.in_default.not-OutOfMemory (c.kind.ensures ∙ memory)) told

@@ -8,4 +8,5 @@ use Rattle.endpoint_state.proofs.host.take.Goals as goal
 
 pub take-requires-clause-small : goal.take-requires-clause-small
 take-requires-clause-small c = waiting_small c.args.host.now c.args.line c.in-Some.m.now c.requires.ready.tables
-    (ap (λ (h : Host_). waiting c.args.line h.inbox) (sym c.host.view_is) ∙ (sym c.waiting.ensures ∙ ap (λ (o : Option (Bor Emission)). option_copied o) c.in-Some.is))
+    (ap (λ (h : Host_). waiting c.args.line h.inbox) (sym c.host.view_is)
+    ∙ (sym c.waiting.ensures ∙ ap (λ (o : Option (Bor Emission)). option_copied o) c.in-Some.is))

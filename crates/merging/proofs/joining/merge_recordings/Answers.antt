@@ -14,18 +14,34 @@ use Rattle.merging.proofs.ShiftLemmas.{both_shifts}
 use Rattle.merging.proofs.joining.merge_recordings.Goals as goal
 
 pub tell-requires-clause-small : goal.tell-requires-clause-small
-tell-requires-clause-small c = beside_small c.args.zero.now c.args.one.now (beside c.args.zero.now c.args.one.now c.requires.hosts c.requires.headers c.is_recording.ensures c.is_recording-2.ensures c.requires.few c.requires.above (rw c.in_default.is at c.in_ok-arrival_line.ensures.none) (rw c.in_default-2.is at c.in_ok-arrival_line-2.ensures.none))
+tell-requires-clause-small c =
+    beside_small c.args.zero.now c.args.one.now
+    (beside c.args.zero.now c.args.one.now c.requires.hosts c.requires.headers c.is_recording.ensures
+    c.is_recording-2.ensures c.requires.few c.requires.above
+    (rw c.in_default.is at c.in_ok-arrival_line.ensures.none)
+    (rw c.in_default-2.is at c.in_ok-arrival_line-2.ensures.none))
 
 pub returns-in-Some-clause-beside : goal.returns-in-Some-clause-beside
-returns-in-Some-clause-beside c = zero_is_named c.args.zero.now c.args.one.now c.in-Some.arrival_line c.requires.hosts c.requires.headers (rw c.in-Some.is at c.in_ok-arrival_line.ensures.some)
+returns-in-Some-clause-beside c =
+    zero_is_named c.args.zero.now c.args.one.now c.in-Some.arrival_line c.requires.hosts c.requires.headers
+    (rw c.in-Some.is at c.in_ok-arrival_line.ensures.some)
 
 pub returns-in-Some-2-clause-beside : goal.returns-in-Some-2-clause-beside
-returns-in-Some-2-clause-beside c = one_is_named c.args.zero.now c.args.one.now c.in-Some-2.arrival_line c.requires.hosts c.requires.headers (rw c.in-Some-2.is at c.in_ok-arrival_line-2.ensures.some)
+returns-in-Some-2-clause-beside c =
+    one_is_named c.args.zero.now c.args.one.now c.in-Some-2.arrival_line c.requires.hosts c.requires.headers
+    (rw c.in-Some-2.is at c.in_ok-arrival_line-2.ensures.some)
 
 pub returns-clause-told : goal.returns-clause-told
 returns-clause-told c =
-    told_as c.args.zero.now.header c.in_ok-recorded.recorded.trace c.in_ok-recorded.recorded.witness c.args.zero.now.entries c.args.one.now.entries c.requires.whole c.in_ok-recorded.ensures.header c.in_ok-recorded.ensures.version c.in_ok-recorded.ensures.lines
-    c.in_ok-recorded.ensures.steps (beside_books c.books_grow.ensures.finished c.args.zero.now c.args.one.now (beside c.args.zero.now c.args.one.now c.requires.hosts c.requires.headers c.is_recording.ensures c.is_recording-2.ensures c.requires.few c.requires.above (rw c.in_default.is at c.in_ok-arrival_line.ensures.none) (rw c.in_default-2.is at c.in_ok-arrival_line-2.ensures.none)))
+    told_as c.args.zero.now.header c.in_ok-recorded.recorded.trace c.in_ok-recorded.recorded.witness
+    c.args.zero.now.entries c.args.one.now.entries c.requires.whole c.in_ok-recorded.ensures.header
+    c.in_ok-recorded.ensures.version c.in_ok-recorded.ensures.lines
+    c.in_ok-recorded.ensures.steps
+    (beside_books c.books_grow.ensures.finished c.args.zero.now c.args.one.now
+    (beside c.args.zero.now c.args.one.now c.requires.hosts c.requires.headers c.is_recording.ensures
+    c.is_recording-2.ensures c.requires.few c.requires.above
+    (rw c.in_default.is at c.in_ok-arrival_line.ensures.none)
+    (rw c.in_default-2.is at c.in_ok-arrival_line-2.ensures.none)))
 
 pub returns-clause-threads : goal.returns-clause-threads
 returns-clause-threads c = subst (λ (lines : List Line). AllOwnThreads lines) (sym c.in_ok-recorded.ensures.lines)
@@ -33,13 +49,26 @@ returns-clause-threads c = subst (λ (lines : List Line). AllOwnThreads lines) (
 
 pub returns-clause-explains : goal.returns-clause-explains
 returns-clause-explains c =
-    let books = beside_books c.books_grow.ensures.finished c.args.zero.now c.args.one.now (beside c.args.zero.now c.args.one.now c.requires.hosts c.requires.headers c.is_recording.ensures c.is_recording-2.ensures c.requires.few c.requires.above (rw c.in_default.is at c.in_ok-arrival_line.ensures.none) (rw c.in_default-2.is at c.in_ok-arrival_line-2.ensures.none)) in
-    let tells = told_as c.args.zero.now.header c.in_ok-recorded.recorded.trace c.in_ok-recorded.recorded.witness c.args.zero.now.entries c.args.one.now.entries c.requires.whole c.in_ok-recorded.ensures.header c.in_ok-recorded.ensures.version c.in_ok-recorded.ensures.lines c.in_ok-recorded.ensures.steps books in
+    let books =
+    beside_books c.books_grow.ensures.finished c.args.zero.now c.args.one.now
+    (beside c.args.zero.now c.args.one.now c.requires.hosts c.requires.headers c.is_recording.ensures
+    c.is_recording-2.ensures c.requires.few c.requires.above
+    (rw c.in_default.is at c.in_ok-arrival_line.ensures.none)
+    (rw c.in_default-2.is at c.in_ok-arrival_line-2.ensures.none)) in
+    let tells =
+    told_as c.args.zero.now.header c.in_ok-recorded.recorded.trace c.in_ok-recorded.recorded.witness
+    c.args.zero.now.entries c.args.one.now.entries c.requires.whole c.in_ok-recorded.ensures.header
+    c.in_ok-recorded.ensures.version c.in_ok-recorded.ensures.lines c.in_ok-recorded.ensures.steps books in
     let same = c.in_ok-recorded.ensures.header in
     c.what_is_told_explains.ensures.books c.in_ok-recorded.recorded.trace c.in_ok-recorded.recorded.witness c.args.zero.now.entries c.args.one.now.entries
     (subst (λ (g : Header). Books (tcp g) (first_event_line g) c.args.zero.now.entries c.args.one.now.entries) (sym same) books)
-    (subst (λ (g : Header). Tells c.in_ok-recorded.recorded.trace c.in_ok-recorded.recorded.witness (merged g (first_event_line g) c.args.zero.now.entries c.args.one.now.entries)) (sym same) tells)
+    (subst (λ (g : Header). Tells c.in_ok-recorded.recorded.trace c.in_ok-recorded.recorded.witness
+    (merged g (first_event_line g) c.args.zero.now.entries c.args.one.now.entries)) (sym same) tells)
 
 pub returns-clause-shifts : goal.returns-clause-shifts
-returns-clause-shifts c p q = both_shifts c.args.zero.now.header.version c.in_ok-recorded.recorded.witness.version (first_event_line c.args.zero.now.header) c.args.zero.now.entries c.args.one.now.entries c.in_ok-recorded.recorded.witness.steps
-    c.in_ok-recorded.ensures.version c.in_ok-recorded.ensures.steps p (subst (λ (h : Header). AllTold h.version c.args.one.now.entries) (sym c.requires.headers) q)
+returns-clause-shifts c p q =
+    both_shifts c.args.zero.now.header.version c.in_ok-recorded.recorded.witness.version
+    (first_event_line c.args.zero.now.header) c.args.zero.now.entries c.args.one.now.entries
+    c.in_ok-recorded.recorded.witness.steps
+    c.in_ok-recorded.ensures.version c.in_ok-recorded.ensures.steps p
+    (subst (λ (h : Header). AllTold h.version c.args.one.now.entries) (sym c.requires.headers) q)

@@ -21,17 +21,20 @@ returns-clause-named c = λ h events cores w n.
     c.books_have_no_stranger.ensures cores.zero.core.recorded cores.one.core.recorded
     (ap (λ (r : Recorded). r.me) hosts.0, ap (λ (r : Recorded). r.me) hosts.1)
     (header_zero ∙ sym header_one)
-    (subst (λ (g : Header). Books (tcp g) (first_event_line g) (entries_of Zero cores) (entries_of One cores)) (sym header_zero) (c.core_worlds_are_books.ensures.books h events cores w))
+    (subst (λ (g : Header). Books (tcp g) (first_event_line g) (entries_of Zero cores) (entries_of One cores))
+    (sym header_zero) (c.core_worlds_are_books.ensures.books h events cores w))
     n
 
 pub returns-clause-explained : goal.returns-clause-explained
 returns-clause-explained c = λ h events cores world t w same told.
     c.what_is_told_explains.ensures.books t w (entries_of Zero cores) (entries_of One cores)
-    (subst (λ (g : Header). Books (tcp g) (first_event_line g) (entries_of Zero cores) (entries_of One cores)) (sym same) (c.core_worlds_are_books.ensures.books h events cores world))
+    (subst (λ (g : Header). Books (tcp g) (first_event_line g) (entries_of Zero cores) (entries_of One cores))
+    (sym same) (c.core_worlds_are_books.ensures.books h events cores world))
     (subst (λ (g : Header). Tells t w (merged g (first_event_line g) (entries_of Zero cores) (entries_of One cores))) (sym same) told)
 
 pub returns-clause-yes : goal.returns-clause-yes
 returns-clause-yes c = λ h events cores world t w same told.
     c.what_is_told_explains.ensures.yes t w (entries_of Zero cores) (entries_of One cores)
-    (subst (λ (g : Header). Books (tcp g) (first_event_line g) (entries_of Zero cores) (entries_of One cores)) (sym same) (c.core_worlds_are_books.ensures.books h events cores world))
+    (subst (λ (g : Header). Books (tcp g) (first_event_line g) (entries_of Zero cores) (entries_of One cores))
+    (sym same) (c.core_worlds_are_books.ensures.books h events cores world))
     (subst (λ (g : Header). Tells t w (merged g (first_event_line g) (entries_of Zero cores) (entries_of One cores))) (sym same) told)

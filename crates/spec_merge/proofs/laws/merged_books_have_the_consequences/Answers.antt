@@ -7,8 +7,14 @@ use Rattle.spec_merge.proofs.laws.merged_books_have_the_consequences.Goals as go
 
 pub returns : goal.returns
 returns c = record {
-  received = λ h whole first zeros ones steps begin. c.received_is_a_prefix.ensures h whole steps (run_begins h first zeros ones steps begin (c.merged_books_are_a_run.ensures h first zeros ones begin.0));
-  ended = λ h whole first zeros ones steps begin. c.end_is_whole.ensures h whole steps (run_begins h first zeros ones steps begin (c.merged_books_are_a_run.ensures h first zeros ones begin.0));
+  received =
+      λ h whole first zeros ones steps begin.
+      c.received_is_a_prefix.ensures h whole steps
+      (run_begins h first zeros ones steps begin (c.merged_books_are_a_run.ensures h first zeros ones begin.0));
+  ended =
+      λ h whole first zeros ones steps begin.
+      c.end_is_whole.ensures h whole steps
+      (run_begins h first zeros ones steps begin (c.merged_books_are_a_run.ensures h first zeros ones begin.0));
   acknowledged = λ h whole first zeros ones steps x begin.
       let fits = last_fits h steps x (run_begins h first zeros ones (steps ++ x ∷ []) begin (c.merged_books_are_a_run.ensures h first zeros ones begin.0)) in
       c.acknowledged_was_taken.ensures h whole steps x fits.0 fits.1;

@@ -24,7 +24,9 @@ returns c h whole steps x may next me f at position low below =
     let t = y.2.0 in
     let cell = front_at t.stream.receive.taken position (let up = y.2.2.1 in omega arith) in
     let from = ((g.good q.host).endpoints q.number t y.2.1).stream.taken position cell.0 cell.1 in
-    let mine : HasStream a me (λ s. slice_get (all_cells s) position ≡ Some cell.0) = subst (λ (k : EndpointId). HasStream a k (λ s. slice_get (all_cells s) position ≡ Some cell.0)) (same_Some from.0 me (sym from.1 ∙ y.2.2.0)) from.2 in
+    let mine : HasStream a me (λ s. slice_get (all_cells s) position ≡ Some cell.0) =
+    subst (λ (k : EndpointId). HasStream a k (λ s. slice_get (all_cells s) position ≡ Some cell.0))
+    (same_Some from.0 me (sym from.1 ∙ y.2.2.0)) from.2 in
     let now = later me mine.0 mine.1 in
     let one = same_Some now.0 f (sym now.1 ∙ at) in
     let there = subst (λ (e : Endpoint). slice_get (all_cells e.stream) position ≡ Some cell.0) one (now.2.cells position cell.0 mine.2) in

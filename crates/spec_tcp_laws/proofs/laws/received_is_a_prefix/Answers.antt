@@ -20,10 +20,12 @@ returns c h whole steps may socket me is =
     let x = (g.steady.sound me.host).named socket me.number own in
     let e = x.0 in
     let good = ((g.good me.host).endpoints me.number e x.1).stream in
-    let told : told_to h socket steps ≡ received e.stream.receive = told_run h (start (tcp h)) steps socket me (steady_start h) may own ∙ (matches_run h steps may me e x.1).0 in
+    let told : told_to h socket steps ≡ received e.stream.receive =
+    told_run h (start (tcp h)) steps socket me (steady_start h) may own ∙ (matches_run h steps may me e x.1).0 in
     (e, x.1, record { told = told; peer = by_peer e good told e.stream.peer refl })
   where
-    by_peer : (e : Endpoint) → GoodStream (world_at_end h steps).hosts me e.stream → told_to h socket steps ≡ received e.stream.receive → (peer : Option EndpointId) → e.stream.peer ≡ peer
+    by_peer : (e : Endpoint) → GoodStream (world_at_end h steps).hosts me e.stream
+        → told_to h socket steps ≡ received e.stream.receive → (peer : Option EndpointId) → e.stream.peer ≡ peer
         → ((e.stream.peer ≡ None) × (told_to h socket steps ≡ [])) ⊎ ((q : EndpointId) × (e.stream.peer ≡ Some q) × BeginsWhatPeerSent h steps socket q)
     by_peer e good told None p = inl (p, told ∙ received_none (world_at_end h steps).hosts me e.stream good p)
     by_peer e good told (Some q) p =
@@ -35,6 +37,8 @@ returns c h whole steps may socket me is =
           p,
           record {
             accepted = (there.0, there.1, sent);
-            prefix = subst (λ (l : List ℕ). IsPrefixOf l (accepted_by h q steps)) (sym told) (subst (λ (l : List ℕ). IsPrefixOf (received e.stream.receive) l) (sym sent) prefix);
+            prefix =
+                subst (λ (l : List ℕ). IsPrefixOf l (accepted_by h q steps)) (sym told)
+                (subst (λ (l : List ℕ). IsPrefixOf (received e.stream.receive) l) (sym sent) prefix);
           },
         )

@@ -7,7 +7,9 @@ use Rattle.stack_core.proofs.MakingLemmas.{inside, nothing, one_more}
 use Rattle.stack_core.proofs.makings.find_making.Goals as goal
 
 pub loop-endpoint-preserved : goal.loop-endpoint-preserved
-loop-endpoint-preserved c = one_more (λ (e : Endpoint). IsTried c.args.world.now.header c.args.me c.args.world.now.world e) c.body-body.result.now.endpoints c.loop-endpoint.place c.in-Some.endpoint.now
+loop-endpoint-preserved c =
+    one_more (λ (e : Endpoint). IsTried c.args.world.now.header c.args.me c.args.world.now.world e)
+    c.body-body.result.now.endpoints c.loop-endpoint.place c.in-Some.endpoint.now
     c.loop-endpoint.invariant (sym c.in-Some.ensures) c.in_default-try_endpoint.ensures.none
 
 pub returns-clause-none : goal.returns-clause-none

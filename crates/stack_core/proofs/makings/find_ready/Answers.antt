@@ -14,12 +14,24 @@ list_new-requires c =
     subst (λ (b : HostTcp). length b.endpoints < 2 ^ 32) (sym c.body.ensures) (omega arith)
 
 pub find_among-requires-clause-all : goal.find_among-requires-clause-all
-find_among-requires-clause-all c = subst (λ (b : HostTcp). length b.endpoints ≤ c.list_new.new.self.looked) c.body.ensures (c.list_new.ensures.all c.if-list_new.true)
+find_among-requires-clause-all c =
+    subst (λ (b : HostTcp). length b.endpoints ≤ c.list_new.new.self.looked) c.body.ensures
+    (c.list_new.ensures.all c.if-list_new.true)
 
 pub find_among-requires-clause-quiet : goal.find_among-requires-clause-quiet
-find_among-requires-clause-quiet c = grown_covered (λ m e. Unit {0}) IsQuiet (λ e. tt) c.args.ready.now.looked c.list_new.new.self.looked c.args.ready.now.entries.keys c.list_new.new.self.entries.keys (pick c.args.world.now.world.hosts c.args.me).body.endpoints
-    (subst (λ (b : HostTcp). IsGrown (length b.endpoints) c.args.ready.now.looked c.args.ready.now.entries.keys c.list_new.new.self.looked c.list_new.new.self.entries.keys) c.body.ensures c.list_new.ensures.grown) c.requires.quiet
+find_among-requires-clause-quiet c =
+    grown_covered (λ m e. Unit {0}) IsQuiet
+    (λ e. tt) c.args.ready.now.looked c.list_new.new.self.looked c.args.ready.now.entries.keys
+    c.list_new.new.self.entries.keys (pick c.args.world.now.world.hosts c.args.me).body.endpoints
+    (subst (λ (b : HostTcp). IsGrown
+    (length b.endpoints) c.args.ready.now.looked c.args.ready.now.entries.keys c.list_new.new.self.looked
+    c.list_new.new.self.entries.keys) c.body.ensures c.list_new.ensures.grown) c.requires.quiet
 
 pub returns-clause-quiet : goal.returns-clause-quiet
-returns-clause-quiet c = grown_covered (λ m e. Unit {0}) IsQuiet (λ e. tt) c.args.ready.now.looked c.list_new.new.self.looked c.args.ready.now.entries.keys c.list_new.new.self.entries.keys (pick c.args.world.now.world.hosts c.args.me).body.endpoints
-    (subst (λ (b : HostTcp). IsGrown (length b.endpoints) c.args.ready.now.looked c.args.ready.now.entries.keys c.list_new.new.self.looked c.list_new.new.self.entries.keys) c.body.ensures c.list_new.ensures.grown) c.requires.quiet
+returns-clause-quiet c =
+    grown_covered (λ m e. Unit {0}) IsQuiet
+    (λ e. tt) c.args.ready.now.looked c.list_new.new.self.looked c.args.ready.now.entries.keys
+    c.list_new.new.self.entries.keys (pick c.args.world.now.world.hosts c.args.me).body.endpoints
+    (subst (λ (b : HostTcp). IsGrown
+    (length b.endpoints) c.args.ready.now.looked c.args.ready.now.entries.keys c.list_new.new.self.looked
+    c.list_new.new.self.entries.keys) c.body.ensures c.list_new.ensures.grown) c.requires.quiet

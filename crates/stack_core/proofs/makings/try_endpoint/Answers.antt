@@ -13,4 +13,7 @@ returns-then-snd_max-gt-GREATEST_POSITION-clause-none c =
     tried_far c.args.world.now.header c.args.me c.args.world.now.world c.args.offer.opening c.args.offer.window c.args.endpoint.now c.requires.short far
 
 pub returns-clause-none : goal.returns-clause-none
-returns-clause-none c = all_tried c.args.world.now.header c.args.me c.args.world.now.world c.args.offer.opening c.args.offer.at_syn c.args.offer.window c.args.endpoint.now c.byte_of.result c.fin_of.result c.ask-2.result c.in_default.ensures.none c.byte_of.ensures c.in_default-ask.ensures.none c.fin_of.ensures c.ask-2.ensures.none
+returns-clause-none c =
+    all_tried c.args.world.now.header c.args.me c.args.world.now.world c.args.offer.opening c.args.offer.at_syn
+    c.args.offer.window c.args.endpoint.now c.byte_of.result c.fin_of.result c.ask-2.result c.in_default.ensures.none
+    c.byte_of.ensures c.in_default-ask.ensures.none c.fin_of.ensures c.ask-2.ensures.none

@@ -6,7 +6,10 @@ use Rattle.stack_core.proofs.TimerLemmas.{none_due}
 use Rattle.stack_core.proofs.timers.find_any_due.Goals as goal
 
 pub loop-endpoint-preserved : goal.loop-endpoint-preserved
-loop-endpoint-preserved c = one_more (λ (e : Endpoint). IsRefused c.args.recording.now c.args.moment (record { lport = e.lport; rport = e.rport })) c.body-body.result.now.endpoints c.loop-endpoint.place c.in-Some.endpoint.now
+loop-endpoint-preserved c =
+    one_more (λ (e : Endpoint). IsRefused c.args.recording.now c.args.moment
+    (record { lport = e.lport; rport = e.rport })) c.body-body.result.now.endpoints c.loop-endpoint.place
+    c.in-Some.endpoint.now
     c.loop-endpoint.invariant (sym c.in-Some.ensures) c.in_default-due_at.ensures.none
 
 pub returns-clause-none : goal.returns-clause-none

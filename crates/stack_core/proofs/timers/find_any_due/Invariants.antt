@@ -5,7 +5,8 @@ use Rattle.stack_core.specs.TimerEvents.{IsRefused}
 use Rattle.stack_core.proofs.timers.find_any_due.Given as goal
 
 abbrev pub invariant-loop-endpoint : goal.invariant-loop-endpoint
-invariant-loop-endpoint l = (j : ℕ) (e : Endpoint) → j < l.place → slice_get l.body.endpoints j ≡ Some e → IsRefused l.recording l.moment (record { lport = e.lport; rport = e.rport })
+invariant-loop-endpoint l = (j : ℕ) (e : Endpoint) → j < l.place → slice_get l.body.endpoints j ≡ Some e
+    → IsRefused l.recording l.moment (record { lport = e.lport; rport = e.rport })
 
 abbrev pub decreases-loop-endpoint : goal.decreases-loop-endpoint
 decreases-loop-endpoint l = length l.body.endpoints - l.place

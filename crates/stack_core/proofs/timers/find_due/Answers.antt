@@ -13,12 +13,24 @@ list_new-requires c =
     subst (λ (b : HostTcp). length b.endpoints < 2 ^ 32) (sym c.body.ensures) (omega arith)
 
 pub find_among-requires-clause-all : goal.find_among-requires-clause-all
-find_among-requires-clause-all c = subst (λ (b : HostTcp). length b.endpoints ≤ c.list_new.new.self.looked) c.body.ensures (c.list_new.ensures.all c.if-list_new.true)
+find_among-requires-clause-all c =
+    subst (λ (b : HostTcp). length b.endpoints ≤ c.list_new.new.self.looked) c.body.ensures
+    (c.list_new.ensures.all c.if-list_new.true)
 
 pub find_among-requires-clause-timed : goal.find_among-requires-clause-timed
-find_among-requires-clause-timed c = grown_covered (IsStillBefore c.args.recording.now.header) (IsStill c.args.recording.now.header) (never_before c.args.recording.now.header) c.args.wakes.now.looked c.list_new.new.self.looked c.args.wakes.now.entries.keys c.list_new.new.self.entries.keys (kept_ends c.args.recording.now)
-    (subst (λ (b : HostTcp). IsGrown (length b.endpoints) c.args.wakes.now.looked c.args.wakes.now.entries.keys c.list_new.new.self.looked c.list_new.new.self.entries.keys) c.body.ensures c.list_new.ensures.grown) c.requires.timed
+find_among-requires-clause-timed c =
+    grown_covered (IsStillBefore c.args.recording.now.header) (IsStill c.args.recording.now.header)
+    (never_before c.args.recording.now.header) c.args.wakes.now.looked c.list_new.new.self.looked
+    c.args.wakes.now.entries.keys c.list_new.new.self.entries.keys (kept_ends c.args.recording.now)
+    (subst (λ (b : HostTcp). IsGrown
+    (length b.endpoints) c.args.wakes.now.looked c.args.wakes.now.entries.keys c.list_new.new.self.looked
+    c.list_new.new.self.entries.keys) c.body.ensures c.list_new.ensures.grown) c.requires.timed
 
 pub returns-clause-timed : goal.returns-clause-timed
-returns-clause-timed c = grown_covered (IsStillBefore c.args.recording.now.header) (IsStill c.args.recording.now.header) (never_before c.args.recording.now.header) c.args.wakes.now.looked c.list_new.new.self.looked c.args.wakes.now.entries.keys c.list_new.new.self.entries.keys (kept_ends c.args.recording.now)
-    (subst (λ (b : HostTcp). IsGrown (length b.endpoints) c.args.wakes.now.looked c.args.wakes.now.entries.keys c.list_new.new.self.looked c.list_new.new.self.entries.keys) c.body.ensures c.list_new.ensures.grown) c.requires.timed
+returns-clause-timed c =
+    grown_covered (IsStillBefore c.args.recording.now.header) (IsStill c.args.recording.now.header)
+    (never_before c.args.recording.now.header) c.args.wakes.now.looked c.list_new.new.self.looked
+    c.args.wakes.now.entries.keys c.list_new.new.self.entries.keys (kept_ends c.args.recording.now)
+    (subst (λ (b : HostTcp). IsGrown
+    (length b.endpoints) c.args.wakes.now.looked c.args.wakes.now.entries.keys c.list_new.new.self.looked
+    c.list_new.new.self.entries.keys) c.body.ensures c.list_new.ensures.grown) c.requires.timed

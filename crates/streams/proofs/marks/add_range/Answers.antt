@@ -14,7 +14,10 @@ pub returns-clause-added : goal.returns-clause-added
 returns-clause-added c position = rw c.in_ok-insert.ensures.entries (added c.args.ranges.now.entries c.args.from c.args.upto c.max.result (far c) position)
 
 pub returns-clause-below : goal.returns-clause-below
-returns-clause-below c floor end low high h = rw c.in_ok-insert.ensures.entries (ranges_more c.args.ranges.now.entries floor end c.args.from c.args.upto c.max.result (let some = c.if-upto-from.false in omega arith) low high (far c) h)
+returns-clause-below c floor end low high h =
+    rw c.in_ok-insert.ensures.entries
+    (ranges_more c.args.ranges.now.entries floor end c.args.from c.args.upto c.max.result
+    (let some = c.if-upto-from.false in omega arith) low high (far c) h)
 
 pub returns-then-upto-from-clause-added : goal.returns-then-upto-from-clause-added
 returns-then-upto-from-clause-added c position = none_more c.args.ranges.now.entries c.args.from c.args.upto position c.if-upto-from.true

@@ -4,7 +4,9 @@ use Rattle.streams.proofs.marks.drop_below.Given as goal
 
 abbrev pub invariant-loop-end : goal.invariant-loop-end
 invariant-loop-end l = record {
-  same : (position : ℕ) → l.snd_una ≤ position → (in_ranges l.ranges.entries position || nat_lt position l.far) ≡ (in_ranges l.initial.ranges.entries position || nat_lt position l.reached);
+  same : (position : ℕ) → l.snd_una ≤ position
+      → (in_ranges l.ranges.entries position || nat_lt position l.far)
+      ≡ (in_ranges l.initial.ranges.entries position || nat_lt position l.reached);
   below : (floor end : ℕ) → AreRanges floor end l.initial.ranges.entries → l.reached ≤ end → AreRanges floor end l.ranges.entries × (l.far ≤ end);
 }
 

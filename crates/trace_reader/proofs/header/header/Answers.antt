@@ -1,7 +1,8 @@
 use Rattle.std.proofs.Common.{refl}
 use Rattle.std.proofs.lemmas.Result.{err_from_is_err_and}
 use Rattle.trace_reader.specs.Headers.{first_line, late_lines}
-use Rattle.trace_reader.proofs.HeaderLaw.{skew_line, msl_line, grain_line, minrto_line, extra_line, with_first, with_skew, with_msl, with_grain, with_minrto, with_extra, with_late}
+use Rattle.trace_reader.proofs.HeaderLaw.{skew_line, msl_line, grain_line, minrto_line, extra_line, with_first}
+use Rattle.trace_reader.proofs.HeaderLaw.{with_skew, with_msl, with_grain, with_minrto, with_extra, with_late}
 use Rattle.trace_reader.proofs.HeaderReads.{is_header, value_then, value_not, value_last}
 use Rattle.trace_reader.proofs.header.header.Goals as goal
 
@@ -48,7 +49,8 @@ returns-in_err-minrto-clause-header g c =
     (value_then skew_line (with_skew c.in_ok-version.version) _ _ _ c.in_ok-skew.skew _ c.in_ok-skew.ensures.value
     (value_then msl_line (with_msl c.in_ok-version.version c.in_ok-skew.skew) _ _ _ c.in_ok-msl.msl _ c.in_ok-msl.ensures.value
     (value_then grain_line (with_grain c.in_ok-version.version c.in_ok-skew.skew c.in_ok-msl.msl) _ _ _ c.in_ok-grain.grain _ c.in_ok-grain.ensures.value
-    (value_not minrto_line (with_minrto c.in_ok-version.version c.in_ok-skew.skew c.in_ok-msl.msl c.in_ok-grain.grain) _ _ c.in_err-minrto.field-0.0 c.in_err-minrto.ensures.value))))))
+    (value_not minrto_line (with_minrto c.in_ok-version.version c.in_ok-skew.skew c.in_ok-msl.msl c.in_ok-grain.grain) _
+    _ c.in_err-minrto.field-0.0 c.in_err-minrto.ensures.value))))))
 
 pub returns-in_err-extra-clause-header : goal.returns-in_err-extra-clause-header
 returns-in_err-extra-clause-header g c =
@@ -59,8 +61,10 @@ returns-in_err-extra-clause-header g c =
     (value_then skew_line (with_skew c.in_ok-version.version) _ _ _ c.in_ok-skew.skew _ c.in_ok-skew.ensures.value
     (value_then msl_line (with_msl c.in_ok-version.version c.in_ok-skew.skew) _ _ _ c.in_ok-msl.msl _ c.in_ok-msl.ensures.value
     (value_then grain_line (with_grain c.in_ok-version.version c.in_ok-skew.skew c.in_ok-msl.msl) _ _ _ c.in_ok-grain.grain _ c.in_ok-grain.ensures.value
-    (value_then minrto_line (with_minrto c.in_ok-version.version c.in_ok-skew.skew c.in_ok-msl.msl c.in_ok-grain.grain) _ _ _ c.in_ok-minrto.minrto _ c.in_ok-minrto.ensures.value
-    (value_not extra_line (with_extra c.in_ok-version.version c.in_ok-skew.skew c.in_ok-msl.msl c.in_ok-grain.grain c.in_ok-minrto.minrto) _ _ c.in_err-extra.field-0.0 c.in_err-extra.ensures.value)))))))
+    (value_then minrto_line (with_minrto c.in_ok-version.version c.in_ok-skew.skew c.in_ok-msl.msl c.in_ok-grain.grain)
+    _ _ _ c.in_ok-minrto.minrto _ c.in_ok-minrto.ensures.value
+    (value_not extra_line (with_extra c.in_ok-version.version c.in_ok-skew.skew c.in_ok-msl.msl c.in_ok-grain.grain
+    c.in_ok-minrto.minrto) _ _ c.in_err-extra.field-0.0 c.in_err-extra.ensures.value)))))))
 
 pub returns-in_err-late-clause-header : goal.returns-in_err-late-clause-header
 returns-in_err-late-clause-header g c =
@@ -71,9 +75,13 @@ returns-in_err-late-clause-header g c =
     (value_then skew_line (with_skew c.in_ok-version.version) _ _ _ c.in_ok-skew.skew _ c.in_ok-skew.ensures.value
     (value_then msl_line (with_msl c.in_ok-version.version c.in_ok-skew.skew) _ _ _ c.in_ok-msl.msl _ c.in_ok-msl.ensures.value
     (value_then grain_line (with_grain c.in_ok-version.version c.in_ok-skew.skew c.in_ok-msl.msl) _ _ _ c.in_ok-grain.grain _ c.in_ok-grain.ensures.value
-    (value_then minrto_line (with_minrto c.in_ok-version.version c.in_ok-skew.skew c.in_ok-msl.msl c.in_ok-grain.grain) _ _ _ c.in_ok-minrto.minrto _ c.in_ok-minrto.ensures.value
-    (value_then extra_line (with_extra c.in_ok-version.version c.in_ok-skew.skew c.in_ok-msl.msl c.in_ok-grain.grain c.in_ok-minrto.minrto) _ _ _ c.in_ok-extra.field-0 _ c.in_ok-extra.ensures.value
-    (value_not (late_lines c.in_ok-version.version) (with_late c.in_ok-skew.skew c.in_ok-msl.msl c.in_ok-grain.grain c.in_ok-minrto.minrto c.in_ok-extra.field-0) _ _ c.in_err-late.field-0.0 c.in_err-late.ensures.value))))))))
+    (value_then minrto_line (with_minrto c.in_ok-version.version c.in_ok-skew.skew c.in_ok-msl.msl c.in_ok-grain.grain)
+    _ _ _ c.in_ok-minrto.minrto _ c.in_ok-minrto.ensures.value
+    (value_then extra_line (with_extra c.in_ok-version.version c.in_ok-skew.skew c.in_ok-msl.msl c.in_ok-grain.grain
+    c.in_ok-minrto.minrto) _ _ _ c.in_ok-extra.field-0 _ c.in_ok-extra.ensures.value
+    (value_not (late_lines c.in_ok-version.version)
+    (with_late c.in_ok-skew.skew c.in_ok-msl.msl c.in_ok-grain.grain c.in_ok-minrto.minrto
+    c.in_ok-extra.field-0) _ _ c.in_err-late.field-0.0 c.in_err-late.ensures.value))))))))
 
 pub returns-clause-header : goal.returns-clause-header
 returns-clause-header g c =
@@ -82,6 +90,10 @@ returns-clause-header g c =
     (value_then skew_line (with_skew c.in_ok-version.version) _ _ _ c.in_ok-skew.skew _ c.in_ok-skew.ensures.value
     (value_then msl_line (with_msl c.in_ok-version.version c.in_ok-skew.skew) _ _ _ c.in_ok-msl.msl _ c.in_ok-msl.ensures.value
     (value_then grain_line (with_grain c.in_ok-version.version c.in_ok-skew.skew c.in_ok-msl.msl) _ _ _ c.in_ok-grain.grain _ c.in_ok-grain.ensures.value
-    (value_then minrto_line (with_minrto c.in_ok-version.version c.in_ok-skew.skew c.in_ok-msl.msl c.in_ok-grain.grain) _ _ _ c.in_ok-minrto.minrto _ c.in_ok-minrto.ensures.value
-    (value_then extra_line (with_extra c.in_ok-version.version c.in_ok-skew.skew c.in_ok-msl.msl c.in_ok-grain.grain c.in_ok-minrto.minrto) _ _ _ c.in_ok-extra.field-0 _ c.in_ok-extra.ensures.value
-    (value_last (late_lines c.in_ok-version.version) (with_late c.in_ok-skew.skew c.in_ok-msl.msl c.in_ok-grain.grain c.in_ok-minrto.minrto c.in_ok-extra.field-0) _ _ c.in_ok-late.late _ (λ rest. refl) c.in_ok-late.ensures.value)))))))
+    (value_then minrto_line (with_minrto c.in_ok-version.version c.in_ok-skew.skew c.in_ok-msl.msl c.in_ok-grain.grain)
+    _ _ _ c.in_ok-minrto.minrto _ c.in_ok-minrto.ensures.value
+    (value_then extra_line (with_extra c.in_ok-version.version c.in_ok-skew.skew c.in_ok-msl.msl c.in_ok-grain.grain
+    c.in_ok-minrto.minrto) _ _ _ c.in_ok-extra.field-0 _ c.in_ok-extra.ensures.value
+    (value_last (late_lines c.in_ok-version.version)
+    (with_late c.in_ok-skew.skew c.in_ok-msl.msl c.in_ok-grain.grain c.in_ok-minrto.minrto
+    c.in_ok-extra.field-0) _ _ c.in_ok-late.late _ (λ rest. refl) c.in_ok-late.ensures.value)))))))

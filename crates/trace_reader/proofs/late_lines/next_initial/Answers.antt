@@ -13,4 +13,6 @@ unfolding next_value
 returns-in_err-require_line-clause-value g c =
     let p = err_from_is_err_and c.from_residual.result c.from_residual.ensures.1 in
     rw (p.1, p.2)
-    (reads_text with_rest 7 (value_line 7 (codes "initial") initial_field) (value_begins 7 (codes "initial") initial_field) _ _ c.in_err-require_line.field-0.0 (λ e is. c.require_line.ensures.fault e (c.in_err-require_line.was ∙ ap (λ (f : SourceFault). Err f) is)))
+    (reads_text with_rest 7 (value_line 7 (codes "initial") initial_field)
+    (value_begins 7 (codes "initial") initial_field) _ _ c.in_err-require_line.field-0.0
+    (λ e is. c.require_line.ensures.fault e (c.in_err-require_line.was ∙ ap (λ (f : SourceFault). Err f) is)))

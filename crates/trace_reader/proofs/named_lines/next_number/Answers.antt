@@ -14,4 +14,6 @@ returns-in_err-require_line-clause-value g c =
     let a = c.args in
     let p = err_from_is_err_and c.from_residual.result c.from_residual.ensures.1 in
     rw (p.1, p.2)
-    (reads_text with_rest a.number (value_line a.number a.name.now (number_field a.least a.most)) (value_begins a.number a.name.now (number_field a.least a.most)) _ _ c.in_err-require_line.field-0.0 (λ e is. c.require_line.ensures.fault e (c.in_err-require_line.was ∙ ap (λ (f : SourceFault). Err f) is)))
+    (reads_text with_rest a.number (value_line a.number a.name.now (number_field a.least a.most))
+    (value_begins a.number a.name.now (number_field a.least a.most)) _ _ c.in_err-require_line.field-0.0
+    (λ e is. c.require_line.ensures.fault e (c.in_err-require_line.was ∙ ap (λ (f : SourceFault). Err f) is)))

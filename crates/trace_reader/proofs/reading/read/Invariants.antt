@@ -12,7 +12,9 @@ abbrev pub invariant-loop-lines : goal.invariant-loop-lines
 invariant-loop-lines l = record {
   well : fault_of l.reader ≡ None;
   begun : IsBegun l.reader;
-  whole : trace_of l.text ≡ with_header l.header (with_front l.lines (read_lines (line_of (version_of l.reader)) behind (place_of l.reader) (lines_of l.reader.source.inner.now)));
+  whole : trace_of l.text ≡ with_header l.header
+      (with_front l.lines (read_lines (line_of (version_of l.reader)) behind (place_of l.reader)
+      (lines_of l.reader.source.inner.now)));
 }
 
 abbrev pub decreases-loop-lines : goal.decreases-loop-lines

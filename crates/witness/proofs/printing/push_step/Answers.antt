@@ -8,4 +8,6 @@ use Rattle.witness.proofs.printing.push_step.Goals as goal
 pub returns : goal.returns
 returns c =
     let written = c.in_ok-push_label.ensures ∙ ap (λ (x : List ℕ). x ++ printed_behind (label_pieces c.args.step.now.label)) c.in_ok-push_number.ensures in
-    subst (λ (x : List ℕ). OnOk c.push_end.result (c.push_end.new.out.items ≡ x)) (ap (λ (x : List ℕ). x ++ 10 ∷ []) written ∙ writes_line c.args.out.now.items c.args.step.now) c.push_end.ensures
+    subst (λ (x : List ℕ). OnOk c.push_end.result (c.push_end.new.out.items ≡ x))
+    (ap (λ (x : List ℕ). x ++ 10 ∷ []) written ∙ writes_line c.args.out.now.items c.args.step.now)
+    c.push_end.ensures

@@ -10,7 +10,14 @@ use Rattle.witness.proofs.reading.read.Goals as goal
 pub loop-steps-init : goal.loop-steps-init
 loop-steps-init c = record {
   well = c.new-reader.ensures.open;
-  whole = rw (c.new-steps.ensures, c.new-reader.ensures.fresh, c.new-reader.ensures.version, c.new-reader.ensures.source, c.new.ensures.inner) (whole_begins c.args.version c.args.text.now);
+  whole =
+      rw (
+        c.new-steps.ensures,
+        c.new-reader.ensures.fresh,
+        c.new-reader.ensures.version,
+        c.new-reader.ensures.source,
+        c.new.ensures.inner,
+      ) (whole_begins c.args.version c.args.text.now);
 }
 
 pub returns-in_err-step : goal.returns-in_err-step
@@ -18,7 +25,8 @@ returns-in_err-step c =
     let loop = c.loop-steps.invariant in
     let p = err_from_is_err_and c.from_residual.result c.from_residual.ensures.1 in
     let fails = text_fault c.in_err-step.field-0.0 p.0 (witness_for c.args.version c.args.text.now) p.2
-    (λ d is. whole_fails (witness_for c.args.version c.args.text.now) c.loop-steps.steps _ d loop.whole (c.next.ensures.fault d loop.well (c.in_err-step.was ∙ ap (λ (f : SourceFault). Err f) is))) in
+    (λ d is. whole_fails (witness_for c.args.version c.args.text.now) c.loop-steps.steps _ d loop.whole
+    (c.next.ensures.fault d loop.well (c.in_err-step.was ∙ ap (λ (f : SourceFault). Err f) is))) in
     rw p.1 fails
 
 pub loop-steps-preserved : goal.loop-steps-preserved
@@ -26,7 +34,10 @@ loop-steps-preserved c =
     let loop = c.loop-steps.invariant in
     record {
       well = c.in_ok-step.ensures.open;
-      whole = rw c.in_ok-push.ensures.ok (whole_on (steps_of (witness_for c.args.version c.args.text.now)) c.loop-steps.steps c.in-Some.step _ _ loop.whole (rw c.in-Some.is at (c.in_ok-step.ensures.next loop.well)));
+      whole =
+          rw c.in_ok-push.ensures.ok (whole_on
+          (steps_of (witness_for c.args.version c.args.text.now)) c.loop-steps.steps c.in-Some.step _ _ loop.whole
+          (rw c.in-Some.is at (c.in_ok-step.ensures.next loop.well)));
     }
 
 pub returns : goal.returns

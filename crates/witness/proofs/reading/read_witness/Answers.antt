@@ -8,7 +8,9 @@ pub returns-clause-found : goal.returns-clause-found
 returns-clause-found c = is_some c.version_named.result c.args.text.now c.read.result c.read.ensures
 
 pub returns-clause-only : goal.returns-clause-only
-returns-clause-only c = λ w spelled. subst (λ f. Gives (λ w. w) c.read.result f) (some_again w c.args.text.now spelled) (rw c.version_named.ensures at c.read.ensures)
+returns-clause-only c =
+    λ w spelled. subst (λ f. Gives (λ w. w) c.read.result f) (some_again w c.args.text.now spelled)
+    (rw c.version_named.ensures at c.read.ensures)
 
 pub returns-clause-limits : goal.returns-clause-limits
 returns-clause-limits c = is_limited c.version_named.result c.args.text.now c.read.result c.read.ensures

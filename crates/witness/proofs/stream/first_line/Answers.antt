@@ -11,12 +11,20 @@ pub returns-in_err-require_line-clause-line : goal.returns-in_err-require_line-c
 returns-in_err-require_line-clause-line g c =
     let p = err_from_is_err_and c.from_residual.result c.from_residual.ensures.1 in
     rw (p.1, p.2)
-    (reads_text rest_alone 1 (expect_line 1 (first_text c.args.version)) (exact_begins 1 (first_text c.args.version)) _ _ c.in_err-require_line.field-0.0 (λ e is. c.require_line.ensures.fault e (c.in_err-require_line.was ∙ ap (λ (f : SourceFault). Err f) is)))
+    (reads_text rest_alone 1 (expect_line 1 (first_text c.args.version))
+    (exact_begins 1 (first_text c.args.version)) _ _ c.in_err-require_line.field-0.0
+    (λ e is. c.require_line.ensures.fault e (c.in_err-require_line.was ∙ ap (λ (f : SourceFault). Err f) is)))
 
 pub returns-in_err-expect_line-clause-line : goal.returns-in_err-expect_line-clause-line
 returns-in_err-expect_line-clause-line g c =
     let p = err_from_is_err_and c.from_residual-in_err-expect_line.result c.from_residual-in_err-expect_line.ensures.1 in
-    rw (p.1, p.2) (reads_fault rest_alone 1 (expect_line 1 (first_text c.args.version)) _ _ c.require_line.new.line.items c.in_err-expect_line.field-0.0 c.in_ok-require_line.ensures.line (rw (c.as_slice.ensures.value, c.first_text.ensures) at c.in_err-expect_line.ensures))
+    rw (p.1, p.2) (reads_fault rest_alone 1
+    (expect_line 1 (first_text c.args.version)) _ _ c.require_line.new.line.items c.in_err-expect_line.field-0.0
+    c.in_ok-require_line.ensures.line
+    (rw (c.as_slice.ensures.value, c.first_text.ensures) at c.in_err-expect_line.ensures))
 
 pub returns-clause-line : goal.returns-clause-line
-returns-clause-line g c = reads_value rest_alone 1 (expect_line 1 (first_text c.args.version)) _ _ c.require_line.new.line.items tt c.in_ok-require_line.ensures.line (rw (c.as_slice.ensures.value, c.first_text.ensures) at c.in_ok-expect_line.ensures)
+returns-clause-line g c =
+    reads_value rest_alone 1 (expect_line 1 (first_text c.args.version)) _ _ c.require_line.new.line.items tt
+    c.in_ok-require_line.ensures.line
+    (rw (c.as_slice.ensures.value, c.first_text.ensures) at c.in_ok-expect_line.ensures)

@@ -6,10 +6,23 @@ use Rattle.endpoint_state.proofs.Keeps.{indexed_at, keeps_accepted}
 use Rattle.endpoint_state.proofs.endpoints.Endpoints.accept.Goals as goal
 
 pub invariant_of-self : goal.invariant_of-self
-invariant_of-self c = indexed_at (find_ports c.self.inside.places.entries) (is_child_in c.self.inside.children.entries) c.self.inside.all.items c.args.self.now c.args.place c.index_mut.result.now c.accept.new.endpoint (λ (e : Endpoint). let accepted : Endpoint = record e { listener = None } in accepted) c.self.invariant c.self.view_is c.requires (let ok = c.self.inside.all.ok in let len = c.len.ensures in let less = c.if-place-len.true in omega arith) c.index_mut.ensures.value c.accept.ensures keeps_accepted
+invariant_of-self c =
+    indexed_at (find_ports c.self.inside.places.entries)
+    (is_child_in c.self.inside.children.entries) c.self.inside.all.items c.args.self.now c.args.place
+    c.index_mut.result.now c.accept.new.endpoint
+    (λ (e : Endpoint). let accepted : Endpoint = record e { listener = None } in accepted) c.self.invariant
+    c.self.view_is c.requires (let ok = c.self.inside.all.ok in let len = c.len.ensures in
+    let less = c.if-place-len.true in omega arith) c.index_mut.ensures.value c.accept.ensures keeps_accepted
 
 pub returns-then-place-len : goal.returns-then-place-len
-returns-then-place-len c = changed_at c.self.inside.all.items c.args.self.now c.args.place c.index_mut.result.now c.accept.new.endpoint (λ (e : Endpoint). let accepted : Endpoint = record e { listener = None } in accepted) c.self.view_is c.requires (let ok = c.self.inside.all.ok in let len = c.len.ensures in let less = c.if-place-len.true in omega arith) c.index_mut.ensures.value c.accept.ensures
+returns-then-place-len c =
+    changed_at c.self.inside.all.items c.args.self.now c.args.place c.index_mut.result.now c.accept.new.endpoint
+    (λ (e : Endpoint). let accepted : Endpoint = record e { listener = None } in accepted) c.self.view_is c.requires
+    (let ok = c.self.inside.all.ok in let len = c.len.ensures in let less = c.if-place-len.true in omega arith)
+    c.index_mut.ensures.value c.accept.ensures
 
 pub returns-else-place-len : goal.returns-else-place-len
-returns-else-place-len c = changed_past c.self.inside.all.items c.args.self.now c.args.place (λ (e : Endpoint). let accepted : Endpoint = record e { listener = None } in accepted) c.self.view_is c.requires (let ok = c.self.inside.all.ok in let len = c.len.ensures in let past = c.if-place-len.false in omega arith)
+returns-else-place-len c =
+    changed_past c.self.inside.all.items c.args.self.now c.args.place
+    (λ (e : Endpoint). let accepted : Endpoint = record e { listener = None } in accepted) c.self.view_is c.requires
+    (let ok = c.self.inside.all.ok in let len = c.len.ensures in let past = c.if-place-len.false in omega arith)

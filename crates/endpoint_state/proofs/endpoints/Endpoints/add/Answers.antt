@@ -11,5 +11,10 @@ invariant_of-self-in_err-insert c = rw (c.reserve.ensures.items, c.in_err-insert
 
 pub invariant_of-self-2 : goal.invariant_of-self-2
 invariant_of-self-2 c = rw (c.push_reserved.ensures.items, c.reserve.ensures.items)
-    (indexed_push _ _ c.self.inside.all.items c.self.invariant (find_ports c.insert.new.self.entries) (is_child_in c.add_child.new.children.entries) c.args.endpoint c.len-place.result (let ok = c.self.inside.all.ok in omega arith)
-    (λ l r. c.in_ok-insert.ensures.updates.0 (l, r) ∙ ap (λ (b : Bool). cond b (Some c.len-place.result) (find_ports c.self.inside.places.entries l r)) (at_ports c.args.endpoint.lport c.args.endpoint.rport l r)) c.add_child.ensures.kept c.in_ok-add_child.ensures.added)
+    (indexed_push _ _ c.self.inside.all.items c.self.invariant (find_ports c.insert.new.self.entries)
+    (is_child_in c.add_child.new.children.entries) c.args.endpoint c.len-place.result
+    (let ok = c.self.inside.all.ok in omega arith)
+    (λ l r. c.in_ok-insert.ensures.updates.0 (l, r)
+    ∙ ap (λ (b : Bool). cond b (Some c.len-place.result) (find_ports c.self.inside.places.entries l r))
+    (at_ports c.args.endpoint.lport c.args.endpoint.rport l r)) c.add_child.ensures.kept
+    c.in_ok-add_child.ensures.added)

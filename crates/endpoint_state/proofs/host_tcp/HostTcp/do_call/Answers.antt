@@ -15,4 +15,6 @@ deliver-requires-clause-waiting c =
 pub returns-in-Connect-Given-clause-ok : goal.returns-in-Connect-Given-clause-ok
 returns-in-Connect-Given-clause-ok c =
     rw (c.in-Connect-Given.is-0, c.in-Connect-Given.is-1)
-    (on_ok c.connect.result _ _ (λ is. is ∙ opened c.args.profile c.args.self.now c.in-Connect-Given.number c.in-Connect-Given.lport c.in-Connect-Given.rport c.requires.kept) c.connect.ensures.ok)
+    (on_ok c.connect.result _ _ (λ is.
+    is ∙ opened c.args.profile c.args.self.now c.in-Connect-Given.number c.in-Connect-Given.lport
+    c.in-Connect-Given.rport c.requires.kept) c.connect.ensures.ok)

@@ -15,6 +15,7 @@ orphan-requires c = subst (λ (es : List Endpoint). All HasRoom es) (sym (ap (λ
 
 pub returns : goal.returns
 returns c = body_is c.orphan.new.self _ c.close.new.self _ c.retire.new.sockets.entries _
-    (c.orphan.ensures ∙ (ap (λ (b : HostTcp). map (orphaned c.args.place) b.endpoints) c.self.view_is ∙ sym (orphans_forgotten c.args.place c.args.self.now.endpoints c.requires)))
+    (c.orphan.ensures ∙ (ap (λ (b : HostTcp). map (orphaned c.args.place) b.endpoints) c.self.view_is
+    ∙ sym (orphans_forgotten c.args.place c.args.self.now.endpoints c.requires)))
     (c.close.ensures ∙ ap (λ (b : HostTcp). modify b.listeners c.args.place (λ x. let y : Listener = record x { is_open = false } in y)) c.self.view_is)
     (c.retire.ensures ∙ ap (λ (b : HostTcp). dead b.sockets c.args.number) c.self.view_is)

@@ -6,4 +6,6 @@ use Rattle.endpoint_state.proofs.listeners.Listeners.close.Goals as goal
 
 pub invariant_of-self : goal.invariant_of-self
 invariant_of-self c = rw c.close_at.ensures
-    (listening_modify (λ p. lookup (nat_eq p) c.self.inside.places.entries) c.self.inside.all.items c.self.invariant c.args.place (λ (x : Listener). let y : Listener = record x { is_open = false } in y) (λ x. refl) (λ x opened. absurd cc))
+    (listening_modify (λ p. lookup (nat_eq p) c.self.inside.places.entries) c.self.inside.all.items c.self.invariant
+    c.args.place (λ (x : Listener). let y : Listener = record x { is_open = false } in y) (λ x. refl)
+    (λ x opened. absurd cc))

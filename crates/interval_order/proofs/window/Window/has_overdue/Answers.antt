@@ -6,4 +6,6 @@ use Rattle.interval_order.proofs.EntryLemmas.{any_is_found}
 use Rattle.interval_order.proofs.window.Window.has_overdue.Goals as goal
 
 pub returns : goal.returns
-returns c = c.is_some.ensures ∙ ap is_some c.overdue.ensures.first ∙ any_is_found (λ (e : ℕ × Line). e.0) (is_overdue c.args.self.now c.args.moment) c.args.self.now.held
+returns c =
+    c.is_some.ensures ∙ ap is_some c.overdue.ensures.first
+    ∙ any_is_found (λ (e : ℕ × Line). e.0) (is_overdue c.args.self.now c.args.moment) c.args.self.now.held

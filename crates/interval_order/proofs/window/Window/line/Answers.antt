@@ -17,7 +17,8 @@ pub returns-in-Some-clause-second : goal.returns-in-Some-clause-second
 returns-in-Some-clause-second c =
     let w = c.in-Some.waiting.now in
     c.is_held.ensures
-    ∙ earlier_is c.self.inside.waiting.entries w.line.thread c.args.number w.previous c.self.invariant.ordered (c.self.invariant.linked.previous _ _ (sym c.in-Some.ensures))
+    ∙ earlier_is c.self.inside.waiting.entries w.line.thread c.args.number w.previous c.self.invariant.ordered
+    (c.self.invariant.linked.previous _ _ (sym c.in-Some.ensures))
     ∙ ap (λ (o : Order). has_earlier o c.args.number w.line.thread) c.self.view_is
 
 pub returns-in-None-clause-line : goal.returns-in-None-clause-line

@@ -18,10 +18,13 @@ is_none_or (Some line) absent some = cc
 
 pub invariant_of-self : goal.invariant_of-self
 invariant_of-self c =
-    let none = subst (λ (o : Order). thread_order o (taking c.args.moment c.args.line c.args.extras).take ≡ false) (sym c.self.view_is) c.in_ok-admit.ensures.first in
+    let none =
+    subst (λ (o : Order). thread_order o (taking c.args.moment c.args.line c.args.extras).take ≡ false)
+    (sym c.self.view_is) c.in_ok-admit.ensures.first in
     let at = sym c.in-Some.ensures.item in
     rw (c.take.ensures.next, c.take.ensures.entries)
-    (sound_without c.self.inside.waiting.entries c.self.inside.waiting.next c.args.line (latest_in c.self.inside.latest.entries) c.in-Some.waiting c.self.invariant at
+    (sound_without c.self.inside.waiting.entries c.self.inside.waiting.next c.args.line
+    (latest_in c.self.inside.latest.entries) c.in-Some.waiting c.self.invariant at
     (none_earlier c.self.inside.waiting.entries c.args.line c.in-Some.waiting at none))
 
 pub unreachable-requires : goal.unreachable-requires
@@ -47,4 +50,6 @@ returns-clause-ok c =
 pub returns-clause-gone : goal.returns-clause-gone
 returns-clause-gone c =
     rw c.take.ensures.entries
-    (ap (λ (es : List (ℕ × Line)). lookup (nat_eq c.args.line) es) (lines_without c.args.line c.self.inside.waiting.entries) ∙ gone_line c.args.line (lines_of c.self.inside.waiting.entries))
+    (ap (λ (es : List (ℕ × Line)). lookup (nat_eq c.args.line) es)
+    (lines_without c.args.line c.self.inside.waiting.entries)
+    ∙ gone_line c.args.line (lines_of c.self.inside.waiting.entries))

@@ -3,10 +3,13 @@ use Rattle.std.proofs.lemmas.Fmt.{decimal_injective}
 use Rattle.line_fields.specs.WordView.{word_of}
 use Rattle.line_fields.proofs.Decimals.{number_value-in, number_value-out, filled}
 use Rattle.line_fields.proofs.fields.Token.number.Goals as goal
-use Rattle.line_fields.proofs.fields.Token.number.Goals.{in_default-via-in-Some+then-least-n+else-n-most, in_default-via-in-Some+else-least-n, in_default-via-in_default}
+use Rattle.line_fields.proofs.fields.Token.number.Goals.{in_default-via-in-Some+then-least-n+else-n-most}
+use Rattle.line_fields.proofs.fields.Token.number.Goals.{in_default-via-in-Some+else-least-n, in_default-via-in_default}
 
 pub returns-in-Some-clause-value : goal.returns-in-Some-clause-value
-returns-in-Some-clause-value c = number_value-in c.args.least c.args.most c.in-Some.n (word_of c.args.self.now) (omega arith) c.in-Some.ensures.found c.if-least-n.true c.if-n-most.true
+returns-in-Some-clause-value c =
+    number_value-in c.args.least c.args.most c.in-Some.n (word_of c.args.self.now)
+    (omega arith) c.in-Some.ensures.found c.if-least-n.true c.if-n-most.true
 
 pub returns-in_default-clause-value : goal.returns-in_default-clause-value
 returns-in_default-clause-value c =

@@ -10,5 +10,7 @@ use Rattle.stack_core.proofs.host_core.HostCore.affected_at.Goals as goal
 pub returns : goal.returns
 returns c =
     let r = c.self.inside.recording in
-    c.affected_at.ensures ∙ ap affected_at (c.place_of.ensures ∙ ap (λ (b : HostTcp). place_of b c.args.lport c.args.rport) c.body.ensures ∙ place-forget (pick (world_left r).hosts r.me).body c.args.lport c.args.rport
+    c.affected_at.ensures ∙ ap affected_at
+    (c.place_of.ensures ∙ ap (λ (b : HostTcp). place_of b c.args.lport c.args.rport) c.body.ensures
+    ∙ place-forget (pick (world_left r).hosts r.me).body c.args.lport c.args.rport
     ∙ ap (λ (k : Core). place_of (own_body k) c.args.lport c.args.rport) c.self.view_is)

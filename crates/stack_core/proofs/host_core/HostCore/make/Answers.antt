@@ -6,4 +6,7 @@ use Rattle.stack_core.proofs.OutgoingLemmas.{made_waits}
 use Rattle.stack_core.proofs.host_core.HostCore.make.Goals as goal
 
 pub returns-clause-waits : goal.returns-clause-waits
-returns-clause-waits c = made_waits c.args.self.now c.add.new.self c.args.plan c.requires.permitted c.requires.short (c.in_ok-add.ensures.ok ∙ ap (λ (h : Host). with_step c.args.self.now (At h (Makes c.args.plan))) c.me-host.ensures)
+returns-clause-waits c =
+    made_waits c.args.self.now c.add.new.self c.args.plan c.requires.permitted c.requires.short
+    (c.in_ok-add.ensures.ok ∙ ap (λ (h : Host). with_step c.args.self.now (At h (Makes c.args.plan)))
+    c.me-host.ensures)

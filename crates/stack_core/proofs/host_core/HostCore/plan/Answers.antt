@@ -9,11 +9,15 @@ use Rattle.stack_core.proofs.host_core.HostCore.plan.Goals as goal
 
 pub returns-clause-some : goal.returns-clause-some
 returns-clause-some c = plan_whole c.forgetting_is_free.ensures c.world.result.now c.args.self.now.recorded c.me.result
-    (c.world.ensures.header ∙ ap (λ (k : Core). k.recorded.header) c.self.view_is) (c.world.ensures.world ∙ ap (λ (k : Core). forget (world k)) c.self.view_is) (c.me.ensures ∙ ap (λ (k : Core). k.recorded.me) c.self.view_is) c.find_plan.result c.find_plan.ensures.some
+    (c.world.ensures.header ∙ ap (λ (k : Core). k.recorded.header) c.self.view_is)
+    (c.world.ensures.world ∙ ap (λ (k : Core). forget (world k)) c.self.view_is)
+    (c.me.ensures ∙ ap (λ (k : Core). k.recorded.me) c.self.view_is) c.find_plan.result c.find_plan.ensures.some
 
 pub returns-clause-none : goal.returns-clause-none
 returns-clause-none c = none_whole c.forgetting_is_free.ensures c.world.result.now c.args.self.now.recorded c.me.result
-    (c.world.ensures.header ∙ ap (λ (k : Core). k.recorded.header) c.self.view_is) (c.world.ensures.world ∙ ap (λ (k : Core). forget (world k)) c.self.view_is) (c.me.ensures ∙ ap (λ (k : Core). k.recorded.me) c.self.view_is) c.find_plan.result c.find_plan.ensures.none
+    (c.world.ensures.header ∙ ap (λ (k : Core). k.recorded.header) c.self.view_is)
+    (c.world.ensures.world ∙ ap (λ (k : Core). forget (world k)) c.self.view_is)
+    (c.me.ensures ∙ ap (λ (k : Core). k.recorded.me) c.self.view_is) c.find_plan.result c.find_plan.ensures.none
 
 pub find_plan-requires-clause-quiet : goal.find_plan-requires-clause-quiet
 find_plan-requires-clause-quiet c = subst (λ (es : List Endpoint). AreQuiet c.self.inside.ready.looked c.self.inside.ready.entries.keys es)

@@ -4,4 +4,7 @@ use Rattle.stack_core.proofs.TimerLemmas.{expiry_fits}
 use Rattle.stack_core.proofs.host_core.HostCore.record_expiry.Goals as goal
 
 pub add-requires-clause-fits : goal.add-requires-clause-fits
-add-requires-clause-fits c = expiry_fits c.args.self.now c.open.new.self c.args.tick c.line.result c.me.result c.in-Some.due.ports c.in-Some.due.expired (c.open.ensures.opened ∙ ap (λ (k : Core). opened k c.args.tick) c.due.ensures.same) c.me.ensures c.in-Some.ensures.some
+add-requires-clause-fits c =
+    expiry_fits c.args.self.now c.open.new.self c.args.tick c.line.result c.me.result c.in-Some.due.ports
+    c.in-Some.due.expired (c.open.ensures.opened ∙ ap (λ (k : Core). opened k c.args.tick) c.due.ensures.same)
+    c.me.ensures c.in-Some.ensures.some

@@ -11,7 +11,10 @@ use Rattle.stack_core.proofs.Growing.{bring_joins}
 use Rattle.stack_core.proofs.recording.Recording.bring.Goals as goal
 
 pub invariant_of-self-2 : goal.invariant_of-self-2
-invariant_of-self-2 c = bring_joins c.books_grow.ensures.grows c.self.inside.me c.self.inside.world c.bring.new.world (key_of c.self.inside.me c.args.tick) c.args.flying c.self.inside.entries.items c.reserve.new.self.items c.push_reserved.new.self.items
+invariant_of-self-2 c =
+    bring_joins c.books_grow.ensures.grows c.self.inside.me c.self.inside.world c.bring.new.world
+    (key_of c.self.inside.me c.args.tick) c.args.flying c.self.inside.entries.items c.reserve.new.self.items
+    c.push_reserved.new.self.items
     c.self.invariant
     (subst (λ (r : Recorded). Joins r (entry_at r.me c.args.tick (Bring c.args.flying))) (sym c.self.view_is) c.requires.joins)
     (subst (λ (f : Flying tcp_shape). c.bring.new.world ≡ brought c.self.inside.world (other c.self.inside.me) f.line f.emission) c.flying.view_is

@@ -7,4 +7,7 @@ use Rattle.stack_core.proofs.MadeLemmas.{few_kept}
 use Rattle.stack_core.proofs.recording.Recording.few_endpoints.Goals as goal
 
 pub returns : goal.returns
-returns c = subst (λ (r : Recorded). length (forget_body (pick (world_left r).hosts r.me).body).endpoints ≤ steps_in r.entries) c.self.view_is (few_kept c.self.inside.me c.self.inside.world c.self.inside.entries.items c.self.invariant c.is_kept.ensures)
+returns c =
+    subst (λ (r : Recorded). length (forget_body (pick (world_left r).hosts r.me).body).endpoints ≤ steps_in r.entries)
+    c.self.view_is (few_kept c.self.inside.me c.self.inside.world c.self.inside.entries.items c.self.invariant
+    c.is_kept.ensures)

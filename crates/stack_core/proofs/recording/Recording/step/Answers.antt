@@ -8,7 +8,10 @@ use Rattle.stack_core.proofs.Growing.{step_joins}
 use Rattle.stack_core.proofs.recording.Recording.step.Goals as goal
 
 pub invariant_of-self-2 : goal.invariant_of-self-2
-invariant_of-self-2 c = step_joins c.books_grow.ensures.grows c.self.inside.me c.self.inside.world c.apply.new.world c.args.tick.moment (step_of c.args.label) (key_of c.self.inside.me c.args.tick) c.self.inside.entries.items c.reserve.new.self.items c.push_reserved.new.self.items
+invariant_of-self-2 c =
+    step_joins c.books_grow.ensures.grows c.self.inside.me c.self.inside.world c.apply.new.world c.args.tick.moment
+    (step_of c.args.label) (key_of c.self.inside.me c.args.tick) c.self.inside.entries.items c.reserve.new.self.items
+    c.push_reserved.new.self.items
     c.self.invariant
     (subst (λ (r : Recorded). Joins r (entry_at r.me c.args.tick (Do (step_of c.args.label)))) (sym c.self.view_is) c.requires.joins)
     refl c.in-Ok.ensures.ok c.in_ok-reserve.ensures.items c.push_reserved.ensures.items

@@ -12,7 +12,8 @@ pub overflow_sub-at : goal.overflow_sub-at
 overflow_sub-at c = let all = front_gone c.self.inside.gone c.self.inside.cells in let same = ap (λ (r : Receiving). next r) c.self.view_is in omega arith
 
 pub keep-requires-clause-at : goal.keep-requires-clause-at
-keep-requires-clause-at c = let all = front_gone c.self.inside.gone c.self.inside.cells in let same = ap (λ (r : Receiving). next r) c.self.view_is in omega arith
+keep-requires-clause-at c = let all = front_gone c.self.inside.gone c.self.inside.cells in
+    let same = ap (λ (r : Receiving). next r) c.self.view_is in omega arith
 
 pub invariant_of-self-2 : goal.invariant_of-self-2
 invariant_of-self-2 c =
@@ -22,7 +23,9 @@ invariant_of-self-2 c =
     let most = length_front c.self.inside.cells in
     rw c.in_ok-keep.ensures.ok (
       let short = part_short c.self.inside.cells at c.args.bytes.now in
-          keep_long c.self.inside.gone c.args.position (2 ^ 63) c.self.inside.cells (part_kept c.self.inside.cells at c.args.bytes.now) (end_kept c.self.inside.cells at c.args.bytes.now c.args.fin) (omega arith) (omega arith) (omega arith),
+          keep_long c.self.inside.gone c.args.position (2 ^ 63) c.self.inside.cells
+          (part_kept c.self.inside.cells at c.args.bytes.now)
+          (end_kept c.self.inside.cells at c.args.bytes.now c.args.fin) (omega arith) (omega arith) (omega arith),
       λ none. let empty = c.self.invariant.1 none in absurd (omega arith),
     )
 
@@ -34,7 +37,10 @@ returns-clause-ok c =
     let there : c.self.inside.gone + at ≡ c.args.position = omega arith in
     rw c.in_ok-keep.ensures.ok
     (sym (kept_gone c.self.inside.gone at c.self.inside.cells c.args.bytes.now c.args.fin c.self.invariant.1)
-    ∙ (ap (λ n. kept (record { taken = gone_cells c.self.inside.gone ++ c.self.inside.cells; delivered = c.self.inside.gone - 1 }) n c.args.bytes.now c.args.fin) there
+    ∙ (ap (λ n. kept (record {
+      taken = gone_cells c.self.inside.gone ++ c.self.inside.cells;
+      delivered = c.self.inside.gone - 1;
+    }) n c.args.bytes.now c.args.fin) there
     ∙ ap (λ (r : Receiving). kept r c.args.position c.args.bytes.now c.args.fin) c.self.view_is))
 
 pub returns-clause-faded : goal.returns-clause-faded

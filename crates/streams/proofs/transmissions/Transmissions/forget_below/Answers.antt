@@ -18,5 +18,6 @@ returns c =
     let count : c.min-count.result ≡ min (c.args.snd_una - c.self.inside.gone) (length (expand c.self.inside.runs.items)) = omega arith in
     rw c.forget.ensures
     (forgot_marked c.self.inside.marks c.forget_below.new.self c.args.snd_una (replicate c.self.inside.gone (once 0) ++ expand c.self.inside.runs.items) _
-    (covered-gone (once 0) c.self.inside.gone c.args.snd_una c.min-count.result (expand c.self.inside.runs.items) count) (c.forget_below.ensures c.self.inside.end c.self.invariant.2).1
+    (covered-gone (once 0) c.self.inside.gone c.args.snd_una c.min-count.result (expand c.self.inside.runs.items) count)
+    (c.forget_below.ensures c.self.inside.end c.self.invariant.2).1
     ∙ ap (made_below c.args.snd_una) c.self.view_is)

@@ -26,4 +26,5 @@ returns-then-from-upto c = by c.meets.result refl ∙ ap (λ (all : List Transmi
         let inside : found.0 < length base = (let high = found.3 in let end = long in omega arith) in
         is ∙ asked_some (is_marked c.self.inside.marks) c.args.from c.args.upto found.0 base found.1 found.2 inside found.4
     by false is =
-        is ∙ asked_none (is_marked c.self.inside.marks) c.args.from c.args.upto base (c.meets.ensures.none is) (fresh_run c.self.inside.gone 0 (expand c.self.inside.runs.items) (fresh_runs c.self.inside.runs.items))
+        is ∙ asked_none (is_marked c.self.inside.marks) c.args.from c.args.upto base (c.meets.ensures.none is)
+        (fresh_run c.self.inside.gone 0 (expand c.self.inside.runs.items) (fresh_runs c.self.inside.runs.items))

@@ -15,7 +15,11 @@ invariant_of-self-2 g c =
     let ok = c.self.inside.slots.ok in
     let longer = length-append c.self.inside.slots.items (Some c.args.item ∷ []) in
     let more = counted c.self.inside.first c.self.inside.slots.items c.args.item in
-    rw c.in_ok-push_back.ensures.items (omega (arith, more, c.self.invariant.0), omega (arith, next, longer), trimmed_more c.self.inside.slots.items c.args.item c.self.invariant.2)
+    rw c.in_ok-push_back.ensures.items (
+      omega (arith, more, c.self.invariant.0),
+      omega (arith, next, longer),
+      trimmed_more c.self.inside.slots.items c.args.item c.self.invariant.2,
+    )
 
 pub returns-clause-ok : goal.returns-clause-ok
 returns-clause-ok g c = rw c.in_ok-push_back.ensures.items (pushed c.self.inside.first c.self.inside.slots.items c.args.item c.args.self.now c.self.view_is)

@@ -6,7 +6,9 @@ use Rattle.tables.proofs.TableLemmas.{within, found, none_found}
 use Rattle.tables.proofs.table.Table.get.Goals as goal
 
 pub index-requires : goal.index-requires
-index-requires g c = let low = within c.self.inside.entries.items c.args.number c.in-Some.place (sym c.in-Some.ensures) in let ok = c.self.inside.entries.ok in omega arith
+index-requires g c = let low =
+    within c.self.inside.entries.items c.args.number c.in-Some.place (sym c.in-Some.ensures) in
+    let ok = c.self.inside.entries.ok in omega arith
 
 pub returns-in-Some : goal.returns-in-Some
 returns-in-Some g c =

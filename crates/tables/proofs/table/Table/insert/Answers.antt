@@ -24,8 +24,11 @@ returns-in_err-push-clause-absent g c =
 pub invariant_of-self-then-is_above : goal.invariant_of-self-then-is_above
 invariant_of-self-then-is_above g c = (
   subst (λ (es : List (ℕ × g.row.V.Denot)). IsPlaced (Some c.args.number) c.push.new.self.items c.self.inside.index.others.entries es) (sym items)
-      (subst (λ (risen : List (ℕ × ℕ)). IsPlaced (Some c.args.number) risen c.self.inside.index.others.entries (c.self.inside.entries.items ++ (c.args.number, c.args.value) ∷ [])) (sym risen)
-      (placed_risen c.self.inside.index.top c.self.inside.index.risen.items c.self.inside.index.others.entries c.self.inside.entries.items c.self.invariant.0 c.args.number c.args.value
+      (subst (λ (risen : List (ℕ × ℕ)).
+      IsPlaced (Some c.args.number) risen c.self.inside.index.others.entries
+      (c.self.inside.entries.items ++ (c.args.number, c.args.value) ∷ [])) (sym risen)
+      (placed_risen c.self.inside.index.top c.self.inside.index.risen.items c.self.inside.index.others.entries
+      c.self.inside.entries.items c.self.invariant.0 c.args.number c.args.value
       (sym c.is_above.ensures ∙ c.if-is_above.true))),
   subst (λ (es : List (ℕ × g.row.V.Denot)). AreHinted c.add_hint.new.hints.items es) (sym items)
       (All-push (λ e. IsHinted c.add_hint.new.hints.items e.0) c.self.inside.entries.items (c.args.number, c.args.value) same c.add_hint.ensures.new),
@@ -53,11 +56,14 @@ returns-then-is_above-clause-ok g c =
     ∙ ap (λ (t : Table g.row.V.Denot). insert_entry nat_eq t.entries c.args.number c.args.value) c.self.view_is
 
 pub index_mut-requires : goal.index_mut-requires
-index_mut-requires g c = let low = within c.self.inside.entries.items c.args.number c.in-Some.place (sym c.in-Some.ensures) in let ok = c.self.inside.entries.ok in omega arith
+index_mut-requires g c = let low =
+    within c.self.inside.entries.items c.args.number c.in-Some.place (sym c.in-Some.ensures) in
+    let ok = c.self.inside.entries.ok in omega arith
 
 pub invariant_of-self-in-Some : goal.invariant_of-self-in-Some
 invariant_of-self-in-Some g c = (
-  placed_set c.self.inside.index.top c.self.inside.index.risen.items c.self.inside.index.others.entries c.self.inside.entries.items c.self.invariant.0 c.args.number
+  placed_set c.self.inside.index.top c.self.inside.index.risen.items c.self.inside.index.others.entries
+      c.self.inside.entries.items c.self.invariant.0 c.args.number
       c.in-Some.place c.args.value
       (sym c.in-Some.ensures),
   hinted_set c.self.inside.index.hints.items c.self.inside.entries.items c.args.number c.in-Some.place c.args.value c.self.invariant.1 (sym c.in-Some.ensures),
@@ -82,9 +88,12 @@ returns-in_err-insert-clause-absent g c =
 pub invariant_of-self-2 : goal.invariant_of-self-2
 invariant_of-self-2 g c = (
   subst (λ (es : List (ℕ × g.row.V.Denot)). IsPlaced c.self.inside.index.top c.self.inside.index.risen.items c.insert.new.self.entries es) (sym items)
-      (placed_other c.self.inside.index.top c.self.inside.index.risen.items c.self.inside.index.others.entries c.self.inside.entries.items c.self.invariant.0 c.insert.new.self.entries c.args.number c.args.value
+      (placed_other c.self.inside.index.top c.self.inside.index.risen.items c.self.inside.index.others.entries
+      c.self.inside.entries.items c.self.invariant.0 c.insert.new.self.entries c.args.number c.args.value
       (sym c.is_above.ensures ∙ c.if-is_above.false) (sym c.in_default.ensures)
-      (λ q. subst (λ (n : ℕ). lookup (is_at (nat_cmp q)) c.insert.new.self.entries ≡ cond (is_at (nat_cmp c.args.number) q) (Some (Some n)) (lookup (is_at (nat_cmp q)) c.self.inside.index.others.entries))
+      (λ q. subst (λ (n : ℕ). lookup (is_at (nat_cmp q)) c.insert.new.self.entries
+      ≡ cond (is_at (nat_cmp c.args.number) q) (Some (Some n))
+      (lookup (is_at (nat_cmp q)) c.self.inside.index.others.entries))
       count (c.in_ok-insert.ensures.updates.0 q))),
   subst (λ (es : List (ℕ × g.row.V.Denot)). AreHinted c.add_hint-2.new.hints.items es) (sym items)
       (All-push (λ e. IsHinted c.add_hint-2.new.hints.items e.0) c.self.inside.entries.items (c.args.number, c.args.value) same c.add_hint-2.ensures.new),

@@ -8,13 +8,17 @@ use Rattle.tables.proofs.TableLemmas.{within, none_found, placed_set, keyed, cha
 use Rattle.tables.proofs.table.Table.mark.Goals as goal
 
 pub index_mut-requires : goal.index_mut-requires
-index_mut-requires g c = let low = within c.self.inside.entries.items c.args.number c.in-Some.place (sym c.in-Some.ensures) in let ok = c.self.inside.entries.ok in omega arith
+index_mut-requires g c = let low =
+    within c.self.inside.entries.items c.args.number c.in-Some.place (sym c.in-Some.ensures) in
+    let ok = c.self.inside.entries.ok in omega arith
 
 pub invariant_of-self : goal.invariant_of-self
 invariant_of-self g c = (
-  subst (λ (k : ℕ). IsPlaced c.self.inside.index.top c.self.inside.index.risen.items c.self.inside.index.others.entries (slice_set c.self.inside.entries.items c.in-Some.place (k, c.mark.new.self)))
+  subst (λ (k : ℕ). IsPlaced c.self.inside.index.top c.self.inside.index.risen.items c.self.inside.index.others.entries
+      (slice_set c.self.inside.entries.items c.in-Some.place (k, c.mark.new.self)))
       (sym (keyed c.self.inside.entries.items c.args.number c.in-Some.place c.index_mut.result.now at c.index_mut.ensures.value))
-      (placed_set c.self.inside.index.top c.self.inside.index.risen.items c.self.inside.index.others.entries c.self.inside.entries.items c.self.invariant.0 c.args.number c.in-Some.place c.mark.new.self at),
+      (placed_set c.self.inside.index.top c.self.inside.index.risen.items c.self.inside.index.others.entries
+      c.self.inside.entries.items c.self.invariant.0 c.args.number c.in-Some.place c.mark.new.self at),
   subst (λ (k : ℕ). AreHinted c.self.inside.index.hints.items (slice_set c.self.inside.entries.items c.in-Some.place (k, c.mark.new.self)))
       (sym (keyed c.self.inside.entries.items c.args.number c.in-Some.place c.index_mut.result.now at c.index_mut.ensures.value))
       (hinted_set c.self.inside.index.hints.items c.self.inside.entries.items c.args.number c.in-Some.place c.mark.new.self c.self.invariant.1 at),
@@ -26,7 +30,8 @@ invariant_of-self g c = (
 
 pub returns-in-Some : goal.returns-in-Some
 returns-in-Some g c =
-    change_is g.V.Mark.marked c.self.inside.entries.items c.args.number c.in-Some.place c.index_mut.result.now c.mark.new.self (sym c.in-Some.ensures) c.index_mut.ensures.value c.mark.ensures
+    change_is g.V.Mark.marked c.self.inside.entries.items c.args.number c.in-Some.place c.index_mut.result.now
+    c.mark.new.self (sym c.in-Some.ensures) c.index_mut.ensures.value c.mark.ensures
     ∙ ap (λ (t : Table g.row.V.Denot). changed_at g.V.Mark.marked t.entries c.args.number) c.self.view_is
 
 pub returns-in_default : goal.returns-in_default

@@ -14,10 +14,13 @@ returns-in_err-next_line-clause-fault g c = λ e is.
     let made = p.1 in
     let gave = p.2 in
     let same : c.in_err-next_line.field-0.0 ≡ Text e = cc in
-    rw c.requires (next_fails c.args.self.now.version c.args.number _ e (c.next_line.ensures.fault e (c.in_err-next_line.was ∙ ap (λ (f : SourceFault). Err f) same)))
+    rw c.requires (next_fails c.args.self.now.version c.args.number _ e
+    (c.next_line.ensures.fault e (c.in_err-next_line.was ∙ ap (λ (f : SourceFault). Err f) same)))
 
 pub returns-then-not-branch-clause-next : goal.returns-then-not-branch-clause-next
-returns-then-not-branch-clause-next g c = rw c.requires (all_read c.args.self.now.version c.args.number _ _ (c.next_line.ensures.none (c.in_ok-next_line.was ∙ ap (λ b. Ok b) c.if-not-branch.true)))
+returns-then-not-branch-clause-next g c =
+    rw c.requires (all_read c.args.self.now.version c.args.number _ _
+    (c.next_line.ensures.none (c.in_ok-next_line.was ∙ ap (λ b. Ok b) c.if-not-branch.true)))
 
 pub returns-in_err-step-clause-fault : goal.returns-in_err-step-clause-fault
 returns-in_err-step-clause-fault g c = λ e is.
@@ -27,7 +30,8 @@ returns-in_err-step-clause-fault g c = λ e is.
     let gave = p.2 in
     let same : c.in_err-step.field-0.0 ≡ e = cc in
     subst (λ (f : TextFault). FailsLeft f (steps_left g.B.Read.remaining c.args.self.now)) same
-    (rw c.requires (line_fails c.args.self.now.version c.args.number _ _ c.next_line.new.line.items c.in_err-step.field-0.0 took (rw c.as_slice.ensures.value at c.in_err-step.ensures)))
+    (rw c.requires (line_fails c.args.self.now.version c.args.number _ _ c.next_line.new.line.items
+    c.in_err-step.field-0.0 took (rw c.as_slice.ensures.value at c.in_err-step.ensures)))
 
 pub overflow_add-self : goal.overflow_add-self
 overflow_add-self g c = let s = stands c.args.self.now.version _ _ _ c.in_ok-step.ensures in let few = s.few in omega (arith, few)
@@ -35,7 +39,8 @@ overflow_add-self g c = let s = stands c.args.self.now.version _ _ _ c.in_ok-ste
 pub returns-clause-next : goal.returns-clause-next
 returns-clause-next g c =
     let took = c.next_line.ensures.line (c.in_ok-next_line.was ∙ ap (λ b. Ok b) c.if-not-branch.false) in
-    rw c.requires (step_read c.args.self.now.version c.args.number _ _ c.next_line.new.line.items c.in_ok-step.step took (rw c.as_slice.ensures.value at c.in_ok-step.ensures))
+    rw c.requires (step_read c.args.self.now.version c.args.number _ _ c.next_line.new.line.items c.in_ok-step.step took
+    (rw c.as_slice.ensures.value at c.in_ok-step.ensures))
 
 pub returns-clause-place : goal.returns-clause-place
 returns-clause-place g c = (stands c.args.self.now.version _ _ _ c.in_ok-step.ensures, refl)
