@@ -90,7 +90,7 @@ fn event(alloc: Global, version: Version, fields: &mut Fields) -> Result<Event, 
 
 /// The event line with that number in a text of this version, whose bytes are given with the line's end. `before` is
 /// the moment of the event line before it, in microseconds, or 0 if there is none; a moment below it is MomentFalls at
-/// its field. Fields are checked from left to right, and the count of fields last.
+/// its field. Fields are checked from left to right; a field too many is found last.
 #[tactic(auto, unfolding(crate::specs::EventLines::line_of))]
 #[inline(always)]
 pub fn event_line(
