@@ -1,4 +1,4 @@
--- Which endpoints of a host a step may change, beside one that it creates.
+-- Which endpoints of a host a step may change, besides one that it creates.
 use Rattle.std.specs.Prelude.{ℕ, List, [], ◌∷◌, Option, None, Some}
 use Rattle.std.specs.Option.{option_map_or}
 use Rattle.case_forms.specs.declared.calls.Call.{Call}
@@ -29,7 +29,7 @@ abbrev pub affected_target : SocketTarget → Affected
 affected_target (ListenerAt l) = Nobody
 affected_target (EndpointAt i) = Place i
 
--- what goes with what it names: a listener's children
+-- what ends with what it names: a listener's children
 abbrev pub affected_by_end : SocketTarget → Affected
 affected_by_end (ListenerAt l) = All
 affected_by_end (EndpointAt i) = Place i
