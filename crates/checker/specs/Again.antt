@@ -1,4 +1,4 @@
--- What says the same in other words: one trace but for its spans, and two witnesses of one trace.
+-- Traces that are equal except for their spans, and two witnesses of one trace.
 use Rattle.std.specs.Prelude.{◌≡◌, List, [], ◌∷◌, map}
 use Rattle.case_forms.specs.declared.calls.Host.TheVariants.{Zero}
 use Rattle.case_forms.specs.declared.calls.Call.TheVariants as calls
@@ -36,7 +36,7 @@ without_spans t = record t { lines = map placeless t.lines }
 abbrev pub labels_of : Witness → List (Label NamedLine)
 labels_of w = map (λ s. s.label) w.steps
 
--- a trace and two witnesses that do something else, or the same in another order, and are both answered yes
+-- a trace and two witnesses that do different things, or the same in different orders, and both get a yes
 pub record HaveTwo (t : Trace) (v w : Witness) : Type 0 where
   pub trace : IsTrace t
   pub one : IsWitness v
