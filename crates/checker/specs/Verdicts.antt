@@ -59,7 +59,7 @@ abbrev pub verdict_left : List (ℕ × Line) → List Step → Verdict
 verdict_left [] steps = Yes (count_by (λ s. takes_line s.label) steps) (count_by (λ s. not (takes_line s.label)) steps)
 verdict_left (e ∷ left) steps = No 0 e.0 Unplaced
 
--- a rule that a step broke, with the number of the step's line, which comes after the witness's first line; or else
+-- no with the rule that a step broke and the step's line in the witness, whose first line is 1; or else the verdict on
 -- what follows
 abbrev pub refused_or : Option Rule → List Step → Step → Verdict → Verdict
 refused_or None earlier s rest = rest
