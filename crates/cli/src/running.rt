@@ -60,7 +60,8 @@ pub fn run<R: BufRead, W: Write>(
 // Answers words that are no command of the program.
 fn answer_bad_usage<W: Write>(w: &mut Counted<W>) -> u8
     requires { failures_of w.old < 2 ^ 50 }
-    ensures said { result ≢ 5 → (result ≡ 3) × Appends (left_of W.contents w.old) (left_of W.contents w.new) (codes "bad usage\n") ×
+    ensures said { result ≢ 5 → (result ≡ 3) ×
+        Appends (left_of W.contents w.old) (left_of W.contents w.new) (codes "bad usage\n") ×
         (failures_of w.new ≡ failures_of w.old) }
     ensures device { result ≡ 5 → failures_of w.old < failures_of w.new }
 {
@@ -71,7 +72,8 @@ fn answer_bad_usage<W: Write>(w: &mut Counted<W>) -> u8
 /// The count of failures must be below 2^50 before the call.
 pub fn answer_bad_memory<W: Write>(w: &mut Counted<W>) -> u8
     requires { failures_of w.old < 2 ^ 50 }
-    ensures said { result ≢ 5 → (result ≡ 4) × Appends (left_of W.contents w.old) (left_of W.contents w.new) (codes "bad memory\n") ×
+    ensures said { result ≢ 5 → (result ≡ 4) ×
+        Appends (left_of W.contents w.old) (left_of W.contents w.new) (codes "bad memory\n") ×
         (failures_of w.new ≡ failures_of w.old) }
     ensures device { result ≡ 5 → failures_of w.old < failures_of w.new }
 {

@@ -160,7 +160,8 @@ pub(crate) fn arrive(
 /// Puts a segment of another recording on the host's wire under this line, replacing any that was there. If memory runs
 /// out, nothing is changed.
 pub(crate) fn bring(host: &mut HostState, line: u64, emission: &Emission) -> Result<(), OutOfMemory>
-    ensures ok { OnOk result (host.new ≡ record host.old { wire = insert_entry nat_eq host.old.wire line emission.now }) }
+    ensures ok { OnOk result
+        (host.new ≡ record host.old { wire = insert_entry nat_eq host.old.wire line emission.now }) }
     ensures err { OnErr result (host.new ≡ host.old) }
 {
     host.wire.insert(line, emission.copy()?)?;

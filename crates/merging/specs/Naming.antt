@@ -45,11 +45,13 @@ StrangerItem first keys wire line n (Bring f) rest =
 abbrev pub FirstStranger : ℕ → List Key → List (ℕ × Emission) → ℕ → List TcpEntry → ℕ → Type 0
 FirstStranger first keys wire line [] n = ⊥
 FirstStranger first keys wire line (x ∷ xs) n =
-    StrangerItem first keys wire line n x.item (FirstStranger first keys wire (if takes_line x.item then line + 1 else line) xs n)
+    StrangerItem first keys wire line n x.item
+        (FirstStranger first keys wire (if takes_line x.item then line + 1 else line) xs n)
 
 -- the same by places: at this place of the entries a segment was brought that wasn't sent; all those before it were;
 -- and the next line there has number n
-pub record StrangerFrom (first : ℕ) (keys : List Key) (wire : List (ℕ × Emission)) (line : ℕ) (xs : List TcpEntry) (n : ℕ) : Type 0 where
+pub record StrangerFrom (first : ℕ) (keys : List Key) (wire : List (ℕ × Emission)) (line : ℕ) (xs : List TcpEntry)
+    (n : ℕ) : Type 0 where
   pub place : ℕ
   pub key : Key
   pub flying : Flying tcp_shape

@@ -165,7 +165,7 @@ impl HostBook {
         Ok(let_in)
     }
 
-    // A segment is made, and is sent.
+    // A segment is made and sent.
     #[tactic(auto, using(crate::proofs::BookLemmas::pumped_book, crate::proofs::BookLemmas::pumped_site, crate::proofs::BookLemmas::pumped_short_book, crate::proofs::BookLemmas::pumped_short_site))]
     pub(crate) fn pump(&mut self, tick: Tick) -> Result<Option<Flying>, OutOfMemory>
         requires tick { IsAfter self.old.core.last tick }

@@ -27,7 +27,8 @@ AreFrom moment entries = (w : Deadline) → IsListed w entries → moment ≤ w.
 
 -- each endpoint below a place has an entry with a moment before which nothing is due there, or nothing is ever due
 -- there
-pub record AreCovered (Before : ℕ → Endpoint → Type 0) (Ever : Endpoint → Type 0) (looked : ℕ) (entries : List Deadline) (es : List Endpoint) : Type 0 where
+pub record AreCovered (Before : ℕ → Endpoint → Type 0) (Ever : Endpoint → Type 0) (looked : ℕ)
+    (entries : List Deadline) (es : List Endpoint) : Type 0 where
   pub within : looked ≤ length es
   pub each : (i : ℕ) (e : Endpoint) → i < looked → slice_get es i ≡ Some e
       → ((m : ℕ) × IsListed (from m i) entries × Before m e) ⊎ Ever e
@@ -44,7 +45,8 @@ LooksAgain t looked entries looked_then entries_then =
     (looked_then ≡ 0) ⊎ ((looked_then ≡ looked) × AreStill entries entries_then × IsListedAgain t looked entries_then)
 
 -- more are visited, of so many: each of these is listed
-pub record IsGrown (count : ℕ) (looked : ℕ) (entries : List Deadline) (looked_then : ℕ) (entries_then : List Deadline) : Type 0 where
+pub record IsGrown (count : ℕ) (looked : ℕ) (entries : List Deadline) (looked_then : ℕ)
+    (entries_then : List Deadline) : Type 0 where
   pub more : looked ≤ looked_then
   pub within : looked ≤ count → looked_then ≤ count
   pub still : AreStill entries entries_then

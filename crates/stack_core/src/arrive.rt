@@ -1,6 +1,7 @@
 //! A segment arrives.
 
-ghost use Rattle.std.specs.Prelude.{◌≡◌, ◌↔◌, ◌≤◌, ◌<◌, ◌+◌, ◌*◌, ◌⊎◌, suc, true, false, nat_lt, IsTrue, IfOk, IfNone, OnOk, OnErr};
+ghost use Rattle.std.specs.Prelude.{◌≡◌, ◌↔◌, ◌≤◌, ◌<◌, ◌+◌, ◌*◌, ◌⊎◌, suc, true, false, nat_lt};
+ghost use Rattle.std.specs.Prelude.{IsTrue, IfOk, IfNone, OnOk, OnErr};
 ghost use Rattle.std.specs.Option.{IfSome};
 ghost use Rattle.case_forms.specs.Witnesses.{IsWithinLimits};
 ghost use Rattle.case_forms.specs.declared.calls.Ports.{Ports};
@@ -9,8 +10,8 @@ ghost use Rattle.spec_tcp.specs.Bounds.{most_steps};
 ghost use Rattle.spec_tcp.specs.Steps.{step_of};
 ghost use Rattle.spec_merge.specs.Books.{Bring};
 ghost use Rattle.stack_core.specs.ArrivalEvents.{IsArrival, IsArrivedShort, IsCameIn, IsChoice, IsHeld, IsRecovered};
-ghost use Rattle.stack_core.specs.ArrivalEvents.{IsNotLetIn, IsRecoveryAt, IsRefusedRecovery, IsSettled, IsSettledShort};
-ghost use Rattle.stack_core.specs.ArrivalEvents.{MayDrop, MayRecover, MayTake, ports_of};
+ghost use Rattle.stack_core.specs.ArrivalEvents.{IsNotLetIn, IsRecoveryAt, IsRefusedRecovery, IsSettled};
+ghost use Rattle.stack_core.specs.ArrivalEvents.{IsSettledShort, MayDrop, MayRecover, MayTake, ports_of};
 ghost use Rattle.stack_core.specs.CoreWorlds.{Leaves};
 ghost use Rattle.stack_core.specs.CoreWorlds.CoreCall.{Arrive};
 ghost use Rattle.stack_core.specs.Cores.{IsAfter, IsRecorded, MayDo, line_to_come, with_item};

@@ -91,7 +91,8 @@ impl DeadlineQueue {
     /// Adds entries for the endpoints that weren't visited. False: memory ran out before all had theirs.
     pub(crate) fn list_new(&mut self, body: &HostTcp) -> bool
         requires { length body.now.endpoints < 2 ^ 32 }
-        ensures grown { IsGrown (length body.now.endpoints) self.old.looked self.old.entries.keys self.new.looked self.new.entries.keys }
+        ensures grown { IsGrown (length body.now.endpoints) self.old.looked self.old.entries.keys self.new.looked
+            self.new.entries.keys }
         ensures all { result ≡ true → length body.now.endpoints ≤ self.new.looked }
     {
         while let Some(endpoint) = body.endpoint_at(self.looked) {

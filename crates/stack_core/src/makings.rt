@@ -337,7 +337,8 @@ fn try_syn(
     requires steps { world.now.steps < most_steps }
     requires opening { MayOpen world.now.header.version offer.opening }
     ensures some { IfSome result (λ m. IsMakeable world.now.header me world.now.world m) }
-    ensures none { IfNone result (IsSynRefused world.now.header me world.now.world endpoint.now offer.opening offer.at_syn) }
+    ensures none { IfNone result
+        (IsSynRefused world.now.header me world.now.world endpoint.now offer.opening offer.at_syn) }
 {
     if 0 < endpoint.snd_max() {
         return None;

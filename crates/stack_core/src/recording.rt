@@ -168,7 +168,8 @@ impl Recording {
 
     // Does nothing; its contract says that a host has at most as many endpoints as there were steps.
     pub(crate) fn few_endpoints(&self)
-        ensures { length (forget_body (pick (world_left self.now).hosts self.now.me).body).endpoints ≤ steps_in self.now.entries }
+        ensures { length (forget_body (pick (world_left self.now).hosts self.now.me).body).endpoints
+            ≤ steps_in self.now.entries }
     {
         self.world.is_kept();
     }

@@ -196,7 +196,8 @@ impl HostTcp {
     // A listener ends, and with it its children that were not accepted.
     fn end_listener(&mut self, place: u32, number: u32)
         requires { All HasRoom self.old.endpoints }
-        ensures { self.new ≡ forget_body (record (without_listener self.old place) { sockets = dead self.old.sockets number }) }
+        ensures { self.new ≡ forget_body
+            (record (without_listener self.old place) { sockets = dead self.old.sockets number }) }
     {
         self.listeners.close(place);
         self.endpoints.orphan(place);
