@@ -50,13 +50,24 @@ pub record HaveTwo (t : Trace) (v w : Witness) : Type 0 where
 abbrev pub two_listen : Trace
 two_listen = record {
   header = record {
-    version = One; skew = 0; msl = 120000000; grain = 1000; minrto = 1000000; extra = 0; initial = Rfc5681;
-    congestion = Full
+    version = One;
+    skew = 0;
+    msl = 120000000;
+    grain = 1000;
+    minrto = 1000000;
+    extra = 0;
+    initial = Rfc5681;
+    congestion = Full;
   };
   lines =
       record { number = 7; moment = 10; thread = 1; event = events.CallBegin (calls.Listen Zero 80 4); span = nowhere }
       ∷ record {
-        number = 8; moment = 10; thread = 2; event = events.CallBegin (calls.Listen Zero 81 4); span = nowhere }
+        number = 8;
+        moment = 10;
+        thread = 2;
+        event = events.CallBegin (calls.Listen Zero 81 4);
+        span = nowhere;
+      }
       ∷ record { number = 9; moment = 20; thread = 1; event = events.CallEnd (answers.Given 5); span = nowhere }
       ∷ record { number = 10; moment = 20; thread = 2; event = events.CallEnd (answers.Given 6); span = nowhere }
       ∷ [];

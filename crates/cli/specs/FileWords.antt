@@ -20,7 +20,7 @@ AreNamed words trace witness =
     (options : List (List ℕ))
     × (words ≡ codes "check" ∷ options)
     × (AreBoth (codes "--trace") trace (codes "--witness") witness options
-      ⊎ AreBoth (codes "--witness") witness (codes "--trace") trace options)
+    ⊎ AreBoth (codes "--witness") witness (codes "--trace") trace options)
 
 -- one of the bytes is a NUL: no file has such a name, but a word that wasn't UTF-8 has one (`GivenWords`)
 abbrev pub has_nul : List ℕ → Bool

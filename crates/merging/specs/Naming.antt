@@ -46,7 +46,7 @@ abbrev pub FirstStranger : ℕ → List Key → List (ℕ × Emission) → ℕ �
 FirstStranger first keys wire line [] n = ⊥
 FirstStranger first keys wire line (x ∷ xs) n =
     StrangerItem first keys wire line n x.item
-        (FirstStranger first keys wire (if takes_line x.item then line + 1 else line) xs n)
+    (FirstStranger first keys wire (if takes_line x.item then line + 1 else line) xs n)
 
 -- the same by places: at this place of the entries a segment was brought that wasn't sent; all those before it were;
 -- and the next line there has number n

@@ -84,7 +84,7 @@ no_counts first = record { lines = no_turns first; mades = no_turns 1 }
 abbrev pub counted_one : Counts → TcpEntry → Counts
 counted_one c x = record {
   lines = with_turn_if (takes_line x.item) c.lines x.key.host;
-  mades = with_turn_if (makes_segment x.item) c.mades x.key.host
+  mades = with_turn_if (makes_segment x.item) c.mades x.key.host;
 }
 
 -- all of these entries counted

@@ -56,7 +56,7 @@ abbrev pub MayRecover : Core → Ports → Type 0
 MayRecover c ports =
     (cwnd : ℕ) × (ssthresh : ℕ) ×
     MayDo c (At c.recorded.me
-        (Does (record { lport = ports.lport; rport = ports.rport; cwnd = cwnd; ssthresh = ssthresh })))
+    (Does (record { lport = ports.lport; rport = ports.rport; cwnd = cwnd; ssthresh = ssthresh })))
 
 -- it may begin there with these values
 abbrev pub IsRecoveryAt : Core → Ports → Recovery → Type 0
@@ -66,7 +66,7 @@ IsRecoveryAt c ports x = (x.lport ≡ ports.lport) × (x.rport ≡ ports.rport) 
 abbrev pub IsRefusedRecovery : Core → Ports → (cwnd ssthresh : ℕ) → Type 0
 IsRefusedRecovery c ports cwnd ssthresh =
     MayDo c (At c.recorded.me
-        (Does (record { lport = ports.lport; rport = ports.rport; cwnd = cwnd; ssthresh = ssthresh }))) →
+    (Does (record { lport = ports.lport; rport = ports.rport; cwnd = cwnd; ssthresh = ssthresh }))) →
     ⊥
 
 -- it began, exactly if it may

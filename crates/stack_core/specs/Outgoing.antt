@@ -54,7 +54,9 @@ pub record MayGo (c : Core) (number : ℕ) (wire : Wire) (f : Flying tcp_shape) 
   pub found : lookup (nat_eq number) (pick (world c).hosts c.recorded.me).made ≡ Some (unsent emission)
   pub shown : matches_sent c.recorded.header wire emission ≡ true
   pub flying : f ≡ record {
-    key = key_of c.recorded.me c.last; line = line_to_come c; emission = sent c.last.moment wire emission
+    key = key_of c.recorded.me c.last;
+    line = line_to_come c;
+    emission = sent c.last.moment wire emission;
   }
 
 -- the segment that was made under this number was sent: its line; this is in transit, and on its host's wire under that
