@@ -18,7 +18,7 @@ use Rattle.two_hosts.specs.Plans.{header_of}
 abbrev pub text_of : Trace → Witness → List ℕ
 text_of trace witness = trace_text trace ++ witness_text witness
 
--- what was written is the text of a trace and of a witness that explains it; where both are within the limits of texts,
+-- what was written is the text of a trace and of a witness that explains it; if both are within the limits of texts,
 -- the text is a case that is answered yes. The status is 0 if the trace shows that all rounds ended, and else 1
 pub record WritesCase (plan : Plan) (status : ℕ) (old new : Option (List ℕ)) : Type 0 where
   pub trace : Trace

@@ -163,7 +163,7 @@ impl HostCore {
         Ok(())
     }
 
-    // What is not taken is answered by a reset where it may be, and else dropped.
+    // What is not taken is answered by a reset if it may be, and else dropped.
     fn reject(&mut self, line: u64) -> Result<(), OutOfMemory>
         requires room { steps_in self.old.recorded.entries < 4 * self.old.events }
         requires events { self.old.events ≤ 10000000 }
