@@ -9,11 +9,11 @@ use std::alloc::Global;
 // What a thread does in a round.
 #[derive(Clone, Copy)]
 enum Deed {
-    // It listens, and is given this socket number.
+    // It listens, and gets this socket number.
     Listen(u64),
     // It asks for the state of its listener.
     State(u64),
-    // It asks for a connection, and none is there.
+    // It asks for a connection, and there is none.
     Accept(u64),
     // It ends its listener.
     Close(u64),
@@ -71,7 +71,8 @@ fn next_deed(last: Deed, draws: &mut Draws, sockets: &mut u64) -> Deed {
     }
 }
 
-// All threads begin, all calls have their effect, and all end. The lines of each half wait until all of it are there.
+// All threads begin, all calls have their effect, and all end. The lines of each half wait until all of that half
+// exist.
 fn one_round(case: &mut CaseText, deeds: &[Deed], order: &[usize]) -> Result<(), OutOfMemory> {
     let mut first = 0;
     for (thread, deed) in deeds.iter().enumerate() {

@@ -4,7 +4,7 @@ use case_forms::OutOfMemory;
 use line_fields::{push_end, push_number, push_space, push_word};
 use std::alloc::Global;
 
-/// A field of a line, or several that stand in one word.
+/// A field of a line, or several that are one word.
 #[derive(Clone, Copy)]
 pub enum Word<'a> {
     Text(&'a str),
@@ -19,7 +19,7 @@ pub struct CaseText {
     pub witness: Vec<u8>,
     /// The moment of the last line, in microseconds.
     moment: u64,
-    /// The digits of that moment, or nothing before they are needed.
+    /// The digits of that moment, or nothing until they are needed.
     stamp: Vec<u8>,
     /// The number of the last line of the trace.
     lines: u64,
@@ -53,7 +53,7 @@ impl CaseText {
         }
     }
 
-    /// The header of a new case of version 2, in which lines may wait for so many microseconds.
+    /// The header of a new case of version 2, with a skew of so many microseconds.
     pub fn begin(&mut self, skew: u64) -> Result<(), OutOfMemory> {
         self.trace.clear();
         self.witness.clear();
@@ -71,7 +71,7 @@ impl CaseText {
         Ok(())
     }
 
-    /// So many microseconds pass.
+    /// Lets so many microseconds pass.
     pub fn pass(&mut self, micros: u64) {
         self.moment = self.moment.wrapping_add(micros);
         self.stamp.clear();
@@ -92,7 +92,7 @@ impl CaseText {
         push_space(&mut self.trace)
     }
 
-    /// An event line, which no step takes yet. The answer is its number.
+    /// Writes an event line, which no step takes yet. The result is its number.
     pub fn line(&mut self, thread: u64, words: &[Word]) -> Result<u64, OutOfMemory> {
         self.begin_line()?;
         push_number(&mut self.trace, thread)?;
@@ -101,14 +101,14 @@ impl CaseText {
         Ok(self.lines)
     }
 
-    /// A step at the moment of the last line.
+    /// Writes a step at the moment of the last line.
     pub fn step(&mut self, words: &[Word]) -> Result<(), OutOfMemory> {
         self.stamp()?;
         self.witness.extend_from_slice(self.stamp.as_slice())?;
         push_words(&mut self.witness, words)
     }
 
-    /// The step that takes the line of this number, at the moment of the last line, with these extra numbers.
+    /// Writes the step that takes the line of this number, at the moment of the last line, with these extra numbers.
     pub fn take_line(&mut self, number: u64, extras: &[u64]) -> Result<(), OutOfMemory> {
         self.stamp()?;
         self.witness.extend_from_slice(self.stamp.as_slice())?;
@@ -121,8 +121,8 @@ impl CaseText {
         push_end(&mut self.witness)
     }
 
-    /// A microsecond passes, and an event line is written with its step, which has these extra numbers. The answer is
-    /// its number.
+    /// Lets a microsecond pass, and writes an event line with its step, which has these extra numbers. The result is
+    /// the line's number.
     pub fn event(
         &mut self,
         thread: u64,
@@ -135,7 +135,8 @@ impl CaseText {
         Ok(number)
     }
 
-    /// A call that has its effect at once. The first word of the call is `B`, and that of its answer is left out.
+    /// Writes a call that has its effect at once. The first word of the call is `B`, and that of its answer is left
+    /// out.
     pub fn call(&mut self, thread: u64, call: &[Word], answer: &[Word]) -> Result<(), OutOfMemory> {
         self.event(thread, call, &[])?;
         self.effect(thread, answer)?;
@@ -148,7 +149,7 @@ impl CaseText {
         self.take_line(self.lines, &[])
     }
 
-    /// The open call of a thread has its effect, with this answer.
+    /// Writes that the open call of a thread has its effect, with this answer.
     pub fn effect(&mut self, thread: u64, answer: &[Word]) -> Result<(), OutOfMemory> {
         self.stamp()?;
         self.witness.extend_from_slice(self.stamp.as_slice())?;
@@ -157,7 +158,7 @@ impl CaseText {
         push_words(&mut self.witness, answer)
     }
 
-    /// One more segment is made. The answer is its number.
+    /// Counts one more made segment. The result is its number.
     pub fn count_made(&mut self) -> u64 {
         self.made = self.made.wrapping_add(1);
         self.made

@@ -23,8 +23,8 @@ const SERVER_PORT: u16 = 80;
 
 pub const LISTENER: u64 = 5;
 
-// The threads that call at host 0 and at host 1, those that record what goes out at host 0 and at host 1 and what comes
-// in there, and the one of timers.
+// The threads that make calls at host 0 and at host 1, those that record what host 0 and host 1 send and receive, and
+// the one of timers.
 pub const CLIENT: u64 = 2;
 
 pub const SERVER: u64 = 1;
@@ -51,8 +51,8 @@ impl Kind {
         }
     }
 
-    // In hex: the data offset, the flags, the window, no checksum and no urgent pointer, and the options, which are of
-    // a SYN the MSS of 1,460 bytes, padding and the shift of windows.
+    // In hex: the data offset, the flags, the window, no checksum and no urgent pointer, and the options, which for a
+    // SYN are the MSS of 1,460 bytes, padding and the shift of windows.
     fn rest_of_header(self) -> &'static str {
         match self {
             Kind::Syn => "7002ffff00000000020405b401030307",
@@ -75,7 +75,7 @@ pub struct Sending<'a> {
     pub payload: &'a [u8],
 }
 
-/// What one end of a connection writes again and again.
+/// The texts that one end of a connection writes again and again.
 #[derive(Drop)]
 struct End {
     /// The initial send sequence number.
@@ -86,7 +86,7 @@ struct End {
     ports: Vec<u8>,
 }
 
-/// What a connection is named by.
+/// A connection's socket numbers and its ends.
 #[derive(Drop)]
 pub struct Connection {
     client_port: u16,
@@ -99,7 +99,7 @@ pub struct Connection {
     text: Vec<u8>,
 }
 
-// The number of a position that begins at this one.
+// The sequence number of a position, counted from this initial number.
 fn number_of(first: u32, position: u64) -> u32 {
     first.wrapping_add((position % (1 << 32)) as u32)
 }
@@ -202,7 +202,7 @@ impl Connection {
         }
     }
 
-    /// A segment is made and goes out. The answer is the number of its line.
+    /// A segment is made and sent. The result is the number of its line.
     pub fn send(&mut self, case: &mut CaseText, sending: &Sending) -> Result<u64, OutOfMemory> {
         self.make(case, sending)?;
         let made = case.count_made();
@@ -232,7 +232,7 @@ impl Connection {
         }
     }
 
-    /// A copy of a segment that went out with this line comes in. The answer is the number of its own line.
+    /// A copy of a segment that was sent with this line arrives. The result is the number of its own line.
     pub fn arrive(
         &mut self,
         case: &mut CaseText,
@@ -243,7 +243,7 @@ impl Connection {
         self.arrive_again(case, sending, out)
     }
 
-    /// The same of the segment that was written last.
+    /// The same for the segment that was written last.
     pub fn arrive_again(
         &self,
         case: &mut CaseText,
@@ -258,7 +258,7 @@ impl Connection {
         case.event(thread, &[Text(name), Digits(self.text.as_slice())], &[out])
     }
 
-    /// A segment is made, goes out, comes in and is taken, with the choices that taking leaves.
+    /// A segment is made, sent, received and taken, with these choices for the taking.
     pub fn carry(
         &mut self,
         case: &mut CaseText,
@@ -347,8 +347,8 @@ pub fn control(from_client: bool, position: u64, kind: Kind, acked: u64) -> Send
     }
 }
 
-/// What taking a segment leaves: the congestion window, and in words whether its bytes are kept and whether the round
-/// trip is measured.
+/// The choices when a segment is taken: the congestion window, and as words whether its bytes are kept and whether the
+/// round trip is measured.
 #[derive(Clone, Copy)]
 pub struct Choices {
     window: u64,
@@ -369,7 +369,7 @@ pub fn kept() -> Choices {
     }
 }
 
-/// An end takes the segment that came in with this line.
+/// An end takes the segment that arrived with this line.
 pub fn take(
     case: &mut CaseText,
     is_client: bool,
@@ -385,12 +385,12 @@ pub fn take(
     ])
 }
 
-/// Host 1 drops the segment that came in with this line.
+/// Host 1 drops the segment that arrived with this line.
 pub fn discard(case: &mut CaseText, came: u64) -> Result<(), OutOfMemory> {
     case.step(&[Text("K 1"), Number(came)])
 }
 
-/// A socket is given bytes to send, in hex.
+/// A socket gets bytes to send, in hex.
 pub fn give(
     case: &mut CaseText,
     connection: &Connection,
@@ -401,7 +401,7 @@ pub fn give(
     case.call(CLIENT, &call, &[Text("ok"), count])
 }
 
-/// A socket of host 1 gets the bytes that wait, in hex.
+/// A socket of host 1 reads the waiting bytes, given in hex.
 pub fn receive(
     case: &mut CaseText,
     connection: &Connection,

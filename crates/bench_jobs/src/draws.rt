@@ -1,4 +1,4 @@
-//! What a seed draws: numbers, and digits to take payloads from.
+//! Numbers drawn from a seed, and digits to take payloads from.
 
 ghost use Rattle.std.specs.Prelude.{◌<◌};
 
@@ -7,7 +7,7 @@ use rand_core::utils::NextWord;
 use rand_pcg::Pcg32;
 use std::alloc::Global;
 
-// The sequence of the generator; each seed gives another one of its states.
+// The sequence of the generator; each seed gives a different state in it.
 const STREAM: u64 = 54;
 
 // How many digits are drawn to take payloads from.
@@ -22,7 +22,7 @@ pub struct Draws {
 }
 
 impl Draws {
-    /// The numbers that a seed draws.
+    /// The numbers drawn from a seed.
     pub fn new(seed: u64) -> Draws {
         Draws {
             source: Pcg32::new(seed, STREAM),
@@ -42,7 +42,7 @@ impl Draws {
         if limit == 0 { 0 } else { drawn % limit }
     }
 
-    /// Puts the numbers of a list into an order that is drawn.
+    /// Shuffles the numbers of a list.
     pub fn shuffle(&mut self, numbers: &mut [usize]) {
         for last in (1..numbers.len()).rev() {
             let other = self.below(last as u64 + 1) as usize;
@@ -67,7 +67,7 @@ impl Draws {
     }
 }
 
-/// So many bytes from a place on, or fewer at the end.
+/// This many bytes from a place on, or fewer at the end.
 pub fn part(all: &[u8], start: usize, len: usize) -> &[u8] {
     let stop = start.saturating_add(len).min(all.len());
     &all[start.min(stop)..stop]

@@ -1,4 +1,4 @@
-//! The jobs, each on texts that it makes by a seed.
+//! The jobs, each on texts generated from a seed.
 
 use crate::calls::calls;
 use crate::case_text::CaseText;
@@ -16,16 +16,16 @@ use std::sync::Wait;
 use std::thread::Threads;
 use witness_search::find;
 
-// How many workers check a suite: one, so that its time hangs on no other processor.
+// How many workers check a suite: one, so that its time doesn't depend on other processors.
 const WORKERS: usize = 1;
 
-// How many bytes of a text are asked for at once, as by the program.
+// How many bytes of a text are requested at once, as in the program.
 const INPUT_BYTES: usize = 64 * 1024;
 
-/// What users wait for.
+/// Jobs that users wait for.
 #[derive(Clone, Copy, PartialEq, Eq)]
 pub enum Job {
-    /// Many cases of all kinds, small and large, some of which are no or bad, by a worker.
+    /// Many cases of all kinds, small and large, some of which are no or bad, checked by a worker.
     Suite,
     /// Long transfers of full segments, with losses, each as one text.
     Transfer,
@@ -33,9 +33,9 @@ pub enum Job {
     Messages,
     /// Many threads whose calls are open at once.
     Calls,
-    /// Bytes that come in one by one in any order on several connections, and are made again.
+    /// Bytes that arrive one by one in any order on several connections, and are retransmitted.
     Pieces,
-    /// Transfers of which only the trace is there: a witness is found, and then checked.
+    /// Transfers of which only the trace exists: a witness is found, and then checked.
     Witness,
 }
 
@@ -52,7 +52,7 @@ pub fn job_named(name: &str) -> Option<Job> {
     }
 }
 
-/// A source of cases: what is drawn, and the texts that are written.
+/// A source of cases: the drawn numbers, and the texts that are written.
 #[derive(Drop)]
 pub struct Source {
     alloc: Global,
@@ -62,7 +62,7 @@ pub struct Source {
 }
 
 impl Source {
-    /// The cases that a seed draws.
+    /// The cases drawn from a seed.
     pub fn new(alloc: Global, seed: u64) -> Result<Source, OutOfMemory> {
         let mut draws = Draws::new(seed);
         let pool = draws.digits(alloc)?;
@@ -141,7 +141,7 @@ impl Source {
         }
     }
 
-    // A digit of the case becomes another one, in one case of a suite in six, somewhere in the witness.
+    // Changes a digit somewhere in the witness, in one of six cases of a suite.
     fn spoil(&mut self) {
         if self.draws.below(6) > 0 {
             return;
@@ -157,7 +157,7 @@ impl Source {
     }
 }
 
-/// Does a job on so many cases.
+/// Runs a job on so many cases.
 pub fn run<H: Threads + Wait + Sync>(
     rt: &H,
     alloc: Global,
@@ -222,7 +222,7 @@ fn found(source: &mut Source, results: &mut Results) -> Result<(), OutOfMemory> 
     }
 }
 
-// Workers that nobody watches.
+// A gate that does nothing.
 struct Unwatched;
 
 impl Gate for Unwatched {
@@ -231,7 +231,7 @@ impl Gate for Unwatched {
     fn after(&self, _case: usize) {}
 }
 
-// The answers to so many cases, which are all there at once.
+// The answers to so many cases, which are all in memory at once.
 fn suite<H: Threads + Wait + Sync>(
     rt: &H,
     source: &mut Source,

@@ -1,11 +1,11 @@
-//! The benchmark: jobs that users wait for, on texts that it makes by a seed.
+//! The benchmark: jobs that users wait for, on texts generated from a seed.
 //!
-//! `bench_jobs JOB SEED CASES` does a job on so many cases and prints a line: how many answers are yes, no and faults,
+//! `bench_jobs JOB SEED CASES` runs a job on so many cases and prints a line: how many answers are yes, no and faults,
 //! and a digest of all of them. `bench_jobs print JOB SEED CASES` prints the cases themselves, each ended by a line
-//! `end`, for another checker. The jobs are `suite`, `transfer`, `messages`, `calls`, `pieces` and `witness`
-//! (`Job`). No time is printed; `bench/run` measures it.
+//! `end`, for another checker. The jobs are `suite`, `transfer`, `messages`, `calls`, `pieces` and `witness` (`Job`).
+//! No time is printed; `bench/run` measures it.
 //!
-//! - `draws`: what a seed draws
+//! - `draws`: numbers drawn from a seed
 //! - `case_text`: a case, line by line; `connection`: one connection and its segments
 //! - `transfer`, `calls`, `pieces`: the kinds of cases
 //! - `jobs`: the jobs; `results`: their answers
@@ -25,7 +25,7 @@ use std::env;
 use std::io::{self, Write};
 use std::process::ExitCode;
 
-// No word is a job or a number: this is printed, with status 2.
+// Printed if the words aren't a job and numbers; the status is then 2.
 const USAGE: &str = "usage: bench_jobs [print] JOB SEED CASES";
 
 fn main(rt: HostRuntime) -> io::Result<ExitCode> {

@@ -1,5 +1,5 @@
-//! Bytes that go out one by one over several connections at once, come in in any order, some twice, and are made again
-//! after a timeout.
+//! Bytes that are sent one by one over several connections at once, arrive in any order, some twice, and are
+//! retransmitted after a timeout.
 
 use crate::case_text::CaseText;
 use crate::connection::{
@@ -13,7 +13,7 @@ use std::alloc::Global;
 // Longer than the retransmission timeout, in microseconds.
 const TIMEOUT: u64 = 3_000_000;
 
-// One copy in so many is doubled.
+// One copy in this many is duplicated.
 const DOUBLED: u64 = 8;
 
 // The connections of a case, and the bytes of their next flight.
@@ -24,9 +24,9 @@ struct Pieces {
     count: usize,
     /// How many bytes each connection sent before.
     sent: usize,
-    /// The line by which each piece went out: those of the first connection, then those of the next, and so on.
+    /// The line with which each piece was sent: those of the first connection, then those of the next, and so on.
     lines: Vec<u64>,
-    /// All pieces, in an order that is drawn.
+    /// All pieces, in random order.
     order: Vec<usize>,
 }
 
@@ -51,7 +51,7 @@ pub fn write_pieces(
     pieces.receive_all(case, second, MSS, false)
 }
 
-// The connections, which are opened.
+// Opens the connections.
 fn opened(
     alloc: Global,
     draws: &mut Draws,
@@ -83,7 +83,7 @@ fn opened(
 }
 
 impl Pieces {
-    // Each connection is given its bytes, and all pieces go out.
+    // Each connection gets its bytes, and all pieces are sent.
     fn give_all(&mut self, case: &mut CaseText, digits: &[u8]) -> Result<(), OutOfMemory> {
         self.lines.clear();
         for connection in self.connections.iter_mut() {
@@ -96,7 +96,7 @@ impl Pieces {
         Ok(())
     }
 
-    // All pieces come in and are kept; copies that come twice are dropped.
+    // All pieces arrive and are kept; copies that arrive twice are dropped.
     fn bring_in_any_order(
         &mut self,
         draws: &mut Draws,
@@ -123,8 +123,8 @@ impl Pieces {
         Ok(())
     }
 
-    // No piece comes in before the timers expire; all are made again in any order, then the first ones come in, and
-    // those that were made again are dropped.
+    // No piece arrives before the timers expire; all are retransmitted in any order, then the first ones arrive, and
+    // the retransmitted ones are dropped.
     fn make_again(
         &mut self,
         draws: &mut Draws,
@@ -185,7 +185,7 @@ fn piece(sent: usize, digits: &[u8], index: usize) -> Sending<'_> {
     }
 }
 
-// Which connection has the piece of this place, and which of its pieces that is.
+// Which connection has the piece at this place, and which of its pieces that is.
 fn connection_of(place: usize, count: usize) -> usize {
     if count == 0 { 0 } else { place / count }
 }

@@ -10,7 +10,7 @@ const OFFSET: u64 = 0xcbf2_9ce4_8422_2325;
 
 const PRIME: u64 = 0x0100_0000_01b3;
 
-/// The answers that were given so far.
+/// The answers so far.
 #[derive(Clone, Copy)]
 pub struct Results {
     pub cases: u64,
@@ -35,7 +35,7 @@ impl Results {
         }
     }
 
-    /// One more answer, to a text of so many bytes.
+    /// Adds an answer, to a text of so many bytes.
     pub fn add(
         &mut self,
         alloc: Global,

@@ -1,5 +1,5 @@
-//! Transfers of host 0 over one connection: flights of full segments, some of which are lost, doubled or overtaken, and
-//! rounds of small messages.
+//! Transfers from host 0 over one connection: flights of full segments, some of which are lost, duplicated or
+//! reordered, and rounds of small messages.
 
 use crate::case_text::CaseText;
 use crate::connection::{
@@ -19,17 +19,17 @@ const TIMEOUT: u64 = 3_000_000;
 // A round trip, in microseconds.
 const ROUND_TRIP: u64 = 20_000;
 
-// What happens to a flight of several segments on its way.
+// What happens to a flight of several segments in transit.
 #[derive(Clone, Copy, PartialEq, Eq)]
 enum Way {
     InOrder,
-    // The first is lost, and is sent again by fast recovery, or if its timer expires.
+    // The first is lost, and is retransmitted by fast recovery or when its timer expires.
     FirstLost,
-    // The last is lost, and is sent again once its timer expires.
+    // The last is lost, and is retransmitted once its timer expires.
     LastLost,
-    // The first comes after the second.
+    // The first arrives after the second.
     Overtaken,
-    // The first comes twice.
+    // The first arrives twice.
     Doubled,
 }
 
@@ -58,23 +58,23 @@ pub struct Transfer {
 struct Flight<'a> {
     digits: &'a [u8],
     count: u64,
-    /// How many of its segments came in without a gap.
+    /// How many of its segments arrived without a gap.
     whole: u64,
-    /// After the last of those that came in.
+    /// The place after the last of those that arrived.
     highest: u64,
     /// How many of its segments are acknowledged.
     acked: u64,
     duplicates: u64,
-    /// The line by which the missing segment went out again in fast recovery.
+    /// The line with which fast recovery retransmitted the missing segment.
     resent: Option<u64>,
-    /// Whether a round trip can be measured: no segment was sent again.
+    /// Whether a round trip can be measured: no segment was retransmitted.
     is_measured: bool,
     /// The window after fast recovery, if it began.
     threshold: Option<u64>,
 }
 
 impl Transfer {
-    /// A new connection, which is opened.
+    /// Opens a new connection.
     pub fn open(
         alloc: Global,
         draws: &mut Draws,
@@ -169,7 +169,7 @@ impl Transfer {
         self.sending(payload, index)
     }
 
-    // All segments of the flight go out, one line after the other. The answer is the line of the first.
+    // All segments of the flight are sent, one line after the other. The result is the line of the first.
     fn send_all(&mut self, case: &mut CaseText, flight: &Flight) -> Result<u64, OutOfMemory> {
         let mut first = 0;
         for index in 0..flight.count {
@@ -182,7 +182,7 @@ impl Transfer {
         Ok(first)
     }
 
-    // The segments of the flight come in.
+    // The segments of the flight arrive.
     fn bring_all(
         &mut self,
         case: &mut CaseText,
@@ -214,7 +214,7 @@ impl Transfer {
         Ok(())
     }
 
-    // A segment of the flight comes in that went out with this line, and is acknowledged if that is due.
+    // The segment of the flight that was sent with this line arrives, and is acknowledged if that is due.
     fn bring(
         &mut self,
         case: &mut CaseText,
@@ -264,7 +264,7 @@ impl Transfer {
         Ok(())
     }
 
-    // The segment that is missing comes in, which was sent again by fast recovery or is now.
+    // The missing segment arrives; fast recovery retransmitted it, or it is retransmitted now.
     fn repair(&mut self, case: &mut CaseText, flight: &mut Flight) -> Result<(), OutOfMemory> {
         match flight.resent {
             Some(out) => self.bring(case, flight, flight.whole, out),
@@ -278,7 +278,7 @@ impl Transfer {
         (left.wrapping_mul(MSS) / 2).max(2 * MSS)
     }
 
-    // Fast recovery begins, and the segment that is missing is sent again.
+    // Fast recovery begins, and the missing segment is retransmitted.
     fn recover(&mut self, case: &mut CaseText, flight: &mut Flight) -> Result<(), OutOfMemory> {
         let threshold = Transfer::half(flight);
         self.window = threshold.wrapping_add(3 * MSS);
@@ -290,7 +290,7 @@ impl Transfer {
         Ok(())
     }
 
-    // The retransmission timer expires, and the segment that is missing is sent again and comes in.
+    // The retransmission timer expires, and the missing segment is retransmitted and arrives.
     fn time_out(&mut self, case: &mut CaseText, flight: &mut Flight) -> Result<(), OutOfMemory> {
         case.pass(TIMEOUT);
         let threshold = Transfer::half(flight);

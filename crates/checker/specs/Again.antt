@@ -1,4 +1,4 @@
--- What says the same in other words: one trace but for its spans, and two witnesses of one trace.
+-- Traces that are equal except for their spans, and two witnesses of one trace.
 use Rattle.std.specs.Prelude.{◌≡◌, List, [], ◌∷◌, map}
 use Rattle.case_forms.specs.declared.calls.Host.TheVariants.{Zero}
 use Rattle.case_forms.specs.declared.calls.Call.TheVariants as calls
@@ -36,7 +36,7 @@ without_spans t = record t { lines = map placeless t.lines }
 abbrev pub labels_of : Witness → List (Label NamedLine)
 labels_of w = map (λ s. s.label) w.steps
 
--- a trace and two witnesses that do something else, or the same in another order, and are both answered yes
+-- a trace and two witnesses that do different things, or the same in different orders, and both get a yes
 pub record HaveTwo (t : Trace) (v w : Witness) : Type 0 where
   pub trace : IsTrace t
   pub one : IsWitness v
@@ -49,10 +49,25 @@ pub record HaveTwo (t : Trace) (v w : Witness) : Type 0 where
 -- two threads listen on host 0, on ports 80 and 81, at the same time, and are given the socket numbers 5 and 6
 abbrev pub two_listen : Trace
 two_listen = record {
-  header = record { version = One; skew = 0; msl = 120000000; grain = 1000; minrto = 1000000; extra = 0; initial = Rfc5681; congestion = Full };
+  header = record {
+    version = One;
+    skew = 0;
+    msl = 120000000;
+    grain = 1000;
+    minrto = 1000000;
+    extra = 0;
+    initial = Rfc5681;
+    congestion = Full;
+  };
   lines =
       record { number = 7; moment = 10; thread = 1; event = events.CallBegin (calls.Listen Zero 80 4); span = nowhere }
-      ∷ record { number = 8; moment = 10; thread = 2; event = events.CallBegin (calls.Listen Zero 81 4); span = nowhere }
+      ∷ record {
+        number = 8;
+        moment = 10;
+        thread = 2;
+        event = events.CallBegin (calls.Listen Zero 81 4);
+        span = nowhere;
+      }
       ∷ record { number = 9; moment = 20; thread = 1; event = events.CallEnd (answers.Given 5); span = nowhere }
       ∷ record { number = 10; moment = 20; thread = 2; event = events.CallEnd (answers.Given 6); span = nowhere }
       ∷ [];

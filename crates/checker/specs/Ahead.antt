@@ -22,12 +22,12 @@ source_ahead s = source_of s.reader
 abbrev pub line_ahead : {A : Type 0} → Ahead A → Option Line
 line_ahead s = s.line
 
--- what is left with an item that was read ahead: where there is none, nothing
+-- what is left, with the item that was read ahead if there is one
 abbrev pub left_with : {A : Type 0} → Option A → Option (Result (List A) TextFault) → Option (Result (List A) TextFault)
 left_with None left = Some (Ok [])
 left_with (Some item) left = option_map (in_front item) left
 
--- the event lines that are left, the one that was read ahead among them
+-- the event lines that are left, including the one that was read ahead
 abbrev pub left_ahead : {A : Type 0} → (A → Option (List ℕ)) → Ahead A → Option (Result (List Line) TextFault)
 left_ahead known s = left_with s.line (lines_left known s.reader)
 
@@ -40,7 +40,7 @@ pub record IsUnread {A : Type 0} (s : Ahead A) : Type 0 where
   pub working : fault_of s.reader ≡ None
   pub fresh : IsFresh s.reader
 
--- the reader has met no fault, and stands behind the line that was read ahead
+-- the reader has met no fault, and is just after the line that was read ahead
 pub record IsAhead {A : Type 0} (s : Ahead A) : Type 0 where
   pub working : fault_of s.reader ≡ None
   pub begun : IsBegun s.reader
@@ -53,7 +53,7 @@ Passes None new items = Unit {0}
 Passes (Some left) None items = ⊥
 Passes (Some left) (Some rest) items = left ≡ (rest >>= λ more. Ok (items ++ more))
 
--- one item is passed, or none is left
+-- one item is skipped, or none is left
 abbrev pub Skips : {A : Type 0} → Bool → Option (Result (List A) TextFault) → Option (Result (List A) TextFault)
     → Type 0
 Skips {A} true old new = (item : A) × Yields old new (Some item)
@@ -77,11 +77,11 @@ WitnessFails (faults.Witness f) left = IfSome left (λ read. read ≡ Err f)
 WitnessFails faults.Read left = Unit {0}
 WitnessFails faults.OutOfMemory left = Unit {0}
 
--- a line is numbered on and not earlier than another
+-- a line has the next number, and isn't earlier than the other
 abbrev pub Follows : Line → Line → Type 0
 Follows line next = (next.number ≡ line.number + 1) × (line.moment ≤ next.moment)
 
--- the line that was read ahead is the next that the window is offered
+-- the line that was read ahead is the next one to be offered to the window
 abbrev pub IsInStep : Order → Option Line → Type 0
 IsInStep o ahead = IfSome ahead (λ line. (line.number ≡ o.next) × All (λ e. e.1.moment ≤ line.moment) o.held)
 

@@ -1,4 +1,4 @@
--- A case: one text with a trace and its witness, cut, read and judged.
+-- A case: one text with a trace and its witness, split, read and judged.
 use Rattle.std.specs.Prelude.{◌≡◌, ℕ, List, Result, Ok, Err, take, drop}
 use Rattle.std.specs.List.{concat, position_or_len}
 use Rattle.bstr.specs.Text.{lines_of}
@@ -17,7 +17,7 @@ use Rattle.checker.specs.declared.case.CaseFault.{CaseFault}
 use Rattle.checker.specs.declared.case.CaseFault.TheVariants as faults
 use Rattle.checker.specs.Verdicts.{verdict}
 
--- a case of a version is cut before its first line that begins a witness of this version, or behind its end
+-- a case of a version is split before its first line that begins a witness of this version, or at its end
 abbrev pub cut_place : Version → List (List ℕ) → ℕ
 cut_place v raws = position_or_len (begins_witness v) raws
 
@@ -33,12 +33,12 @@ judged (Err fault) read = Err (faults.Trace fault)
 judged (Ok t) (Err fault) = Err (faults.Witness fault)
 judged (Ok t) (Ok w) = Ok (verdict t w)
 
--- the fault of a case that a fault of a text is: running out of memory has no place in a text
+-- a fault of a text as a fault of the case: running out of memory has no place in a text
 abbrev pub case_fault : FaultKind → CaseFault → CaseFault
 case_fault kinds.OutOfMemory fault = faults.OutOfMemory
 case_fault kind fault = fault
 
--- the witness of a text for that trace, in its version; behind a fault of the trace it is not looked at
+-- the witness of a text for that trace, in its version; after a fault of the trace it isn't read
 abbrev pub witness_behind : Result Trace TextFault → List ℕ → Result Witness TextFault
 witness_behind (Ok t) witness = witness_for t.header.version witness
 witness_behind (Err e) witness = Err e
@@ -47,7 +47,7 @@ witness_behind (Err e) witness = Err e
 abbrev pub texts_result : List ℕ → List ℕ → Result Verdict CaseFault
 texts_result trace witness = judged (trace_of trace) (witness_behind (trace_of trace) witness)
 
--- the result of a case that is cut as one of a version
+-- the result of a case that is split as one of a version
 abbrev pub case_of : Version → List ℕ → Result Verdict CaseFault
 case_of v text = texts_result (trace_part v text) (witness_part v text)
 

@@ -16,7 +16,7 @@ pub record Explains (t : Trace) (w : Witness) : Type 0 where
   pub placed : Placed t.header t.lines (moves w.steps)
   -- in each thread the beginning of a call, one effect and the end with its answer take turns
   pub turns : (thread : ℕ) → Turns (tcp t.header) thread Idle (stamped t.header t.lines w.steps)
-  -- the steps are a run of the machine
+  -- the steps are a run of the model
   pub run : Lawful (tcp t.header) (start (tcp t.header)) (stamped t.header t.lines w.steps)
 
 -- the verdict is yes

@@ -1,5 +1,5 @@
--- What reads were told is a prefix of what the peer's sends accepted, by the lines of a trace and the steps of a
--- witness alone (RFC 9293, 3.4, 3.9.1 and 3.10).
+-- What reads returned is a prefix of what the peer's sends accepted, in terms of the lines of a trace and the steps of
+-- a witness only (RFC 9293, 3.4, 3.9.1 and 3.10).
 use Rattle.std.specs.Prelude.{◌≡◌, ◌⊎◌, ℕ, ◌==◌, Bool, true, false, if◌then◌else◌, List, [], ◌∷◌, ◌++◌, take, slice_get}
 use Rattle.std.specs.Prelude.{Option, None, Some}
 use Rattle.std.specs.List.{flat_map, list_any}
@@ -40,7 +40,7 @@ begins t thread (labels.L named) =
     (line_at t.header t.lines named.number) None
 begins t thread label = None
 
--- the last call that steps begin in that thread, where the latest step stands first
+-- the last call that steps begin in that thread, with the latest step first
 abbrev pub last_begun : Trace → ℕ → List Step → Option Call
 last_begun t thread [] = None
 last_begun t thread (s ∷ earlier) = option_or (begins t thread s.label) (last_begun t thread earlier)
@@ -59,7 +59,7 @@ done_from t earlier (s ∷ steps) = does t earlier s.label ++ done_from t (s ∷
 abbrev pub calls_done : Trace → List Step → List CallDone
 calls_done t steps = done_from t [] steps
 
--- the bytes that a `recv` on this socket number was told
+-- the bytes that a `recv` on this socket number returned
 abbrev pub bytes_told : ℕ → Call → Answer → List ℕ
 bytes_told socket (calls.Recv n most) (answers.Bytes bytes) = if n == socket then bytes else []
 bytes_told socket _ _ = []
@@ -69,14 +69,14 @@ abbrev pub bytes_accepted : ℕ → Call → Answer → List ℕ
 bytes_accepted socket (calls.Send n bytes) (answers.Given count) = if n == socket then take count bytes else []
 bytes_accepted socket _ _ = []
 
--- all that was told, and all that was accepted, in these steps
+-- all that was returned, and all that was accepted, in these steps
 abbrev pub told : Trace → List Step → ℕ → List ℕ
 told t steps socket = flat_map (λ d. bytes_told socket d.call d.answer) (calls_done t steps)
 
 abbrev pub accepted : Trace → List Step → ℕ → List ℕ
 accepted t steps socket = flat_map (λ d. bytes_accepted socket d.call d.answer) (calls_done t steps)
 
--- a `recv` on this socket number was told the end of the stream
+-- a `recv` on this socket number returned the end of the stream
 abbrev pub is_told_end : ℕ → Call → Answer → Bool
 is_told_end socket (calls.Recv n most) answers.Eof = n == socket
 is_told_end socket _ _ = false
@@ -87,21 +87,21 @@ is_ended socket (calls.Shut n) answers.Done = n == socket
 is_ended socket (calls.Close n) answers.Done = n == socket
 is_ended socket _ _ = false
 
--- one of the calls in these steps was told the end, and one ended the sending
+-- one of the calls in these steps returned the end, and one ended the sending
 abbrev pub told_end : Trace → List Step → ℕ → Bool
 told_end t steps socket = list_any (λ d. is_told_end socket d.call d.answer) (calls_done t steps)
 
 abbrev pub ended : Trace → List Step → ℕ → Bool
 ended t steps socket = list_any (λ d. is_ended socket d.call d.answer) (calls_done t steps)
 
--- what was told on a socket number in these steps is a prefix of what was accepted on the peer's; where the end was
--- told it is all of it, and the peer's sending was ended
+-- what was returned on a socket number in these steps is a prefix of what was accepted on the peer's; if the end was
+-- returned it is all of it, and the peer ended sending
 pub record ReceivesFrom (t : Trace) (steps : List Step) (socket peer : ℕ) : Type 0 where
   pub prefix : IsPrefixOf (told t steps socket) (accepted t steps peer)
   pub whole : told_end t steps socket ≡ true → (told t steps socket ≡ accepted t steps peer)
       × (ended t steps peer ≡ true)
 
--- neither bytes nor the end were told
+-- neither bytes nor the end were returned
 pub record ReceivesNothing (t : Trace) (steps : List Step) (socket : ℕ) : Type 0 where
   pub told : told t steps socket ≡ []
   pub end : told_end t steps socket ≡ false
@@ -119,7 +119,7 @@ pub data HasPorts (all : List CallDone) : Host → ℕ → ℕ → ℕ → Type 
       Stands all (calls.Listen host lport backlog) (answers.Given listener) →
       Stands all (calls.Accept listener) (answers.Given n) → HasPorts all host lport rport n
 
--- two socket numbers of different hosts, where each has the ports of the other turned round
+-- two socket numbers of different hosts, each with the ports of the other, swapped
 pub record AreOpposite (all : List CallDone) (socket peer : ℕ) : Type 0 where
   pub host : Host
   pub lport : ℕ
@@ -127,8 +127,8 @@ pub record AreOpposite (all : List CallDone) (socket peer : ℕ) : Type 0 where
   pub here : HasPorts all host lport rport socket
   pub there : HasPorts all (other host) rport lport peer
 
--- the headline: a socket number either receives nothing in the whole witness, or there is one opposite to it from which
--- it receives at each moment, after the first `place` steps
+-- the headline: a socket number either receives nothing in the whole witness, or has a counterpart from which it
+-- receives at each moment, that is, after the first `place` steps
 abbrev pub ReceivesBeginSends : Trace → Witness → Type 0
 ReceivesBeginSends t w = (socket : ℕ) → ReceivesNothing t w.steps socket
     ⊎ ((peer : ℕ) × AreOpposite (calls_done t w.steps) socket peer

@@ -1,4 +1,4 @@
--- What each verdict says of the whole lists: yes, that the steps explain the trace; no, which rule is broken first.
+-- What each verdict says about the whole lists: yes, that the steps explain the trace; no, which rule is broken first.
 use Rattle.std.specs.Prelude.{◌≡◌, ℕ, ◌+◌, ◌<◌, ◌⊎◌, Bool, List, Option, None, Some, slice_get, take, not, count_by}
 use Rattle.case_forms.specs.declared.trace.Line.{Line}
 use Rattle.case_forms.specs.declared.trace.Trace.{Trace}
@@ -16,7 +16,7 @@ use Rattle.checker.specs.Seen.{moves, stamped}
 use Rattle.checker.specs.Verdicts.{all_rules, takes_line, line_named}
 use Rattle.checker.specs.Explains.{Explains}
 
--- the rules that are asked of the step at a place, after the steps before it and in the world that they leave
+-- the rules that apply to the step at a place, after the steps before it and in the world that they leave
 abbrev pub rules_at : Trace → Witness → ℕ → Step → List (Rule × Bool)
 rules_at t w place s =
     all_rules t.header t.lines (take place w.steps)
@@ -46,7 +46,7 @@ pub record Counts (w : Witness) (lines hidden : ℕ) : Type 0 where
   pub lines_are : lines ≡ count_by (λ s. takes_line s.label) w.steps
   pub hidden_are : hidden ≡ count_by (λ s. not (takes_line s.label)) w.steps
 
--- what a verdict says; the step at place i stands in line i + 2 of the witness
+-- what a verdict says; the step at place i is in line i + 2 of the witness
 abbrev pub Says : Trace → Witness → Verdict → Type 0
 Says t w (Yes lines hidden) = Explains t w × Counts w lines hidden
 Says t w (No witness_line trace_line rule) =

@@ -1,4 +1,4 @@
--- Where less of congestion control is judged, a yes stays a yes.
+-- If less of congestion control is judged, a yes stays a yes.
 use Rattle.std.specs.Prelude.{◌≡◌, ◌≤◌, ℕ}
 use Rattle.case_forms.specs.declared.steps.Witness.{Witness}
 use Rattle.case_forms.specs.declared.trace.Trace.{Trace}
@@ -11,7 +11,7 @@ use Rattle.checker.specs.Verdicts.{verdict}
 abbrev pub trace_by : Judged → Trace → Trace
 trace_by j t = record t { header = header_by j t.header }
 
--- what is a yes under a word is one, with the same counts, under each word that judges no more
+-- a yes under a word is a yes, with the same counts, under each word that judges no more
 abbrev pub LessJudgedStaysYes : Judged → Type 0
 LessJudgedStaysYes j = (t : Trace) (w : Witness) (lines hidden : ℕ) → extent j ≤ extent t.header.congestion
     → verdict t w ≡ Yes lines hidden → verdict (trace_by j t) w ≡ Yes lines hidden

@@ -1,5 +1,5 @@
--- The rules of a step asked of what is kept: the lines that are not placed, and the world of which all is forgotten
--- that may be discarded.
+-- The rules of a step, checked on what is kept: the lines that aren't placed, and the world with whatever may be
+-- discarded discarded.
 use Rattle.std.specs.Prelude.{[], ◌++◌, Option}
 use Rattle.std.specs.Option.{option_map_or}
 use Rattle.case_forms.specs.declared.trace.Header.{Header}
@@ -14,7 +14,7 @@ use Rattle.endpoint_state.specs.Worlds.{Progress, after}
 use Rattle.checker.specs.Seen.{act_by, move_of}
 use Rattle.checker.specs.Verdicts.{act_rules}
 
--- what a step does in the machine, where its line is looked up among those that are not placed
+-- what a step does in the model, with its line looked up among those that aren't placed
 abbrev pub held_act : Order → Step → Option (Stamped tcp_shape)
 held_act o s = act_by (held_line o) s
 
@@ -23,6 +23,6 @@ abbrev pub kept_broken : Header → Order → World tcp_shape → Step → Optio
 kept_broken header o w s =
     first_broken (order_rules o (move_of s) ++ option_map_or (act_rules header w) (held_act o s) [])
 
--- what the case has come to after it
+-- the state of the case after it
 abbrev pub kept_progress : Order → Progress → Step → Progress
 kept_progress o p s = option_map_or (λ act. after p act.moment act.step) (held_act o s) p

@@ -1,4 +1,4 @@
--- Who the peer of an endpoint is: the sender of the SYN that it took first.
+-- Which endpoint is the peer of an endpoint: the sender of the SYN that it took first.
 use Rattle.std.specs.Prelude.{◌≡◌, ◌⊎◌, ℕ, true, List, take, slice_get, Option, None, Some}
 use Rattle.std.specs.Option.{option_map_or}
 use Rattle.case_forms.specs.declared.trace.Header.{Header}
@@ -17,12 +17,11 @@ use Rattle.spec_tcp_laws.specs.Runs.{world_at_end}
 use Rattle.spec_tcp_laws.specs.Consequences.{find}
 use Rattle.checker.specs.Consequences.{steps_of, EachStep}
 
--- the peer of the endpoint of that name: none also where the endpoint isn't there
+-- the peer of the endpoint of that name; none if the endpoint doesn't exist
 abbrev pub peer_of : Both (HostState tcp_shape) → EndpointId → Option EndpointId
 peer_of hosts me = option_map_or (λ e. e.stream.peer) (find hosts me) None
 
--- the segment goes to that endpoint, or, where the endpoint isn't there yet, to a listener, whose child the endpoint
--- then is
+-- the segment goes to that endpoint, or, if it doesn't exist yet, to a listener, whose child the endpoint then is
 abbrev pub GoesTo : Both (HostState tcp_shape) → EndpointId → Emission → Type 0
 GoesTo hosts me m =
     ((e : Endpoint) × (find hosts me ≡ Some e) × (taker (pick hosts me.host).body m ≡ AtEndpoint me.number e))
@@ -49,12 +48,11 @@ PeersAreMet h before x = (me : EndpointId)
     × (q : EndpointId) × (peer_of (after (tcp h) x.moment (world_at_end h before) x.step).hosts me ≡ Some q)
     × TakesSynOf (world_at_end h before) x.step me q)
 
--- so does each step of a witness
+-- each step of a witness does so
 abbrev pub AllPeersAreMet : Trace → Witness → Type 0
 AllPeersAreMet t w = EachStep (steps_of t w) (λ before x. PeersAreMet t.header before x)
 
--- where an endpoint has a peer at the end of a run, some step took the peer's SYN for it, and before that step it had
--- none
+-- if an endpoint has a peer at the end of a run, some step took the peer's SYN for it, and before that step it had none
 abbrev pub PeersWereMet : Header → List (Stamped tcp_shape) → Type 0
 PeersWereMet h steps = (me q : EndpointId) → peer_of (world_at_end h steps).hosts me ≡ Some q
     → (place : ℕ) × (x : Stamped tcp_shape) × (slice_get steps place ≡ Some x)

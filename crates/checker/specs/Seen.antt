@@ -1,4 +1,4 @@
--- The steps of a witness, as the order of lines sees them and as the machine sees them.
+-- The steps of a witness, as the order of lines sees them and as the model sees them.
 use Rattle.std.specs.Prelude.{ℕ, List, [], ◌∷◌, Option, None, Some, map}
 use Rattle.std.specs.List.{cons_option}
 use Rattle.std.specs.Option.{option_map}
@@ -15,7 +15,7 @@ use Rattle.spec_network.specs.Hosts.{Stamped}
 use Rattle.spec_tcp.specs.Machine.{tcp_shape}
 use Rattle.spec_tcp.specs.Steps.{label_step}
 
--- what a label takes: nothing where it is hidden
+-- what a label takes; a hidden one takes nothing
 abbrev pub take_of : Label NamedLine → Option Take
 take_of (labels.L line) = Some (record { number = line.number; extras = extras_count line.extras })
 take_of _ = None
@@ -27,8 +27,8 @@ move_of s = record { moment = s.moment; take = take_of s.label }
 abbrev pub moves : List Step → List Move
 moves steps = map move_of steps
 
--- what a step does in the machine, at its moment, where lines are found by their numbers: nothing where the line that
--- it names isn't found
+-- what a step does in the model, at its moment, with lines found by their numbers; nothing if the line that it names
+-- isn't found
 abbrev pub act_by : (ℕ → Option Line) → Step → Option (Stamped tcp_shape)
 act_by find s = option_map (λ step. record { moment = s.moment; step = step }) (label_step find s.label)
 
@@ -36,7 +36,7 @@ act_by find s = option_map (λ step. record { moment = s.moment; step = step }) 
 abbrev pub act_of : Header → List Line → Step → Option (Stamped tcp_shape)
 act_of header lines s = act_by (line_at header lines) s
 
--- the steps as the machine sees them
+-- the steps as the model sees them
 abbrev pub stamped : Header → List Line → List Step → List (Stamped tcp_shape)
 stamped header lines [] = []
 stamped header lines (s ∷ steps) = cons_option (act_of header lines s) (stamped header lines steps)

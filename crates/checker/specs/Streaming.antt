@@ -38,7 +38,7 @@ abbrev pub NamesBelow : ℕ → Label NamedLine → Type 0
 NamesBelow next (labels.L named) = named.number < next
 NamesBelow next _ = Unit {0}
 
--- what the window and the world have come to after these steps
+-- the window and the world after these steps
 pub record HasCome (header : Header) (lines : List Line) (earlier : List Step) (o : Order) (p : Progress) : Type 0 where
   pub order : o ≡ order_of header lines (moves earlier)
   pub header_is : p.header ≡ header
@@ -58,11 +58,11 @@ AllLater moment None = Unit {0}
 AllLater moment (Some (Err e)) = Unit {0}
 AllLater moment (Some (Ok lines)) = AreLater moment lines
 
--- the whole list where all was read, or will be
+-- the whole list if all was read, or will be
 abbrev pub IsWhole : {A : Type 0} → Option (Result (List A) TextFault) → List A → Type 0
 IsWhole all items = all ≡ Some (Ok items)
 
--- a case has come so far: which lines were offered, and which steps done, of all that there are
+-- how far a case has come: which of all the lines were offered, and which of all the steps are done
 pub record SoFar (header : Header) (lines left : Option (Result (List Line) TextFault))
     (steps ahead : Option (Result (List Step) TextFault))
     (o : Order) (p : Progress) (offered : List Line) (earlier : List Step) : Type 0 where
@@ -106,7 +106,7 @@ abbrev pub Tells : Header → Option (Result (List Line) TextFault) → Option (
 Tells header lines steps (Ok v) = Ends header lines steps v
 Tells header lines steps (Err e) = CaseFails e lines steps
 
--- lines that are passed on the way to a line which is named before it is reached
+-- lines that are skipped on the way to a line that a step names before it is reached
 pub record Between (o : Order) (a b : Option (Result (List Line) TextFault)) (ahead : Option Line) (noted : ℕ → Bool)
     (number moment : ℕ) (between : List Line) : Type 0 where
   pub passed : Passes a b between
@@ -114,8 +114,7 @@ pub record Between (o : Order) (a b : Option (Result (List Line) TextFault)) (ah
   pub threads : (t : ℕ) → noted t ≡ is_among t between
   pub low : o.next + length between ≤ number
 
--- the least rule that is broken by a step which takes a line that is not offered: one of four, or the first where there
--- is no such line
+-- the least rule broken by a step that takes a line not offered yet: one of four, or the first if there is no such line
 abbrev pub IsLate : Order → Option (Result (List Line) TextFault) → Option (Result (List Line) TextFault) → ℕ → ℕ → ℕ
     → Rule → Type 0
 IsLate o a b number extras moment rule =
@@ -131,7 +130,7 @@ pub record IsDone (o n : Order) (p q : Progress) (s : Step) : Type 0 where
   pub moved : n ≡ order_after o (move_of s)
   pub acted : q ≡ kept_progress o p s
 
--- it breaks this rule: told by what is kept, or by the lines that were read on
+-- it breaks this rule, according to what is kept or to the lines that were read on
 abbrev pub IsRefused : Order → Progress → Step → Option (Result (List Line) TextFault)
     → Option (Result (List Line) TextFault) → Rule → Type 0
 IsRefused o p s a b rule =

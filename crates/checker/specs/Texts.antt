@@ -11,7 +11,7 @@ use Rattle.checker.specs.declared.case.CaseFault.{CaseFault}
 use Rattle.checker.specs.declared.case.CaseFault.TheVariants as faults
 use Rattle.checker.specs.Cases.{trace_part, witness_part, texts_result}
 
--- what was given is what both texts give, where their bytes are known; unless memory ran out or a read failed
+-- the result is what both texts give, if their bytes are known, unless memory ran out or a read failed
 abbrev pub GivesTexts : Result Verdict CaseFault → Option (List ℕ) → Option (List ℕ) → Type 0
 GivesTexts (Err faults.OutOfMemory) trace witness = Unit {0}
 GivesTexts (Err faults.Read) trace witness = Unit {0}
@@ -25,7 +25,7 @@ AreOf None witness t w = ⊥
 AreOf (Some xs) None t w = ⊥
 AreOf (Some xs) (Some ys) t w = (trace_of xs ≡ Ok t) × (witness_for t.header.version ys ≡ Ok w)
 
--- the two parts of a case in one text are read so
+-- the two parts of a case in one text are read this way
 abbrev pub AreInCase : List ℕ → Trace → Witness → Type 0
 AreInCase text t w =
     let v = version_named (lines_of text) in AreOf (Some (trace_part v text)) (Some (witness_part v text)) t w

@@ -1,4 +1,4 @@
--- What one turn of the loop has come to, and the loop.
+-- The result of one turn of the loop, and of the loop.
 use Rattle.std.specs.Prelude.{◌≡◌, ◌+◌, ℕ, Bool, true, false, List, [], ◌∷◌, ◌++◌, length, Option, None, Some, Result}
 use Rattle.std.specs.Prelude.{Ok, Err}
 use Rattle.case_forms.specs.declared.trace.Header.{Header}
@@ -20,7 +20,7 @@ use Rattle.checker.specs.Verdicts.{takes_line}
 use Rattle.checker.specs.Ahead.{Passes}
 use Rattle.checker.specs.Streaming.{SoFar, IsWhole, Tallied, CaseFails, verdict_on}
 
--- the witness is at its end; or a step more is done; or a step is refused, whatever follows
+-- the witness is at its end; or one more step is done; or a step is refused, whatever follows
 abbrev pub AfterTurn : Header → Option (Result (List Line) TextFault) → Option (Result (List Line) TextFault) →
     Option (Result (List Step) TextFault) → Option (Result (List Step) TextFault)
     → Option (Result (List Step) TextFault)
@@ -53,7 +53,7 @@ IsOver header lines left steps next o p tally =
     × SoFar header lines left steps ahead o p offered earlier × Yields ahead next None
     × Tallied earlier tally.lines tally.hidden
 
--- a step behind the first ones is refused, whatever follows
+-- a step after the first ones is refused, whatever follows
 abbrev pub IsBroken : Header → Option (Result (List Line) TextFault) → Option (Result (List Line) TextFault) →
     Option (Result (List Step) TextFault) → Option (Result (List Step) TextFault) → ℕ → ℕ → Rule → Type 0
 IsBroken header lines left steps next place named rule =
@@ -76,7 +76,7 @@ abbrev pub counted_with : StepCounts → Bool → StepCounts
 counted_with t true = record { lines = t.lines + 1; hidden = t.hidden }
 counted_with t false = record { lines = t.lines; hidden = t.hidden + 1 }
 
--- a step more is done
+-- one more step is done
 abbrev pub IsMore : StepOutcome → Type 0
 IsMore turns.End = ⊥
 IsMore (turns.More taken) = Unit {0}

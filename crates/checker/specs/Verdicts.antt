@@ -1,5 +1,5 @@
--- The verdict: the first step that breaks a rule with the least rule that it breaks; where none does, the least line
--- that is not placed; else yes.
+-- The verdict: the first step that breaks a rule, with the least rule that it breaks; if none does, the first line that
+-- isn't placed; else yes.
 use Rattle.std.specs.Prelude.{ℕ, ◌+◌, Bool, true, false, not, List, [], ◌∷◌, ◌++◌, length, Option, None, Some, count_by}
 use Rattle.std.specs.Option.{option_map_or}
 use Rattle.case_forms.specs.declared.trace.Header.{Header}
@@ -23,7 +23,7 @@ use Rattle.spec_network.specs.HostSteps.{after, start}
 use Rattle.spec_tcp.specs.Machine.{tcp, tcp_shape}
 use Rattle.checker.specs.Seen.{move_of, moves, act_of}
 
--- the machine's rules of a step, and the whole world after it
+-- the model's rules of a step, and the whole world after it
 abbrev pub act_rules : Header → World tcp_shape → Stamped tcp_shape → List (Rule × Bool)
 act_rules header w act = step_rules (tcp header) act.moment w act.step
 
@@ -31,7 +31,7 @@ abbrev pub act_after : Header → World tcp_shape → Stamped tcp_shape → Worl
 act_after header w act = after (tcp header) act.moment w act.step
 
 -- all rules of a step, after these earlier ones and in the world that they leave: those of order, then those of the
--- machine
+-- model
 abbrev pub all_rules : Header → List Line → List Step → World tcp_shape → Step → List (Rule × Bool)
 all_rules header lines earlier w s =
     order_rules (order_of header lines (moves earlier)) (move_of s)
@@ -59,7 +59,8 @@ abbrev pub verdict_left : List (ℕ × Line) → List Step → Verdict
 verdict_left [] steps = Yes (count_by (λ s. takes_line s.label) steps) (count_by (λ s. not (takes_line s.label)) steps)
 verdict_left (e ∷ left) steps = No 0 e.0 Unplaced
 
--- a rule that a step broke, which stands behind the witness's first line; or else what follows
+-- no with the rule that a step broke and the step's line in the witness, whose first line is 1; or else the verdict on
+-- what follows
 abbrev pub refused_or : Option Rule → List Step → Step → Verdict → Verdict
 refused_or None earlier s rest = rest
 refused_or (Some rule) earlier s rest = No (length earlier + 2) (line_named s.label) rule

@@ -1,4 +1,4 @@
-//! A trace that is read one line ahead, so that it is known when the next line is reached.
+//! A trace that is read one line ahead, so that the checker knows when the next line is reached.
 
 ghost use Rattle.std.specs.Prelude.{◌≡◌, ◌≢◌, ◌<◌, List, Err, IfOk, IfErr, IfSome, IsSome, OnOk, None, nat_le, true};
 ghost use Rattle.std.specs.Prelude.{false};
@@ -32,7 +32,7 @@ pub(crate) struct Ahead<A> {
 }
 
 impl<A> Ahead<A> {
-    /// A trace of which nothing is read yet.
+    /// A trace, before anything is read.
     pub(crate) fn new(alloc: Global, source: Counted<A>) -> Ahead<A>
         ensures source { source_ahead result ≡ source }
         ensures unread { IsUnread result }
@@ -43,7 +43,7 @@ impl<A> Ahead<A> {
         }
     }
 
-    /// The source, of which what was requested is read, one line more, and nothing after it.
+    /// The source: what was requested has been read, one more line, and nothing after it.
     pub(crate) fn into_source(self) -> Counted<A>
         ensures { result ≡ source_ahead self }
     {
@@ -92,7 +92,7 @@ impl<A: BufRead> Ahead<A> {
         }
     }
 
-    /// The line that was read ahead; the one after it is read.
+    /// Takes the line that was read ahead, and reads the next one.
     #[inline(always)]
     pub(crate) fn next(&mut self) -> Result<Option<Line>, CaseFault>
         requires { IsAhead self.old }
@@ -114,7 +114,7 @@ impl<A: BufRead> Ahead<A> {
         Ok(item)
     }
 
-    /// Offers the line that was read ahead; the one after it is read.
+    /// Offers the line that was read ahead, and reads the next one.
     #[inline(always)]
     pub(crate) fn offer_to(&mut self, window: &mut Window) -> Result<(), CaseFault>
         requires ahead { IsAhead self.old }
@@ -137,7 +137,7 @@ impl<A: BufRead> Ahead<A> {
         read_next(&mut self.reader, &mut self.line)
     }
 
-    // Passes the line that was read ahead. False if there is none.
+    // Skips the line that was read ahead. False if there is none.
     fn skip(&mut self) -> Result<bool, CaseFault>
         requires { IsAhead self.old }
         ensures ahead { IfOk result (λ more. IsAhead self.new) }
@@ -169,7 +169,7 @@ impl<A: BufRead> Ahead<A> {
     }
 }
 
-// The next event line of a trace whose header was read becomes the item.
+// Makes the next event line of a trace whose header was read the item.
 #[inline(always)]
 fn read_next<A: BufRead>(
     reader: &mut TraceReader<A>,

@@ -34,8 +34,8 @@ use spec_tcp_laws::{
     reads_were_carried, received_is_a_prefix, states_follow, windows_follow,
 };
 
-/// Where a witness explains a trace, a line that precedes another in the interval order (of one thread and with the
-/// smaller number, or earlier by more than the skew) is taken first.
+/// If a witness explains a trace, a line that precedes another in the interval order is taken first. A line precedes
+/// another if both are of one thread and it has the smaller number, or if it is earlier by more than the skew.
 pub fn earlier_lines_are_taken_first()
     ensures { (t : Trace) (w : Witness) → Explains t w → (m n i j : ℕ) (a b : Line)
         → line_at t.header t.lines m ≡ Some a →
@@ -43,7 +43,7 @@ pub fn earlier_lines_are_taken_first()
         TakesAt (moves w.steps) j n → i < j }
 {}
 
-/// The verdict is yes exactly where the witness explains the trace.
+/// The verdict is yes exactly if the witness explains the trace.
 pub fn explained_is_yes()
     ensures { (t : Trace) (w : Witness) → IsYes (verdict t w) ↔ Explains t w }
 {}
@@ -53,16 +53,16 @@ pub fn yes_counts_all_lines()
     ensures { (t : Trace) (w : Witness) (lines hidden : ℕ) → verdict t w ≡ Yes lines hidden → lines ≡ length t.lines }
 {}
 
-/// A yes stays a yes, with the same counts, if the header says that less of congestion control is judged: what is one
-/// under `full` is one under `recovery`, and what is one under `recovery` is one under `none`.
+/// A yes stays a yes, with the same counts, if the header says that less of congestion control is judged: a yes under
+/// `full` is one under `recovery`, and a yes under `recovery` is one under `none`.
 pub fn less_judged_stays_yes()
     ensures { (j : Judged) → LessJudgedStaysYes j }
 {}
 
-/// What the receives on a socket number returned is a prefix of what the sends on one number of the other host
-/// accepted, at each moment of the witness; once one returned the end, it is all of it. The ports of the one are those
-/// of the other turned round. So it is said by the lines of the trace and the steps of the witness alone. A number
-/// whose receives return nothing need have no such other number.
+/// At each moment of the witness, what the receives on a socket number returned is a prefix of what the sends on one
+/// socket number of the other host accepted; once a receive returned the end, it is all of it. The two sockets have the
+/// same ports, swapped. This is stated in terms of the trace's lines and the witness's steps only. A socket number
+/// whose receives return nothing needs no such counterpart.
 pub fn receives_begin_sends()
     ensures { (t : Trace) (w : Witness) → Explains t w → AreBothRecorded t → ReceivesBeginSends t w }
 {
@@ -70,7 +70,7 @@ pub fn receives_begin_sends()
     end_is_whole();
 }
 
-/// What follows for streams, windows and states where the witness explains the trace.
+/// What follows for streams, windows and states if the witness explains the trace.
 pub fn explained_follows()
     // If both hosts are recorded: what reads returned is a prefix of what the peer's sends accepted.
     ensures received { (t : Trace) (w : Witness) → Explains t w → AreBothRecorded t → ReadsBeginWhatWasSent t w }
@@ -84,7 +84,7 @@ pub fn explained_follows()
     // In every case: what reads returned came with segments that were taken.
     ensures carried { (t : Trace) (w : Witness) → Explains t w → AllReadsWereCarried t w }
 
-    // New data ends in both windows, and windows follow their rules, by the profile that the header names. If the
+    // New data ends within both windows, and windows follow their rules, by the profile that the header names. If the
     // header says `congestion recovery` or `none`, that profile bounds no congestion window.
     ensures windows { (t : Trace) (w : Witness) → Explains t w → AllKeepWindows t w }
 
@@ -122,19 +122,18 @@ pub fn streams_at_each_moment()
     reads_were_carried();
 }
 
-/// Who the peer of an endpoint is, where a witness explains a trace: the endpoint that made the SYN which it took
-/// first.
+/// Which endpoint is the peer of an endpoint, if a witness explains a trace: the one that made the SYN it took first.
 pub fn peers_are_met()
-    // A step leaves the peer of each endpoint as it is, or the endpoint had none and the step takes for it, at a
-    // listener whose child it then is or in SYN-SENT, a segment with SYN, which the peer made.
+    // A step leaves the peer of each endpoint as it is; or the endpoint had none, and the step takes for it a segment
+    // with SYN that the peer made, in SYN-SENT or at a listener whose child it then is.
     ensures each { (t : Trace) (w : Witness) → Explains t w → AllPeersAreMet t w }
 
-    // A peer at the end was met so by some step.
+    // A peer at the end was found this way by some step.
     ensures all { (t : Trace) (w : Witness) → Explains t w → EachPeerWasMet t w }
 {}
 
-/// The verdict is the same on a trace that some text stands for and on one that is read from what is printed of it; and
-/// wherever two traces are the same but for the places of their lines in a text.
+/// The verdict on a trace that has a text is the same after the trace is printed and read again. It is also the same
+/// for two traces that differ only in the places of their lines in a text.
 pub fn verdict_when_read_again()
     ensures same { (t u : Trace) (w : Witness) (text : List ℕ) → IsTraceText t text → IsTraceText u (trace_text t)
         → verdict u w ≡ verdict t w }
@@ -143,28 +142,27 @@ pub fn verdict_when_read_again()
     ensures spans { (t u : Trace) (w : Witness) → without_spans t ≡ without_spans u → verdict t w ≡ verdict u w }
 {}
 
-/// A trace may have two witnesses that are both answered yes, with their hidden steps in another order.
+/// A trace may have two witnesses that both get a yes, with their hidden steps in different orders.
 pub fn two_witnesses_of_one_trace()
     ensures { (t : Trace) × (v : Witness) × (w : Witness) × HaveTwo t v w }
 {}
 
-/// A text that stands for a trace and one that stands for a witness of its version, one after the other, are a case
-/// with their verdict.
+/// The text of a trace followed by the text of a witness of its version is a case with their verdict.
 pub fn printed_case()
     ensures texts { (t : Trace) (w : Witness) (first second : List ℕ) → t.header.version ≡ w.version
         → IsTraceText t first →
         IsWitnessText w second → case_result (first ++ second) ≡ Ok (verdict t w) }
 
-    // So are the texts that are printed, wherever the spans of lines and steps are.
+    // So are the printed texts, whatever the spans of lines and steps are.
     ensures printed { (t : Trace) (w : Witness) → t.header.version ≡ w.version → IsPrintableTrace t
         → IsPrintableWitness w →
         case_result (trace_text t ++ witness_text w) ≡ Ok (verdict t w) }
 
-    // What explains itself is printed as a case that is answered yes.
+    // A witness that explains its trace is printed with it as a case that gets a yes.
     ensures yes { (t : Trace) (w : Witness) → t.header.version ≡ w.version → IsPrintableTrace t → IsPrintableWitness w →
         Explains t w → (v : Verdict) × (case_result (trace_text t ++ witness_text w) ≡ Ok v) × IsYes v }
 
-    // Where steps stand in their text does not matter.
+    // The places of steps in their text don't matter.
     ensures spans { (t : Trace) (v w : Witness) → map without_span v.steps ≡ map without_span w.steps
         → verdict t v ≡ verdict t w }
 {}

@@ -7,33 +7,33 @@
 //! ```
 //!
 //! - `check_case`: a case in one text, the trace and then its witness; `CaseFault`: why there is no verdict
-//! - `check_streams`: the same of two readers, judged while they are read
+//! - `check_streams`: the same for two readers, judged while they are read
 //! - `check`: a trace and a witness that are in memory
 //! - `print_case`: both as one text, which is a case with their verdict
-//! - the laws, as `explained_is_yes`: what holds for every trace and witness; each is the contract of a call that does
-//!   nothing
+//! - the laws, such as `explained_is_yes`: what holds for every trace and witness; each is the contract of a call that
+//!   does nothing
 //!
-//! A witness is replayed once, step by step: `interval_order` says whether the step may take its line now, and
-//! `spec_step` whether the machine permits it. `specs/Explains` says what a yes means, in places of the two lists;
-//! `specs/Headline` says what follows from a yes for what receives returned, by lines and steps alone; `specs/Judges`
-//! what each verdict says; `specs/Verdicts` which verdict it is; `specs/Consequences` what follows from a yes for
-//! streams and windows. `specs/Ahead` says what a trace has left that is read one line ahead, `specs/Streaming` and
-//! `specs/Turns` how far a case has come, and `specs/Texts` what both texts give.
+//! A witness is replayed once, step by step: `interval_order` decides whether the step may take its line now, and
+//! `spec_step` whether the model permits it. `specs/Explains` defines what a yes means, by places in the two lists;
+//! read it first. `specs/Headline` says what follows from a yes for the bytes that receives returned, in terms of lines
+//! and steps only; `specs/Judges` what each verdict says; `specs/Verdicts` which verdict it is; `specs/Consequences`
+//! what follows from a yes for streams and windows. `specs/Ahead` defines what is left of a trace that is read one line
+//! ahead, `specs/Streaming` and `specs/Turns` how far a case has come, and `specs/Texts` what both texts give.
 //!
 //! Private modules:
 //!
-//! - `case`: a case in one text, which is cut and judged by the reading of `two_texts`
+//! - `case`: a case in one text, which is split and then judged as in `two_texts`
 //! - `two_texts`: a case in two texts, judged while they are read
 //! - `ahead`: a trace that is read one line ahead
-//! - `offering`: the lines that a step's moment reaches, and a line that is named before it is reached
+//! - `offering`: the lines that a step's moment reaches, and a line that a step names before it is reached
 //! - `turns`: one turn for each step, up to the first that is refused
-//! - `steps`: the rest of a witness, which is read for its faults alone
-//! - `replay`: the replay of a witness of which all is in memory; what one step does
+//! - `steps`: the rest of a witness, which is read only for its faults
+//! - `replay`: the replay of a witness that is all in memory; what one step does
 //! - `printed`: a trace and its witness as one text
-//! - `laws`: when the verdict is yes and what it counts, that a yes stays one where less is judged, which line is taken
-//!   first, that receives return a prefix of what the peer's sends accepted, what else follows for streams, windows and
-//!   peers, also after the first n steps, that the verdict stays where the trace is printed and read again, or both are
-//!   printed as a case, and that a trace may have two witnesses
+//! - `laws`: when the verdict is yes and what it counts; that a yes stays one if less is judged; which line is taken
+//!   first; that receives return a prefix of what the peer's sends accepted; what else follows for streams, windows and
+//!   peers, also after the first n steps; that the verdict stays if the trace is printed and read again, or both are
+//!   printed as a case; and that a trace may have two witnesses
 #![tactic(auto)]
 
 mod ahead;

@@ -44,8 +44,8 @@ pub(crate) fn offer_reached<A: BufRead>(
     Ok(())
 }
 
-/// The least rule that a step breaks which takes a line that is not offered yet. The trace is read on to that line, one
-/// line at a time, and of the lines before it their threads alone are kept.
+/// The least rule broken by a step that takes a line not offered yet. The trace is read on to that line, one line at a
+/// time; of the lines before it, only their threads are kept.
 pub(crate) fn refuse_late<A: BufRead>(
     alloc: Global,
     window: &Window,

@@ -17,8 +17,8 @@ use witness::print_witness;
 
 /// A trace and its witness as one text: the trace's lines, and after them the witness's, each ended by LF.
 ///
-/// Where both are of one version and their numbers within the limits of texts, and a shift is written only where one
-/// may be, the text is a case, and its verdict is that of the two.
+/// If both have one version, their numbers are within the limits of texts, and a shift appears only where one may, then
+/// the text is a case, and its verdict is that of the two.
 pub fn print_case(alloc: Global, trace: &Trace, witness: &Witness) -> Result<Vec<u8>, OutOfMemory>
     ensures text { IfOk result (λ text. text.items ≡ trace_text trace.now ++ witness_text witness.now) }
     ensures judged { trace.now.header.version ≡ witness.now.version → IsWithinTrace trace.now

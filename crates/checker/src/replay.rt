@@ -1,7 +1,7 @@
 //! The replay of a witness against a trace.
 //!
-//! Memory grows with the trace, since all its lines are offered at the start; a step costs the logarithm of the number
-//! of lines that wait.
+//! Memory grows with the trace, since all its lines are offered at the start. A step takes time logarithmic in the
+//! number of lines that wait.
 
 ghost use Rattle.std.specs.Prelude.{◌≡◌, ◌↔◌, ◌<◌, ◌++◌, List, [], length, IfOk, IfNone};
 ghost use Rattle.case_forms.specs.declared.trace.Line.{Line};
@@ -35,37 +35,38 @@ use spec_step::{StepFault, apply_hidden, apply_line_owned};
 use std::alloc::{AllocError, Global};
 use verdict::{Rule, Verdict};
 
-/// The verdict on a witness for a trace of its version, where some texts stand for both.
+/// The verdict on a witness for a trace of its version, if both have texts.
 ///
-/// Yes with the counts of lines and of hidden steps exactly where the steps explain the trace; else no at the first
-/// step that breaks a rule, with the least rule that it breaks, or, where none does, with the least line left over.
+/// Yes, with the counts of lines and of hidden steps, exactly if the steps explain the trace. Else no, at the first
+/// step that breaks a rule, with the least rule that it breaks; or, if none does, with the first line left over.
 pub fn check(alloc: Global, trace: &Trace, witness: &Witness) -> Result<Verdict, OutOfMemory>
     requires trace { IsTrace trace.now }
     requires witness { IsWitness witness.now }
     requires versions { trace.now.header.version ≡ witness.now.version }
 
-    // What follows from a yes if both hosts are recorded, by the lines of the trace and the steps of the witness alone:
-    // what receives on a socket number returned is a prefix of what sends on one of the other host accepted, at each
-    // moment; once one returned the end, it is all of it.
+    // What follows from a yes if both hosts are recorded, in terms of the trace's lines and the witness's steps only:
+    // at each moment, what receives on a socket number returned is a prefix of what sends on one socket number of the
+    // other host accepted; once a receive returned the end, it is all of it.
     ensures heard { IfOk result (λ v. IsYes v → AreBothRecorded trace.now → ReceivesBeginSends trace.now witness.now) }
 
     // The verdict is that of the definition.
     ensures exact { IfOk result (λ v. v ≡ verdict trace.now witness.now) }
 
-    // What the verdict says of the two lists, in places.
+    // What the verdict says about the two lists, by their places.
     ensures says { IfOk result (Says trace.now witness.now) }
     ensures explained { IfOk result (λ v. IsYes v ↔ Explains trace.now witness.now) }
 
-    // The same of the machine's endpoints: what reads returned is a prefix of what the peer's sends accepted; reads
-    // that returned the end returned all of it; what is acknowledged was taken before.
+    // The same for the model's endpoints: what reads returned is a prefix of what the peer's sends accepted; reads that
+    // returned the end returned all of it; what is acknowledged was taken before.
     ensures received { IfOk result (λ v. IsYes v → AreBothRecorded trace.now
         → ReadsBeginWhatWasSent trace.now witness.now) }
     ensures whole { IfOk result (λ v. IsYes v → AreBothRecorded trace.now → EndsAreWhole trace.now witness.now) }
     ensures acknowledged { IfOk result (λ v. IsYes v → AreBothRecorded trace.now
         → AllAcknowledgedWasTaken trace.now witness.now) }
 
-    // What follows from every yes, also of a half case: what reads returned came with segments that were taken; windows
-    // are kept; states follow each other by the arrows of RFC 9293, 3.3.2, figure 5; positions never fall.
+    // What follows from every yes, even if only one host is recorded: what reads returned arrived in segments that were
+    // taken; windows are kept; states follow each other by the arrows of RFC 9293, 3.3.2, figure 5; positions never
+    // fall.
     ensures carried { IfOk result (λ v. IsYes v → AllReadsWereCarried trace.now witness.now) }
     ensures windows { IfOk result (λ v. IsYes v → AllKeepWindows trace.now witness.now) }
     ensures states { IfOk result (λ v. IsYes v → AllStatesFollow trace.now witness.now) }
@@ -171,7 +172,7 @@ pub(crate) fn replay(
     }
 }
 
-// Takes a line in the machine, or says which of its rules is broken.
+// Takes a line in the model, or says which of its rules is broken.
 fn take_line(world: &mut World, moment: u64, line: TakenLine) -> Result<Option<Rule>, OutOfMemory>
     requires { world.old.steps < most_steps }
     ensures rule { IfOk result (λ r. r ≡ broken_by world.old moment (line_step line)) }

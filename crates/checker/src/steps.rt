@@ -1,4 +1,4 @@
-//! The rest of a witness, which is read for its faults alone.
+//! The rest of a witness, which is read only for its faults.
 
 ghost use Rattle.std.specs.Prelude.{◌≡◌, ◌≢◌, ◌≤◌, ◌+◌, List, Err, IfOk, IfErr, None, true};
 ghost use Rattle.case_forms.specs.declared.steps.Step.{Step};
@@ -23,7 +23,7 @@ pub(crate) fn drain_steps<B: BufRead>(steps: &mut StepReader<B>) -> Result<(), C
     Ok(())
 }
 
-// Passes a step. False if there is none.
+// Skips a step. False if there is none.
 fn skip_step<B: BufRead>(steps: &mut StepReader<B>) -> Result<bool, CaseFault>
     requires { fault_of steps.old ≡ None }
     ensures next { IfOk result (λ more. Skips more (steps_left B.remaining steps.old)

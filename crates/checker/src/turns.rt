@@ -30,12 +30,12 @@ use std::io::BufRead;
 use verdict::Rule;
 use witness::StepReader;
 
-/// What one turn has come to.
+/// The result of one turn.
 #[derive(Clone, Copy)]
 pub(crate) enum StepOutcome {
     /// The witness is at its end.
     End,
-    /// A step more is done, which takes a line or is hidden.
+    /// One more step is done; it takes a line or is hidden.
     More(bool),
     /// A step that names this line breaks this rule.
     Refused(u64, Rule),
@@ -50,12 +50,12 @@ pub(crate) struct StepCounts {
     pub(crate) hidden: u64,
 }
 
-/// What the whole replay has come to.
+/// The result of the whole replay.
 #[derive(Clone, Copy)]
 pub(crate) enum ReplayOutcome {
     /// Each step is done.
     All(StepCounts),
-    /// After so many steps one that names this line breaks this rule.
+    /// After so many steps, a step that names this line breaks this rule.
     Refused(u64, u64, Rule),
 }
 
@@ -112,7 +112,7 @@ fn next_step<A: BufRead, B: BufRead>(
     }
 }
 
-// The least rule that a step breaks; where it breaks none, it is done. Every line whose moment is reached was offered.
+// The least rule that a step breaks; if it breaks none, it is done. Every line whose moment is reached was offered.
 fn judge_step<A: BufRead>(
     alloc: Global,
     window: &mut Window,
@@ -188,7 +188,7 @@ fn replay_next<A: BufRead, B: BufRead>(
     Ok(turn_of(broken, step))
 }
 
-// A turn by the rule that its step breaks.
+// The result of a turn, given the rule that its step breaks.
 fn turn_of(broken: Option<Rule>, step: Step) -> StepOutcome
     ensures { MatchOption broken (result ≡ StepOutcome.More (takes_line step.label)) (λ rule. result
         ≡ StepOutcome.Refused (line_named step.label) rule) }
@@ -199,7 +199,7 @@ fn turn_of(broken: Option<Rule>, step: Step) -> StepOutcome
     }
 }
 
-/// Does one step after the other, up to the first that breaks a rule. It is called before any line of the witness is
+/// Does the steps one after the other, up to the first that breaks a rule. Call it before any line of the witness is
 /// read.
 pub(crate) fn replay_steps<A: BufRead, B: BufRead>(
     alloc: Global,

@@ -1,8 +1,7 @@
-//! A case in two texts that are read while it is judged.
+//! A case in two texts, judged while they are read.
 //!
-//! Of the trace those lines are kept whose moment is reached and that are not placed, and one more; of the witness one
-//! step. The world keeps what endpoints have outstanding, and each segment that was made or went out, since later steps
-//! may name it.
+//! Of the trace, the lines that are reached and not yet placed are kept, and one more; of the witness, one step. The
+//! world keeps what endpoints have outstanding, and each segment that was made or sent, since later steps may name it.
 
 ghost use Rattle.std.specs.Prelude.{◌≡◌, ◌≢◌, ◌↔◌, List, [], Err, IfOk, IfSome, None, Option, Result};
 ghost use Rattle.case_forms.specs.declared.trace.Header.{Header};
@@ -40,30 +39,31 @@ use std::io::BufRead;
 use verdict::{Rule, Verdict};
 use witness::StepReader;
 
-/// The trace's fault, else the witness's, else the verdict on the case, however the bytes of both come in pieces. Read
-/// only where a reader's `failures()` grew in the call, which then ends at once. Both readers are given back.
+/// The trace's fault, else the witness's, else the verdict on the case, however the bytes of both come in pieces. The
+/// fault is `Read` only if a reader's `failures()` grew in the call, which then ends at once. Both readers are
+/// returned.
 pub fn check_streams<A: BufRead, B: BufRead>(
     alloc: Global,
     a: Counted<A>,
     b: Counted<B>,
 ) -> (Result<Verdict, CaseFault>, Counted<A>, Counted<B>)
-    // What follows from a yes if both hosts are recorded, by the lines of the trace and the steps of the witness that
-    // the texts stand for: what receives on a socket number returned is a prefix of what sends on one of the other host
-    // accepted, at each moment; once one returned the end, it is all of it.
+    // What follows from a yes if both hosts are recorded, in terms of the trace's lines and the witness's steps that
+    // the texts give: at each moment, what receives on a socket number returned is a prefix of what sends on one socket
+    // number of the other host accepted; once a receive returned the end, it is all of it.
     ensures heard { (t : Trace) (w : Witness) → AreOf (left_of A.remaining a) (left_of B.remaining b) t w →
         IfOk result.0 (λ v. IsYes v → AreBothRecorded t → ReceivesBeginSends t w) }
 
-    // What both texts give, where their bytes are known.
+    // What both texts give, if their bytes are known.
     ensures exact { GivesTexts result.0 (left_of A.remaining a) (left_of B.remaining b) }
 
-    // What the verdict says of the trace and the witness that the texts stand for, in places.
+    // What the verdict says about the trace and the witness that the texts give, by their places in the lists.
     ensures says { (t : Trace) (w : Witness) → AreOf (left_of A.remaining a) (left_of B.remaining b) t w
         → IfOk result.0 (Says t w) }
     ensures explained { (t : Trace) (w : Witness) → AreOf (left_of A.remaining a) (left_of B.remaining b) t w
         → IfOk result.0 (λ v. IsYes v ↔ Explains t w) }
 
-    // The same of the machine's endpoints: what reads returned is a prefix of what the peer's sends accepted; reads
-    // that returned the end returned all of it; what is acknowledged was taken before.
+    // The same for the model's endpoints: what reads returned is a prefix of what the peer's sends accepted; reads that
+    // returned the end returned all of it; what is acknowledged was taken before.
     ensures received { (t : Trace) (w : Witness) → AreOf (left_of A.remaining a) (left_of B.remaining b) t w →
         IfOk result.0 (λ v. IsYes v → AreBothRecorded t → ReadsBeginWhatWasSent t w) }
     ensures whole { (t : Trace) (w : Witness) → AreOf (left_of A.remaining a) (left_of B.remaining b) t w →
@@ -71,8 +71,9 @@ pub fn check_streams<A: BufRead, B: BufRead>(
     ensures acknowledged { (t : Trace) (w : Witness) → AreOf (left_of A.remaining a) (left_of B.remaining b) t w →
         IfOk result.0 (λ v. IsYes v → AreBothRecorded t → AllAcknowledgedWasTaken t w) }
 
-    // What follows from every yes, also of a half case: what reads returned came with segments that were taken; windows
-    // are kept; states follow each other by the arrows of RFC 9293, 3.3.2, figure 5; positions never fall.
+    // What follows from every yes, even if only one host is recorded: what reads returned arrived in segments that were
+    // taken; windows are kept; states follow each other by the arrows of RFC 9293, 3.3.2, figure 5; positions never
+    // fall.
     ensures carried { (t : Trace) (w : Witness) → AreOf (left_of A.remaining a) (left_of B.remaining b) t w →
         IfOk result.0 (λ v. IsYes v → AllReadsWereCarried t w) }
     ensures windows { (t : Trace) (w : Witness) → AreOf (left_of A.remaining a) (left_of B.remaining b) t w →
@@ -82,7 +83,7 @@ pub fn check_streams<A: BufRead, B: BufRead>(
     ensures positions { (t : Trace) (w : Witness) → AreOf (left_of A.remaining a) (left_of B.remaining b) t w →
         IfOk result.0 (λ v. IsYes v → NoPositionFalls t w) }
 
-    // A failed read is counted, and nothing else is.
+    // A failed read is counted, and nothing else.
     ensures read { result.0 ≡ Err CaseFault.Read
         → OneFailed (failures_of a) (failures_of b) (failures_of result.1) (failures_of result.2) }
     ensures same_trace { result.0 ≢ Err CaseFault.Read → failures_of result.1 ≡ failures_of a }
@@ -116,7 +117,7 @@ fn judge_texts<A: BufRead, B: BufRead>(
     }
 }
 
-// The verdict on a trace whose header was read, and on its witness, of which nothing was read; or the first fault of
+// The verdict on a trace whose header was read and on its witness, before any of it was read; or the first fault of
 // both.
 fn judge<A: BufRead, B: BufRead>(
     alloc: Global,
@@ -180,7 +181,7 @@ fn judge_in<A: BufRead, B: BufRead>(
     }
 }
 
-// The verdict where each step is done, after a fault of a line that is left.
+// The verdict if each step is done; a fault of a remaining line comes before it.
 fn end_of_witness<A: BufRead>(
     window: &Window,
     lines: &mut Ahead<A>,

@@ -1,4 +1,4 @@
--- The command line of the program, and what its words ask for.
+-- The command line of the program, and what its words request.
 use Rattle.std.specs.Prelude.{◌≡◌, ◌==◌, Bool, List, [], ◌∷◌, Some, codes, true, false}
 use Rattle.clap.specs.Words.{App, Rule, Text, new_app, new_rule, with_rule, with_subcommand}
 use Rattle.clap.specs.declared.builder.ArgAction.TheVariants.{Set}
@@ -9,7 +9,7 @@ use Rattle.cli.specs.declared.words.Asked.TheVariants.{Check, Segment, Nothing}
 abbrev pub check : App
 check = new_app (codes "check")
 
--- the text of the segment that is asked for
+-- the text of the segment
 abbrev pub hex : Rule
 hex = record (new_rule (codes "hex")) { required = true; action = Some Set }
 
@@ -17,7 +17,7 @@ hex = record (new_rule (codes "hex")) { required = true; action = Some Set }
 abbrev pub segment : App
 segment = with_rule (new_app (codes "segment")) hex
 
--- the words begin behind the program's name
+-- the words begin after the program's name
 abbrev pub without_program : App → App
 without_program app = record app { top = record app.top { no_binary_name = true } }
 
@@ -25,7 +25,7 @@ without_program app = record app { top = record app.top { no_binary_name = true 
 abbrev pub tool : App
 tool = with_subcommand (with_subcommand (without_program (new_app (codes "tcpwit"))) check.top) segment.top
 
--- the one word that asks for a case to be checked
+-- the one word that requests to check a case
 abbrev pub AsksCheck : List Text → Type 0
 AsksCheck words = words ≡ codes "check" ∷ []
 
@@ -34,16 +34,16 @@ abbrev pub is_dashed : Text → Bool
 is_dashed [] = false
 is_dashed (first ∷ rest) = first == 45
 
--- the two words that ask for the segment of a hex text
+-- the two words that request the segment of a hex text
 abbrev pub AsksSegment : List Text → Text → Type 0
 AsksSegment words text = (words ≡ codes "segment" ∷ text ∷ []) × (is_dashed text ≡ false)
 
--- words that ask for nothing that the program does
+-- words that are no command of the program
 pub record AsksNothing (words : List Text) : Type 0 where
   pub check : ¬ AsksCheck words
   pub segment : (text : Text) → ¬ AsksSegment words text
 
--- this is what the words ask for
+-- this is what the words request
 abbrev pub IsAsked : Asked → List Text → Type 0
 IsAsked Check words = AsksCheck words
 IsAsked (Segment text) words = AsksSegment words text.now

@@ -1,10 +1,10 @@
--- The words that ask for a case in two files.
+-- The command line for a case in two files.
 use Rattle.std.specs.Prelude.{◌≡◌, ◌⊎◌, ◌==◌, Bool, false, ℕ, List, [], ◌∷◌, ◌++◌, codes}
 use Rattle.std.specs.List.{list_any}
 use Rattle.cli.specs.CommandLine.{is_dashed}
 
--- the words begin with the option and its value, and these are the words behind; the value is a word of its own, which
--- begins with no dash, or stands behind an equals sign
+-- the words begin with the option and its value, and these words follow; the value is a word of its own, which doesn't
+-- begin with a dash, or follows an equals sign
 abbrev pub BeginsWith : List ℕ → List ℕ → List (List ℕ) → List (List ℕ) → Type 0
 BeginsWith option value behind words =
     ((words ≡ option ∷ value ∷ behind) × (is_dashed value ≡ false)) ⊎ (words ≡ (option ++ codes "=" ++ value) ∷ behind)
@@ -19,9 +19,10 @@ abbrev pub AreNamed : List (List ℕ) → List ℕ → List ℕ → Type 0
 AreNamed words trace witness =
     (options : List (List ℕ))
     × (words ≡ codes "check" ∷ options)
-    × (AreBoth (codes "--trace") trace (codes "--witness") witness options ⊎ AreBoth (codes "--witness") witness (codes "--trace") trace options)
+    × (AreBoth (codes "--trace") trace (codes "--witness") witness options
+    ⊎ AreBoth (codes "--witness") witness (codes "--trace") trace options)
 
--- one of the bytes is a NUL: no file has such a name, and a word that was no UTF-8 has one (`GivenWords`)
+-- one of the bytes is a NUL: no file has such a name, but a word that wasn't UTF-8 has one (`GivenWords`)
 abbrev pub has_nul : List ℕ → Bool
 has_nul = list_any (λ byte. byte == 0)
 

@@ -15,7 +15,7 @@ use Rattle.cli.specs.Output.{line_of, status_of}
 abbrev pub ends_case : List ℕ → Bool
 ends_case raw = is_ended raw && bytes_eq (without_terminator raw) (codes "end")
 
--- what is left behind the last such line is a case, unless it is empty
+-- what is left after the last such line is a case, unless it is empty
 abbrev pub rest_case : List ℕ → List (List ℕ)
 rest_case [] = []
 rest_case (x ∷ xs) = (x ∷ xs) ∷ []
@@ -39,7 +39,7 @@ abbrev pub greatest_status : List (Result Verdict CaseFault) → ℕ
 greatest_status [] = 0
 greatest_status (answer ∷ answers) = max (status_of answer) (greatest_status answers)
 
--- answers to these cases were written, of which some may say that memory ran out, and this is the greatest of their
+-- answers to these cases were written, some of which may say that memory ran out, and this is the greatest of their
 -- statuses
 pub record TellsEach (cases : List (List ℕ)) (status : ℕ) (old new : Option (List ℕ)) : Type 0 where
   pub answers : List (Result Verdict CaseFault)

@@ -9,7 +9,7 @@ use Rattle.verdict.specs.declared.report.Verdict.TheVariants as verdicts
 use Rattle.checker.specs.declared.case.CaseFault.{CaseFault}
 use Rattle.checker.specs.declared.case.CaseFault.TheVariants as faults
 
--- where a text is at fault, and in what: the line, both columns and the kind, each behind a space
+-- where a text is at fault, and how: the line, both columns and the kind, each after a space
 abbrev pub fault_text : TextFault → List ℕ
 fault_text fault =
     codes " " ++ decimal fault.span.line ++ codes " " ++ decimal fault.span.start

@@ -1,4 +1,4 @@
--- How the words that ask for a recording are read, option by option.
+-- How the command line for a recording is read, option by option.
 use Rattle.std.specs.Prelude.{◌≡◌, ◌≢◌, ℕ, true, List, [], ◌∷◌, ◌++◌, Option, None, Some, codes, nat_eq, if◌then◌else◌}
 use Rattle.std.specs.Str.{bytes_eq}
 use Rattle.std.specs.List.{starts_with}
@@ -48,7 +48,7 @@ abbrev pub or_else : Option (Setting × ℕ) → Option (Setting × ℕ) → Opt
 or_else None other = other
 or_else (Some found) other = Some found
 
--- the option that stands first, and how many words it takes
+-- the option that comes first, and how many words it has
 abbrev pub first_option : List Text → Option (Setting × ℕ)
 first_option [] = None
 first_option (word ∷ words) = or_else (with_count 1 (joined word)) (apart (word ∷ words))
@@ -57,7 +57,7 @@ abbrev pub listed : Option ℕ → List ℕ
 listed None = []
 listed (Some n) = n ∷ []
 
--- options in the words ask for the rest of this recording, of which these numbers were told before
+-- options in the words request the rest of this recording, of which these numbers were given before
 pub record AsksRest (told : GivenSettings) (words : List Text) (plan : Plan) : Type 0 where
   pub options : List (Setting × ℕ)
   pub each : TellEach options words
@@ -76,7 +76,7 @@ telling Rounds n told = record told { rounds = Some n }
 telling Lose n told = record told { lose = Some n }
 telling Format n told = record told { format = Some n }
 
--- what these numbers ask for
+-- what these numbers request
 pub record AsksPlan (told : GivenSettings) (plan : Plan) : Type 0 where
   pub rounds : told.rounds ≡ Some plan.rounds
   pub lose : told.lose ≡ Some plan.lose

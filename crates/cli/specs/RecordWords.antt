@@ -1,4 +1,4 @@
--- The words that ask for a recording.
+-- The command line for a recording.
 use Rattle.std.specs.Prelude.{◌≡◌, ◌≢◌, ◌⊎◌, ◌≤◌, ℕ, Bool, true, false, List, [], ◌∷◌, ◌++◌, codes, if◌then◌else◌}
 use Rattle.std.specs.Str.Parse.{IsNumeral, digits_value, without_leading_plus}
 use Rattle.clap.specs.Words.{Text}
@@ -25,7 +25,7 @@ dashed Rounds = codes "--rounds"
 dashed Lose = codes "--lose"
 dashed Format = codes "--format"
 
--- the least and the greatest number that it takes
+-- the least and the greatest number that it accepts
 abbrev pub least : Setting → ℕ
 least Rounds = 1
 least Lose = 0
@@ -36,14 +36,14 @@ most Rounds = 1000
 most Lose = 1000
 most Format = 2
 
--- the text spells this number: decimal digits, perhaps behind a plus sign, of a number that the option takes
+-- the text spells this number: decimal digits, perhaps after a plus sign, of a number that the option accepts
 pub record Spells (setting : Setting) (text : Text) (n : ℕ) : Type 0 where
   pub numeral : IsNumeral 10 (without_leading_plus text)
   pub number : n ≡ digits_value 10 (without_leading_plus text)
   pub low : least setting ≤ n
   pub high : n ≤ most setting
 
--- the words are the option with this text, as a word of its own or behind an equals sign
+-- the words are the option with this text, as a word of its own or after an equals sign
 abbrev pub AreOption : Setting → Text → List Text → Type 0
 AreOption setting text words = (words ≡ dashed setting ∷ text ∷ []) ⊎ (words ≡ (equals setting ++ text) ∷ [])
 
@@ -51,7 +51,7 @@ AreOption setting text words = (words ≡ dashed setting ∷ text ∷ []) ⊎ (w
 abbrev pub TellsNumber : Setting → List Text → ℕ → Type 0
 TellsNumber setting words n = (text : Text) × AreOption setting text words × Spells setting text n
 
--- the words are these options, one behind the other, each with its number
+-- the words are these options, one after the other, each with its number
 abbrev pub TellEach : List (Setting × ℕ) → List Text → Type 0
 TellEach [] words = words ≡ []
 TellEach (option ∷ options) words =
@@ -64,13 +64,13 @@ same Lose Lose = true
 same Format Format = true
 same _ _ = false
 
--- the numbers that the option was told with
+-- the numbers given with the option
 abbrev pub numbers_of : Setting → List (Setting × ℕ) → List ℕ
 numbers_of setting [] = []
 numbers_of setting (option ∷ options) =
     if same setting option.0 then option.1 ∷ numbers_of setting options else numbers_of setting options
 
--- the version of that number, and version 1 where none is told
+-- the version of that number, and version 1 if none is given
 abbrev pub IsVersion : List ℕ → Version → Type 0
 IsVersion numbers versions.One = (numbers ≡ []) ⊎ (numbers ≡ 1 ∷ [])
 IsVersion numbers versions.Two = numbers ≡ 2 ∷ []
@@ -78,7 +78,7 @@ IsVersion numbers versions.Three = ⊥
 IsVersion numbers versions.Four = ⊥
 IsVersion numbers versions.FourHalf = ⊥
 
--- the words ask for this recording: each option once, in any order, and the version may be left out
+-- the words request this recording: each option once, in any order, and the version may be left out
 pub record AsksRecord (words : List Text) (plan : Plan) : Type 0 where
   pub behind : List Text
   pub words_are : words ≡ codes "record" ∷ behind

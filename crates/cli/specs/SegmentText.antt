@@ -22,7 +22,7 @@ letter_of Rst = codes "R"
 letter_of Syn = codes "S"
 letter_of Fin = codes "F"
 
--- the flag's letter, where it is set
+-- the flag's letter, if it is set
 abbrev pub letter_in : ℕ → Flag → List ℕ
 letter_in flags flag = if has_flag flags flag then letter_of flag else []
 
@@ -33,11 +33,11 @@ upper_letters flags = letter_in flags Cwr ++ letter_in flags Ece ++ letter_in fl
 abbrev pub lower_letters : ℕ → List ℕ
 lower_letters flags = letter_in flags Psh ++ letter_in flags Rst ++ letter_in flags Syn ++ letter_in flags Fin
 
--- the letters of the flags that are set, or a dash where none is
+-- the letters of the flags that are set, or a dash if none is
 abbrev pub flags_text : ℕ → List ℕ
 flags_text flags = if flags == 0 then codes "-" else upper_letters flags ++ lower_letters flags
 
--- the MSS, or a dash where the segment has none
+-- the MSS, or a dash if the segment has none
 abbrev pub mss_text : Option ℕ → List ℕ
 mss_text None = codes "-"
 mss_text (Some mss) = decimal mss
@@ -63,7 +63,7 @@ rest_text segment =
     (codes " flags " ++ flags_text segment.flags) ++ (codes " wnd " ++ decimal segment.window)
     ++ (codes " mss " ++ mss_text segment.mss) ++ payload_text segment
 
--- the fields in their order, each behind its name
+-- the fields in their order, each after its name
 abbrev pub segment_text : Segment → List ℕ
 segment_text segment = ends_text segment ++ rest_text segment
 

@@ -1,4 +1,4 @@
-//! The segment that the argument of `segment` stands for.
+//! The segment that the argument of `segment` encodes.
 
 ghost use Rattle.cli.specs.HexText.{Gives};
 
@@ -7,21 +7,21 @@ use segment::{SegFault, Segment, decode};
 use std::alloc::Global;
 use thiserror::Error;
 
-/// Why a text stands for no segment.
+/// Why a text encodes no segment.
 #[derive(Clone, Copy, Debug, PartialEq, Eq, Error)]
 pub(crate) enum ArgumentFault {
-    /// It is no hex: the count of its digits is odd, or a digit is wrong.
+    /// It isn't hex: the count of its digits is odd, or a digit is wrong.
     #[error("the text is no hex")]
     Hex,
-    /// Its bytes stand for no segment.
+    /// Its bytes encode no segment.
     #[error("the bytes are no segment")]
     Segment(SegFault),
-    /// Memory ran out; nothing is wrong with the text.
+    /// Memory ran out; the text may be right.
     #[error("out of memory")]
     OutOfMemory,
 }
 
-/// The segment that a hex text stands for, in either case, or the first fault.
+/// The segment that a hex text encodes, in upper or lower case, or the first fault.
 pub(crate) fn read_segment(alloc: Global, text: &str) -> Result<Segment, ArgumentFault>
     ensures { Gives result text.now }
 {

@@ -1,4 +1,4 @@
-//! The words that ask for a case in two files.
+//! The command line for a case in two files.
 
 ghost use Rattle.std.specs.Prelude.{◌≡◌, ◌≢◌, ◌++◌, ◌↔◌, ℕ, List, IfOk, MatchOption, codes, map, option_map};
 ghost use Rattle.std.specs.Prelude.{string_bytes};
@@ -14,10 +14,10 @@ const TRACE: &str = "--trace";
 // The option of the witness's file.
 const WITNESS: &str = "--witness";
 
-/// The names of the trace's file and of the witness's, where the words are `check` and both options, each once and in
-/// either order; None if they are other words, also where a name has a NUL, as a word that was no UTF-8 has
-/// (`given_words`). An option and its name are two words, of which the name begins with no dash, or one word with a `=`
-/// between. An error means that memory ran out.
+/// The names of the trace's file and of the witness's, if the words are `check` and both options, each once and in
+/// either order. None: they are other words, or a name has a NUL, like a word that wasn't UTF-8 (`given_words`). An
+/// option and its name are two words, of which the name doesn't begin with a dash, or one word with a `=` between. The
+/// error is that memory ran out.
 pub fn file_names(alloc: Global, words: &[&str]) -> Result<Option<(String, String)>, OutOfMemory>
     ensures { IfOk result (λ named. (trace witness : List ℕ) →
         option_map {U = List ℕ × List ℕ} (λ names. (string_bytes names.0, string_bytes names.1)) named
@@ -42,7 +42,7 @@ fn has_nul(name: &str) -> bool
     name.as_bytes().contains(&0)
 }
 
-// The two names as they stand in the words.
+// The two names as they are in the words.
 fn named_files<'a>(words: &[&'a str]) -> Option<(&'a str, &'a str)>
     ensures { MatchOption result
         ((trace witness : List ℕ) → ¬ AreNamed (map (λ word. word.now) words.now) trace witness)
@@ -61,7 +61,7 @@ fn named_files<'a>(words: &[&'a str]) -> Option<(&'a str, &'a str)>
     Some((trace, witness))
 }
 
-// The values of two options, where the words are these in this order and nothing else.
+// The values of two options, if the words are these in this order and nothing else.
 fn both<'a>(words: &[&'a str], first: &str, second: &str) -> Option<(&'a str, &'a str)>
     ensures { MatchOption result
         ((one two : List ℕ) → ¬ AreBoth first.now one second.now two (map (λ word. word.now) words.now))
@@ -72,7 +72,7 @@ fn both<'a>(words: &[&'a str], first: &str, second: &str) -> Option<(&'a str, &'
     rest.is_empty().then_some((one, two))
 }
 
-// The value of an option that stands first, and the words after it.
+// The value of an option that comes first, and the words after it.
 fn take_option<'a, 'w>(words: &'w [&'a str], option: &str) -> Option<(&'a str, &'w [&'a str])>
     ensures { MatchOption result
         ((value : List ℕ) (behind : List (List ℕ))
@@ -95,7 +95,7 @@ fn take_option<'a, 'w>(words: &'w [&'a str], option: &str) -> Option<(&'a str, &
     Some((value, rest))
 }
 
-// What stands after an option and an equals sign in one word.
+// What follows an option and an equals sign in one word.
 fn joined_value<'a>(word: &'a str, option: &str) -> Option<&'a str>
     ensures { MatchOption result
         ((value : List ℕ) → word.entry.now ≢ option.now ++ codes "=" ++ value)

@@ -14,10 +14,10 @@ use std::alloc::Global;
 use std::io::{BufRead, Write};
 use verdict::Verdict;
 
-/// Answers a case whose trace and witness stand in two texts: writes the line of the trace's fault, else of the
-/// witness's, else of the verdict, and answers its status, as `run` does for a case in one text. Both are read while
-/// the case is judged, and the readers are given back. The three counts of failures have to be below 2^50 before, as
-/// those of new ends are.
+/// Answers a case whose trace and witness are two texts: writes the line of the trace's fault, else of the witness's,
+/// else of the verdict, and returns its status, as `run` does for a case in one text. Both are read while the case is
+/// judged, and the readers are returned. The three counts of failures must be below 2^50 before the call; those of new
+/// ends are.
 pub fn run_files<A: BufRead, B: BufRead, W: Write>(
     alloc: Global,
     a: Counted<A>,
@@ -31,7 +31,7 @@ pub fn run_files<A: BufRead, B: BufRead, W: Write>(
         Ends (status_of (texts_result xs ys)) (line_of (texts_result xs ys)) result.0 (left_of W.contents w.old)
         (left_of W.contents w.new))) }
 
-    // The status is 5 only where a count of failures grew. That is said if no write failed.
+    // The status is 5 only if a count of failures grew. The line says so if no write failed.
     ensures device { result.0 ≡ 5 → (failures_of a < failures_of result.1) ⊎ (failures_of b < failures_of result.2)
         ⊎ (failures_of w.old < failures_of w.new) }
     ensures told { result.0 ≡ 5 → failures_of w.new ≡ failures_of w.old →
@@ -45,8 +45,8 @@ pub fn run_files<A: BufRead, B: BufRead, W: Write>(
     (status, a, b)
 }
 
-/// Answers that a device failed, as where a file cannot be opened or read: one line, and the status 5. The count of
-/// failures has to be below 2^50 before.
+/// Answers that a device failed, for example because a file can't be opened or read: writes one line and returns the
+/// status 5. The count of failures must be below 2^50 before the call.
 pub fn answer_bad_device<W: Write>(w: &mut Counted<W>) -> u8
     requires { failures_of w.old < 2 ^ 50 }
     ensures status { result ≡ 5 }
@@ -57,7 +57,7 @@ pub fn answer_bad_device<W: Write>(w: &mut Counted<W>) -> u8
     DEVICE
 }
 
-/// Writes the line of a case's answer, and answers its status, 5 where a write failed.
+/// Writes the line of a case's answer, and returns its status, or 5 if a write failed.
 pub(crate) fn tell_case<W: Write>(
     alloc: Global,
     answer: &Result<Verdict, CaseFault>,

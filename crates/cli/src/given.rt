@@ -1,4 +1,4 @@
-//! The words that the program is given, as text.
+//! The words of the command line, as text.
 
 ghost use Rattle.std.specs.Prelude.{◌≡◌, map};
 ghost use Rattle.cli.specs.GivenWords.{plain};
@@ -9,11 +9,10 @@ use std::env::{Args, Env, FillError};
 use std::io;
 use std::str::from_utf8;
 
-/// The words of the command line, the program's name first. Where a word is no UTF-8, each of its bytes that is not
-/// ASCII becomes a NUL, which stands in no word that a process is given; so a word is always text. Nothing that the
-/// program knows is spelled with a NUL, so the answer to the words stays the same: `segment` with such a word is `bad
-/// segment hex`, and other words are `bad usage`, as `file_names` has it for a file's name. An error means that memory
-/// ran out.
+/// The words of the command line, the program's name first. If a word isn't UTF-8, each of its bytes that isn't ASCII
+/// becomes a NUL, which no word given to a process contains; so a word is always text. Nothing that the program knows
+/// is spelled with a NUL, so the answer to the words stays the same: `segment` with such a word is `bad segment hex`,
+/// and other words are `bad usage`, also for a file's name (`file_names`). The error is that memory ran out.
 pub fn given_words<E: Env>(env: &E, alloc: Global) -> io::Result<Args> {
     std::env::args(&(TextWords { env }, alloc))
 }
@@ -43,7 +42,7 @@ impl<E: Env> Env for TextWords<'_, E> {
     }
 }
 
-// Each byte of a word that is not ASCII becomes a NUL. The word stands for the same segment, or has the same fault.
+// Each byte of a word that is not ASCII becomes a NUL. The word encodes the same segment, or has the same fault.
 fn make_plain(word: &mut [u8])
     ensures plain { word.new ≡ map plain word.old }
     ensures segment { segment_in word.new ≡ segment_in word.old }

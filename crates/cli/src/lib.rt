@@ -1,22 +1,22 @@
-//! What the program does with its words, its reader and its writer.
+//! What the program does with its command line, its reader and its writer.
 //!
-//! `main` hands in the words after the program's name and both ends, and `run` answers the status with which the
-//! process ends. Each answer is one line of output.
+//! `main` passes the words after the program's name and both ends, and `run` returns the exit status. Each answer is
+//! one line of output.
 //!
 //! - `given`: the words of the command line, as text (`specs/GivenWords`)
-//! - `words`: what the words ask for, read by `clap` (`specs/CommandLine`)
+//! - `words`: what the words request, parsed by `clap` (`specs/CommandLine`)
 //! - `lines`: the line and the status of a case's answer (`specs/Output`)
-//! - `argument`: the segment that a hex text stands for (`specs/HexText`)
+//! - `argument`: the segment that a hex text encodes (`specs/HexText`)
 //! - `segment_line`: the line and the status of a segment (`specs/SegmentText`)
-//! - `running`: the whole run, and the answer if memory ran out before it
-//! - `file_words`, `files`: the words that ask for a case in two files (`specs/FileWords`), and the run on them
-//! - `many_words`, `many`: the words that ask for many cases, and the run that serves them too (`specs/ManyWords`,
-//!   `specs/Many`); it alone starts threads
-//! - `record_words`, `record`: the words that ask for a recording, and the case that is recorded and printed
+//! - `running`: the whole run, and the answer if memory runs out before it
+//! - `file_words`, `files`: the command line for a case in two files (`specs/FileWords`), and the run on them
+//! - `many_words`, `many`: the command line for many cases, and the run that also handles it (`specs/ManyWords`,
+//!   `specs/Many`); only `many` and `record` start threads
+//! - `record_words`, `record`: the command line for a recording, and the case that is recorded and printed
 //!   (`specs/RecordWords`)
-//! - `many_laws`: what the cutting of an input into cases means (`specs/ManyLaw`)
+//! - `many_laws`: how an input is split into cases (`specs/ManyLaw`)
 //!
-//! Which answer a case has is defined by `checker`, and what counts as a failure by `counted`.
+//! `checker` defines which answer a case has, and `counted` what counts as a failure.
 #![tactic(auto)]
 
 mod argument;

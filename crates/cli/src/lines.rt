@@ -15,11 +15,11 @@ use verdict::{Verdict, print_verdict};
 
 /// The steps explain the trace, or a segment is printed.
 pub(crate) const YES: u8 = 0;
-/// They do not.
+/// The steps don't explain the trace.
 pub(crate) const NO: u8 = 1;
 /// A text or a segment is refused.
 pub(crate) const REFUSED: u8 = 2;
-/// The words ask for nothing that the program does.
+/// The words are no command of the program.
 pub(crate) const USAGE: u8 = 3;
 /// Memory ran out.
 pub(crate) const MEMORY: u8 = 4;
@@ -78,7 +78,7 @@ fn push_column(line: &mut Vec<u8>, number: u64) -> Result<(), OutOfMemory>
     push_number(line, number)
 }
 
-/// Writes a line, and answers this status, or 5 where the writer failed.
+/// Writes a line, and returns this status, or 5 if the writer failed.
 pub(crate) fn say<W: Write>(w: &mut Counted<W>, line: &[u8], status: u8) -> u8
     requires { failures_of w.old < 2 ^ 50 }
     ensures said { result ≢ 5 → (result ≡ status)

@@ -30,11 +30,11 @@ use std::io::{BufRead, Write};
 use std::sync::Wait;
 use std::thread::Threads;
 
-/// Does what the words after the program's name ask for: where they ask for many cases, those of the input are checked
-/// by so many threads, a line is written for each in their order, and the greatest of their statuses is answered, 0 for
-/// none. Where they ask for a recording, two hosts talk, and what was recorded is written as a case; the status is 0
-/// where all rounds ended, and 1 where a limit was met. For all other words it is `run`. Both counts of failures have
-/// to be below 2^50 before, as those of new ends are.
+/// Does what the words after the program's name request. For `many`, the cases of the input are checked by so many
+/// threads, a line is written for each in their order, and the result is the greatest of their statuses, or 0 if there
+/// are none. For `record`, two hosts talk, and what was recorded is written as a case; the status is 0 if all rounds
+/// ended, and 1 if a limit was met. All other words are passed to `run`. Both counts of failures must be below 2^50
+/// before the call; those of new ends are.
 pub fn run_all<R: BufRead, W: Write, H: Threads + Wait + Sync>(
     rt: &H,
     alloc: Global,
@@ -62,8 +62,8 @@ pub fn run_all<R: BufRead, W: Write, H: Threads + Wait + Sync>(
     ensures unread { ¬ AsksCheck (map (λ word. word.now) words.now)
         → ((n : ℕ) → ¬ AsksMany (map (λ word. word.now) words.now) n) → r.new ≡ r.old }
 
-    // But for a recording, which may also find no thread, the status is 5 only where a count of failures grew. That is
-    // said if no write failed.
+    // Except for a recording, for which a thread may also be refused, the status is 5 only if a count of failures grew.
+    // The line says so if no write failed.
     ensures device { ((plan : Plan) → ¬ AsksRecord (map (λ word. word.now) words.now) plan) → result ≡ 5 →
         (failures_of r.old < failures_of r.new) ⊎ (failures_of w.old < failures_of w.new) }
     ensures told { result ≡ 5 → failures_of w.new ≡ failures_of w.old →
@@ -122,7 +122,7 @@ fn answer_cases<W: Write, H: Threads + Wait + Sync>(
     }
 }
 
-// Workers that nobody watches.
+// A gate that does nothing.
 struct Unwatched;
 
 impl Gate for Unwatched {
@@ -174,8 +174,8 @@ fn cut_cases<'a>(alloc: Global, text: &'a [u8]) -> Result<Vec<&'a [u8]>, OutOfMe
     Ok(cases)
 }
 
-// Writes a line for each answer, and gives the greatest status; if there is no memory for the lines, that alone is
-// said.
+// Writes a line for each answer, and returns the greatest status; if there is no memory for the lines, writes only
+// that.
 fn tell<W: Write>(alloc: Global, answers: &[CaseResult], w: &mut Counted<W>) -> u8
     requires { failures_of w.old < 2 ^ 50 }
     ensures said { result ≢ 5 →

@@ -1,9 +1,9 @@
-//! What the cutting of an input into cases means.
+//! How an input is split into cases.
 
 ghost use Rattle.cli.specs.ManyLaw.{CasesAreCutBack};
 
-/// Cases that are written one after the other, each with a line `end` after it, and of which no line is `end` itself,
-/// are cut into these cases again. What stands after the last `end` is one more, unless it is empty.
+/// Cases written one after the other, each followed by a line `end` and without such a line of their own, are split
+/// into the same cases again. What follows the last `end` is one more case, unless it is empty.
 pub fn cases_are_cut_back()
     ensures { CasesAreCutBack }
 {}

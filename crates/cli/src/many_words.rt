@@ -1,4 +1,4 @@
-//! The words that ask for many cases, and the number of workers that they name.
+//! The command line for many cases, and the number of workers in it.
 
 ghost use Rattle.std.specs.Prelude.{◌≡◌, false, ℕ, IfOk, MatchOption, map};
 ghost use Rattle.clap.specs.Words.{app_of, rule_of, fault_of, found_of, matches_of, rows_of, FailsBy};
@@ -10,7 +10,7 @@ use clap::error::ErrorKind;
 use clap::{Arg, ArgAction, ArgMatches, Command, Error};
 use std::alloc::{AllocError, Global};
 
-// The option that tells the number of workers.
+// The option for the number of workers.
 fn make_workers<'a>(alloc: Global) -> Arg<'a>
     ensures rule { rule_of result ≡ workers }
     ensures local { result.global ≡ false }
@@ -22,7 +22,7 @@ fn make_workers<'a>(alloc: Global) -> Arg<'a>
         .value_parser(clap::value_parser!(u64).range(1..=64))
 }
 
-// What is read after the word `many`.
+// What follows the word `many`.
 fn make_many<'a>(alloc: Global) -> Result<Command<'a>, AllocError>
     ensures { IfOk result (λ command. app_of command ≡ many) }
 {
@@ -60,7 +60,7 @@ fn is_option(option: &str, text: &str) -> bool
     option == "--workers" && !text.as_bytes().starts_with(b"-")
 }
 
-/// The number of workers, where the words ask for many cases; None if they do not.
+/// The number of workers, if the words request many cases. None: they don't.
 pub(crate) fn asked_workers<'a>(
     alloc: Global,
     words: &'a [&'a str],

@@ -29,8 +29,7 @@ use std::sync::Wait;
 use std::thread::Threads;
 use two_hosts::{Plan, RecordFault, Recording, record};
 
-/// Does what the words after the program's name ask for, if they don't ask for many cases: a recording, or what `run`
-/// does.
+/// Does what the words after the program's name request, unless that is many cases: a recording, or what `run` does.
 pub(crate) fn record_or_run<R: BufRead, W: Write, H: Threads + Wait + Sync>(
     rt: &H,
     alloc: Global,

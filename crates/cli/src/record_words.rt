@@ -1,4 +1,4 @@
-//! The words that ask for a recording, and the numbers that they name.
+//! The command line for a recording, and the numbers in it.
 
 ghost use Rattle.std.specs.Prelude.{◌≡◌, ◌<◌, false, ℕ, None, Some, IfOk, IfSome, MatchOption};
 ghost use Rattle.std.specs.Prelude.{length, map};
@@ -20,13 +20,13 @@ use two_hosts::Plan;
 pub(crate) enum Setting {
     /// How many rounds there are.
     Rounds,
-    /// Each so many segments of a host one is lost.
+    /// One in this many segments of each host is lost.
     Lose,
     /// The version of the texts.
     Format,
 }
 
-/// The numbers that options gave so far.
+/// The numbers that options have given so far.
 #[derive(Clone, Copy)]
 pub(crate) struct GivenSettings {
     rounds: Option<u16>,
@@ -34,7 +34,7 @@ pub(crate) struct GivenSettings {
     format: Option<u16>,
 }
 
-// The option, which takes a number of its range.
+// The option, which accepts a number of its range.
 fn make_number<'a>(alloc: Global, setting: Setting) -> Arg<'a>
     ensures rule { rule_of result ≡ rule setting }
     ensures local { result.global ≡ false }
@@ -51,7 +51,7 @@ fn make_number<'a>(alloc: Global, setting: Setting) -> Arg<'a>
         .value_parser(clap::value_parser!(u64).range(range))
 }
 
-// What is read of one option.
+// What `clap` reads for one option.
 fn make_option<'a>(alloc: Global, setting: Setting) -> Result<Command<'a>, AllocError>
     ensures { IfOk result (λ command. app_of command ≡ app setting) }
 {
@@ -71,7 +71,7 @@ fn parse<'a>(alloc: Global, setting: Setting, words: &'a [&'a str]) -> Result<Ar
     option.try_get_matches_from(words)
 }
 
-// The option of which a word is the name, after two dashes.
+// The option whose name follows two dashes in a word.
 fn named(word: &str) -> Option<Setting>
     ensures { result ≡ named word.now }
 {
@@ -100,8 +100,7 @@ fn joined(word: &str) -> Option<Setting>
     None
 }
 
-// The option that stands first, and how many words it takes. A text that begins with a minus sign would be another
-// option.
+// The option that comes first, and how many words it has. A text that begins with a minus sign would be another option.
 fn first_option(words: &[&str]) -> Option<(Setting, usize)>
     ensures { result ≡ first_option (map (λ word. word.now) words.now) }
 {
@@ -140,7 +139,7 @@ impl GivenSettings {
         }
     }
 
-    // What these numbers ask for; None if one is missing, or each segment would be lost.
+    // The plan that these numbers request; None if one is missing, or if every segment would be lost.
     fn plan(self) -> Option<Plan>
         ensures { MatchOption result ((plan : Plan) → ¬ AsksPlan self plan) (AsksPlan self) }
     {
@@ -173,7 +172,7 @@ fn name_of(setting: Setting) -> &'static str
     }
 }
 
-// The number that the words of one option tell; None where they tell none that it takes.
+// The number in the words of one option; None if they have none that it accepts.
 fn number_told<'a>(
     alloc: Global,
     setting: Setting,
@@ -193,7 +192,7 @@ fn number_told<'a>(
     }
 }
 
-// What the options in these words ask for beside the numbers that were given before them.
+// The plan that the options in these words request, together with the numbers given before them.
 fn plan_told<'a>(
     alloc: Global,
     words: &'a [&'a str],
@@ -218,7 +217,7 @@ fn plan_told<'a>(
     plan_told(alloc, rest, told)
 }
 
-/// What is recorded, where the words ask for a recording; None if they do not.
+/// The plan of the recording, if the words request one. None: they don't.
 pub(crate) fn asked_plan<'a>(
     alloc: Global,
     words: &'a [&'a str],

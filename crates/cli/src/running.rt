@@ -19,11 +19,12 @@ use counted::{Counted, ReadFault};
 use std::alloc::Global;
 use std::io::{BufRead, Write};
 
-/// Does what the words after the program's name ask for, and answers the status: 0 where the case is explained or the
-/// segment is printed, 1 where the case is not explained, 2 where its text or the segment is refused, 3 where the words
-/// are neither `check` alone nor `segment` with one word that begins with no dash, 4 if memory ran out, and 5 where a
-/// read or a write failed, or `Counted` refused it. One line is written, which says the same; only `check` reads. To
-/// write `bad memory` takes no memory. Both counts of failures have to be below 2^50 before, as those of new ends are.
+/// Does what the words after the program's name request, and returns the status: 0 if the case is explained or the
+/// segment is printed, 1 if the case isn't explained, 2 if its text or the segment is refused, 3 if the words are
+/// neither `check` alone nor `segment` with one word that doesn't begin with a dash, 4 if memory ran out, and 5 if a
+/// read or a write failed, or `Counted` refused it. One line is written, which says the same; only `check` reads.
+/// Writing `bad memory` takes no memory. Both counts of failures must be below 2^50 before the call; those of new ends
+/// are.
 pub fn run<R: BufRead, W: Write>(
     alloc: Global,
     words: &[&str],
@@ -42,7 +43,7 @@ pub fn run<R: BufRead, W: Write>(
         Ends 3 (codes "bad usage\n") result (left_of W.contents w.old) (left_of W.contents w.new) }
     ensures unread { ¬ AsksCheck (map (λ word. word.now) words.now) → r.new ≡ r.old }
 
-    // The status is 5 only where a count of failures grew. That is said if no write failed.
+    // The status is 5 only if a count of failures grew. The line says so if no write failed.
     ensures device { result ≡ 5 → (failures_of r.old < failures_of r.new) ⊎ (failures_of w.old < failures_of w.new) }
     ensures told { result ≡ 5 → failures_of w.new ≡ failures_of w.old →
         Appends (left_of W.contents w.old) (left_of W.contents w.new) (codes "bad device\n") }
@@ -56,21 +57,23 @@ pub fn run<R: BufRead, W: Write>(
     }
 }
 
-// Answers words that ask for nothing that the program does.
+// Answers words that are no command of the program.
 fn answer_bad_usage<W: Write>(w: &mut Counted<W>) -> u8
     requires { failures_of w.old < 2 ^ 50 }
-    ensures said { result ≢ 5 → (result ≡ 3) × Appends (left_of W.contents w.old) (left_of W.contents w.new) (codes "bad usage\n") ×
+    ensures said { result ≢ 5 → (result ≡ 3) ×
+        Appends (left_of W.contents w.old) (left_of W.contents w.new) (codes "bad usage\n") ×
         (failures_of w.new ≡ failures_of w.old) }
     ensures device { result ≡ 5 → failures_of w.old < failures_of w.new }
 {
     say(w, b"bad usage\n", USAGE)
 }
 
-/// Answers that memory ran out, and takes none: one line, and the status 4, or 5 where a write failed. The count of
-/// failures has to be below 2^50 before.
+/// Answers that memory ran out, without taking any: writes one line and returns the status 4, or 5 if a write failed.
+/// The count of failures must be below 2^50 before the call.
 pub fn answer_bad_memory<W: Write>(w: &mut Counted<W>) -> u8
     requires { failures_of w.old < 2 ^ 50 }
-    ensures said { result ≢ 5 → (result ≡ 4) × Appends (left_of W.contents w.old) (left_of W.contents w.new) (codes "bad memory\n") ×
+    ensures said { result ≢ 5 → (result ≡ 4) ×
+        Appends (left_of W.contents w.old) (left_of W.contents w.new) (codes "bad memory\n") ×
         (failures_of w.new ≡ failures_of w.old) }
     ensures device { result ≡ 5 → failures_of w.old < failures_of w.new }
 {

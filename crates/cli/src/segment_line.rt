@@ -90,7 +90,7 @@ fn push_field(line: &mut Vec<u8>, name: &str, number: u64) -> Result<(), OutOfMe
     push_number(line, number)
 }
 
-// Appends the flags that are set after their name, or a dash where none is.
+// Appends the flags that are set after their name, or a dash if none is.
 fn push_flags(line: &mut Vec<u8>, segment: &Segment) -> Result<(), OutOfMemory>
     ensures { IfOk result (λ _. line.new.items ≡ line.old.items ++ (codes " flags " ++ flags_text segment.now.flags)) }
 {
@@ -122,7 +122,7 @@ fn push_lower(line: &mut Vec<u8>, segment: &Segment) -> Result<(), OutOfMemory>
     push_letter(line, segment, Flag::Fin)
 }
 
-// Appends a flag's letter, where it is set.
+// Appends a flag's letter, if it is set.
 fn push_letter(line: &mut Vec<u8>, segment: &Segment, flag: Flag) -> Result<(), OutOfMemory>
     ensures { IfOk result (λ _. line.new.items ≡ line.old.items ++ letter_in segment.now.flags flag) }
 {
@@ -159,7 +159,7 @@ fn push_mss(line: &mut Vec<u8>, mss: Option<u16>) -> Result<(), OutOfMemory>
     }
 }
 
-// The number of the first payload byte, which stands after a SYN.
+// The number of the first payload byte, which follows a SYN.
 fn first_number(segment: &Segment) -> Word
     ensures { result ≡ first_number segment.now }
 {

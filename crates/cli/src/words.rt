@@ -1,4 +1,4 @@
-//! What the words ask for.
+//! What the words request.
 
 ghost use Rattle.std.specs.Prelude.{◌≡◌, false, IfOk, map};
 ghost use Rattle.clap.specs.Words.{app_of, rule_of, subcommand_of, subcommand_rows_of, fault_of, FailsBy};
@@ -9,14 +9,14 @@ use clap::error::ErrorKind;
 use clap::{Arg, ArgAction, ArgMatches, Command, Error};
 use std::alloc::{AllocError, Global};
 
-/// What words ask for.
+/// What words request.
 #[derive(Clone, Copy)]
 pub(crate) enum Asked<'a> {
-    /// That a case is checked.
+    /// To check a case.
     Check,
-    /// The segment of this hex text.
+    /// To print the segment of this hex text.
     Segment(&'a str),
-    /// Nothing that the program does.
+    /// No command of the program.
     Nothing,
 }
 
@@ -28,7 +28,7 @@ fn make_check<'a>(alloc: Global) -> Command<'a>
     Command::new(alloc, "check")
 }
 
-// The text of the segment that is asked for.
+// The text of the segment.
 fn make_hex<'a>(alloc: Global) -> Arg<'a>
     ensures rule { rule_of result ≡ hex }
     ensures local { result.global ≡ false }
@@ -75,12 +75,12 @@ pub(crate) fn is_dashed(text: &str) -> bool
     text.as_bytes().first() == Some(&b'-')
 }
 
-/// What the words ask for, unless memory ran out.
+/// What the words request, unless memory ran out.
 pub(crate) fn judge<'a>(alloc: Global, words: &'a [&'a str]) -> Result<Asked<'a>, AllocError>
     ensures { IfOk result (λ asked. IsAsked asked (map (λ word. word.now) words.now)) }
 {
     match parse(alloc, words) {
-        // A word more would be a `--`, which `clap` lets pass, as it does a dash alone.
+        // One more word would be a `--`, which `clap` accepts, as it does a dash alone.
         Ok(matches) => match matches.subcommand_name() {
             Some(_) if words.len() == 1 => Ok(Asked::Check),
             Some(name) if name == "segment" && words.len() == 2 && !is_dashed(words[1]) => {

@@ -1,4 +1,4 @@
--- A call's effect: the rules, and when it may have an answer, each with the words of the machine.
+-- A call's effect: its rules, and when it may have an answer, in the model's terms.
 use Rattle.std.specs.Prelude.{ℕ, Bool, false, ◌||◌, List, Option}
 use Rattle.std.specs.Option.{option_map_or}
 use Rattle.case_forms.specs.declared.calls.Host.{Host}
@@ -25,7 +25,7 @@ rules_of_call p moment call answer = call_rules (tcp p.header) moment p.world.ho
 abbrev pub gives_again : Both (HostState tcp_shape) → Option ℕ → Bool
 gives_again hosts number = option_map_or (λ n. given hosts.zero.body n || given hosts.one.body n) number false
 
--- the host that is meant allows the answer; where none is, the answer says that
+-- the host that the call means allows the answer; if it means none, the answer says so
 abbrev pub allowed_at : Both (HostState tcp_shape) → Call → Answer → Option Host → Bool
 allowed_at hosts call answer host =
     option_map_or (λ h. call_allows (pick hosts h).body call answer) host (is_bad_socket answer)

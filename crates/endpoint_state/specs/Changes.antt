@@ -1,4 +1,4 @@
--- Endpoints of which one changes, and nothing is kept that may be discarded.
+-- One endpoint changes, and whatever may be discarded is discarded.
 use Rattle.std.specs.Prelude.{◌≡◌, ℕ, List, [], ◌∷◌, Some, map}
 use Rattle.spec_tcp.specs.Calls.Close.{orphaned}
 use Rattle.streams.specs.Lists.{modify}
@@ -14,7 +14,7 @@ pub record Keeps (e e' : Endpoint) : Type 0 where
   pub rport : e'.rport ≡ e.rport
   pub listener : (l : ℕ) → e'.listener ≡ Some l → e.listener ≡ Some l
 
--- the children at these places are aborted, where they are still that listener's
+-- the children at these places are aborted, if they are still that listener's
 abbrev pub orphan_each : ℕ → List ℕ → List Endpoint → List Endpoint
 orphan_each l [] endpoints = endpoints
 orphan_each l (place ∷ places) endpoints = orphan_each l places (modify endpoints place (orphaned l))

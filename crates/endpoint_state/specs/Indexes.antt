@@ -1,4 +1,4 @@
--- Indexes: what leads to an endpoint or a listener with no walk over all of them, and what it has to say.
+-- Indexes that lead to an endpoint or a listener without a walk over all of them, and when they are right.
 use Rattle.std.specs.Prelude.{◌≡◌, ℕ, Bool, true, false, nat_eq, ◌||◌, List, [], ◌∷◌, Option, None, Some, slice_get}
 use Rattle.std.specs.Prelude.{Vec}
 use Rattle.std.specs.declared.alloc.Global.{Global}
@@ -15,13 +15,12 @@ use Rattle.spec_tcp.specs.HostTcp.{last_from, has_ports}
 abbrev pub ports_cmp : ℕ × ℕ → ℕ × ℕ → Ordering
 ports_cmp a b = ordering_then (nat_cmp a.0 b.0) (nat_cmp a.1 b.1)
 
--- the number stands in the list
+-- the number is in the list
 abbrev pub stands_in : ℕ → List ℕ → Bool
 stands_in n [] = false
 stands_in n (m ∷ ms) = nat_eq n m || stands_in n ms
 
--- each pair of ports leads to the endpoint created last there, and each endpoint stands among the children of its
--- listener
+-- each pair of ports leads to the endpoint created last there, and each endpoint is among the children of its listener
 pub record IsIndexed (found : ℕ → ℕ → Option ℕ) (is_child : ℕ → ℕ → Bool) (endpoints : List Endpoint) : Type 0 where
   pub ports : (lport rport : ℕ) → found lport rport ≡ last_from (has_ports lport rport) 0 None endpoints
   pub children : (place l : ℕ) (e : Endpoint) → slice_get endpoints place ≡ Some e → e.listener ≡ Some l
@@ -33,11 +32,11 @@ pub record IsListening (found : ℕ → Option ℕ) (listeners : List Listener) 
       → found x.port ≡ Some place
   pub port : (port place : ℕ) → found port ≡ Some place → IsSomeAnd (slice_get listeners place) (λ x. x.port ≡ port)
 
--- where a map from pairs of ports leads
+-- the place to which a map from pairs of ports leads
 abbrev pub find_ports : List ((ℕ × ℕ) × ℕ) → ℕ → ℕ → Option ℕ
 find_ports entries lport rport = lookup (is_at (ports_cmp (lport, rport))) entries
 
--- the place stands among the children of that listener
+-- the place is among the children of that listener
 abbrev pub is_child_in : List (ℕ × Vec ℕ Global) → ℕ → ℕ → Bool
 is_child_in entries l place =
     option_map_or (λ places. stands_in place places.items) (lookup (is_at (nat_cmp l)) entries) false

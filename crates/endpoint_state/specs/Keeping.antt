@@ -1,4 +1,4 @@
--- What holds of all that is kept after so many steps is kept by each step, and leaves room for one more.
+-- Each step keeps the bounds on a world after so many steps, and these leave room for one step more.
 use Rattle.std.specs.Prelude.{◌≡◌, ◌<◌, ◌^◌, ℕ, suc, List, None}
 use Rattle.std.specs.List.{All}
 use Rattle.case_forms.specs.declared.trace.Header.{Header}
@@ -17,7 +17,7 @@ use Rattle.spec_tcp.specs.Machine.{Act, Calls, Makes, Takes, Resets, Expires, Re
 use Rattle.spec_tcp.specs.Reset.{reset_of}
 use Rattle.spec_tcp.specs.Wire.{sent}
 
--- before the last step that a case may have, there is room for what one step more may add
+-- before the last step that a case may have, there is room for all that one more step may add
 pub record HaveRoom : Type 0 where
   pub endpoint : (steps : ℕ) (e : Endpoint) → steps < most_steps → IsKept steps e → HasRoom e
   pub endpoints : (steps : ℕ) (es : List Endpoint) → steps < most_steps → All (IsKept steps) es → All HasRoom es
@@ -48,8 +48,8 @@ pub record KeptLonger : Type 0 where
   pub endpoint : (steps : ℕ) (e : Endpoint) → IsKept steps e → IsKept (suc steps) e
   pub body : (steps : ℕ) (b : HostTcp) → IsKeptBody steps b → IsKeptBody (suc steps) b
 
--- resets that answer are small, and so is what is heard of a host that is not recorded; segments that go out are as
--- small as they were made
+-- resets that answer segments are small, and so are segments heard from a host that isn't recorded; sent segments are
+-- as small as they were made
 pub record EmissionsAreSmall : Type 0 where
   pub resets : (m : Emission) → IsSmallEmission (reset_of m)
   pub goes : (moment : ℕ) (wire : Wire) (m : Emission) → IsSmallEmission m → IsSmallEmission (sent moment wire m)

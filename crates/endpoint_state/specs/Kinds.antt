@@ -1,4 +1,4 @@
--- One host at each kind of deed: the rules, and table by table what it has then, each by what the deed reads.
+-- One host at each kind of step: its rules, and the host's tables after it, each from what the step reads.
 use Rattle.std.specs.Prelude.{ℕ, nat_eq, Bool, true, not, List, [], Some}
 use Rattle.indexmap.specs.IndexMap.{insert_entry}
 use Rattle.case_forms.specs.Versions.{is_half}
@@ -34,12 +34,12 @@ made_one me moment fresh plan h = record h {
   made = on (act_makes me h.body (acts.Makes plan)) h.made (λ e. insert_entry nat_eq h.made fresh (unsent e));
 }
 
--- the segment of that number stands on the wire with that line
+-- the segment of that number is on the wire with that line
 abbrev pub sent_one : (moment line number : ℕ) → Wire → HostState tcp_shape → HostState tcp_shape
 sent_one moment line number wire h =
     record h { made = made_gone_out number h.made; wire = wire_after sent h.made line number wire moment h.wire }
 
--- what is heard of the host that is not recorded waits with that line, and the rule of it: the case is a half one
+-- a segment heard from the host that isn't recorded waits with that line; its rule: only one host is recorded
 abbrev pub heard_one : (moment line : ℕ) → Wire → HostState tcp_shape → HostState tcp_shape
 heard_one moment line wire h = record h { inbox = insert_entry nat_eq h.inbox line (Some (heard moment wire)) }
 
@@ -66,14 +66,14 @@ answered_one line fresh h = record h {
 abbrev pub expiry_of : Ports → Expired → Deed tcp_shape
 expiry_of ports e = Expires 0 (record { lport = ports.lport; rport = ports.rport; expired = e })
 
--- the rules of it, and what the host's endpoints are then
+-- its rules, and the host's endpoints after it
 abbrev pub expiring_rules : Header → (moment : ℕ) → Ports → Expired → HostTcp → List (Rule × Bool)
 expiring_rules hd moment ports e b = rules_at b ports.lport ports.rport (λ x. expiry_rules hd moment x e)
 
 abbrev pub expired_body : (moment : ℕ) → Ports → Expired → HostTcp → HostTcp
 expired_body moment ports e b = at_ports b ports.lport ports.rport (λ x. after_expiry x e moment)
 
--- the same of fast recovery
+-- the same for fast recovery
 abbrev pub recovering_rules : (moment : ℕ) → Recovery → HostTcp → List (Rule × Bool)
 recovering_rules moment r b = rules_at b r.lport r.rport (λ x. recovery_rules x r.cwnd r.ssthresh moment)
 

@@ -1,4 +1,4 @@
--- Whom a segment finds, by place.
+-- What a segment finds, by place.
 use Rattle.std.specs.Prelude.{◌≡◌, ◌&&◌, ℕ, false, if◌then◌else◌, Option, None, Some, slice_get}
 use Rattle.std.specs.Option.{option_map_or, IsSomeAnd}
 use Rattle.spec_tcp.specs.HostTcp.{HostTcp}

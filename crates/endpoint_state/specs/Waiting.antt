@@ -1,4 +1,4 @@
--- What a call needs that is done.
+-- What a call needs when it has its effect.
 use Rattle.std.specs.Prelude.{◌≡◌, ◌≤◌, ℕ, List, Some, length, slice_get}
 use Rattle.streams.specs.Received.{waiting}
 use Rattle.spec_tcp.specs.HostTcp.{HostTcp, thing_of}

@@ -1,4 +1,4 @@
--- What a case has come to: the machine's world, of which all is discarded that may be, and how many steps led there.
+-- The state of a case: the model's world, with whatever may be discarded discarded, and how many steps led there.
 use Rattle.std.specs.Prelude.{ℕ, suc, nat_eq}
 use Rattle.indexmap.specs.IndexMap.{insert_entry}
 use Rattle.case_forms.specs.declared.calls.Host.{Host}
@@ -25,11 +25,11 @@ start header = record { header = header; world = hosts.start (tcp header); steps
 abbrev pub after : Progress → ℕ → Step tcp_shape → Progress
 after p moment step = record p { world = forget (hosts.after (tcp p.header) moment p.world step); steps = suc p.steps }
 
--- both hosts, once a segment stands on that host's wire under that line, in place of one that stood there
+-- both hosts, once a segment was put on that host's wire under that line, replacing any that was there
 abbrev pub hosts_brought : Both (HostState tcp_shape) → Host → ℕ → Emission → Both (HostState tcp_shape)
 hosts_brought hosts host line m =
     with_host hosts host (record (pick hosts host) { wire = insert_entry nat_eq (pick hosts host).wire line m })
 
--- once it was brought there; that is no step, and what came in stays as it was
+-- the state once it was put there; that isn't a step, and what arrived stays as it was
 abbrev pub brought : Progress → Host → ℕ → Emission → Progress
 brought p host line m = record p { world = record p.world { hosts = hosts_brought p.world.hosts host line m } }

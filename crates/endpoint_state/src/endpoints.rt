@@ -34,7 +34,7 @@ pub(crate) struct Endpoints {
     all: Vec<Endpoint>,
     /// For each pair of ports, the endpoint created last there.
     places: BTreeMap<(u16, u16), u32>,
-    /// For each listener that made some, the endpoints that it made. None is ever taken out.
+    /// For each listener that has children, the endpoints it created. No entry is ever removed.
     children: BTreeMap<u32, Vec<u32>>,
 }
 
@@ -81,7 +81,7 @@ impl Endpoints {
         self.places.get(&(lport, rport)).copied()
     }
 
-    /// One more endpoint is added at the end. If memory runs out, nothing is changed.
+    /// Adds an endpoint at the end. If memory runs out, nothing is changed.
     pub(crate) fn add(&mut self, alloc: Global, endpoint: Endpoint) -> Result<(), OutOfMemory>
         requires { length self.old + 1 < 2 ^ 32 }
         ensures ok { OnOk result (self.new ≡ self.old ++ endpoint ∷ []) }
@@ -96,7 +96,7 @@ impl Endpoints {
     }
 }
 
-// A place is noted among the children of its listener, if it has one.
+// Adds the place to its listener's children, if it has a listener.
 fn add_child(
     children: &mut BTreeMap<u32, Vec<u32>>,
     alloc: Global,
@@ -213,8 +213,8 @@ impl Endpoints {
         }
     }
 
-    /// The endpoint at a place takes a segment as it reads it, and which it may take, at a moment in microseconds. If
-    /// memory runs out, nothing is changed.
+    /// The endpoint at a place takes a segment that it may take, as it reads it, at a moment in microseconds. If memory
+    /// runs out, nothing is changed.
     pub(crate) fn take(
         &mut self,
         header: &Header,
@@ -238,8 +238,7 @@ impl Endpoints {
         Ok(())
     }
 
-    /// The first bytes of a `send` are accepted at the endpoint at a place: so many. If memory runs out, nothing is
-    /// changed.
+    /// The endpoint at a place accepts the first `count` bytes of a `send`. If memory runs out, nothing is changed.
     pub(crate) fn send(&mut self, place: u32, bytes: &[u8], count: u32) -> Result<(), OutOfMemory>
         requires { All HasRoom self.old }
         ensures ok { OnOk result (self.new ≡ changed self.old place (after_send bytes.now count)) }
@@ -253,7 +252,7 @@ impl Endpoints {
         Ok(())
     }
 
-    /// The bytes of a `recv` are delivered at the endpoint at a place, if no more than these wait.
+    /// The endpoint at a place delivers the bytes of a `recv`, if at least as many wait.
     pub(crate) fn deliver(&mut self, place: u32, bytes: &[u8])
         requires kept { All HasRoom self.old }
         requires waiting { IfSome (slice_get self.old place)
@@ -288,8 +287,8 @@ fn make_one(
 }
 
 impl Endpoints {
-    /// The children of a listener that were not accepted are aborted (RFC 9293, 3.10.5). No other endpoint is looked
-    /// at.
+    /// The children of a listener that were not accepted are aborted (RFC 9293, 3.10.5). Other endpoints aren't
+    /// visited.
     pub(crate) fn orphan(&mut self, listener: u32)
         requires { All HasRoom self.old }
         ensures { self.new ≡ map (orphaned listener) self.old }

@@ -1,4 +1,4 @@
-//! Why a step was not done.
+//! Why a step was refused.
 
 ghost use Rattle.std.specs.Prelude.{◌≡◌};
 ghost use Rattle.endpoint_state.specs.declared.fault.StepFault.TheVariants as faults;
@@ -7,10 +7,10 @@ use std::alloc::{AllocError, AllocFailed};
 use thiserror::Error;
 use verdict::Rule;
 
-/// Why a step was not done. The world is then as it was.
+/// Why a step was refused. The world is unchanged then.
 #[derive(Clone, Copy, Debug, PartialEq, Eq, Error)]
 pub enum StepFault {
-    /// The step breaks this rule, and none that is less.
+    /// The step breaks this rule and no lesser one.
     #[error("the step breaks the rule {0}")]
     Broken(Rule),
     /// The step breaks no rule, and memory ran out.

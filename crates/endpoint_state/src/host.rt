@@ -1,4 +1,4 @@
-//! What one host has, and what it does. Moments are in microseconds, windows and thresholds in bytes. If memory runs
+//! One host's state, and each step on it. Moments are in microseconds, windows and thresholds in bytes. If memory runs
 //! out, nothing is changed.
 
 ghost use Rattle.std.specs.Prelude.{◌≡◌, ◌≤◌, true, Some, nat_eq, IfOk, OnOk, OnErr};
@@ -41,8 +41,8 @@ use tables::Table;
 use verdict::Rule;
 use window_rules::Profile;
 
-/// What one host has: its endpoints, listeners and sockets, the segments that it made by their numbers, those that it
-/// put on the wire by their lines, and its inbox by the lines that came in, with None for one that waits no longer.
+/// One host's state: its endpoints, listeners and sockets, the segments it made by number, those it sent by line, and
+/// its inbox by line of arrival, with None once a segment no longer waits.
 #[derive(Drop)]
 pub(crate) struct HostState {
     body: HostTcp,
@@ -65,8 +65,8 @@ impl Model for HostState {
     } };
 }
 
-/// A segment is made under this number, and waits to go out. An error is the first rule that is broken, or that memory
-/// ran out; nothing is changed then.
+/// A segment is made under this number, and waits to be sent. The error is the first broken rule, or that memory ran
+/// out; nothing is changed then.
 pub(crate) fn make(
     alloc: Global,
     me: Host,
@@ -92,8 +92,7 @@ pub(crate) fn make(
     Ok(())
 }
 
-/// The segment of this number goes out with this line. An error is the first rule that is broken, or that memory ran
-/// out;
+/// The segment of this number is sent with this line. The error is the first broken rule, or that memory ran out;
 /// nothing is changed then.
 pub(crate) fn send_made(
     header: &Header,
@@ -119,7 +118,7 @@ pub(crate) fn send_made(
     )
 }
 
-/// As `send_made`, of a wire that is given away.
+/// Like `send_made`, but consumes the wire instead of copying it.
 pub(crate) fn send_made_owned(
     header: &Header,
     host: &mut HostState,
@@ -158,18 +157,19 @@ pub(crate) fn arrive(
     Ok(())
 }
 
-/// A segment of elsewhere stands on the host's wire under this line, in place of one that stood there. If memory runs
+/// Puts a segment of another recording on the host's wire under this line, replacing any that was there. If memory runs
 /// out, nothing is changed.
 pub(crate) fn bring(host: &mut HostState, line: u64, emission: &Emission) -> Result<(), OutOfMemory>
-    ensures ok { OnOk result (host.new ≡ record host.old { wire = insert_entry nat_eq host.old.wire line emission.now }) }
+    ensures ok { OnOk result
+        (host.new ≡ record host.old { wire = insert_entry nat_eq host.old.wire line emission.now }) }
     ensures err { OnErr result (host.new ≡ host.old) }
 {
     host.wire.insert(line, emission.copy()?)?;
     Ok(())
 }
 
-/// The segment that waits under this line is taken. An error is the first rule that is broken, or that memory ran out;
-/// nothing is changed then.
+/// The segment that waits under this line is taken. The error is the first broken rule, or that memory ran out; nothing
+/// is changed then.
 pub(crate) fn take(
     alloc: Global,
     header: &Header,
@@ -192,7 +192,8 @@ pub(crate) fn take(
     Ok(())
 }
 
-/// The segment that waits under this line is dropped. An error is the rule that nothing waits; nothing is changed then.
+/// The segment that waits under this line is dropped. The error is the rule `Inbox`, if nothing waits; nothing is
+/// changed then.
 pub(crate) fn drop_waiting(host: &mut HostState, line: u64) -> Result<(), Rule>
     ensures rule { result_err result ≡ first_broken (dropping_rules line host.old) }
     ensures ok { OnOk result (host.new ≡ dropped_one line host.old) }
@@ -203,8 +204,8 @@ pub(crate) fn drop_waiting(host: &mut HostState, line: u64) -> Result<(), Rule>
     Ok(())
 }
 
-/// The segment that waits under this line is answered by a reset, which gets this number. An error is the first rule
-/// that is broken, or that memory ran out; nothing is changed then.
+/// The segment that waits under this line is answered by a reset, which gets this number. The error is the first broken
+/// rule, or that memory ran out; nothing is changed then.
 pub(crate) fn reply_with_reset(
     alloc: Global,
     host: &mut HostState,
@@ -225,7 +226,7 @@ pub(crate) fn reply_with_reset(
     Ok(())
 }
 
-/// A timer expires. An error is the first rule that is broken; nothing is changed then.
+/// A timer expires. The error is the first broken rule; nothing is changed then.
 pub(crate) fn expire(
     header: &Header,
     host: &mut HostState,
@@ -242,7 +243,7 @@ pub(crate) fn expire(
     host.body.expire(header, ports, expired, moment)
 }
 
-/// Fast recovery begins. An error is the first rule that is broken; nothing is changed then.
+/// Fast recovery begins. The error is the first broken rule; nothing is changed then.
 pub(crate) fn recover(host: &mut HostState, recovery: Recovery, moment: u64) -> Result<(), Rule>
     requires { IsReady host.old }
     ensures rule { result_err result ≡ first_broken (recovering_rules moment recovery host.old.body) }
@@ -283,7 +284,7 @@ impl HostState {
         }
     }
 
-    /// What stands on its wire under this line.
+    /// The segment on its wire under this line.
     pub(crate) fn sent(&self, line: u64) -> Option<&Emission>
         ensures { option_copied result ≡ lookup (nat_eq line) self.now.wire }
     {
@@ -297,7 +298,7 @@ impl HostState {
         self.made.get(u64::from(number))
     }
 
-    /// The segment that came in with this line, and waits.
+    /// The segment that arrived with this line, and waits.
     pub(crate) fn waiting(&self, line: u64) -> Option<&Emission>
         ensures { option_copied result ≡ waiting line self.now.inbox }
     {
@@ -325,7 +326,7 @@ impl HostState {
         self.body.allows(call, answer)
     }
 
-    /// Whether what goes out is the segment that was made under this number. An error is the first rule that is broken.
+    /// Whether the segment to be sent is the one that was made under this number. The error is the first broken rule.
     pub(crate) fn admits_sending(
         &self,
         header: &Header,
@@ -339,9 +340,8 @@ impl HostState {
         Ok(())
     }
 
-    /// What this host put on its wire with the line `copied`, where what comes in at a moment at the other host is a
-    /// copy of it.
-    /// An error is the first rule that is broken.
+    /// What this host sent with the line `copied`, if what arrives at the other host at a moment is a copy of it. The
+    /// error is the first broken rule.
     pub(crate) fn admitted_arrival(
         &self,
         header: &Header,
@@ -357,7 +357,7 @@ impl HostState {
         admitted_arrival(header, moment, &self.wire, copied, wire)
     }
 
-    /// Whether it may make a segment. An error is the first rule that is broken.
+    /// Whether it may make a segment. The error is the first broken rule.
     pub(crate) fn admits_making(&self, plan: &SegmentPlan) -> Result<(), Rule>
         requires ready { IsReady self.now }
         requires small { plan.now.pos ≤ greatest_position }
@@ -368,7 +368,7 @@ impl HostState {
         Ok(())
     }
 
-    /// Whether it may take the segment that waits under this line. An error is the first rule that is broken.
+    /// Whether it may take the segment that waits under this line. The error is the first broken rule.
     pub(crate) fn admits_taking(
         &self,
         header: &Header,
@@ -387,7 +387,7 @@ impl HostState {
         Ok(())
     }
 
-    /// Whether it may drop what waits under this line. An error is the rule that nothing does.
+    /// Whether it may drop what waits under this line. The error is the rule `Inbox`, if nothing waits.
     pub(crate) fn admits_dropping(&self, line: u64) -> Result<(), Rule>
         ensures { result_err result ≡ first_broken (dropping_rules line self.now) }
     {
@@ -397,8 +397,7 @@ impl HostState {
         }
     }
 
-    /// Whether it may answer by a reset the segment that waits under this line. An error is the first rule that is
-    /// broken.
+    /// Whether it may answer by a reset the segment that waits under this line. The error is the first broken rule.
     pub(crate) fn admits_reset(&self, line: u64) -> Result<(), Rule>
         ensures { result_err result ≡ first_broken (answering_rules line self.now) }
     {
@@ -408,7 +407,7 @@ impl HostState {
         }
     }
 
-    /// Whether a timer may expire. An error is the first rule that is broken.
+    /// Whether a timer may expire. The error is the first broken rule.
     pub(crate) fn admits_expiry(
         &self,
         header: &Header,
@@ -422,7 +421,7 @@ impl HostState {
         Ok(())
     }
 
-    /// Whether fast recovery may begin. An error is the first rule that is broken.
+    /// Whether fast recovery may begin. The error is the first broken rule.
     pub(crate) fn admits_recovery(&self, recovery: Recovery, moment: u64) -> Result<(), Rule>
         ensures { result_err result ≡ first_broken (recovering_rules moment recovery self.now.body) }
     {

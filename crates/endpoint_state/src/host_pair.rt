@@ -1,4 +1,4 @@
-//! The two hosts: each of them for a look, and the one that acts, lent.
+//! The two hosts: either one for reading, and the acting one by mutable reference.
 
 ghost use Rattle.std.specs.Prelude.{◌≡◌, true, OnOk, OnErr};
 ghost use Rattle.std.specs.Borrow.{sem};
@@ -68,7 +68,7 @@ impl Hosts {
         }
     }
 
-    /// A segment stands on a host's wire under this line.
+    /// Puts a segment on a host's wire under this line.
     pub(crate) fn bring(
         &mut self,
         host: Host,

@@ -1,6 +1,6 @@
-//! What one host has, and how it is found.
+//! One host's TCP state: its endpoints, listeners and sockets, and how they are found.
 //!
-//! In its folder each event, its test and its effect:
+//! Its folder has a file for each event, with its rules and its effect:
 //!
 //! - `calls`: socket calls
 //! - `makes`: a segment is made
@@ -28,12 +28,12 @@ use std::marker::Model;
 use tables::Table;
 use verdict::Rule;
 
-/// What one host has. Contracts see it as the record `HostTcp` of the definitions.
+/// One host's TCP state. Contracts see it as the record `HostTcp` of the definitions.
 #[derive(Drop)]
 pub struct HostTcp {
     pub(crate) endpoints: Endpoints,
     pub(crate) listeners: Listeners,
-    /// What each socket number names that was given. None is ever taken out.
+    /// What each given socket number names. No entry is ever removed.
     pub(crate) sockets: Table<Socket>,
 }
 
@@ -46,7 +46,7 @@ impl Model for HostTcp {
 }
 
 impl HostTcp {
-    /// A host at its start, which has nothing.
+    /// A host at its start, without endpoints, listeners or sockets.
     pub fn new(alloc: Global) -> HostTcp
         ensures { result ≡ empty }
     {
@@ -88,14 +88,14 @@ impl HostTcp {
         self.endpoints.place_of(lport, rport)
     }
 
-    /// The endpoint at a place. None: there are no more than that.
+    /// The endpoint at a place. None: there is no such place.
     pub fn endpoint_at(&self, place: u32) -> Option<&Endpoint>
         ensures { option_copied result ≡ slice_get self.now.endpoints place }
     {
         self.endpoints.get(place)
     }
 
-    /// The listener at a place. None: there are no more than that.
+    /// The listener at a place. None: there is no such place.
     pub fn listener_at(&self, place: u32) -> Option<&Listener>
         ensures { option_copied result ≡ slice_get self.now.listeners place }
     {
@@ -112,7 +112,8 @@ impl HostTcp {
         }
     }
 
-    // The place of the endpoint created last with these ports, and the endpoint. An error: there was none.
+    // The place of the endpoint created last with these ports, and the endpoint. The error is the rule `NoEndpoint`:
+    // there was none.
     fn endpoint_on(&self, lport: u16, rport: u16) -> Result<(u32, &Endpoint), Rule>
         ensures place { IfOk result (λ found. place_of self.now lport rport ≡ Some found.0) }
         ensures there { IfOk result (λ found. slice_get self.now.endpoints found.0 ≡ Some found.1.now) }
@@ -138,7 +139,7 @@ impl HostTcp {
         }
     }
 
-    /// The place of the open listener on a port. None: nobody listens there.
+    /// The place of the open listener on a port. None: no listener is open there.
     pub fn listener_on(&self, port: u16) -> Option<u32>
         ensures { result ≡ listener_on self.now port }
     {

@@ -1,31 +1,31 @@
-//! What the machine remembers of a case: two hosts with what they have, threads with their calls, how many segments
-//! were made, and how many steps were done. Each kind of step is one function of `World`, which asks the rules and does
-//! the step where none is broken; the function of the same name with `admits_` asks alone.
+//! The model's state of a case: two hosts, threads with their calls, how many segments were made, and how many steps
+//! were done. Each kind of step is one function of `World`, which checks the rules and does the step if none is broken;
+//! the function of the same name with `admits_` only checks.
 //!
-//! `specs/Worlds.antt` says what a case has come to, `specs/Kinds.antt` what a host has after each kind of step,
-//! `specs/Calls.antt` what a call may answer, and `specs/Sides.antt` what both hosts have once one of them did
-//! something. `specs/Kept.antt` says what holds of every world here, so that counts and positions never overflow. Which
-//! step a label asks for is said by `step_of` of `spec_tcp`.
+//! `specs/Worlds.antt` defines the state of a case, `specs/Kinds.antt` a host's state after each kind of step,
+//! `specs/Calls.antt` what a call may answer, and `specs/Sides.antt` both hosts' state after a step of one of them.
+//! `specs/Kept.antt` states the invariant of every world here, so that counts and positions never overflow. `step_of`
+//! of `spec_tcp` defines which step a label means.
 //!
-//! - `world`: what a case has come to, and every step but the effect of a call
+//! - `world`: the state of a case, and every step except the effect of a call
 //! - `calls`: the effect of a call, and the two rules of its answer
-//! - `readings`: what else is read of a world
-//! - `fault`: why a step was not done
-//! - `host_pair`: the two hosts, of which one is lent to what it does; `host`: what one host has, and each step there
+//! - `readings`: further queries of a world
+//! - `fault`: why a step was refused
+//! - `host_pair`: the two hosts, one of which acts; `host`: one host's state, and each step there
 //!
-//! The tables of a host and of the threads, and what lines do to them:
+//! The tables of a host and of the threads, and how lines change them:
 //!
 //! - `threads`: where each thread is, and the lines that begin and end a call
-//! - `made`: segments that were made, and the lines that go out
-//! - `arriving`: the lines that come in, and what waits in an inbox
+//! - `made`: segments that were made, and the lines that send them
+//! - `arriving`: the lines of arrivals, and what waits in an inbox
 //!
-//! What one host has below its tables:
+//! One host's TCP state below its tables:
 //!
-//! - `host_tcp`: endpoints, listeners and sockets, and how they are found. In its folder each event, its test and its
-//!   effect: `calls`, `makes`, `arrives` (with the rules of a reset), `timeouts`, `recovery`
+//! - `host_tcp`: endpoints, listeners and sockets, and how they are found. Its folder has a file for each event, with
+//!   its rules and its effect: `calls`, `makes`, `arrives` (with the rules of a reset), `timeouts`, `recovery`
 //! - `endpoints`: found by their ports, and each changed in its place; `listeners`: found by their ports, with their
 //!   queues
-//! - `laws`: what counts and positions may become
+//! - `laws`: limits of counts and positions
 #![tactic(auto)]
 
 mod arriving;

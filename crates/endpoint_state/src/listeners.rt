@@ -65,7 +65,7 @@ impl Listeners {
         if listener.is_open { Some(place) } else { None }
     }
 
-    /// One more listener is opened, on a port with no open listener. If memory runs out, nothing is changed.
+    /// Opens a listener on a port with no open listener. If memory runs out, nothing is changed.
     pub(crate) fn add(&mut self, listener: Listener) -> Result<(), OutOfMemory>
         requires room { length self.old + 1 < 2 ^ 32 }
         requires free { last_from (listens_on listener.port) 0 None self.old ≡ None }

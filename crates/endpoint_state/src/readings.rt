@@ -1,4 +1,4 @@
-//! What is read of a world for those who tell of it: what waits in an inbox, and the answer that a call had.
+//! Further queries of a world: what waits in an inbox, and the answer that a call had.
 
 ghost use Rattle.std.specs.Prelude.{◌≡◌};
 ghost use Rattle.std.specs.Option.{option_copied};
@@ -12,8 +12,8 @@ use case_forms::{Answer, Host};
 use spec_tcp::Emission;
 
 impl World {
-    /// The segment that came in at a host with this line, and waits in its inbox. None: none came in with it, or it
-    /// waits no longer.
+    /// The segment that arrived at a host with this line, and waits in its inbox. None: none arrived with it, or it no
+    /// longer waits.
     pub fn waiting(&self, host: Host, line: u64) -> Option<&Emission>
         ensures { option_copied result ≡ waiting line (pick self.now.world.hosts host).inbox }
     {

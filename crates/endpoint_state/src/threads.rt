@@ -30,7 +30,7 @@ pub(crate) enum Place {
     Answered(Answer),
 }
 
-/// A thread's place, which contracts see as a `Turn` of the machine.
+/// A thread's place. Contracts see it as a `Turn` of the model.
 #[derive(Drop)]
 pub(crate) struct Turn {
     place: Place,
@@ -62,7 +62,7 @@ impl Turn {
     }
 }
 
-/// Whether a thread may begin a call: it is in no other. An error is the rule that is broken.
+/// Whether a thread may begin a call: it is in no other. The error is the broken rule.
 pub(crate) fn admits_begin(threads: &Table<Turn>, thread: u32) -> Result<(), Rule>
     ensures { result_err result ≡ first_broken (begin_rules (turn_of thread threads.now.entries)) }
 {
@@ -72,8 +72,8 @@ pub(crate) fn admits_begin(threads: &Table<Turn>, thread: u32) -> Result<(), Rul
     }
 }
 
-/// Whether a thread's call may end with this answer: one is open, and had its effect with it. An error is the first
-/// rule that is broken.
+/// Whether a thread's call may end with this answer: one is open, and had its effect with it. The error is the first
+/// broken rule.
 pub(crate) fn admits_end(threads: &Table<Turn>, thread: u32, answer: &Answer) -> Result<(), Rule>
     ensures { result_err result ≡ first_broken
         (end_rules (λ given answer. not (same_answer given answer)) (turn_of thread threads.now.entries) answer.now) }
@@ -91,8 +91,8 @@ pub(crate) fn admits_end(threads: &Table<Turn>, thread: u32, answer: &Answer) ->
     }
 }
 
-/// The call of a thread that is open and had no effect yet. An error is the first rule that is broken: there is none,
-/// or it had its effect.
+/// The call of a thread that is open and had no effect yet. The error is the first broken rule: there is none, or it
+/// had its effect.
 pub(crate) fn open_call(threads: &Table<Turn>, thread: u32) -> Result<&Call, Rule>
     ensures call { IfOk result (λ call. turn_of thread threads.now.entries ≡ Called call.now) }
     ensures rule { result_err result ≡ first_broken (pending_rules (turn_of thread threads.now.entries)) }
@@ -124,7 +124,7 @@ pub(crate) fn given_answer(threads: &Table<Turn>, thread: u32) -> Option<&Answer
     }
 }
 
-/// A thread begins a call. An error is the rule that is broken, or that memory ran out; nothing is changed then.
+/// A thread begins a call. The error is the broken rule, or that memory ran out; nothing is changed then.
 pub(crate) fn begin(threads: &mut Table<Turn>, thread: u32, call: &Call) -> Result<(), StepFault>
     ensures fault { fault_rule result ≡ first_broken (begin_rules (turn_of thread threads.old.entries)) }
     ensures ok { OnOk result (threads.new.entries ≡ insert_entry nat_eq threads.old.entries thread (Called call.now)) }
@@ -135,7 +135,7 @@ pub(crate) fn begin(threads: &mut Table<Turn>, thread: u32, call: &Call) -> Resu
     Ok(())
 }
 
-/// A thread's call ends. An error is the first rule that is broken, or that memory ran out; nothing is changed then.
+/// A thread's call ends. The error is the first broken rule, or that memory ran out; nothing is changed then.
 pub(crate) fn finish(
     threads: &mut Table<Turn>,
     thread: u32,
@@ -151,8 +151,8 @@ pub(crate) fn finish(
     Ok(())
 }
 
-/// A thread's call has its effect, with this answer. If memory runs out, nothing is changed; a thread that called
-/// before takes none.
+/// A thread's call has its effect, with this answer. If memory runs out, nothing is changed; for a thread that called
+/// before it can't run out.
 pub(crate) fn answered(
     threads: &mut Table<Turn>,
     thread: u32,

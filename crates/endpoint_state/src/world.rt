@@ -1,4 +1,4 @@
-//! What a case has come to: the two hosts, where threads are in their calls, and how many steps were done.
+//! The state of a case: the two hosts, where threads are in their calls, and how many steps were done.
 
 ghost use Rattle.std.specs.Prelude.{◌≡◌, ◌<◌, ◌≤◌, ◌+◌, nat_eq, OnOk, OnErr};
 ghost use Rattle.std.specs.Map.{lookup};
@@ -34,15 +34,15 @@ use std::marker::Model;
 use tables::Table;
 use verdict::Rule;
 
-/// What a case has come to. Contracts see it as the record `Progress` of the definitions.
+/// The state of a case. Contracts see it as the record `Progress` of the definitions.
 #[derive(Drop)]
 pub struct World {
     pub(crate) alloc: Global,
     /// The header of the case.
     pub(crate) header: Header,
-    /// What the hosts have.
+    /// Both hosts' state.
     pub(crate) hosts: Hosts,
-    /// Each thread that called, with where it is. None is ever taken out.
+    /// Where each thread that called is. No entry is ever removed.
     pub(crate) threads: Table<Turn>,
     /// How many segments were made; the next one's number is one more.
     count: u32,
@@ -96,7 +96,7 @@ impl World {
         self.steps
     }
 
-    /// What a host put on its wire with this line, or what was brought there under it. None: nothing.
+    /// The segment that a host sent with this line, or that `bring` put there. None: there is none.
     pub fn sent(&self, host: Host, line: u64) -> Option<&Emission>
         ensures { option_copied result ≡ lookup (nat_eq line) (pick self.now.world.hosts host).wire }
     {
@@ -131,16 +131,16 @@ impl World {
         pending_call(&self.threads, thread)
     }
 
-    /// What holds of every world here: a call that does nothing, whose contract says it.
+    /// Does nothing; its contract states the invariant of every world here.
     pub fn is_kept(&self)
         ensures { IsKeptWorld self.now.steps self.now.world }
     {
         let _ = &self.alloc;
     }
 
-    /// A segment of elsewhere stands on a host's wire under this line, in place of one that stood there. It is no step,
-    /// and nothing else is changed: a copy that came in stays as it was. The error is that memory ran out, and then
-    /// nothing is changed.
+    /// Puts a segment of another recording on a host's wire under this line, replacing any that was there. It isn't a
+    /// step and changes nothing else: a copy that already arrived stays as it was. The error is that memory ran out;
+    /// nothing is changed then.
     pub fn bring(&mut self, host: Host, line: u64, emission: &Emission) -> Result<(), OutOfMemory>
         requires small { IsSmallEmission emission.now }
         ensures ok { OnOk result (self.new ≡ brought self.old host line emission.now) }
@@ -150,15 +150,14 @@ impl World {
         Ok(())
     }
 
-    /// Whether a thread may begin a call, whichever: it is in no other. An error is the rule that is broken.
+    /// Whether a thread may begin a call, whichever it is: the thread is in no other. The error is the broken rule.
     pub fn admits_begin(&self, thread: u32) -> Result<(), Rule>
         ensures { result_err result ≡ first_broken (begin_rules (turn_of thread self.now.world.threads)) }
     {
         admits_begin(&self.threads, thread)
     }
 
-    /// Whether a thread's call may end with this answer: it had its effect with it. An error is the first rule that is
-    /// broken.
+    /// Whether a thread's call may end with this answer: it had its effect with it. The error is the first broken rule.
     pub fn admits_finish(&self, thread: u32, answer: &Answer) -> Result<(), Rule>
         ensures { result_err result ≡ first_broken
             (step_rules (tcp self.now.header) 0 self.now.world (Finish 0 thread answer.now)) }
@@ -166,8 +165,8 @@ impl World {
         admits_end(&self.threads, thread, answer)
     }
 
-    /// Whether the segment that a host made under this number may go out so: it looks so, and didn't go out before. An
-    /// error is the first rule that is broken.
+    /// Whether the segment that a host made under this number may be sent like this: it looks so, and wasn't sent
+    /// before. The error is the first broken rule.
     pub fn admits_sending(&self, host: Host, number: u32, wire: &Wire) -> Result<(), Rule>
         ensures { result_err result ≡ first_broken
             (step_rules (tcp self.now.header) 0 self.now.world (At host (Sends 0 number wire.now))) }
@@ -177,8 +176,8 @@ impl World {
             .admits_sending(&self.header, number, wire)
     }
 
-    /// Whether a copy of the other host's line `copied` may come in so, at a moment in microseconds. An error is the
-    /// first rule that is broken.
+    /// Whether this may arrive as a copy of the other host's line `copied`, at a moment in microseconds. The error is
+    /// the first broken rule.
     pub fn admits_arrival(
         &self,
         host: Host,
@@ -195,8 +194,8 @@ impl World {
         Ok(())
     }
 
-    /// Whether a segment of the other host may come in that is no copy of a line, whichever: that host is not
-    /// recorded. An error is the rule that is broken.
+    /// Whether a segment of the other host may arrive that isn't a copy of a line: that host isn't recorded. The error
+    /// is the broken rule.
     pub fn admits_hearing(&self) -> Result<(), Rule>
         ensures { result_err result ≡ first_broken (hearing_rules self.now.header) }
     {
@@ -207,7 +206,8 @@ impl World {
         }
     }
 
-    /// Whether a host may make a segment, at a position up to the greatest. An error is the first rule that is broken.
+    /// Whether a host may make a segment, at a position up to the greatest that a case may have. The error is the first
+    /// broken rule.
     pub fn admits_making(&self, host: Host, plan: &SegmentPlan) -> Result<(), Rule>
         requires steps { self.now.steps < most_steps }
         requires small { plan.now.pos ≤ greatest_position }
@@ -217,8 +217,8 @@ impl World {
         self.hosts.near(host).admits_making(plan)
     }
 
-    /// Whether a host may take the segment that came in with this line, at a moment in microseconds. An error is the
-    /// first rule that is broken: nothing waits under this line (`Inbox`), or a later one.
+    /// Whether a host may take the segment that arrived with this line, at a moment in microseconds. The error is the
+    /// first broken rule: nothing waits under this line (`Inbox`), or a later one.
     pub fn admits_taking(
         &self,
         host: Host,
@@ -234,8 +234,7 @@ impl World {
             .admits_taking(&self.header, host, line, how, moment)
     }
 
-    /// Whether a host may drop what came in with this line. An error is the first rule that is broken: nothing waits
-    /// (`Inbox`).
+    /// Whether a host may drop what arrived with this line. The error is the rule `Inbox`: nothing waits.
     pub fn admits_dropping(&self, host: Host, line: u64) -> Result<(), Rule>
         ensures { result_err result ≡ first_broken
             (step_rules (tcp self.now.header) 0 self.now.world (At host (Drops line))) }
@@ -243,7 +242,7 @@ impl World {
         self.hosts.near(host).admits_dropping(line)
     }
 
-    /// Whether a host may answer by a reset what came in with this line. An error is the first rule that is broken.
+    /// Whether a host may answer by a reset what arrived with this line. The error is the first broken rule.
     pub fn admits_reset(&self, host: Host, line: u64) -> Result<(), Rule>
         ensures { result_err result ≡ first_broken
             (step_rules (tcp self.now.header) 0 self.now.world (At host (Answers line))) }
@@ -251,8 +250,8 @@ impl World {
         self.hosts.near(host).admits_reset(line)
     }
 
-    /// Whether a timer of the host's endpoint of these ports may expire at a moment in microseconds. An error is the
-    /// first rule that is broken.
+    /// Whether a timer of the host's endpoint of these ports may expire at a moment in microseconds. The error is the
+    /// first broken rule.
     pub fn admits_expiry(
         &self,
         host: Host,
@@ -268,8 +267,7 @@ impl World {
             .admits_expiry(&self.header, ports, expired, moment)
     }
 
-    /// Whether fast recovery may begin at a moment in microseconds (RFC 5681, 3.2). An error is the first rule that is
-    /// broken.
+    /// Whether fast recovery may begin at a moment in microseconds (RFC 5681, 3.2). The error is the first broken rule.
     pub fn admits_recovery(&self, host: Host, moment: u64, recovery: Recovery) -> Result<(), Rule>
         ensures { result_err result ≡ first_broken
             (step_rules (tcp self.now.header) moment self.now.world (At host (Does recovery))) }
@@ -277,8 +275,7 @@ impl World {
         self.hosts.near(host).admits_recovery(recovery, moment)
     }
 
-    /// A thread begins a call. An error is the rule that is broken, or that memory ran out; the world is then as it
-    /// was.
+    /// A thread begins a call. The error is the broken rule, or that memory ran out; the world is then as it was.
     pub fn begin(&mut self, thread: u32, call: &Call) -> Result<(), StepFault>
         requires { self.old.steps < most_steps }
         ensures fault { fault_rule result ≡ first_broken
@@ -291,8 +288,7 @@ impl World {
         Ok(())
     }
 
-    /// A thread's call ends. An error is the first rule that is broken, or that memory ran out; the world is then as it
-    /// was.
+    /// A thread's call ends. The error is the first broken rule, or that memory ran out; the world is then as it was.
     pub fn finish(&mut self, thread: u32, answer: &Answer) -> Result<(), StepFault>
         requires { self.old.steps < most_steps }
         ensures fault { fault_rule result ≡ first_broken
@@ -305,8 +301,8 @@ impl World {
         Ok(())
     }
 
-    /// A host makes a segment, at a moment in microseconds; it gets the next number. An error is the first rule that is
-    /// broken, or that memory ran out; the world is then as it was.
+    /// A host makes a segment, at a moment in microseconds; it gets the next number. The error is the first broken
+    /// rule, or that memory ran out; the world is then as it was.
     pub fn make(&mut self, host: Host, plan: &SegmentPlan, moment: u64) -> Result<(), StepFault>
         requires steps { self.old.steps < most_steps }
         requires small { plan.now.pos ≤ greatest_position }
@@ -322,8 +318,8 @@ impl World {
         Ok(())
     }
 
-    /// The segment that a host made under this number goes out with this line, at a moment in microseconds. An error is
-    /// the first rule that is broken, or that memory ran out; the world is then as it was.
+    /// The segment that a host made under this number is sent with this line, at a moment in microseconds. The error is
+    /// the first broken rule, or that memory ran out; the world is then as it was.
     pub fn send(
         &mut self,
         host: Host,
@@ -350,7 +346,7 @@ impl World {
         Ok(())
     }
 
-    /// As `send`, of a wire that is given away: it is taken apart, and not copied.
+    /// Like `send`, but consumes the wire instead of copying it.
     pub fn send_owned(
         &mut self,
         host: Host,
@@ -377,8 +373,8 @@ impl World {
         Ok(())
     }
 
-    /// A copy of the other host's line `copied` comes in with this line, at a moment in microseconds, and waits in the
-    /// inbox. An error is the first rule that is broken, or that memory ran out; the world is then as it was.
+    /// A copy of the other host's line `copied` arrives with this line, at a moment in microseconds, and waits in the
+    /// inbox. The error is the first broken rule, or that memory ran out; the world is then as it was.
     pub fn arrive(
         &mut self,
         host: Host,
@@ -403,7 +399,7 @@ impl World {
         Ok(())
     }
 
-    /// As `arrive`, of a wire that is given away: it is taken apart, and not copied.
+    /// Like `arrive`, but consumes the wire instead of copying it.
     pub fn arrive_owned(
         &mut self,
         host: Host,
@@ -428,8 +424,8 @@ impl World {
         Ok(())
     }
 
-    /// A segment of the host that is not recorded comes in with this line, at a moment in microseconds, and waits in
-    /// the inbox. An error is the rule that is broken, or that memory ran out; the world is then as it was.
+    /// A segment of the host that is not recorded arrives with this line, at a moment in microseconds, and waits in the
+    /// inbox. The error is the broken rule, or that memory ran out; the world is then as it was.
     pub fn hear(&mut self, host: Host, line: u64, wire: &Wire, moment: u64) -> Result<(), StepFault>
         requires { self.old.steps < most_steps }
         ensures fault { fault_rule result ≡ first_broken
@@ -444,8 +440,8 @@ impl World {
         Ok(())
     }
 
-    /// A host takes what came in with this line, at a moment in microseconds. An error is the first rule that is
-    /// broken, or that memory ran out; the world is then as it was.
+    /// A host takes what arrived with this line, at a moment in microseconds. The error is the first broken rule, or
+    /// that memory ran out; the world is then as it was.
     pub fn take(
         &mut self,
         host: Host,
@@ -472,8 +468,7 @@ impl World {
         Ok(())
     }
 
-    /// A host drops what came in with this line. An error is the first rule that is broken; the world is then as it
-    /// was.
+    /// A host drops what arrived with this line. The error is the first broken rule; the world is then as it was.
     pub fn drop_arrival(&mut self, host: Host, line: u64) -> Result<(), Rule>
         requires { self.old.steps < most_steps }
         ensures rule { result_err result ≡ first_broken
@@ -486,8 +481,8 @@ impl World {
         Ok(())
     }
 
-    /// A host answers by a reset what came in with this line; the reset gets the next number, and goes out later. An
-    /// error is the first rule that is broken, or that memory ran out; the world is then as it was.
+    /// A host answers by a reset what arrived with this line; the reset gets the next number, and is sent later. The
+    /// error is the first broken rule, or that memory ran out; the world is then as it was.
     pub fn reply_with_reset(&mut self, host: Host, line: u64) -> Result<(), StepFault>
         requires { self.old.steps < most_steps }
         ensures fault { fault_rule result ≡ first_broken
@@ -502,8 +497,8 @@ impl World {
         Ok(())
     }
 
-    /// A timer of the host's endpoint of these ports expires, at a moment in microseconds. An error is the first rule
-    /// that is broken; the world is then as it was.
+    /// A timer of the host's endpoint of these ports expires, at a moment in microseconds. The error is the first
+    /// broken rule; the world is then as it was.
     pub fn expire(
         &mut self,
         host: Host,
@@ -522,8 +517,8 @@ impl World {
         Ok(())
     }
 
-    /// Fast recovery begins, at a moment in microseconds (RFC 5681, 3.2). An error is the first rule that is broken;
-    /// the world is then as it was.
+    /// Fast recovery begins, at a moment in microseconds (RFC 5681, 3.2). The error is the first broken rule; the world
+    /// is then as it was.
     pub fn recover(&mut self, host: Host, recovery: Recovery, moment: u64) -> Result<(), Rule>
         requires { self.old.steps < most_steps }
         ensures rule { result_err result ≡ first_broken

@@ -6,12 +6,12 @@ use Rattle.merging.specs.declared.joining.MergeFault.{MergeFault}
 use Rattle.merging.specs.declared.joining.MergeFault.TheVariants.{Stranger, OutOfMemory}
 use Rattle.merging.specs.Naming.{AllNamed, IsStranger, line_keys, wire_of}
 
--- each segment that this host's recording brought is one that the other's let out
+-- each segment that this host's recording brought is one that the other host sent
 abbrev pub NamesAll : Recorded → Recorded → Type 0
 NamesAll mine others =
     AllNamed (first_event_line others.header) (line_keys others.entries) (wire_of others) mine.entries
 
--- the first that is none was brought where the line to come has this number
+-- the first that isn't was brought where the next line has this number
 abbrev pub HasStranger : Recorded → Recorded → ℕ → Type 0
 HasStranger mine others n =
     IsStranger (first_event_line others.header) (line_keys others.entries) (wire_of others) mine.entries n

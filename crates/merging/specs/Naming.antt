@@ -16,12 +16,12 @@ abbrev pub line_keys : List TcpEntry → List Key
 line_keys [] = []
 line_keys (x ∷ xs) = if takes_line x.item then x.key ∷ line_keys xs else line_keys xs
 
--- what a host let out, as its recording says
+-- what a host sent, according to its recording
 abbrev pub wire_of : Recorded → List (ℕ × Emission)
 wire_of r = (pick (world_left r).hosts r.me).wire
 
--- a segment is one that went out: the line that it names has its key, and stands on the wire with its emission; `first`
--- is the number of the first line
+-- a segment is one that was sent: the line that it names has its key, and is on the wire with its emission; `first` is
+-- the number of the first line
 pub record IsNamed (first : ℕ) (keys : List Key) (wire : List (ℕ × Emission)) (f : Flying tcp_shape) : Type 0 where
   pub event : first ≤ f.line
   pub key : slice_get keys (f.line - first) ≡ Some f.key
@@ -35,8 +35,8 @@ abbrev pub AllNamed : ℕ → List Key → List (ℕ × Emission) → List TcpEn
 AllNamed first keys wire [] = Unit {0}
 AllNamed first keys wire (x ∷ xs) = NamedItem first keys wire x.item × AllNamed first keys wire xs
 
--- the first segment of these entries that is none that went out was brought where the line to come has number n; their
--- first line has the number `line`
+-- the first segment of these entries that wasn't sent was brought where the next line has number n; their first line
+-- has the number `line`
 abbrev pub StrangerItem : ℕ → List Key → List (ℕ × Emission) → ℕ → ℕ → Item tcp_shape → Type 0 → Type 0
 StrangerItem first keys wire line n (Do step) rest = rest
 StrangerItem first keys wire line n (Bring f) rest =
@@ -45,12 +45,13 @@ StrangerItem first keys wire line n (Bring f) rest =
 abbrev pub FirstStranger : ℕ → List Key → List (ℕ × Emission) → ℕ → List TcpEntry → ℕ → Type 0
 FirstStranger first keys wire line [] n = ⊥
 FirstStranger first keys wire line (x ∷ xs) n =
-    StrangerItem first keys wire line n x.item (FirstStranger first keys wire (if takes_line x.item then line + 1 else line) xs n)
+    StrangerItem first keys wire line n x.item
+    (FirstStranger first keys wire (if takes_line x.item then line + 1 else line) xs n)
 
--- the same in places: at this place of the entries a segment was brought that is none that went out; those before it
--- are all;
--- and the line to come there has number n
-pub record StrangerFrom (first : ℕ) (keys : List Key) (wire : List (ℕ × Emission)) (line : ℕ) (xs : List TcpEntry) (n : ℕ) : Type 0 where
+-- the same by places: at this place of the entries a segment was brought that wasn't sent; all those before it were;
+-- and the next line there has number n
+pub record StrangerFrom (first : ℕ) (keys : List Key) (wire : List (ℕ × Emission)) (line : ℕ) (xs : List TcpEntry)
+    (n : ℕ) : Type 0 where
   pub place : ℕ
   pub key : Key
   pub flying : Flying tcp_shape
@@ -62,7 +63,7 @@ pub record StrangerFrom (first : ℕ) (keys : List Key) (wire : List (ℕ × Emi
 abbrev pub IsStranger : ℕ → List Key → List (ℕ × Emission) → List TcpEntry → ℕ → Type 0
 IsStranger first keys wire xs n = StrangerFrom first keys wire first xs n
 
--- two segments have the same mark, head, options, and bytes
+-- two segments have the same mark, header, options, and bytes
 abbrev pub SameMark : Emission → Emission → Type 0
 SameMark a b =
     (a.sender ≡ b.sender) × (a.peer_at_send ≡ b.peer_at_send) × (a.pos ≡ b.pos) × (a.ack ≡ b.ack)

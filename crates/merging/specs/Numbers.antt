@@ -1,4 +1,4 @@
--- Lines and made segments of two hosts, counted anew.
+-- Lines and made segments of two hosts, renumbered.
 use Rattle.std.specs.Prelude.{◌≤◌, ℕ, ◌+◌, ◌-◌, nat_lt, Bool, true, false, if◌then◌else◌}
 use Rattle.std.specs.Prelude.{List, [], ◌∷◌, ◌++◌, length, slice_get, unwrap_or}
 use Rattle.case_forms.specs.declared.calls.Host.{Host}
@@ -42,7 +42,8 @@ abbrev pub makes_segment : Item tcp_shape → Bool
 makes_segment (Do step) = step_makes step
 makes_segment (Bring f) = false
 
--- the new numbers of each host's things, in its own order; the number of the first of all, and of the next
+-- the new numbers of each host's lines or made segments, in its own order; the number of the first of all, and of the
+-- next
 pub record Turns : Type 0 where
   pub zero : List ℕ
   pub one : List ℕ
@@ -65,7 +66,8 @@ abbrev pub with_turn_if : Bool → Turns → Host → Turns
 with_turn_if true t h = with_turn t h
 with_turn_if false t h = t
 
--- the new number of a host's thing of this number: as it is before the first, and behind the last on from there
+-- the new number of a host's line or made segment of this number: unchanged before the first, and counting on after the
+-- last
 abbrev pub number_in : Turns → Host → ℕ → ℕ
 number_in t h n =
     if nat_lt n t.first then n
@@ -80,7 +82,10 @@ abbrev pub no_counts : ℕ → Counts
 no_counts first = record { lines = no_turns first; mades = no_turns 1 }
 
 abbrev pub counted_one : Counts → TcpEntry → Counts
-counted_one c x = record { lines = with_turn_if (takes_line x.item) c.lines x.key.host; mades = with_turn_if (makes_segment x.item) c.mades x.key.host }
+counted_one c x = record {
+  lines = with_turn_if (takes_line x.item) c.lines x.key.host;
+  mades = with_turn_if (makes_segment x.item) c.mades x.key.host;
+}
 
 -- all of these entries counted
 abbrev pub counted : Counts → List TcpEntry → Counts
@@ -91,7 +96,7 @@ counted c (x ∷ xs) = counted (counted_one c x) xs
 abbrev pub names_in : Counts → Names
 names_in c = record { line = number_in c.lines; made = number_in c.mades }
 
--- the new numbers, where lines and made segments were counted so
+-- the new numbers, if lines and made segments were counted like this
 abbrev pub names_by : Turns → Turns → Names
 names_by lines mades = names_in (record { lines = lines; mades = mades })
 

@@ -1,4 +1,4 @@
--- Two hosts' entries in the order of their keys. Nothing of it depends on a header.
+-- Two hosts' entries in the order of their keys. Nothing here depends on a header.
 use Rattle.std.specs.Prelude.{if◌then◌else◌, List, [], ◌∷◌}
 use Rattle.spec_merge.specs.Keys.{before}
 use Rattle.spec_merge.specs.Recordings.{TcpEntry}

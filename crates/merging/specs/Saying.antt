@@ -1,4 +1,4 @@
--- Steps of the machine as lines of a trace and as steps of a witness.
+-- Steps of the model, written as lines of a trace and as steps of a witness.
 use Rattle.std.specs.Prelude.{ℕ, ◌+◌, List, [], ◌∷◌, Option, None, Some, map}
 use Rattle.case_forms.specs.TakenLines.{timer_of}
 use Rattle.case_forms.specs.declared.calls.Host.{Host}
@@ -27,7 +27,7 @@ use Rattle.checker.specs.Again.{nowhere}
 use Rattle.merging.specs.Numbers.{counted, names_in, no_counts}
 use Rattle.merging.specs.Order.{in_order}
 
--- a line of a trace; the threads of segments that go out, that come in, and of timers are the host's own
+-- a line of a trace; sent segments, arriving segments and timers have threads of the host's own
 abbrev pub said : ℕ → ℕ → ℕ → Event → Line
 said line moment thread event =
     record { number = line; moment = moment; thread = thread; event = event; span = nowhere }
@@ -47,7 +47,7 @@ line_said moment (Finish line t answer) = Some (said line moment t (events.CallE
 line_said moment (Effect t answer) = None
 line_said moment (At host deed) = deed_line_said moment host deed
 
--- a retransmission timer's line is named with both windows, another's with nothing
+-- the label for a retransmission timer's line carries both windows, and that for another timer's line nothing
 abbrev pub growth_said : Expired → Extras
 growth_said (expireds.Rto growth) = extras.Two growth.cwnd growth.ssthresh
 growth_said x = extras.Bare
@@ -73,7 +73,7 @@ label_said (Finish line t answer) = names line extras.Bare
 label_said (Effect t answer) = labels.D t answer
 label_said (At host deed) = deed_said host deed
 
--- the same of a line that a step takes: its number in its host's recording, its thread, its event, and what its step
+-- the same for a line that a step takes: its number in its host's recording, its thread, its event, and what its step
 -- adds
 abbrev pub own_number : TakenLine → ℕ
 own_number (taken.CallBegin line t call) = line

@@ -1,4 +1,4 @@
--- What a trace and a witness say of a run of the machine.
+-- What a trace and a witness say about a run of the model.
 use Rattle.std.specs.Prelude.{◌≡◌, ◌+◌, ℕ, List, [], ◌∷◌, Some, map}
 use Rattle.case_forms.specs.declared.trace.Header.{Header}
 use Rattle.case_forms.specs.declared.trace.Event.{Event}
@@ -19,7 +19,7 @@ use Rattle.spec_merge.specs.Placing as placing
 use Rattle.spec_tcp.specs.Machine.{tcp, tcp_shape}
 use Rattle.checker.specs.Seen.{stamped}
 
--- what an event of that thread is to the machine, to which the threads of segments and timers are nothing
+-- what an event of that thread is to the model, for which the threads of segments and timers don't exist
 abbrev pub event_told : ℕ → Event → placing.Event tcp_shape
 event_told thread (events.CallBegin call) = placing.CallBegin thread call
 event_told thread (events.CallEnd answer) = placing.CallEnd thread answer
@@ -28,7 +28,7 @@ event_told thread (events.Came host wire) = placing.Came host wire
 event_told thread (events.Expired host lport rport timer) =
     placing.Expired host (record { lport = lport; rport = rport; timer = timer })
 
--- what a line is to the machine
+-- what a line is to the model
 abbrev pub line_told : Line → placing.Line tcp_shape
 line_told line = record { moment = line.moment; event = event_told line.thread line.event }
 
@@ -53,7 +53,7 @@ pub record Tells (t : Trace) (w : Witness) (steps : List (Stamped tcp_shape)) : 
   pub steps_are : stamped t.header t.lines w.steps ≡ steps
   pub lines_are : map line_told t.lines ≡ placing.lines_of (tcp t.header) steps
 
--- lines of segments that come in, of timers, and of segments that go out have threads of their host's own
+-- lines of arriving segments, of timers, and of sent segments have threads of their host's own
 abbrev pub HasOwnThread : ℕ → Event → Type 0
 HasOwnThread thread (events.Came host wire) = thread ≡ 4 + rank host
 HasOwnThread thread (events.Expired host lport rport timer) = thread ≡ 6 + rank host

@@ -1,4 +1,4 @@
-//! Two hosts' recordings, merged.
+//! The recordings of two hosts, merged.
 
 ghost use Rattle.std.specs.Prelude.{◌≡◌, ◌≤◌, ◌+◌, false, IfOk, IfErr};
 ghost use Rattle.case_forms.specs.declared.calls.Host.TheVariants.{Zero, One};
@@ -30,7 +30,7 @@ use stack_core::Recording;
 use std::alloc::Global;
 use thiserror::Error;
 
-/// What two hosts recorded.
+/// The recordings of two hosts, merged.
 #[derive(Drop)]
 pub struct Recorded {
     pub trace: Trace,
@@ -40,8 +40,8 @@ pub struct Recorded {
 /// Why two recordings were not merged.
 #[derive(Clone, Copy, Debug, PartialEq, Eq, Error)]
 pub enum MergeFault {
-    /// A segment that came to a host is none that the other let out. `arrival_line` is the line of that host's
-    /// recording with which it came in, or would have.
+    /// A segment that arrived at a host is none that the other sent. `arrival_line` is the line of that host's
+    /// recording with which it arrived, or would have.
     #[error("a segment of line {arrival_line} is not one that the other host let out")]
     Stranger { arrival_line: u64 },
     /// Memory ran out. No recording is changed.
@@ -59,7 +59,7 @@ impl From<OutOfMemory> for MergeFault {
     }
 }
 
-// What the entries of both say.
+// The trace and the witness of both hosts' entries.
 #[tactic(auto, using(crate::proofs::JoinLemmas::steps_merged))]
 fn tell(alloc: Global, zero: &Recording, one: &Recording) -> Result<Recorded, OutOfMemory>
     requires few { steps_in zero.now.entries + steps_in one.now.entries ≤ 100000000 }
@@ -85,7 +85,7 @@ fn tell(alloc: Global, zero: &Recording, one: &Recording) -> Result<Recorded, Ou
 }
 
 /// The recordings of host 0 and of host 1 in a whole case, merged in the order of their keys, with lines and made
-/// segments counted anew. Two books beside each other are merged, or memory runs out.
+/// segments renumbered. Two matching books are merged unless memory runs out.
 pub fn merge_recordings(
     alloc: Global,
     zero: &Recording,

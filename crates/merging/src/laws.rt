@@ -1,4 +1,4 @@
-//! The trace and the witness that are written of a run fit each other.
+//! The trace and the witness written from a run fit each other.
 
 ghost use Rattle.std.specs.Prelude.{◌≡◌, ℕ, List};
 ghost use Rattle.case_forms.specs.declared.trace.Trace.{Trace};
@@ -23,8 +23,8 @@ use checker::explained_is_yes;
 use spec_merge::merged_books_are_a_run;
 use stack_core::core_worlds_are_books;
 
-/// Where a trace and a witness say the steps of a run that is a placement of the lines that these steps take, the
-/// witness explains the trace, and the verdict is yes. The merged steps of two books beside each other are such a run.
+/// If a trace and a witness state the steps of a run that is a placement of the lines these steps take, the witness
+/// explains the trace and the verdict is yes. The merged steps of two matching books are such a run.
 pub fn what_is_told_explains()
     ensures steps { (t : Trace) (w : Witness) (steps : List (Stamped tcp_shape))
         → IsPlacedRun (tcp t.header) t.header.skew (first_event_line t.header) (lines_of (tcp t.header) steps) steps
@@ -40,7 +40,7 @@ pub fn what_is_told_explains()
     explained_is_yes();
 }
 
-/// Of two recordings that are two books beside each other, each segment that came to one is one that the other let out:
+/// In two recordings that are two matching books, each segment that arrived at one host is one that the other sent:
 /// there is no stranger.
 pub fn books_have_no_stranger()
     ensures { (zero one : Recorded) → (zero.me ≡ Zero) × (one.me ≡ One) → zero.header ≡ one.header
@@ -48,10 +48,10 @@ pub fn books_have_no_stranger()
         → (n : ℕ) → IsFirstStranger zero one n → ⊥ }
 {}
 
-/// Two cores with one header, after any events of both, some of which memory stopped, where what flew from one arrives
-/// at the other any number of times, in any order, or never: what they recorded are two books beside each other, and no
-/// segment in them is a stranger, so they are merged; and a trace and a witness that say the merged steps explain each
-/// other, so the verdict is yes.
+/// Two cores have one header, after any events of both, some of which may have run out of memory. Segments that one
+/// sent arrive at the other any number of times, in any order, or never. Then their recordings are two matching books
+/// without a stranger, so they are merged. A witness explains a trace if the two state the merged steps, so the verdict
+/// is yes.
 pub fn core_worlds_are_explained()
     ensures books { (h : Header) (events : List Event) (cores : Both Side) → IsCoreWorld h events cores
         → Books (tcp h) (first_event_line h) (entries_of Zero cores) (entries_of One cores) }

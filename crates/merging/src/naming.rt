@@ -39,7 +39,7 @@ fn has_same_head(a: &Emission, b: &Emission) -> bool
         && a.window == b.window
 }
 
-// Whether they tell the same options.
+// Whether they carry the same options.
 fn has_same_options(a: &Emission, b: &Emission) -> bool
     ensures { IsTrue result ↔ SameOptions a.now b.now }
 {
@@ -70,7 +70,7 @@ fn is_same(a: &Emission, b: &Emission) -> bool
     has_same_bytes(a, b)
 }
 
-// Whether a segment is one that a host let out, where these are the keys of that host's lines.
+// Whether a segment is one that a host sent, if these are the keys of that host's lines.
 fn is_named(keys: &[Key], other: &Recording, flying: &Flying) -> bool
     ensures { IsTrue result ↔ IsNamed (first_event_line other.now.header) (map key_shown keys.now)
         (wire_of other.now) flying.now }
@@ -93,7 +93,7 @@ fn is_named(keys: &[Key], other: &Recording, flying: &Flying) -> bool
     }
 }
 
-// Whether an entry is no segment that was brought, or one that the other host let out.
+// Whether an entry isn't a segment that was brought, or is one that the other host sent.
 fn is_known(keys: &[Key], other: &Recording, entry: &Entry) -> bool
     ensures { IsTrue result ↔ NamedItem (first_event_line other.now.header) (map key_shown keys.now)
         (wire_of other.now) entry.now.item }
@@ -119,8 +119,8 @@ fn line_keys(alloc: Global, entries: &[Entry]) -> Result<Vec<Key>, OutOfMemory>
     Ok(keys)
 }
 
-// The number of the line after the first segment among these entries that was not let out, where the first line has the
-// number `first`.
+// The number of the line after the first segment among these entries that wasn't sent, if the first line has the number
+// `first`.
 fn find_stranger(keys: &[Key], other: &Recording, first: u64, entries: &[Entry]) -> Option<u64>
     requires { first ≤ 100 }
     ensures none { IfNone result (AllNamed (first_event_line other.now.header) (map key_shown keys.now)
@@ -142,8 +142,8 @@ fn find_stranger(keys: &[Key], other: &Recording, first: u64, entries: &[Entry])
     None
 }
 
-/// The number of the line after the first segment that a recording brought and that the other's host didn't let out.
-/// None: there is no such segment. The error is that memory ran out.
+/// The number of the line after the first segment that a recording brought and that the other host didn't send. None:
+/// there is no such segment. The error is that memory ran out.
 #[tactic(auto, using(crate::proofs::Strangers::stranger_at))]
 pub(crate) fn first_stranger(
     alloc: Global,

@@ -1,4 +1,4 @@
-//! Lines and made segments of two hosts, counted anew.
+//! Lines and made segments of two hosts, renumbered.
 
 ghost use Rattle.std.specs.Prelude.{◌≡◌, ◌<◌, ◌≤◌, ◌+◌, IfOk, OnOk};
 ghost use Rattle.stack_core.specs.Entries.{steps_in};
@@ -12,7 +12,8 @@ use stack_core::{Entry, Item};
 use std::alloc::Global;
 use std::marker::Model;
 
-/// The new numbers of each host's things, in its own order. Contracts see the first number of all, and the next, too.
+/// The new numbers of each host's lines or made segments, in its own order. Contracts also see the first number of all,
+/// and the next.
 #[derive(Drop)]
 pub(crate) struct Turns {
     zero: Vec<u32>,
@@ -68,7 +69,7 @@ impl Turns {
         Ok(())
     }
 
-    /// The new number of a host's thing.
+    /// The new number of a host's line or made segment.
     pub(crate) fn number(&self, host: Host, old: u64) -> u32
         requires small { IsSmall old }
         requires few { self.now.next ≤ 2147483647 }
@@ -116,7 +117,7 @@ fn makes_segment(entry: &Entry) -> bool
 }
 
 impl Counts {
-    // One entry more.
+    // Counts one more entry.
     fn count(&mut self, entry: &Entry) -> Result<(), OutOfMemory>
         requires lines { self.old.lines.next ≤ 2147483647 }
         requires mades { self.old.mades.next ≤ 2147483647 }
@@ -134,7 +135,7 @@ impl Counts {
     }
 }
 
-/// All entries counted, lines from `first` on and made segments from 1 on.
+/// The new numbers of all entries, for lines from `first` on and for made segments from 1 on.
 #[tactic(auto, using(crate::proofs::TellLemmas::lines_room, crate::proofs::TellLemmas::mades_room))]
 pub(crate) fn count_all(
     alloc: Global,

@@ -1,4 +1,4 @@
-//! Entries of two hosts in the order of their keys.
+//! The entries of two hosts, in the order of their keys.
 
 ghost use Rattle.std.specs.Prelude.{◌≡◌, ◌∷◌, [], IfNone};
 ghost use Rattle.std.specs.Option.{IfSome};
@@ -74,7 +74,7 @@ pub(crate) fn first_entry(entries: &[Entry]) -> Option<(&Entry, &[Entry])>
     }
 }
 
-/// A host's place among the hosts of keys that are else the same.
+/// A host's place among keys that are otherwise the same.
 pub(crate) fn rank(host: Host) -> u32
     ensures { result ≡ rank host }
 {

@@ -1,4 +1,4 @@
-//! Steps as lines of a trace, and as steps of a witness.
+//! Steps written as lines of a trace, and as steps of a witness.
 
 ghost use Rattle.std.specs.Prelude.{◌≡◌, ◌≤◌, ◌+◌, ◌++◌, ◌∷◌, [], Some, IfOk, OnOk};
 ghost use Rattle.spec_network.specs.Tables.{on};
@@ -17,7 +17,7 @@ use spec_step::Label;
 use stack_core::{Entry, Item};
 use std::alloc::Global;
 
-// What a step tells: its label in a witness, and the line that it takes.
+// What is written for a step: its label in a witness, and the line that it takes.
 #[derive(Drop)]
 struct RecordedStep {
     label: case_forms::Label<NamedLine>,
@@ -35,7 +35,7 @@ fn nowhere() -> Span
     }
 }
 
-// A line that is named with these numbers.
+// A label that takes a line, with these numbers.
 fn told_line(number: u32, moment: u64, thread: u32, event: Event, extras: Extras) -> RecordedStep
     ensures label { result.label ≡ names number extras }
     ensures line { result.line ≡ Some (said number moment thread event) }
@@ -67,7 +67,7 @@ fn own_number(taken: &TakenLine) -> u64
     }
 }
 
-// Its thread: lines of segments that come in, of timers, and of segments that go out have threads of their own.
+// Its thread: lines of arriving segments, of timers, and of sent segments have threads of their own.
 fn thread_of(taken: &TakenLine) -> u32
     ensures { result ≡ thread_said taken.now }
 {
@@ -79,7 +79,7 @@ fn thread_of(taken: &TakenLine) -> u32
     }
 }
 
-// What it tells.
+// Its event.
 fn event_of(taken: &TakenLine) -> Result<Event, OutOfMemory>
     ensures { IfOk result (λ event. event ≡ event_said taken.now) }
 {
@@ -125,7 +125,7 @@ fn growth_of(expired: Expired) -> Extras
     }
 }
 
-// What the step of a line tells.
+// What is written for the step of a line.
 #[tactic(auto, using(crate::proofs::TellLemmas::line_told, crate::proofs::TellLemmas::label_told, crate::proofs::TellLemmas::small_line))]
 fn tell_line(
     counts: &Counts,
@@ -147,7 +147,7 @@ fn tell_line(
     Ok(told_line(number, moment, thread_of(taken), event, extras))
 }
 
-// What a step of a host tells, under new numbers.
+// What is written for a step of a host, under new numbers.
 fn tell_step(
     counts: &Counts,
     moment: u64,
@@ -197,7 +197,7 @@ fn tell_step(
     Ok(RecordedStep { label, line: None })
 }
 
-// A line joins, if there is one.
+// Adds a line, if there is one.
 fn push_told(line: Option<Line>, lines: &mut Lines) -> Result<(), OutOfMemory>
     ensures { OnOk result (lines.new ≡ lines.old ++ on line [] (λ l. l ∷ [])) }
 {
@@ -207,7 +207,7 @@ fn push_told(line: Option<Line>, lines: &mut Lines) -> Result<(), OutOfMemory>
     Ok(())
 }
 
-// One more entry is written.
+// Writes one more entry.
 fn tell_entry(
     counts: &Counts,
     entry: &Entry,

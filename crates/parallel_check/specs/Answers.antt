@@ -10,7 +10,7 @@ use Rattle.checker.specs.Cases.{case_result}
 abbrev pub IsAnswer : List ℕ → Result Verdict CaseFault → Type 0
 IsAnswer text answer = answer ≢ Err OutOfMemory → answer ≡ case_result text
 
--- one answer to each case, in their order, and that memory ran out in the place of those for which it ran out
+-- one answer to each case, in their order, or that memory ran out for those for which it did
 pub record AnswersEach (cases : List (List ℕ)) (answers : List (Result Verdict CaseFault)) : Type 0 where
   pub count : length answers ≡ length cases
   pub each : (i : ℕ) → IsAnswer (get_or cases i []) (get_or answers i (Err OutOfMemory))

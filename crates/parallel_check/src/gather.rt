@@ -9,7 +9,7 @@ use crate::work::{Cases, Done, Gate, check_one};
 use case_forms::OutOfMemory;
 use std::alloc::Global;
 
-/// One answer to each case, in their order: that of a worker, or else its own.
+/// One answer to each case, in the order of the cases: that of a worker, or else the caller's own.
 pub(crate) fn gather<C: Cases, G: Gate>(
     alloc: Global,
     cases: &[&[u8]],

@@ -6,15 +6,14 @@
 //! assert!(rt; answers.as_slice() == [Ok(explained)].as_slice());
 //! ```
 //!
-//! - `check_many`: by so many workers, 1 to 64; `check_many_slices`: the same of cases that are borrowed
+//! - `check_many`: by so many workers, 1 to 64; `check_many_slices`: the same for borrowed cases
 //! - `Gate`: what a worker calls before and after each case
 //! - `check_many_plain`: the same on the thread of the caller, with the same answers
 //! - `CaseResult`: the answer to one case
 //!
-//! Each worker takes the least case that none has taken, checks it, and keeps the answer beside the number of its case.
-//! The answers are then laid out in the order of the cases: they are those of one thread, whatever the number of
-//! workers and whichever came first (`specs/Answers`). No clause says that two threads ran at once, nor how long one
-//! took.
+//! Each worker takes the first case that none has taken, checks it, and keeps the answer with the case's number. The
+//! answers are then put in the order of the cases: they are those of a single thread, whatever the number of workers
+//! and whichever ended first (`specs/Answers`). No clause says that two threads ran at once, or how long one took.
 //!
 //! Private modules:
 //!

@@ -11,8 +11,8 @@ use verdict::Verdict;
 /// The answer to a case: its verdict, or why it has none.
 pub type CaseResult = Result<Verdict, CaseFault>;
 
-/// Checks all cases, on this thread. A case for which memory runs out is answered so, and the others as ever. `Err`
-/// says that memory ran out for the list itself.
+/// Checks all cases, on this thread. A case for which memory runs out has that as its answer; the others aren't
+/// affected. `Err` says that memory ran out for the list itself.
 pub fn check_many_plain(alloc: Global, cases: &[Vec<u8>]) -> Result<Vec<CaseResult>, OutOfMemory>
     ensures { IfOk result (λ answers. AnswersEach (map (λ case. case.items) cases.now) answers.items) }
 {

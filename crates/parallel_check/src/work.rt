@@ -13,7 +13,7 @@ use std::sync::{Mutex, Wait};
 use std::thread;
 use std::thread::Threads;
 
-/// Is called for each case by the worker that checks it.
+/// Called for each case by the worker that checks it.
 pub trait Gate {
     /// Called before the case with this number is checked. Cases are numbered from 0.
     fn before(&self, case: usize);
@@ -22,7 +22,7 @@ pub trait Gate {
     fn after(&self, case: usize);
 }
 
-/// Which cases are checked. Each call picks them.
+/// Which cases are checked. Each call of `check_many_slices` picks its own.
 pub(crate) trait Cases {
     /// The texts of the cases, in order.
     ghost cases: { List (List ℕ) };
@@ -32,7 +32,7 @@ impl Cases for Brand {
     ghost cases = { [] };
 }
 
-/// The answer to one of these cases, beside the number of the case.
+/// The answer to one of these cases, with the number of the case.
 #[derive(Drop)]
 pub(crate) struct Done<C: Cases> {
     pub index: usize,
@@ -63,7 +63,7 @@ pub(crate) fn check_one<C: Cases, G: Gate>(
     }
 }
 
-// The least case that none has taken, or None where all are.
+// The first case that none has taken. None: all are taken.
 fn take_next<H: Wait>(rt: &H, next: &Mutex<usize>, count: usize) -> Option<usize>
     ensures { IfSome result (λ index. index < count) }
 {
@@ -120,9 +120,9 @@ fn check_named<C: Cases + Send + Sync, G: Gate + Sync, H: Threads + Wait + Sync>
     gather(alloc, cases, parts, gate)
 }
 
-/// Checks all cases by this many threads, 1 to 64 of them. Where a thread can't be started this one does its work. A
-/// case for which memory runs out is answered so, and the others as ever; `Err` says that memory ran out for the list
-/// itself.
+/// Checks all cases on this many threads, 1 to 64. If a thread can't be started, the calling thread does its work. A
+/// case for which memory runs out has that as its answer; the others aren't affected. `Err` says that memory ran out
+/// for the list itself.
 pub fn check_many_slices<G: Gate + Sync, H: Threads + Wait + Sync>(
     rt: &H,
     alloc: Global,
@@ -147,7 +147,7 @@ fn slices_of<'c>(alloc: Global, cases: &'c [Vec<u8>]) -> Result<Vec<&'c [u8]>, O
     Ok(slices)
 }
 
-/// `check_many_slices` of cases that stand in memory of their own.
+/// `check_many_slices` for cases that own their memory.
 pub fn check_many<G: Gate + Sync, H: Threads + Wait + Sync>(
     rt: &H,
     alloc: Global,

@@ -6,7 +6,7 @@ pub record SeatView : Type 0 where
   pub thread : ℕ
   pub count : ℕ
 
--- what the core has, and how many of its lines end a call
+-- the core's state, and how many of its lines end a call
 pub record BookView : Type 0 where
   pub core : Core
   pub total : ℕ

@@ -1,4 +1,4 @@
-//! What lies under a recorder's lock.
+//! The state under a recorder's lock.
 
 ghost use Rattle.std.specs.Prelude.{◌≡◌, ◌+◌, ◌≤◌, ◌<◌, ◌↔◌, true, false, IsTrue, IfNone, IfOk, IfErr, OnOk, OnErr};
 ghost use Rattle.std.specs.Prelude.{sum_by, length};
@@ -25,18 +25,18 @@ use std::collections::BTreeSet;
 use std::marker::PhantomData;
 use std::sync::ledger::{Blank, Book, Share};
 
-// How far a turn of the timers moves the host's clock, in microseconds.
+// By how much a turn of the timers advances the host's clock, in microseconds.
 const CLOCK_STEP: u64 = 1_000;
 
 // How many seats a recorder has.
 const SEATS: u32 = 65_535;
 
-/// A host's book beside the ledger of its seats' counts.
+/// A host's book and the ledger of its seats' counts.
 #[derive(Drop)]
 pub(crate) struct Desk<L: Site> {
     held: Held<L>,
     counts: Book<L>,
-    // The parts of the ledger that no seat has.
+    // The shares of the ledger that no seat has.
     rest: Share<L>,
     // How many seats are left.
     left: u32,
@@ -51,8 +51,8 @@ pub(crate) struct Desk<L: Site> {
     ghost fits: { left ≤ 65535 },
 }
 
-// The next tick of a book, at this moment and counter or above. None: it would pass the limits, or there were too many
-// events.
+// The next tick of a book, with at least this moment and counter. None: it would pass the limits, or there were too
+// many events.
 fn next_tick(book: &HostBook, moment: u64, counter: u64) -> Option<Tick>
     ensures tick { IfSome result (λ t. t ≡ tick_after book.now.core.last moment counter) }
     ensures after { IfSome result (IsAfter book.now.core.last) }
@@ -118,7 +118,7 @@ impl<L: Site> Desk<L> {
         seats.len() + self.left as usize >= SEATS as usize
     }
 
-    /// No event follows.
+    /// Stops the recording: no event follows.
     pub(crate) fn stop(&mut self) {
         self.stopped = true;
     }
@@ -200,7 +200,7 @@ impl<L: Site> Desk<L> {
         }
     }
 
-    /// The next segment of the host, which goes out. None: there is none.
+    /// Sends the next segment of the host. None: there is none.
     pub(crate) fn pump(&mut self) -> Result<Option<Flying>, LoopEnd> {
         if self.stopped {
             return Err(LoopEnd::Stopped);
@@ -213,7 +213,7 @@ impl<L: Site> Desk<L> {
         Ok(book.pump(tick)?)
     }
 
-    /// A segment of the other host arrives. Whether it was let in.
+    /// A segment of the other host arrives. The result is whether it was accepted.
     pub(crate) fn arrive(&mut self, flying: Flying) -> Result<bool, LoopEnd> {
         if self.stopped {
             return Err(LoopEnd::Stopped);
@@ -231,7 +231,7 @@ impl<L: Site> Desk<L> {
         Ok(book.arrive(flying, tick)?)
     }
 
-    /// A turn of the timers: the clock goes on, and a timer that is due expires. Whether there was one.
+    /// A turn of the timers: the clock advances, and a timer that is due expires. The result is whether there was one.
     pub(crate) fn timers(&mut self) -> Result<bool, LoopEnd> {
         if self.stopped {
             return Err(LoopEnd::Stopped);
@@ -266,7 +266,7 @@ impl<L: Site> Desk<L> {
     }
 }
 
-// The threads of segments that come in, of timers and of segments that go out, of both hosts: 4 to 9.
+// The threads of arriving segments, of timers and of sent segments, of both hosts: 4 to 9.
 fn is_reserved(thread: u32) -> bool
     ensures { IsTrue result ↔ IsReserved thread }
 {

@@ -77,8 +77,8 @@ impl HostBook {
         self.core.events()
     }
 
-    /// What it recorded is a run of its host for its lines, and its total is the number of those that end a call: a
-    /// call that does nothing, whose contract says it.
+    /// Does nothing; its contract says that what the book recorded is a run of its host for its lines, and that its
+    /// total is the number of lines that end a call.
     pub fn is_book(&self)
         ensures run { IsRecorded self.now.core }
         ensures total { self.now.total ≡ ends_in self.now.core.recorded.entries }
@@ -86,8 +86,8 @@ impl HostBook {
         self.core.is_recording();
     }
 
-    // What was brought has keys below those of its entries, and the steps are few: a call that does nothing, whose
-    // contract says it.
+    // Does nothing; its contract says that what was brought has keys below those of its entries, and that the steps are
+    // few.
     pub(crate) fn few_steps(&self)
         ensures above { AllAbove self.now.core.recorded.entries }
         ensures steps { steps_in self.now.core.recorded.entries ≤ 40000000 }
@@ -95,9 +95,9 @@ impl HostBook {
         self.core.few_steps();
     }
 
-    /// A text can tell what it recorded: each segment is made at a position that a text names, with a payload that fits
-    /// into one, and with a shift only beside an initial number, if the version scales windows. A call that does
-    /// nothing, whose contract says it.
+    /// Does nothing; its contract says that a text can state what the book recorded. Each segment is made at a position
+    /// that a text can name, with a payload that fits into one, and with a shift only beside an initial number and if
+    /// the version scales windows.
     pub fn can_be_told(&self)
         ensures { AllTold self.now.core.recorded.header.version self.now.core.recorded.entries }
     {
@@ -165,7 +165,7 @@ impl HostBook {
         Ok(let_in)
     }
 
-    // A segment is made, and goes out.
+    // A segment is made and sent.
     #[tactic(auto, using(crate::proofs::BookLemmas::pumped_book, crate::proofs::BookLemmas::pumped_site, crate::proofs::BookLemmas::pumped_short_book, crate::proofs::BookLemmas::pumped_short_site))]
     pub(crate) fn pump(&mut self, tick: Tick) -> Result<Option<Flying>, OutOfMemory>
         requires tick { IsAfter self.old.core.last tick }

@@ -20,8 +20,8 @@ use merging::{MergeFault, Recorded, merge_recordings};
 use std::alloc::Global;
 
 /// The finished books of host 0 and of host 1 in a whole case, merged in the order of their keys: a trace and a witness
-/// that explains it, so `check` answers yes. The error is that of the first segment which came to a host and is none
-/// that the other let out, or that memory ran out. Two books beside each other are merged, or memory runs out.
+/// that explains it, so `check` answers yes. The error names the first segment that arrived at a host and that the
+/// other didn't send, or says that memory ran out. Two matching books are merged unless memory runs out.
 pub fn merge(alloc: Global, zero: HostBook, one: HostBook) -> Result<Recorded, MergeFault>
     requires hosts { (zero.core.recorded.me ≡ Zero) × (one.core.recorded.me ≡ One) }
     requires headers { zero.core.recorded.header ≡ one.core.recorded.header }

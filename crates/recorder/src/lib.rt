@@ -1,11 +1,11 @@
-//! Recorders: application threads call, segments go and come, timers expire, and each host's book is kept under one
-//! lock.
+//! Recorders: application threads call, segments are sent and arrive, timers expire, and each host's book is kept under
+//! one lock.
 //!
-//! A `Recorder` is that of one host. Its threads have seats, and call; three loops let segments out, let them in, and
-//! let timers expire. Each takes the lock for one event at a time. Whenever the lock is free the book's steps are a run
-//! of its host, and its total is the sum of the counts of all seats: the type under the lock says so (`specs/Books`).
-//! `finish` takes the seats back and gives the book; `merge` makes of two books a trace and a witness that explain each
-//! other.
+//! A `Recorder` is the recorder of one host. Its application threads have seats and make calls; three loops send
+//! segments, receive them, and let timers expire. Each takes the lock for one event at a time. Whenever the lock is
+//! free, the book's steps are a run of its host, and its total is the sum of the counts of all seats: that is the
+//! invariant of the type under the lock (`specs/Books`). `finish` takes the seats back and returns the book; `merge`
+//! makes two books into a trace and a witness that explains it.
 //!
 //! A program with one thread of its own at each host, over two recorders and two channels of `crossbeam_channel`:
 //!
@@ -31,25 +31,24 @@
 //! let Recorded { trace, witness } = merge(alloc, zero, one)?;
 //! ```
 //!
-//! Host and header of a recorder stand in its type (`Site`): the function that has both recorders is generic over two
-//! of them, and who calls it picks them by `Brand`.
+//! The host and header of a recorder are part of its type (`Site`): a function that has both recorders is generic over
+//! two sites, and its caller picks them by `Brand`.
 //!
 //! - `Recorder`: the recorder of a host; `Site`: its host and header; `RecFault`, `Unfinished`, `Cause`: why a call or
 //!   the end is refused
-//! - `Seat`: a thread's place; `Receipt`, `receipt_stands`: what a call returned, and that its line stands in what was
-//!   merged
+//! - `Seat`: a thread's place; `Receipt`, `receipt_stands`: what a call returned, and that the merged trace has its
+//!   line
 //! - `HostBook`: what one host recorded; `merge`, `Recorded`, `MergeFault`: two books as a trace and its witness
-//! - `LoopEnd`: why a loop ended; `Fate`, `WireFate`, `LoseEach` of `wire_fates`: what becomes of segments on
-//!   their way
+//! - `LoopEnd`: why a loop ended; `Fate`, `WireFate`, `LoseEach` of `wire_fates`: what becomes of segments in transit
 //!
 //! Private modules:
 //!
-//! - `site`: the host and the header of a recorder, known by a type
+//! - `site`: the host and the header of a recorder, known from a type
 //! - `host_book`: what one host recorded, with the count of its answers
-//! - `seat`, `seats`, `receipt`: a thread's place, those that come back, and what a call was answered
-//! - `desk`: what lies under the lock
+//! - `seat`, `seats`, `receipt`: a thread's place, the places that are returned, and what a call was answered
+//! - `desk`: the state under the lock
 //! - `recorder`: seats, calls, looking, stopping, finishing
-//! - `loops`: segments go out and come in, timers expire
+//! - `loops`: segments are sent and arrive, timers expire
 //! - `joining`: the merge of two books
 #![tactic(auto)]
 

@@ -1,4 +1,4 @@
-//! The loops of a host: its segments go out, those of the other host come in, its timers expire.
+//! The loops of a host: its segments are sent, those of the other host arrive, its timers expire.
 
 use crate::recorder::Recorder;
 use crate::site::Site;
@@ -38,7 +38,7 @@ fn send<R: Wait>(rt: &R, out: &Sender<Flying, Global>, flying: Flying) -> Result
     }
 }
 
-// Does with a segment what its fate is.
+// Applies a segment's fate to it.
 fn apply_fate<R: Wait>(
     rt: &R,
     out: &Sender<Flying, Global>,
@@ -50,7 +50,7 @@ fn apply_fate<R: Wait>(
         Fate::Pass => send(rt, out, flying),
         Fate::Lose => Ok(()),
         Fate::Twice => {
-            // If memory refuses the copy, it goes once.
+            // If there is no memory for the copy, it is sent once.
             if let Ok(copy) = flying.copy() {
                 send(rt, out, copy)?;
             }
@@ -84,7 +84,7 @@ impl<L: Site> Recorder<L> {
         outcome
     }
 
-    // Pumps once, and does with the segment what its fate is. Whether there was one.
+    // Pumps once, and applies its fate to the segment. The result is whether there was one.
     fn pump_turn<R: Wait, F: WireFate>(
         &self,
         rt: &R,
@@ -106,8 +106,8 @@ impl<L: Site> Recorder<L> {
         Ok(true)
     }
 
-    /// Lets the host's segments go out and sends each as its fate is, in so many turns. A turn without a segment ends
-    /// by yielding. The sender is dropped as the loop ends.
+    /// Sends the host's segments, each according to its fate, in at most this many turns. A turn without a segment ends
+    /// by yielding. The sender is dropped when the loop ends.
     pub fn pump_loop_by<R: Wait, F: WireFate + Drop>(
         &self,
         rt: &R,
@@ -126,7 +126,7 @@ impl<L: Site> Recorder<L> {
         LoopEnd::Turns
     }
 
-    /// The same, where each `lose`-th segment is lost, and none where `lose` is 0. A lost segment has its line.
+    /// The same, but each `lose`-th segment is lost, or none if `lose` is 0. A lost segment still has its line.
     pub fn pump_loop<R: Wait>(
         &self,
         rt: &R,
@@ -137,7 +137,7 @@ impl<L: Site> Recorder<L> {
         self.pump_loop_by(rt, out, LoseEach::new(lose), turns)
     }
 
-    /// Lets the other host's segments arrive, one each turn for which it waits, until the sender is gone.
+    /// Receives the other host's segments, one each turn, waiting for each, until the sender is gone.
     pub fn receive_loop<R: Wait>(
         &self,
         rt: &R,
@@ -155,7 +155,7 @@ impl<L: Site> Recorder<L> {
         LoopEnd::Turns
     }
 
-    /// Lets the host's clock go on and its timers expire, one each turn. A turn ends by yielding.
+    /// Advances the host's clock and lets its timers expire, one each turn. A turn ends by yielding.
     pub fn timer_loop<R: Wait>(&self, rt: &R, turns: u64) -> LoopEnd {
         for _ in 0..turns {
             if let Err(end) = self.timers_once(rt) {

@@ -8,7 +8,7 @@ use case_forms::{Answer, Event, Line};
 use merging::Recorded;
 use stack_core::Answered;
 
-/// What a call was answered, and which of its thread's answers it is, from 0.
+/// The answer of a call, and which of its thread's answers it is, counted from 0.
 #[derive(Drop)]
 pub struct Receipt {
     pub answered: Answered,
@@ -72,7 +72,7 @@ pub fn receipt_stands(recorded: &Recorded, receipt: &Receipt) -> bool
     )
 }
 
-// The same, of the lines and what the receipt says.
+// The same, for the lines and what the receipt says.
 fn stands(lines: &[Line], thread: u32, index: u64, answer: &Answer) -> bool
     ensures { IsTrue result ↔ (end_at thread index lines.now ≡ Some answer.now) }
 {

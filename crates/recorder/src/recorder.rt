@@ -1,4 +1,4 @@
-//! A recorder: a host's book under a lock, beside the ledger of what its seats were answered.
+//! A recorder: a host's book under a lock, and the ledger of what its seats were answered.
 
 ghost use Rattle.std.specs.Prelude.{◌≡◌, ◌+◌, ◌<◌, IfOk, IfErr, OnOk, OnErr, sum_by, length};
 ghost use Rattle.std.specs.Fn.{FnOnceReturnsAt};
@@ -33,7 +33,7 @@ pub enum RecFault {
     /// Memory ran out. A call whose beginning was recorded stays pending.
     #[error("out of memory")]
     OutOfMemory,
-    /// The thread has a seat, or is one of segments or timers; or there were 65,535 seats.
+    /// The thread has a seat, or is a thread of segments or timers; or there were 65,535 seats.
     #[error("the seat is taken")]
     SeatTaken,
 }
@@ -67,7 +67,7 @@ pub struct Unfinished<L: Site> {
 #[derive(Drop)]
 pub struct Recorder<L: Site> {
     pub(crate) desk: Mutex<Desk<L>>,
-    // Told after each event: it may be what a call waits for.
+    // Notified after each event: it may be what a call waits for.
     pub(crate) moved: Condvar,
     pub(crate) alloc: Global,
 }
@@ -93,7 +93,7 @@ impl<L: Site> Recorder<L> {
         }
     }
 
-    /// A seat for a thread of this host: host 0's threads have even numbers, host 1's odd ones.
+    /// A seat for a thread of this host. Host 0's threads have even numbers, host 1's odd ones.
     pub fn seat<R: Wait>(&self, rt: &R, thread: u32) -> Result<Seat<L>, RecFault>
         ensures seat { IfOk result (λ s. (s.thread ≡ thread) × (s.count ≡ 0)) }
         ensures reserved { OnOk result (IsReserved thread → ⊥) }
@@ -102,7 +102,7 @@ impl<L: Site> Recorder<L> {
     }
 
     /// A call of the seat's thread, which means this host or a socket number of its own. It waits until the call has
-    /// its effect. If it is refused the seat counts as before.
+    /// its effect. If it is refused, the seat's count stays as it was.
     pub fn call<R: Wait>(&self, rt: &R, seat: &mut Seat<L>, call: Call) -> Result<Receipt, RecFault>
         requires lane { lane seat.old.thread ≡ L.host }
         requires aims { Aims L.host (aim call) }
@@ -124,7 +124,7 @@ impl<L: Site> Recorder<L> {
         unreachable!()
     }
 
-    /// Lends the book for reading, under the lock: a book of this recorder's host, under its header.
+    /// Calls a reader with the book, under the lock: a book of this recorder's host, under its header.
     pub fn look<R: Wait, T, F: FnOnce(&HostBook) -> T>(&self, rt: &R, f: F) -> T
         requires { F.IsAlwaysCallable f }
         ensures { (b : BookView) × ((b.core.recorded.me ≡ L.host) × (b.core.recorded.header ≡ L.header)
@@ -134,14 +134,14 @@ impl<L: Site> Recorder<L> {
         f(desk.book())
     }
 
-    /// No event follows: calls that wait are refused, and the loops end.
+    /// Stops the recording: no event follows, calls that wait are refused, and the loops end.
     pub fn stop<R: Wait>(&self, rt: &R) {
         self.desk.lock(rt).stop();
         self.moved.notify_all();
     }
 
     /// Ends the recording, if all seats are handed in. The book's total is the sum of their counts. There are 65,535
-    /// seats, so none is missing among as many.
+    /// seats, so none is missing from a list of that many.
     pub fn finish<R: Wait>(self, rt: &R, seats: Vec<Seat<L>>) -> Result<HostBook, Unfinished<L>>
         requires { L.parts ≡ 65535 }
         ensures host { IfOk result (λ b. b.core.recorded.me ≡ L.host) }

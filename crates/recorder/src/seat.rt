@@ -5,7 +5,7 @@ ghost use Rattle.std.specs.Prelude.{◌≡◌, ◌+◌, ◌<◌, ◌≤◌, ◌^
 use std::marker::Model;
 use std::sync::ledger::{Book, Ledger, Share};
 
-/// A thread's place at a recorder, with the count of its calls that were answered. It goes with its own recorder.
+/// A thread's place at a recorder, with the count of its calls that were answered. It belongs to its own recorder.
 #[derive(Drop)]
 pub struct Seat<L: Ledger> {
     thread: u32,
@@ -25,7 +25,7 @@ impl<L: Ledger> Model for Seat<L> {
 }
 
 impl<L: Ledger> Seat<L> {
-    // A seat that counted nothing yet.
+    // A seat with the count 0.
     pub(crate) fn new(thread: u32, share: Share<L>) -> Seat<L>
         requires { (share.parts ≡ 1) × (share.amount ≡ 0) }
         ensures { (result.thread ≡ thread) × (result.count ≡ 0) }
@@ -51,7 +51,7 @@ impl<L: Ledger> Seat<L> {
         self.count
     }
 
-    // Counts an answer, and says how many there were before.
+    // Counts an answer, and returns how many there were before.
     pub(crate) fn count_one(&mut self, counts: &mut Book<L>) -> u64
         requires { counts.old.total + 1 < 2 ^ 64 }
         ensures index { result ≡ self.old.count }
@@ -66,7 +66,7 @@ impl<L: Ledger> Seat<L> {
         index
     }
 
-    // Gives its part and its count back.
+    // Returns its share and its count.
     pub(crate) fn give_up(self, to: &mut Share<L>)
         ensures parts { to.new.parts ≡ to.old.parts + 1 }
         ensures amount { to.new.amount ≡ to.old.amount + self.count }

@@ -1,4 +1,4 @@
-//! Seats that come back where a recorder is not finished.
+//! Seats that are returned if a recorder isn't finished.
 
 ghost use Rattle.std.specs.Prelude.{◌≡◌};
 

@@ -1,4 +1,4 @@
-//! Which host a recorder is of, known by a type.
+//! Which host a recorder is of, known from a type.
 
 ghost use Rattle.std.specs.Prelude.{◌≡◌};
 ghost use Rattle.case_forms.specs.declared.calls.Host.{Host};
@@ -12,7 +12,7 @@ use crate::host_book::HostBook;
 use std::marker::{Brand, PhantomData};
 use std::sync::ledger::Ledger;
 
-/// The ledger of a recorder's seats, with its host and its header. Whoever makes a recorder picks both.
+/// The ledger of a recorder's seats, with its host and its header. The maker of a recorder picks both.
 pub trait Site: Ledger {
     ghost host: { Host };
 

@@ -1,4 +1,4 @@
--- What a step asks of the world: which rules, and what the world is after it.
+-- What a step does to the world: its rules, and the world after it.
 use Rattle.std.specs.Prelude.{ℕ, Bool, List, [], Option}
 use Rattle.std.specs.Option.{option_map_or}
 use Rattle.verdict.specs.declared.rule.Rule.{Rule}
@@ -12,10 +12,10 @@ use Rattle.endpoint_state.specs.Worlds.{Progress, after}
 abbrev pub broken_by : Progress → ℕ → Step tcp_shape → Option Rule
 broken_by p moment step = first_broken (step_rules (tcp p.header) moment p.world step)
 
--- the rules of a step that may be none: then no rule is broken
+-- the rules of a step, if there is one; else none is broken
 abbrev pub asked_rules : Progress → ℕ → Option (Step tcp_shape) → List (Rule × Bool)
 asked_rules p moment asked = option_map_or (step_rules (tcp p.header) moment p.world) asked []
 
--- what the case has come to after it: where it is none, the world stays
+-- the state of the case after it; without a step the world stays as it is
 abbrev pub asked_after : Progress → ℕ → Option (Step tcp_shape) → Progress
 asked_after p moment asked = option_map_or (after p moment) asked p

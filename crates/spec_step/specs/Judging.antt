@@ -1,4 +1,4 @@
--- Where less of congestion control is judged, more is accepted: what is said of it for each step of a case.
+-- The less of congestion control is judged, the more is accepted: this for each step of a case.
 use Rattle.std.specs.Prelude.{◌≡◌, ◌≤◌, ℕ, None}
 use Rattle.case_forms.specs.declared.trace.Header.{Header}
 use Rattle.case_forms.specs.declared.version.Judged.{Judged}
@@ -12,8 +12,8 @@ use Rattle.spec_step.specs.Asked.{broken_by}
 abbrev pub less_judged : Judged → Progress → Progress
 less_judged j p = record p { header = header_by j p.header; world = world_judged j p.header p.world }
 
--- each endpoint keeps the profile of the header, and its window and threshold are at most the greatest: so it is at the
--- start, and after each step that breaks no rule
+-- each endpoint keeps the profile of the header, and its window and threshold are at most the greatest: this holds at
+-- the start, and after each step that breaks no rule
 abbrev pub KeepsProfiles : Progress → Type 0
 KeepsProfiles p = IsJudged p.header p.world
 
@@ -22,8 +22,8 @@ pub record ProfilesAreKept : Type 0 where
   pub stays : (p : Progress) (moment : ℕ) (step : Step tcp_shape) → KeepsProfiles p → broken_by p moment step ≡ None
       → KeepsProfiles (after p moment step)
 
--- a step that breaks no rule breaks none where less is judged; and whatever is judged, every step leads to the same but
--- for that word
+-- a step that breaks no rule breaks none if less is judged; and whatever is judged, every step leads to the same world
+-- but for that word
 pub record LessJudgedIsMoreAccepted (j : Judged) : Type 0 where
   pub starts : (h : Header) → start (header_by j h) ≡ less_judged j (start h)
   pub accepted : (p : Progress) (moment : ℕ) (step : Step tcp_shape) → extent j ≤ extent p.header.congestion

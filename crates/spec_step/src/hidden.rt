@@ -16,7 +16,7 @@ use case_forms::{Answer, Label};
 use endpoint_state::{StepFault, World};
 use verdict::Rule;
 
-/// Does a step that takes no line, as `apply` does any step. A label that takes one asks for nothing here.
+/// Does a step that takes no line, as `apply` does any step. A label that takes one does nothing here.
 #[tactic(auto, using(crate::proofs::FaultLemmas::admitted, crate::proofs::FaultLemmas::broken, crate::proofs::FaultLemmas::memory))]
 pub fn apply_hidden<Taken>(
     world: &mut World,
@@ -50,7 +50,7 @@ pub fn apply_hidden<Taken>(
     }
 }
 
-/// The least rule that a step breaks which takes no line.
+/// The least rule that a hidden step breaks.
 pub(crate) fn admits_hidden<Taken>(
     world: &World,
     moment: u64,
@@ -71,7 +71,7 @@ pub(crate) fn admits_hidden<Taken>(
     }
 }
 
-// The same of the effect of a call, whose rules read no moment.
+// The same for the effect of a call, whose rules read no moment.
 #[tactic(auto, using(endpoint_state::proofs::CallLemmas::effect_at_any_moment))]
 fn admits_effect(world: &World, thread: u32, answer: &Answer) -> Result<(), Rule>
     ensures { (moment : ℕ) → result_err result ≡ broken_by world.now moment (Effect thread answer.now) }

@@ -1,9 +1,10 @@
-//! Where less of congestion control is judged, more is accepted.
+//! The less of congestion control is judged, the more is accepted.
 
 ghost use Rattle.case_forms.specs.declared.version.Judged.{Judged};
 ghost use Rattle.spec_step.specs.Judging.{LessJudgedIsMoreAccepted, ProfilesAreKept};
 
-/// Each endpoint keeps the profile of the header, from the start on, and no window or threshold is above the greatest.
+/// Each endpoint keeps the profile of the header, from the start on, and no window or threshold is above the greatest
+/// that the model allows.
 pub fn profiles_are_kept()
     ensures { ProfilesAreKept }
 {}

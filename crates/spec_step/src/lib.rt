@@ -1,14 +1,13 @@
-//! A step of the machine, given by its label: whether it breaks a rule, and the world after it.
+//! A step of the model, given by its label: whether it breaks a rule, and the world after it.
 //!
-//! Which step of the machine a label asks for is said by `step_of` of `spec_tcp`. Nothing here knows the order of
-//! lines: which line a step may take is defined by `interval_order`. What the world is, and what each step does to it,
-//! is `endpoint_state`'s.
+//! `step_of` of `spec_tcp` defines which step a label means. Nothing here knows the order of lines: `interval_order`
+//! defines which line a step may take. The world, and what each step does to it, is defined in `endpoint_state`.
 //!
 //! - `line`: a step that takes a line: the least rule that it breaks, and the world after it
 //! - `hidden`: a step that takes none: the same
 //! - `step`: any step
-//! - `wires`: what stands on a host's wire under a line, and a segment that is brought there, which is no step
-//! - `laws`: where less of congestion control is judged, more is accepted
+//! - `wires`: what is on a host's wire under a line, and putting a segment there, which isn't a step
+//! - `laws`: the less of congestion control is judged, the more is accepted
 #![tactic(auto)]
 
 mod hidden;

@@ -51,7 +51,7 @@ pub fn apply_line(world: &mut World, moment: u64, line: &TakenLine) -> Result<()
     }
 }
 
-/// As `apply_line`, of a line that is given away: its segment is taken apart, and not copied.
+/// Like `apply_line`, but consumes the line, so that its segment isn't copied.
 #[tactic(auto, using(crate::proofs::FaultLemmas::admitted, crate::proofs::FaultLemmas::broken, crate::proofs::FaultLemmas::memory))]
 pub fn apply_line_owned(world: &mut World, moment: u64, line: TakenLine) -> Result<(), StepFault>
     requires { world.old.steps < most_steps }
@@ -90,7 +90,7 @@ pub fn apply_line_owned(world: &mut World, moment: u64, line: TakenLine) -> Resu
     }
 }
 
-/// The least rule that a step breaks which takes a line.
+/// The least rule broken by a step that takes a line.
 pub(crate) fn admits_line(world: &World, moment: u64, line: &TakenLine) -> Result<(), Rule>
     ensures { result_err result ≡ broken_by world.now moment (line_step line.now) }
 {

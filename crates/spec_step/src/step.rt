@@ -15,10 +15,10 @@ use case_forms::TakenLine;
 use endpoint_state::{StepFault, World};
 use verdict::Rule;
 
-/// What a step does: a label of a witness in which the line that it takes stands in place of its number.
+/// What a step does: a label of a witness that has the line it takes instead of that line's number.
 pub type Label = case_forms::Label<TakenLine>;
 
-/// Whether the machine admits a step at a moment, in microseconds. An error is the least rule that the step breaks.
+/// Whether the model permits a step at a moment, in microseconds. The error is the least rule that the step breaks.
 pub fn admits(world: &World, moment: u64, label: &Label) -> Result<(), Rule>
     requires steps { world.now.steps < most_steps }
     requires label { IsWithinLimits label.now }
@@ -35,8 +35,8 @@ pub fn admits(world: &World, moment: u64, label: &Label) -> Result<(), Rule>
     }
 }
 
-/// Does a step at a moment, in microseconds, if the machine admits it and memory allows. An error is the least rule
-/// that the step breaks, or that it breaks none and memory ran out; the world is then as it was.
+/// Does a step at a moment, in microseconds, if the model permits it. The error is the least rule that the step breaks,
+/// or, if it breaks none, that memory ran out; the world is unchanged then.
 pub fn apply(world: &mut World, moment: u64, label: &Label) -> Result<(), StepFault>
     requires steps { world.old.steps < most_steps }
     requires label { IsWithinLimits label.now }

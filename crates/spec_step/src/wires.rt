@@ -1,4 +1,4 @@
-//! What stands on the hosts' wires, by host and line.
+//! What is on the hosts' wires, by host and line.
 
 ghost use Rattle.std.specs.Prelude.{◌≡◌, nat_eq, OnOk, OnErr};
 ghost use Rattle.std.specs.Map.{lookup};
@@ -11,16 +11,15 @@ use case_forms::{Host, OutOfMemory};
 use endpoint_state::World;
 use spec_tcp::Emission;
 
-/// What a host put on its wire with this line of the trace, or what was brought there under it. None: nothing.
+/// The segment that a host sent with this line of the trace, or that `bring` put there. None: there is none.
 pub fn sent(world: &World, host: Host, line: u64) -> Option<&Emission>
     ensures { option_copied result ≡ lookup (nat_eq line) (pick world.now.world.hosts host).wire }
 {
     world.sent(host, line)
 }
 
-/// Puts a segment on a host's wire under this line, in place of one that stood there. It is no step, and nothing else
-/// is changed: a copy that came in before stays as it was. The error is that memory ran out, and then nothing is
-/// changed.
+/// Puts a segment on a host's wire under this line, replacing any that was there. It isn't a step and changes nothing
+/// else: a copy that already arrived stays as it was. The error is that memory ran out; nothing is changed then.
 pub fn bring(
     world: &mut World,
     host: Host,

@@ -1,4 +1,4 @@
--- Which endpoints of a host a step may change, beside one that it creates.
+-- Which endpoints of a host a step may change, besides one that it creates.
 use Rattle.std.specs.Prelude.{ℕ, List, [], ◌∷◌, Option, None, Some}
 use Rattle.std.specs.Option.{option_map_or}
 use Rattle.case_forms.specs.declared.calls.Call.{Call}
@@ -29,7 +29,7 @@ abbrev pub affected_target : SocketTarget → Affected
 affected_target (ListenerAt l) = Nobody
 affected_target (EndpointAt i) = Place i
 
--- what goes with what it names: a listener's children
+-- what ends with what it names: a listener's children
 abbrev pub affected_by_end : SocketTarget → Affected
 affected_by_end (ListenerAt l) = All
 affected_by_end (EndpointAt i) = Place i
@@ -59,13 +59,15 @@ affected_by_deed s (Makes plan) = affected_at (place_of s.body plan.lport plan.r
 affected_by_deed s (Sends line number wire) = Nobody
 affected_by_deed s (Gets line copied wire) = Nobody
 affected_by_deed s (Hears line wire) = Nobody
-affected_by_deed s (Takes line choice) = on (waiting line s.inbox) Nobody (λ m. affected_at (place_of s.body m.rport m.lport))
+affected_by_deed s (Takes line choice) =
+    on (waiting line s.inbox) Nobody (λ m. affected_at (place_of s.body m.rport m.lport))
 affected_by_deed s (Drops line) = Nobody
 affected_by_deed s (Answers line) = Nobody
 
 -- the effect of a thread's call
 abbrev pub affected_by_effect : Host → World tcp_shape → ℕ → Affected
-affected_by_effect me w t = option_map_or (affected_by_call (pick w.hosts me).body) (pending_call (turn_of t w.threads)) Nobody
+affected_by_effect me w t =
+    option_map_or (affected_by_call (pick w.hosts me).body) (pending_call (turn_of t w.threads)) Nobody
 
 -- a step of this host
 abbrev pub affected_by : Host → World tcp_shape → Step tcp_shape → Affected

@@ -14,7 +14,7 @@ use Rattle.spec_tcp.specs.declared.endpoint.Endpoint.{Endpoint}
 use Rattle.spec_tcp.specs.declared.endpoint.SocketTarget.{SocketTarget}
 use Rattle.spec_tcp.specs.declared.endpoint.SocketTarget.TheVariants.{ListenerAt, EndpointAt}
 
--- the answer says that the call has to be made again
+-- the answer says that the call has to be repeated
 abbrev pub is_again : Answer → Bool
 is_again answers.Again = true
 is_again answer = false
@@ -31,7 +31,7 @@ is_before_handshake states.SynSent = true
 is_before_handshake states.SynReceived = true
 is_before_handshake state = false
 
--- how many bytes that were accepted are not acknowledged
+-- how many accepted bytes aren't acknowledged yet
 abbrev pub unacknowledged : Endpoint → ℕ
 unacknowledged e = end_of e.stream.accepted - max e.stream.snd_una 1
 

@@ -1,4 +1,4 @@
--- What an event adds that lets a segment arrive.
+-- What the arrival of a segment adds.
 use Rattle.std.specs.Prelude.{◌≡◌, ◌⊎◌, ◌+◌, ℕ, Bool, true, false, nat_lt, Some}
 use Rattle.case_forms.specs.declared.calls.Ports.{Ports}
 use Rattle.case_forms.specs.declared.steps.TakeChoice.{TakeChoice}
@@ -16,17 +16,17 @@ use Rattle.stack_core.specs.Cores.{Core, MayDo, line_to_come, opened, with_item,
 abbrev pub brought : Core → Tick → Flying tcp_shape → Core
 brought c tick f = with_item (opened c tick) (Bring f)
 
--- it comes in: its line
+-- it arrives: its line
 abbrev pub came : Core → Tick → Flying tcp_shape → Wire → Core
 came c tick f wire = with_step (brought c tick f) (At c.recorded.me (Gets (line_to_come c) f.line wire))
 
--- in an event that began: it is brought, and comes in
+-- in an event that began: it is brought, and arrives
 abbrev pub IsCameIn : Core → Flying tcp_shape → Core → Type 0
 IsCameIn c f d =
     (wire : Wire) × (wire.bytes ≡ f.emission.bytes) ×
     (d ≡ with_step (with_item c (Bring f)) (At c.recorded.me (Gets (line_to_come c) f.line wire)))
 
--- what waits under a line may be dropped: it is there
+-- what waits under a line may be dropped: it exists
 abbrev pub MayDrop : Core → ℕ → Type 0
 MayDrop c n = MayDo c (At c.recorded.me (Drops n))
 
@@ -43,7 +43,7 @@ IsHeld c n ports =
 abbrev pub MayTake : Core → ℕ → Type 0
 MayTake c n = MayDo c (At c.recorded.me (Takes n (record { cwnd = 0; keep = true; sample = false })))
 
--- it may be taken so, with its bytes
+-- it may be taken with these values and its bytes
 abbrev pub IsChoice : Core → ℕ → TakeChoice → Type 0
 IsChoice c n choice = (choice.keep ≡ true) × MayTake c n × MayDo c (At c.recorded.me (Takes n choice))
 
@@ -55,26 +55,28 @@ MayReset c n = MayDo c (At c.recorded.me (Answers n))
 abbrev pub MayRecover : Core → Ports → Type 0
 MayRecover c ports =
     (cwnd : ℕ) × (ssthresh : ℕ) ×
-    MayDo c (At c.recorded.me (Does (record { lport = ports.lport; rport = ports.rport; cwnd = cwnd; ssthresh = ssthresh })))
+    MayDo c (At c.recorded.me
+    (Does (record { lport = ports.lport; rport = ports.rport; cwnd = cwnd; ssthresh = ssthresh })))
 
--- so it may begin there
+-- it may begin there with these values
 abbrev pub IsRecoveryAt : Core → Ports → Recovery → Type 0
 IsRecoveryAt c ports x = (x.lport ≡ ports.lport) × (x.rport ≡ ports.rport) × MayDo c (At c.recorded.me (Does x))
 
--- with these values it may not
+-- it may not begin with these values
 abbrev pub IsRefusedRecovery : Core → Ports → (cwnd ssthresh : ℕ) → Type 0
 IsRefusedRecovery c ports cwnd ssthresh =
-    MayDo c (At c.recorded.me (Does (record { lport = ports.lport; rport = ports.rport; cwnd = cwnd; ssthresh = ssthresh }))) →
+    MayDo c (At c.recorded.me
+    (Does (record { lport = ports.lport; rport = ports.rport; cwnd = cwnd; ssthresh = ssthresh }))) →
     ⊥
 
--- it began, exactly where it may
+-- it began, exactly if it may
 abbrev pub IsRecovered : Core → Ports → Core → Type 0
 IsRecovered c ports d =
     ((x : Recovery) × (x.lport ≡ ports.lport) × (x.rport ≡ ports.rport) ×
     (d ≡ with_step c (At c.recorded.me (Does x)))) ⊎ ((d ≡ c) × (MayRecover c ports → ⊥))
 
--- what waits was taken with its bytes, and fast recovery began where it may; else it was answered by a reset; else it
--- was dropped
+-- what waits was taken with its bytes, and fast recovery began if it may; else it was answered by a reset; else it was
+-- dropped
 pub data IsSettled (c : Core) (n : ℕ) (ports : Ports) (d : Core) : Type 0 where
   Taken : (choice : TakeChoice) (keep : choice.keep ≡ true) (may : MayTake c n)
       (recovered : IsRecovered (with_step c (At c.recorded.me (Takes n choice))) ports d) → IsSettled c n ports d
@@ -83,7 +85,7 @@ pub data IsSettled (c : Core) (n : ℕ) (ports : Ports) (d : Core) : Type 0 wher
   Dropped : (not_taken : MayTake c n → ⊥) (no_reset : MayReset c n
       → ⊥) (row : d ≡ with_step c (At c.recorded.me (Drops n))) → IsSettled c n ports d
 
--- what memory may leave of it: nothing, or that it was taken with its bytes, where fast recovery was to begin behind
+-- what may be left if memory ran out: nothing, or that it was taken with its bytes, if fast recovery was to begin then
 abbrev pub IsSettledShort : Core → ℕ → Ports → Core → Type 0
 IsSettledShort c n ports d =
     (d ≡ c) ⊎ ((choice : TakeChoice) × (choice.keep ≡ true) × MayTake c n ×
@@ -101,8 +103,8 @@ abbrev pub IsNotLetIn : Core → Tick → Flying tcp_shape → Type 0
 IsNotLetIn c tick f =
     (f.key.host ≡ c.recorded.me) ⊎ (nat_lt (f.emission.moment + c.recorded.header.msl) tick.moment ≡ true)
 
--- what memory may leave of it: the tick has passed, it was brought, came in, or was taken with its bytes too, where
--- fast recovery was to begin
+-- what may be left if memory ran out: the tick has passed; it was brought; it arrived; it was taken with its bytes too,
+-- if fast recovery was to begin
 pub data IsArrivedShort (c : Core) (tick : Tick) (f : Flying tcp_shape) (d : Core) : Type 0 where
   Ticked : (row : d ≡ opened c tick) → IsArrivedShort c tick f d
   Brought : (row : d ≡ brought c tick f) → IsArrivedShort c tick f d

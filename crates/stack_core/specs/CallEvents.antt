@@ -31,7 +31,7 @@ answered c tick thread answer = with_step (effected c tick thread answer) (Finis
 abbrev pub IsAttempted : Core → Tick → ℕ → Answered → Core → Type 0
 IsAttempted c tick thread a d = (a.thread ≡ thread) × (d ≡ answered c tick thread a.answer)
 
--- what memory may leave of it: the tick has passed, or an effect stands too, which is not `again`
+-- what may be left if memory ran out: the tick has passed, and perhaps an effect, which isn't `again`
 abbrev pub IsAttemptShort : Core → Tick → ℕ → Core → Type 0
 IsAttemptShort c tick thread d =
     (d ≡ opened c tick) ⊎ ((answer : Answer) × (is_again answer ≡ false) × (d ≡ effected c tick thread answer))
@@ -40,7 +40,7 @@ IsAttemptShort c tick thread d =
 abbrev pub NoAnswer : Core → ℕ → Type 0
 NoAnswer c thread = (call : Call) → turn_of thread (world c).threads ≡ Called call → Waits c.ring (own_body c) call
 
--- the same, looked at in what is kept
+-- the same, for what is kept
 abbrev pub KeptNoAnswer : Core → ℕ → Type 0
 KeptNoAnswer c thread =
     (call : Call) → turn_of thread (world c).threads ≡ Called call → Waits c.ring (forget_body (own_body c)) call

@@ -20,7 +20,7 @@ use Rattle.stack_core.specs.Flown.{IsAbove}
 use Rattle.stack_core.specs.PumpEvents.{IsPumped, IsPumpedShort, NothingToPump}
 use Rattle.stack_core.specs.TimerEvents.{IsTimed}
 
--- a call of a core that is an event, and what it answered; an error is that memory ran out
+-- a call of a core that is an event, and its result; the error is that memory ran out
 pub data CoreCall : Type 0 where
   Begin : (thread : ℕ) (call : Call) (answer : Result (Unit {0}) AllocError) → CoreCall
   Attempt : (thread : ℕ) (answer : Result (Option Answered) AllocError) → CoreCall
@@ -34,7 +34,7 @@ MayBegin c thread call =
     (turn_of thread (world c).threads ≡ Idle) × (lane thread ≡ c.recorded.me) ×
     Aims c.recorded.me (aim call) × IsCallWithin call
 
--- a core may be called so at this tick; what arrives flew from the other core, in an event below this one
+-- a core may be called like this at this tick; what arrives was sent by the other core, in an event below this one
 abbrev pub MayCall : Core → List (Flying tcp_shape) → Tick → CoreCall → Type 0
 MayCall c theirs tick (Begin thread call answer) = MayBegin c thread call
 MayCall c theirs tick (Attempt thread answer) = lane thread ≡ c.recorded.me
@@ -57,12 +57,12 @@ Leaves c tick (Pump (Err memory)) d = IsPumpedShort c tick d
 Leaves c tick (Timers (Ok found)) d = IsTimed c tick found d
 Leaves c tick (Timers (Err memory)) d = d ≡ opened c tick
 
--- the segment that flew in the call
+-- the segment that was sent in the call
 abbrev pub flown_in : CoreCall → List (Flying tcp_shape)
 flown_in (Pump (Ok (Some f))) = f ∷ []
 flown_in call = []
 
--- one side: a core, and the segments that flew from it
+-- one side: a core, and the segments it sent
 pub record Side : Type 0 where
   pub core : Core
   pub flown : List (Flying tcp_shape)
@@ -71,8 +71,8 @@ pub record Side : Type 0 where
 abbrev pub new_side : Header → Host → ℕ → Side
 new_side h me ring = record { core = new_core h me ring; flown = [] }
 
--- the core was called at this tick, as it may be, where these segments flew from the other; it is then this one, with a
--- run of its host recorded
+-- the core was called at this tick, as it may be, after the other sent these segments; it is then this one, with a run
+-- of its host recorded
 pub record IsCalled (old : Side) (theirs : List (Flying tcp_shape)) (tick : Tick) (call : CoreCall)
     (new : Side) : Type 0 where
   pub after : IsAfter old.core.last tick
@@ -88,8 +88,8 @@ pub record Event : Type 0 where
   pub tick : Tick
   pub call : CoreCall
 
--- these events lead from two sides to these. What flew from one comes to the other where an `Arrive` there has it: any
--- number of times, in any order, or never
+-- these events lead from two sides to these. What one sent arrives at the other if an `Arrive` there has it: any number
+-- of times, in any order, or never
 abbrev pub Lead : List Event → Both Side → Both Side → Type 0
 Lead [] old new = new ≡ old
 Lead (e ∷ es) old new =

@@ -23,7 +23,7 @@ use Rattle.stack_core.specs.Told.{AllTold}
 
 pub record Core : Type 0 where
   pub recorded : Recorded
-  -- how many bytes that were accepted may wait for their acknowledgment
+  -- how many accepted bytes may wait for their acknowledgment
   pub ring : ℕ
   -- the tick of the last event, and how many events there were
   pub last : Tick
@@ -33,7 +33,7 @@ pub record Core : Type 0 where
 abbrev pub world : Core → World tcp_shape
 world c = world_left c.recorded
 
--- what its host has
+-- its host's state
 abbrev pub own_body : Core → HostTcp
 own_body c = (pick (world c).hosts c.recorded.me).body
 
@@ -41,8 +41,8 @@ own_body c = (pick (world c).hosts c.recorded.me).body
 abbrev pub line_to_come : Core → ℕ
 line_to_come c = next_line c.recorded.header (first_event_line c.recorded.header) c.recorded.entries
 
--- what it recorded is a run of its host alone, under keys that don't fall: so it may be merged with what the other host
--- recorded
+-- what it recorded is a run of its own host, under keys that don't decrease, so it may be merged with what the other
+-- host recorded
 abbrev pub IsRecorded : Core → Type 0
 IsRecorded c = IsKept c.recorded.header c.recorded.me (first_event_line c.recorded.header) c.recorded.entries
 
@@ -65,7 +65,7 @@ new_core header me ring =
 abbrev pub opened : Core → Tick → Core
 opened c tick = record c { last = tick; events = suc c.events }
 
--- an item joined, at the last tick
+-- an item was added, at the last tick
 abbrev pub with_item : Core → Item tcp_shape → Core
 with_item c item = record c { recorded = with_entry c.recorded (entry_at c.recorded.me c.last item) }
 
@@ -111,7 +111,7 @@ first_socket One = 3
 abbrev pub next_socket : Host → HostTcp → ℕ
 next_socket me b = first_socket me + 2 * length b.sockets
 
--- a call's numbers are within limits: a send has bytes, a read asks for some
+-- a call's numbers are within limits: a send has bytes, and a read asks for at least one
 abbrev pub IsCallWithin : Call → Type 0
 IsCallWithin (calls.Send n bytes) = 1 ≤ length bytes
 IsCallWithin (calls.Recv n most) = 1 ≤ most
@@ -123,8 +123,8 @@ GivesNext me b Idle answer = Unit {0}
 GivesNext me b (Called call) answer = (n : ℕ) → gives call answer ≡ Some n → n ≡ next_socket me b
 GivesNext me b (Answered given) answer = Unit {0}
 
--- what a core asks of a step beside that it fits: the call that begins is within limits, a number that is given is the
--- next
+-- what a core requires of a step besides that it is permitted: the call that begins is within limits, and a number that
+-- is given is the next
 abbrev pub IsOrderly : Host → World tcp_shape → Step tcp_shape → Type 0
 IsOrderly me w (Begin line t call) = IsCallWithin call
 IsOrderly me w (Finish line t answer) = Unit {0}

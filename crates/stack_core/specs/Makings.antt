@@ -59,7 +59,7 @@ fin_of e window =
       shift = None;
     }
 
--- it may be made, at a position that a step may name, with a payload that may go out, and a shift that may be told
+-- it may be made, at a position that a step may name, with a payload that may be sent, and a shift that may be stated
 abbrev pub IsMakeable : Header → Host → World tcp_shape → SegmentPlan → Type 0
 IsMakeable h me w m =
     (m.pos ≤ greatest_position) × (m.len ≤ greatest_payload) × TellsWell h.version m
@@ -68,7 +68,7 @@ IsMakeable h me w m =
 abbrev pub Refuses : Header → Host → World tcp_shape → SegmentPlan → Type 0
 Refuses h me w plan = Permitted (tcp h) 0 w (At me (Makes plan)) → ⊥
 
--- its SYN may not be made; it takes a new position where nothing was made before
+-- its SYN may not be made; it takes a new position if nothing was made before
 abbrev pub IsSynRefused : Header → Host → World tcp_shape → Endpoint → SynOptions → ℕ → Type 0
 IsSynRefused h me w e opening window = snd_max e ≤ 0 → Refuses h me w (syn_of e opening window)
 
@@ -81,7 +81,7 @@ pub record IsTried (h : Header) (me : Host) (w : World tcp_shape) (e : Endpoint)
   pub byte : Refuses h me w (bytes_of e 1 window)
   pub fin : Refuses h me w (fin_of e window)
 
--- nothing without RST may be made that takes new positions
+-- nothing without RST that takes new positions may be made
 abbrev pub NothingToMake : Header → Host → World tcp_shape → Type 0
 NothingToMake h me w =
     (m : SegmentPlan) (e : Endpoint) → m.flags.rst ≡ false

@@ -1,4 +1,4 @@
--- A made segment on its way out.
+-- How a made segment is sent.
 use Rattle.std.specs.Prelude.{◌≡◌, ◌≤◌, ℕ, ◌+◌, nat_eq, true, if◌then◌else◌, [], length, Option, None, Some}
 use Rattle.std.specs.Map.{lookup}
 use Rattle.case_forms.specs.declared.steps.Flags.{Flags}
@@ -17,11 +17,11 @@ use Rattle.stack_core.specs.Keys.{key_of}
 abbrev pub flag_bits : Flags → ℕ
 flag_bits f = (if f.ack then 16 else 0) + (if f.rst then 4 else 0) + (if f.syn then 2 else 0) + (if f.fin then 1 else 0)
 
--- a SYN tells the shift that its sender gave (RFC 7323, 2.2)
+-- a SYN carries the shift that its sender gave (RFC 7323, 2.2)
 abbrev pub told_shift : Emission → Option ℕ
 told_shift m = if m.flags.syn then m.shift else None
 
--- a made segment as it goes out, with this MSS option if there is one
+-- a made segment as it is sent, with this MSS option if there is one
 abbrev pub segment_of : Emission → Option ℕ → Segment
 segment_of m mss =
     record {
@@ -38,24 +38,28 @@ segment_of m mss =
       payload = m.payload;
     }
 
--- the greatest payload that a core lets out: with a header and the options that are written it fits into a segment
+-- the greatest payload that a core sends: with a header and the options that are written it fits into a segment
 abbrev pub greatest_payload : ℕ
 greatest_payload = 65487
 
--- a segment under this number was made and didn't go out
+-- a segment under this number was made and wasn't sent
 pub record WaitsToGo (c : Core) (number : ℕ) : Type 0 where
   pub emission : Emission
   pub found : lookup (nat_eq number) (pick (world c).hosts c.recorded.me).made ≡ Some (unsent emission)
   pub short : length emission.payload ≤ greatest_payload
 
--- it may go out so, and this is what flies then
+-- it may be sent like this, and this is then in transit
 pub record MayGo (c : Core) (number : ℕ) (wire : Wire) (f : Flying tcp_shape) : Type 0 where
   pub emission : Emission
   pub found : lookup (nat_eq number) (pick (world c).hosts c.recorded.me).made ≡ Some (unsent emission)
   pub shown : matches_sent c.recorded.header wire emission ≡ true
-  pub flying : f ≡ record { key = key_of c.recorded.me c.last; line = line_to_come c; emission = sent c.last.moment wire emission }
+  pub flying : f ≡ record {
+    key = key_of c.recorded.me c.last;
+    line = line_to_come c;
+    emission = sent c.last.moment wire emission;
+  }
 
--- the segment that was made under this number went out: its line; this flies, and stands on its host's wire under that
+-- the segment that was made under this number was sent: its line; this is in transit, and on its host's wire under that
 -- line
 pub record GoesOut (c : Core) (number : ℕ) (f : Flying tcp_shape) (d : Core) : Type 0 where
   pub wire : Wire

@@ -15,18 +15,18 @@ pub record Recorded : Type 0 where
   pub me : Host
   pub entries : List TcpEntry
 
--- the whole world of the host alone, to which its entries lead
+-- the whole world of this host, to which its entries lead
 abbrev pub world_left : Recorded → World tcp_shape
 world_left r = world_of r.header r.me r.entries
 
 abbrev pub with_entry : Recorded → TcpEntry → Recorded
 with_entry r x = record r { entries = r.entries ++ x ∷ [] }
 
--- it may join: then what is recorded is still a run of the host
+-- it may be added: what is recorded is then still a run of the host
 abbrev pub Joins : Recorded → TcpEntry → Type 0
 Joins r x = MayJoin r.header r.me (first_event_line r.header) r.entries (x ∷ [])
 
--- the entries are a run of the host; the world is the one to which they lead, of which all is discarded that may be;
+-- the entries are a run of the host; the world is the one to which they lead, with whatever may be discarded discarded;
 -- and its steps are theirs
 pub record IsRecording (me : Host) (p : Progress) (entries : List TcpEntry) : Type 0 where
   pub kept : IsKept p.header me (first_event_line p.header) entries

@@ -1,4 +1,4 @@
--- Resets that answer segments of the other host, and wait to go out.
+-- Resets that answer segments of the other host, and wait to be sent.
 use Rattle.std.specs.Prelude.{◌≡◌, ◌⊎◌, ℕ, nat_eq, true, List, [], ◌∷◌, ◌++◌, length, Some}
 use Rattle.std.specs.Map.{lookup}
 use Rattle.spec_network.specs.Tables.{Made, pick, unsent}
@@ -11,7 +11,7 @@ use Rattle.stack_core.specs.Recordings.{Recorded, world_left}
 abbrev pub made_of : Recorded → List (ℕ × Made Emission)
 made_of r = (pick (world_left r).hosts r.me).made
 
--- a reset that answers a segment was made under this number, and did not go out
+-- a reset that answers a segment was made under this number, and wasn't sent
 pub record IsWaitingReset (made : List (ℕ × Made Emission)) (n : ℕ) (e : Emission) : Type 0 where
   pub found : lookup (nat_eq n) made ≡ Some (unsent e)
   pub answers : e.is_reset_reply ≡ true
@@ -34,7 +34,7 @@ IsAmong n (x ∷ xs) = (n ≡ x) ⊎ IsAmong n xs
 abbrev pub AreAwaited : List (ℕ × Made Emission) → List ℕ → Type 0
 AreAwaited made numbers = (n : ℕ) (e : Emission) → IsWaitingReset made n e → IsAmong n numbers × (length e.payload ≡ 0)
 
--- these, once a step made a segment under that number: a reset that answers waits then
+-- these, once a step made a segment under that number: a reset that answers a segment then waits
 abbrev pub awaited : List ℕ → Step tcp_shape → ℕ → List ℕ
 awaited numbers (At host (Answers line)) n = numbers ++ n ∷ []
 awaited numbers step n = numbers

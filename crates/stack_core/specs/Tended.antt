@@ -1,4 +1,4 @@
--- What a core knows of the endpoints that it does not look at: nothing may be made there, and no timer is due.
+-- What a core knows of the endpoints that it doesn't visit: nothing may be made there, and no timer is due.
 use Rattle.std.specs.Prelude.{◌≡◌, ◌≤◌, ◌<◌, ◌+◌, ℕ, min, false, List, Option, None, Some}
 use Rattle.case_forms.specs.declared.steps.SegmentPlan.{SegmentPlan}
 use Rattle.case_forms.specs.declared.taken_line.Expired.{Expired}
@@ -26,7 +26,7 @@ IsQuiet e =
     (m : SegmentPlan) → m.flags.rst ≡ false → snd_max e < m.pos + making_length m
     → first_broken (making_rules e m) ≡ None → ⊥
 
--- none of its timers may expire at this moment, but that it may give up
+-- none of its timers may expire at this moment, except to give up
 abbrev pub IsStillAt : Header → ℕ → Endpoint → Type 0
 IsStillAt h moment e = (x : Expired) → (x ≡ expireds.Giveup → ⊥) → first_broken (expiry_rules h moment e x) ≡ None → ⊥
 
@@ -37,11 +37,11 @@ IsStillBefore h m e = (moment : ℕ) → moment < m → IsStillAt h moment e
 abbrev pub IsStill : Header → Endpoint → Type 0
 IsStill h e = (moment : ℕ) → IsStillAt h moment e
 
--- endpoints that are not to be looked at make nothing
+-- endpoints that aren't to be visited make nothing
 abbrev pub AreQuiet : ℕ → List Deadline → List Endpoint → Type 0
 AreQuiet looked entries es = AreCovered (λ m e. Unit {0}) IsQuiet looked entries es
 
--- those that are not to be looked at yet have no timer that is due
+-- those that aren't to be visited yet have no timer that is due
 abbrev pub AreTimed : Header → ℕ → List Deadline → List Endpoint → Type 0
 AreTimed h looked entries es = AreCovered (IsStillBefore h) (IsStill h) looked entries es
 
@@ -54,7 +54,7 @@ pub record IsTended (r : Recorded) (ready wakes : DeadlineQueue) : Type 0 where
   pub quiet : AreQuiet ready.looked ready.entries.keys (kept_ends r)
   pub timed : AreTimed r.header wakes.looked wakes.entries.keys (kept_ends r)
 
--- the lesser of two moments, of those that are there
+-- the lesser of two moments, if both exist; else the one that does
 abbrev pub least : Option ℕ → Option ℕ → Option ℕ
 least None other = other
 least (Some one) None = Some one

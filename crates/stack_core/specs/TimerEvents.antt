@@ -1,4 +1,4 @@
--- What an event adds that looks for a timer.
+-- What the expiry of a timer adds.
 use Rattle.std.specs.Prelude.{◌≡◌, ◌≤◌, ℕ, Bool, true, false, Some}
 use Rattle.case_forms.specs.declared.calls.Host.{Host}
 use Rattle.case_forms.specs.declared.calls.Ports.{Ports}
@@ -39,7 +39,7 @@ pub record HasTried (r : Recorded) (ports : Ports) : Type 0 where
   pub unanswered_expiries : 12 ≤ endpoint.unanswered_expiries
   pub state : is_fin_wait_2 endpoint.state ≡ false
 
--- where an endpoint gives up, it has tried so often
+-- if an endpoint gives up, it has tried this often
 abbrev pub IfGivesUp : Recorded → Ports → Expired → Type 0
 IfGivesUp r ports expireds.Giveup = HasTried r ports
 IfGivesUp r ports e = Unit {0}

@@ -1,4 +1,4 @@
--- What a text can tell of a step that a core does, and no type says.
+-- What a step of a core must satisfy so that a text can state it, beyond its types.
 use Rattle.std.specs.Prelude.{◌≡◌, ◌≤◌, List, [], ◌∷◌, true, IfSome}
 use Rattle.case_forms.specs.Versions.{scales}
 use Rattle.case_forms.specs.Witnesses.{IsShift}
@@ -12,16 +12,16 @@ use Rattle.spec_merge.specs.Books.{Bring, Do, Item}
 use Rattle.spec_merge.specs.Recordings.{TcpEntry}
 use Rattle.stack_core.specs.declared.plans.SynOptions.{SynOptions}
 
--- the shift that an endpoint is given with its first SYN is one that may be told
+-- the shift that an endpoint is given with its first SYN is one that may be stated
 abbrev pub MayOpen : Version → SynOptions → Type 0
 MayOpen v opening = IfSome opening.shift (λ n. (scales v ≡ true) × (n ≤ 14))
 
--- a plan's shift is one that may be told
+-- a plan's shift is one that may be stated
 abbrev pub TellsWell : Version → SegmentPlan → Type 0
 TellsWell v m = IfSome m.shift (IsShift v m.iss)
 
 -- a segment is made at a position that a text may name, with a payload that fits into a segment beside its options, and
--- with a shift that may be told
+-- with a shift that may be stated
 abbrev pub IsToldDeed : Version → Deed tcp_shape → Type 0
 IsToldDeed v (Does x) = Unit {0}
 IsToldDeed v (Expires line x) = Unit {0}
@@ -43,7 +43,7 @@ abbrev pub IsToldItem : Version → Item tcp_shape → Type 0
 IsToldItem v (Do step) = IsToldStep v step
 IsToldItem v (Bring f) = Unit {0}
 
--- each of these entries can be told
+-- each of these entries can be stated
 abbrev pub AllTold : Version → List TcpEntry → Type 0
 AllTold v [] = Unit {0}
 AllTold v (x ∷ xs) = IsToldItem v x.item × AllTold v xs

@@ -1,4 +1,4 @@
-//! Which endpoints of a host a step may change, beside one that it creates.
+//! Which endpoints of a host a step may change, besides one that it creates.
 
 ghost use Rattle.std.specs.Prelude.{◌≡◌};
 ghost use Rattle.std.specs.Option.{option_copied, option_map_or};
@@ -49,8 +49,8 @@ fn affected_by_effect(body: &HostTcp, call: Option<&Call>) -> Affected
     }
 }
 
-// What the effect of a call may change: the endpoint of its socket number, the child that is accepted, or what goes
-// with a listener.
+// What the effect of a call may change: the endpoint of its socket number, the child that is accepted, or the children
+// of a listener that ends.
 fn affected_by_call(body: &HostTcp, call: &Call) -> Affected
     ensures { result ≡ affected_by_call body.now call.now }
 {

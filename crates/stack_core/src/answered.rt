@@ -4,7 +4,7 @@ ghost use Rattle.std.specs.Prelude.{◌≡◌};
 
 use case_forms::Answer;
 
-/// The answer of a call that ended. `HostCore::attempt` alone makes one, and nothing copies it.
+/// The answer of a call that ended. Only `HostCore::attempt` makes one, and nothing copies it.
 #[derive(Drop)]
 pub struct Answered {
     pub(crate) thread: u32,

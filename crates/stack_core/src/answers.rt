@@ -18,8 +18,8 @@ use endpoint_state::HostTcp;
 use spec_tcp::SocketTarget;
 use std::alloc::Global;
 
-/// The answer of a call at the host that it means, which may give the next socket number. A send is answered by as many
-/// bytes as the ring has room for, at least one. None: the call waits. The error is that memory ran out.
+/// The answer of a call at the host that it means; it may give the next socket number. A send is answered with the
+/// number of bytes that the ring has room for, at least one. None: the call waits. The error is that memory ran out.
 pub(crate) fn choose(
     alloc: Global,
     body: &HostTcp,
@@ -56,7 +56,7 @@ pub(crate) fn choose(
     }
 }
 
-// The same of a call on a socket number.
+// The same for a call on a socket number.
 fn on_socket(
     alloc: Global,
     body: &HostTcp,
@@ -79,13 +79,13 @@ fn on_socket(
         Some(SocketTarget::ListenerAt(place)) => Ok(at_listener(body, place, call, next)),
         Some(SocketTarget::EndpointAt(place)) => match body.endpoint_at(place) {
             Some(endpoint) => at_endpoint(alloc, endpoint, call, ring),
-            // The number is live, so its endpoint is there.
+            // The number is live, so its endpoint exists.
             None => unreachable!(),
         },
     }
 }
 
-// The same of a call on a listener.
+// The same for a call on a listener.
 fn at_listener(body: &HostTcp, place: u32, call: &Call, next: u32) -> Option<Answer>
     requires socket { IsOnSocket call.now }
     ensures some { IfSome result (λ a. listener_allows (queue_of body.now place) call.now a ≡ true) }
@@ -110,7 +110,7 @@ fn at_listener(body: &HostTcp, place: u32, call: &Call, next: u32) -> Option<Ans
     }
 }
 
-// Whether a child stands in a listener's queue.
+// Whether a child is in a listener's queue.
 fn has_child(body: &HostTcp, place: u32) -> bool
     ensures { result ≡ is_some (slice_get (queue_of body.now place) 0) }
 {

@@ -1,6 +1,7 @@
 //! A segment arrives.
 
-ghost use Rattle.std.specs.Prelude.{◌≡◌, ◌↔◌, ◌≤◌, ◌<◌, ◌+◌, ◌*◌, ◌⊎◌, suc, true, false, nat_lt, IsTrue, IfOk, IfNone, OnOk, OnErr};
+ghost use Rattle.std.specs.Prelude.{◌≡◌, ◌↔◌, ◌≤◌, ◌<◌, ◌+◌, ◌*◌, ◌⊎◌, suc, true, false, nat_lt};
+ghost use Rattle.std.specs.Prelude.{IsTrue, IfOk, IfNone, OnOk, OnErr};
 ghost use Rattle.std.specs.Option.{IfSome};
 ghost use Rattle.case_forms.specs.Witnesses.{IsWithinLimits};
 ghost use Rattle.case_forms.specs.declared.calls.Ports.{Ports};
@@ -9,8 +10,8 @@ ghost use Rattle.spec_tcp.specs.Bounds.{most_steps};
 ghost use Rattle.spec_tcp.specs.Steps.{step_of};
 ghost use Rattle.spec_merge.specs.Books.{Bring};
 ghost use Rattle.stack_core.specs.ArrivalEvents.{IsArrival, IsArrivedShort, IsCameIn, IsChoice, IsHeld, IsRecovered};
-ghost use Rattle.stack_core.specs.ArrivalEvents.{IsNotLetIn, IsRecoveryAt, IsRefusedRecovery, IsSettled, IsSettledShort};
-ghost use Rattle.stack_core.specs.ArrivalEvents.{MayDrop, MayRecover, MayTake, ports_of};
+ghost use Rattle.stack_core.specs.ArrivalEvents.{IsNotLetIn, IsRecoveryAt, IsRefusedRecovery, IsSettled};
+ghost use Rattle.stack_core.specs.ArrivalEvents.{IsSettledShort, MayDrop, MayRecover, MayTake, ports_of};
 ghost use Rattle.stack_core.specs.CoreWorlds.{Leaves};
 ghost use Rattle.stack_core.specs.CoreWorlds.CoreCall.{Arrive};
 ghost use Rattle.stack_core.specs.Cores.{IsAfter, IsRecorded, MayDo, line_to_come, with_item};
@@ -28,10 +29,11 @@ use spec_step::Label;
 use spec_tcp::Emission;
 
 impl HostCore {
-    /// A segment of the other host arrives: it is brought, and comes in, which is its line. It is taken with its bytes
-    /// where it may be, and fast recovery begins where it may; else it is answered by a reset where it may be; else it
-    /// is dropped. False, and nothing is changed, exactly if it is this host's own or older than the maximum segment
-    /// lifetime. The error is that memory ran out; then the tick has passed, and a beginning of this is added.
+    /// A segment of the other host arrives: it is put on the other host's wire here, and its arrival is a line. It is
+    /// taken with its bytes if it may be, and then fast recovery begins if it may; else it is answered by a reset if it
+    /// may be; else it is dropped. The result is false, and nothing is changed, exactly if the segment is this host's
+    /// own or older than the maximum segment lifetime. The error is that memory ran out; then the tick has passed, and
+    /// the first of these entries may have been added.
     pub fn arrive(&mut self, flying: Flying, tick: Tick) -> Result<bool, OutOfMemory>
         requires tick { IsAfter self.old.last tick }
         requires events { self.old.events < 10000000 }
@@ -46,7 +48,7 @@ impl HostCore {
         arrived
     }
 
-    // The same, but that what is recorded then is a run.
+    // The same, without the fact that what is then recorded is a run.
     fn record_arrival(&mut self, flying: Flying, tick: Tick) -> Result<bool, OutOfMemory>
         requires tick { IsAfter self.old.last tick }
         requires events { self.old.events < 10000000 }
@@ -68,7 +70,7 @@ impl HostCore {
         Ok(true)
     }
 
-    // What is remembered of an endpoint before a segment comes in for its ports.
+    // What is remembered of an endpoint before a segment for its ports arrives.
     fn before(&self, m: &Emission, ports: Ports) -> Before {
         let asks = !m.flags.rst && 0 < m.length();
         let body = self.recording.body();
@@ -89,7 +91,7 @@ impl HostCore {
         }
     }
 
-    // It is remembered what an arrival asks of the endpoint of these ports.
+    // Remembers what an arrival requires of the endpoint of these ports.
     fn update_after_arrival(&mut self, ports: Ports, before: Before)
         ensures { self.new ≡ self.old }
     {
@@ -118,7 +120,7 @@ impl HostCore {
         is_past_lifetime(self.recording.header(), moment, flying.emission())
     }
 
-    // It is brought, and comes in.
+    // It is brought, and arrives.
     fn come_in(&mut self, flying: Flying) -> Result<(), OutOfMemory>
         requires room { steps_in self.old.recorded.entries < 4 * self.old.events }
         requires events { self.old.events ≤ 10000000 }
@@ -161,7 +163,7 @@ impl HostCore {
         Ok(())
     }
 
-    // What is not taken is answered by a reset where it may be, and else dropped.
+    // What is not taken is answered by a reset if it may be, and else dropped.
     fn reject(&mut self, line: u64) -> Result<(), OutOfMemory>
         requires room { steps_in self.old.recorded.entries < 4 * self.old.events }
         requires events { self.old.events ≤ 10000000 }
@@ -180,7 +182,8 @@ impl HostCore {
         Ok(())
     }
 
-    // How it may be taken with its bytes: with this window if it may, and a sample. None: it may not.
+    // How it may be taken with its bytes: with this congestion window if it may, and a round trip sample. None: it may
+    // not be taken.
     fn choice(&self, line: u64, window: u32) -> Option<TakeChoice>
         requires steps { steps_in self.now.recorded.entries < most_steps }
         ensures some { IfSome result (λ choice. IsChoice self.now line choice) }
@@ -235,7 +238,7 @@ impl HostCore {
         Ok(())
     }
 
-    // How it may begin: with the greatest values, or with none. None: it may not.
+    // How it may begin: with the greatest values, or with none. None: it may not begin.
     fn recovery(&self, ports: Ports) -> Option<Recovery>
         requires steps { steps_in self.now.recorded.entries < most_steps }
         ensures some { IfSome result (λ x. IsRecoveryAt self.now ports x) }
@@ -268,7 +271,7 @@ impl HostCore {
         }
     }
 
-    // Whether the machine admits a step at the last tick.
+    // Whether the model permits a step at the last tick.
     fn admits(&self, label: &Label) -> bool
         requires steps { steps_in self.now.recorded.entries < most_steps }
         requires limits { IsWithinLimits label.now }

@@ -34,10 +34,10 @@ enum Subject {
 }
 
 impl HostCore {
-    /// The open call of a thread of this host has its effect, and ends with that answer: its line. A socket number that
-    /// it gives is the next one. None, and nothing is changed: the thread has no open call without effect, or the call
-    /// waits (for `send`: before the handshake is done, or while the ring is full). The error is that memory ran out;
-    /// then the tick has passed, and the effect may stand without the end.
+    /// The open call of a thread of this host has its effect, and ends with that answer, which is a line. If it gives a
+    /// socket number, that is the next one. None: nothing is changed, because the thread has no open call without
+    /// effect, or the call waits (for `send`: before the handshake is done, or while the ring is full). The error is
+    /// that memory ran out; then the tick has passed, and the effect may be recorded without the end.
     pub fn attempt(&mut self, thread: u32, tick: Tick) -> Result<Option<Answered>, OutOfMemory>
         requires tick { IsAfter self.old.last tick }
         requires events { self.old.events < 10000000 }
@@ -57,7 +57,7 @@ impl HostCore {
         attempted
     }
 
-    // The same, but that what is recorded then is a run.
+    // The same, without the fact that what is then recorded is a run.
     fn record_attempt(&mut self, thread: u32, tick: Tick) -> Result<Option<Answered>, OutOfMemory>
         requires tick { IsAfter self.old.last tick }
         requires events { self.old.events < 10000000 }
@@ -119,7 +119,7 @@ impl HostCore {
         }
     }
 
-    // It is remembered what an answer asks of the endpoint that it is about.
+    // Remembers what an answer requires of the endpoint that it is about.
     fn update_after_answer(&mut self, subject: Subject, answer: &Answer)
         ensures { self.new ≡ self.old }
     {

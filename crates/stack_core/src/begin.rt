@@ -17,8 +17,8 @@ use case_forms::{Call, OutOfMemory, TakenLine};
 use spec_step::Label;
 
 impl HostCore {
-    /// A thread of this host, which is in no call, begins one that means this host or a socket number of its own: the
-    /// line of the call. The error is that memory ran out; then the tick has passed, and nothing is added.
+    /// A thread of this host, which is in no call, begins one on this host or on a socket number of its own. This adds
+    /// the line of the call. The error is that memory ran out; then the tick has passed, and nothing is added.
     pub fn begin(&mut self, thread: u32, call: &Call, tick: Tick) -> Result<(), OutOfMemory>
         requires tick { IsAfter self.old.last tick }
         requires events { self.old.events < 10000000 }
@@ -36,7 +36,7 @@ impl HostCore {
         begun
     }
 
-    // The same, but that what is recorded then is a run.
+    // The same, without the fact that what is then recorded is a run.
     fn record_begin(&mut self, thread: u32, call: &Call, tick: Tick) -> Result<(), OutOfMemory>
         requires tick { IsAfter self.old.last tick }
         requires events { self.old.events < 10000000 }

@@ -1,7 +1,7 @@
-//! Which endpoints of a host are to be looked at, and when. Moments are microseconds.
+//! Which endpoints of a host are to be visited, and when. Moments are in microseconds.
 //!
-//! An agenda has a place up to which all endpoints were looked at once, and entries of those among them that are to be
-//! looked at again. So an endpoint below that place with no entry stays as it was found: nothing is to be done there.
+//! The queue has a place below which every endpoint was visited once, and entries for those of them that are to be
+//! visited again. An endpoint below that place without an entry has nothing to do.
 
 ghost use Rattle.std.specs.Prelude.{◌≡◌, ◌+◌, ◌<◌, ◌≤◌, ◌^◌, true, false, [], drop, length, slice_get};
 ghost use Rattle.std.specs.Option.{IfSome};
@@ -12,14 +12,14 @@ use endpoint_state::HostTcp;
 use std::alloc::Global;
 use std::collections::BTreeSet;
 
-/// The endpoint at a place is to be looked at from a moment on. The earliest come first.
+/// The endpoint at a place is to be visited from a moment on. The earliest come first.
 #[derive(Clone, Copy, Debug, PartialEq, Eq, PartialOrd, Ord, Drop)]
 pub(crate) struct Deadline {
     pub(crate) moment: u64,
     pub(crate) place: u32,
 }
 
-/// Which endpoints of a host a step may change, beside one that it creates.
+/// Which endpoints of a host a step may change, besides one that it creates.
 #[derive(Clone, Copy, Debug, PartialEq, Eq)]
 pub(crate) enum Affected {
     Nobody,
@@ -27,17 +27,17 @@ pub(crate) enum Affected {
     All,
 }
 
-/// The endpoints that are to be looked at.
+/// The endpoints that are to be visited.
 #[derive(Drop)]
 pub(crate) struct DeadlineQueue {
-    /// Endpoints from this place on were not looked at.
+    /// Endpoints from this place on weren't visited yet.
     pub(crate) looked: u32,
-    /// Those below it that are to be looked at again.
+    /// Those below it that are to be visited again.
     pub(crate) entries: BTreeSet<Deadline>,
 }
 
 impl DeadlineQueue {
-    /// No endpoint was looked at.
+    /// No endpoint was visited.
     pub(crate) fn new(alloc: Global) -> DeadlineQueue
         ensures looked { result.looked ≡ 0 }
         ensures entries { result.entries.keys ≡ [] }
@@ -64,7 +64,7 @@ impl DeadlineQueue {
         }
     }
 
-    /// A step may change these endpoints: they are to be looked at, at once. If memory refuses that, all are.
+    /// A step may change these endpoints, so they are to be visited at once. If memory runs out, all endpoints are.
     pub(crate) fn look_again(&mut self, affected: Affected)
         ensures { LooksAgain affected self.old.looked self.old.entries.keys self.new.looked self.new.entries.keys }
     {
@@ -75,7 +75,7 @@ impl DeadlineQueue {
         }
     }
 
-    // The same of one endpoint.
+    // The same for one endpoint.
     fn look_again_at(&mut self, place: u32)
         ensures { LooksAgain (Place place) self.old.looked self.old.entries.keys self.new.looked self.new.entries.keys }
     {
@@ -88,10 +88,11 @@ impl DeadlineQueue {
         self.looked = 0;
     }
 
-    /// Endpoints that were not looked at get their entries. False: memory ran out before all had theirs.
+    /// Adds entries for the endpoints that weren't visited. False: memory ran out before all had theirs.
     pub(crate) fn list_new(&mut self, body: &HostTcp) -> bool
         requires { length body.now.endpoints < 2 ^ 32 }
-        ensures grown { IsGrown (length body.now.endpoints) self.old.looked self.old.entries.keys self.new.looked self.new.entries.keys }
+        ensures grown { IsGrown (length body.now.endpoints) self.old.looked self.old.entries.keys self.new.looked
+            self.new.entries.keys }
         ensures all { result ≡ true → length body.now.endpoints ≤ self.new.looked }
     {
         while let Some(endpoint) = body.endpoint_at(self.looked) {
@@ -108,7 +109,7 @@ impl DeadlineQueue {
         true
     }
 
-    /// The earliest entry leaves.
+    /// Removes the earliest entry.
     pub(crate) fn leave(&mut self)
         ensures looked { self.new.looked ≡ self.old.looked }
         ensures rest { self.new.entries.keys ≡ drop 1 self.old.entries.keys }
@@ -116,7 +117,7 @@ impl DeadlineQueue {
         self.entries.pop_first();
     }
 
-    /// The earliest entry gives way to this one. False: memory refused that, and no endpoint counts as looked at.
+    /// Replaces the earliest entry by this one. False: memory ran out, and no endpoint counts as visited.
     pub(crate) fn renew(&mut self, wake: Deadline) -> bool
         ensures renewed { IsRenewed wake self.old.looked self.old.entries.keys self.new.looked self.new.entries.keys }
         ensures looked { result ≡ true → self.new.looked ≡ self.old.looked }
@@ -129,7 +130,7 @@ impl DeadlineQueue {
         false
     }
 
-    // An entry joins. False: memory ran out, and nothing is changed.
+    // Adds an entry. False: memory ran out, and nothing is changed.
     fn list(&mut self, wake: Deadline) -> bool
         ensures looked { self.new.looked ≡ self.old.looked }
         ensures yes { result ≡ true → AreStill self.old.entries.keys self.new.entries.keys

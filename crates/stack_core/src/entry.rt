@@ -38,7 +38,7 @@ impl Entry {
         }
     }
 
-    /// What stands under its key.
+    /// The item under its key.
     pub fn item(&self) -> &Item
         ensures { item_shown result.now ≡ self.now.item }
     {

@@ -1,4 +1,4 @@
-//! Segments on their way.
+//! Segments in transit.
 
 ghost use Rattle.std.specs.Prelude.{◌≡◌, IfOk};
 ghost use Rattle.stack_core.specs.Keys.{key_shown};
@@ -8,8 +8,8 @@ use case_forms::{Host, OutOfMemory, Wire};
 use spec_tcp::Emission;
 use std::marker::Model;
 
-/// A segment on its way, with the key and the line with which it went out. `HostCore::pump` alone makes one, and `copy`
-/// another like it.
+/// A segment in transit, with the key and the line with which it was sent. Only `HostCore::pump` makes one; `copy`
+/// makes an equal one.
 #[derive(Drop)]
 pub struct Flying {
     pub(crate) host: Host,
@@ -34,7 +34,7 @@ impl Model for Flying {
 }
 
 impl Flying {
-    /// The key of the event in which it went out.
+    /// The key of the event in which it was sent.
     pub fn key(&self) -> Key
         ensures { key_shown result ≡ self.now.key }
     {
@@ -45,7 +45,7 @@ impl Flying {
         }
     }
 
-    /// The line of its host's book with which it went out.
+    /// The line of its host's book with which it was sent.
     pub fn line(&self) -> u64
         ensures { result ≡ self.now.line }
     {
@@ -59,7 +59,7 @@ impl Flying {
         &self.emission
     }
 
-    /// An equal one, for a network that delivers a segment twice. The error is that memory ran out.
+    /// An equal segment, for a network that delivers it twice. The error is that memory ran out.
     pub fn copy(&self) -> Result<Flying, OutOfMemory>
         ensures { IfOk result (λ f. f ≡ self.now) }
     {

@@ -1,12 +1,12 @@
-//! The greatest congestion values that steps allow, in bytes (RFC 5681; RFC 6928). A core takes them where the machine
-//! permits.
+//! The greatest congestion values that steps allow, in bytes (RFC 5681; RFC 6928). A core uses them if the model
+//! permits it.
 
 use case_forms::{Header, RtoChoice};
 use endpoint::{greatest_at_recovery, greatest_taking, greatest_values};
 use endpoint_state::Endpoint;
 use spec_tcp::{Arrived, Emission};
 
-/// The greatest congestion window once an endpoint took a segment; 0 where the endpoint is further than positions go.
+/// The greatest congestion window once an endpoint took a segment, or 0 if the endpoint is past the greatest position.
 pub(crate) fn cwnd_at_arrival(
     header: &Header,
     endpoint: &Endpoint,

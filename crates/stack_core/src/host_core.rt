@@ -1,4 +1,4 @@
-//! The core of one host: what it recorded, and what each event asks of it.
+//! The core of one host: what it recorded, and what every event uses.
 
 ghost use Rattle.std.specs.Prelude.{◌≡◌, ◌≤◌, ◌<◌, ◌+◌, ◌*◌, suc, OnOk, OnErr};
 ghost use Rattle.case_forms.specs.Witnesses.{IsWithinLimits};
@@ -28,14 +28,15 @@ use std::marker::Model;
 /// How a core chooses.
 #[derive(Clone, Copy)]
 pub struct CoreConfig {
-    /// The MSS that its SYNs tell, in bytes, 1 to 65495.
+    /// The MSS that its SYNs carry, in bytes, 1 to 65495.
     pub mss: u16,
-    /// How many bytes it holds for the peer's acknowledgment, and how many for its own threads' reads, 1 to 65535.
+    /// How many bytes it keeps until the peer acknowledges them, and how many until its own threads read them, 1 to
+    /// 65535.
     pub ring: u16,
     /// The initial send sequence number of its first endpoint. Each later one's is 65,536 more.
     pub first_iss: u32,
-    /// By how many bits its endpoints shift the windows that they offer, where the header's version scales windows;
-    /// above 14 as 14 (RFC 7323, 2.3). None: they tell no shift.
+    /// By how many bits its endpoints shift the windows that they offer, if the header's version scales windows; more
+    /// than 14 counts as 14 (RFC 7323, 2.3). None: their SYNs carry no shift.
     pub shift: Option<u8>,
 }
 
@@ -50,7 +51,7 @@ pub struct HostCore {
     events: u64,
     // The initial send sequence number of the next endpoint.
     pub(crate) iss: u32,
-    // The resets that answer segments and wait to go out, by their numbers; there may be others among them.
+    // The resets that answer segments and wait to be sent, by their numbers; there may be others among them.
     pub(crate) resets: VecDeque<u32>,
     pub(crate) send_states: SendStates,
     // Endpoints at which something may be made that takes new positions.
@@ -103,16 +104,16 @@ impl HostCore {
         &self.recording
     }
 
-    /// What it recorded is a run of its host: a call that does nothing, whose contract says it.
+    /// Does nothing; its contract says that what the core recorded is a run of its host.
     pub fn is_recording(&self)
         ensures { IsRecorded self.now }
     {
         self.recording.is_recording();
     }
 
-    /// A text can tell what it recorded: each segment is made at a position that a text names, with a payload that fits
-    /// into one, and with a shift only beside an initial number, if the version scales windows; and nothing stands
-    /// after the last tick. A call that does nothing, whose contract says it.
+    /// Does nothing; its contract says that a text can state what the core recorded. Each segment is made at a position
+    /// that a text can name, with a payload that fits into one, and with a shift only beside an initial number and if
+    /// the version scales windows. Nothing is later than the last tick.
     pub fn can_be_told(&self)
         ensures told { AllTold self.now.recorded.header.version self.now.recorded.entries }
         ensures below { EachEntry (tcp self.now.recorded.header)
@@ -121,7 +122,7 @@ impl HostCore {
         let _ = &self.line;
     }
 
-    /// Each event has four steps at most: a call that does nothing, whose contract says it.
+    /// Does nothing; its contract says that each event has at most four steps.
     pub fn few_steps(&self)
         ensures { steps_in self.now.recorded.entries ≤ 4 * self.now.events }
     {
@@ -156,7 +157,7 @@ impl HostCore {
         self.line
     }
 
-    // What is known of every core: a call that does nothing, whose contract says it.
+    // Does nothing; its contract states the invariant of every core.
     pub(crate) fn bounds(&self)
         ensures steps { steps_in self.now.recorded.entries ≤ 4 * self.now.events }
         ensures own { IsOwn self.now.recorded.me (world self.now) }
@@ -176,9 +177,8 @@ impl HostCore {
         self.events += 1;
     }
 
-    // The same of an event that may leave a new endpoint, for whose duties there is room then. The error is that memory
-    // ran out;
-    // the event began all the same.
+    // The same for an event that may create an endpoint; there is then room to remember its duties. The error is that
+    // memory ran out; the event began all the same.
     pub(crate) fn open_with_room(&mut self, tick: Tick) -> Result<(), OutOfMemory>
         requires tick { IsAfter self.old.last tick }
         requires events { self.old.events < 10000000 }
@@ -198,8 +198,8 @@ impl HostCore {
         self.recording.count()
     }
 
-    // A step joins, at the moment of the last tick; these endpoints it may change, beside one that it creates. The
-    // error is that memory ran out, and then nothing is changed.
+    // Adds a step at the moment of the last tick. It may change these endpoints, besides one that it creates. The error
+    // is that memory ran out; nothing is changed then.
     pub(crate) fn add(&mut self, label: Label, affected: Affected) -> Result<(), OutOfMemory>
         requires room { steps_in self.old.recorded.entries < 4 * self.old.events }
         requires events { self.old.events ≤ 10000000 }
@@ -225,8 +225,7 @@ impl HostCore {
         Ok(())
     }
 
-    // A segment of the other host is brought, at the last tick. The error is that memory ran out, and then nothing is
-    // changed.
+    // Brings a segment of the other host, at the last tick. The error is that memory ran out; nothing is changed then.
     pub(crate) fn bring(&mut self, flying: Flying) -> Result<(), OutOfMemory>
         ensures ok { OnOk result (self.new ≡ with_item self.old (Bring flying)) }
         ensures err { OnErr result (self.new ≡ self.old) }

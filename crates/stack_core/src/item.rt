@@ -1,13 +1,13 @@
-//! What a recording has.
+//! The items of a recording.
 
 use crate::flying::Flying;
 use spec_step::Label;
 
-/// A step of the host, or a segment of the other host that was brought.
+/// A step of the host, or a segment of the other host that was put on its wire here.
 #[derive(Drop)]
 pub enum Item {
     /// A step of the host.
     Does(Label),
-    /// A segment of the other host that was brought, so that it may come in.
+    /// A segment of the other host, put on its wire here so that it may arrive.
     Brings(Flying),
 }

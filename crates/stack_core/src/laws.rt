@@ -1,4 +1,4 @@
-//! What holds of segments that fly, for callers that prove more: the contract of a call that does nothing.
+//! Facts on segments in transit, for callers that prove more: contracts of calls that do nothing.
 
 ghost use Rattle.std.specs.Prelude.{◌≡◌, ◌++◌, List};
 ghost use Rattle.case_forms.specs.Traces.{first_event_line};
@@ -16,8 +16,8 @@ ghost use Rattle.stack_core.specs.Flown.{HasFlown, IsAbove};
 ghost use Rattle.stack_core.specs.Keys.{key_of};
 ghost use Rattle.stack_core.specs.Recordings.{Recorded, world_left};
 
-/// A segment that flew from a host stands on its wire from then on, however the host's recording grows. Where it is
-/// brought at a tick above the event in which it flew, what is brought names it.
+/// A segment that a host sent is on its wire from then on, however the host's recording grows. If it is brought at a
+/// tick above the event that sent it, what is brought names it.
 pub fn what_flew_is_named()
     ensures stays { (h : Header) (me : Host) (old more : List TcpEntry) (f : Flying tcp_shape)
         → HasFlown (record { header = h; me = me; entries = old }) f → IsKept h me (first_event_line h) (old ++ more)
@@ -26,8 +26,8 @@ pub fn what_flew_is_named()
         → NamesOne (tcp r.header) r.me (world_left r) r.entries (key_of me tick) (Bring f) }
 {}
 
-/// Two cores with one header, after any events of both, some of which memory stopped, where what flew from one arrives
-/// at the other any number of times, in any order, or never: what they recorded are two books beside each other.
+/// Two cores have one header, after any events of both, some of which may have run out of memory. Segments that one
+/// sent arrive at the other any number of times, in any order, or never. Then their recordings are two matching books.
 pub fn core_worlds_are_books()
     ensures books { (h : Header) (events : List Event) (cores : Both Side) → IsCoreWorld h events cores
         → Books (tcp h) (first_event_line h) (entries_of Zero cores) (entries_of One cores) }

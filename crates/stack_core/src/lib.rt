@@ -1,25 +1,25 @@
-//! What one host records of its own TCP: a core that chooses among the steps that the machine permits, and writes each
-//! down.
+//! What one host records of its own TCP: a core that chooses among the steps that the model permits, and records each.
 //!
-//! A core has a world of its host alone, which it changes by steps and by segments of the other host that are brought.
-//! Contracts see its entries, its ring, its last tick and the count of its events: the world is the one to which the
-//! entries lead. Each event says exactly what it adds (`specs/*Events`), and what it leaves if memory ran out. Whatever
-//! is added may join what is there, so the entries are a run of the host after every event (`IsRecorded`). What two
-//! cores recorded of each other, after any events (`specs/CoreWorlds`), are two books beside each other; merged they
-//! are a run of both and a placement of its lines (crate `spec_merge`). What a core chooses among the permitted steps
-//! is no contract's matter, but for what the pages on recording hosts say of it.
+//! A core has a world of its own host only. Steps change it, and so do segments of the other host that are brought,
+//! that is, put on that host's wire here so that they may arrive. Contracts see the core's entries, its ring, its last
+//! tick and the count of its events; the world is the one to which the entries lead. The contract of each event states
+//! exactly what it adds (`specs/*Events`), and what it leaves if memory ran out. Only permitted entries are added, so
+//! the entries are a run of the host after every event (`IsRecorded`). The recordings of two cores, after any events
+//! (`specs/CoreWorlds`), are two matching books; merged, they are a run of both hosts and a placement of its lines
+//! (crate `spec_merge`). Contracts don't say which of the permitted steps a core chooses, except where the pages on
+//! recording hosts do.
 //!
-//! - `tick`, `flying`, `item`, `entry`: when events are, segments on their way, and what a recording has
+//! - `tick`, `flying`, `item`, `entry`: when events are, segments in transit, and the entries of a recording
 //! - `recording`: the entries of one host, with the world that they leave
-//! - `host_core`: the core, and what every event asks of it
+//! - `host_core`: the core, and what every event uses
 //! - `begin`, `attempt`, `answers`, `answered`: calls, and the answer that a call has now, never `again`
-//! - `pump`, `makings`, `outgoing`: a segment is made and goes out; `resets`: those that answer a segment, and wait
-//! - `deadline_queue`, `affected`: which endpoints are to be looked at, and which a step may change
+//! - `pump`, `makings`, `outgoing`: a segment is made and sent; `resets`: resets that answer a segment, and wait
+//! - `deadline_queue`, `affected`: which endpoints are to be visited, and which a step may change
 //! - `send_states`, `plans`, `greatest`: what a core remembers of its endpoints, what it would make at one, and its
 //!   choice of windows
-//! - `arrive`: a segment comes in, and is taken, answered or dropped
+//! - `arrive`: a segment arrives, and is taken, answered or dropped
 //! - `timers`: a timer expires
-//! - `laws`: what flew from a host stays on its wire, and what is brought names it; two cores record two books
+//! - `laws`: what a host sent stays on its wire, and what is brought names it; two cores record two matching books
 #![tactic(auto)]
 
 mod affected;

@@ -26,8 +26,8 @@ use case_forms::{GREATEST_POSITION, Host, SegmentPlan, Version};
 use endpoint::admits_making;
 use endpoint_state::{Endpoint, HostTcp, World};
 
-/// A segment that may be made: at an endpoint whose duties are listed, or else at any where one may be made that takes
-/// new positions. None: no segment without RST may be made that does.
+/// A segment that may be made: at an endpoint whose duties are listed, or else at any endpoint where one may be made
+/// that takes new positions. None: no segment without RST that takes new positions may be made.
 pub(crate) fn find_plan(
     world: &World,
     me: Host,
@@ -48,9 +48,8 @@ pub(crate) fn find_plan(
     }
 }
 
-// A segment that may be made, at an endpoint that is to be looked at; the others make nothing that takes new positions.
-// None:
-// no segment without RST may be made that takes new positions.
+// A segment that may be made, at an endpoint that is to be visited; the others make nothing that takes new positions.
+// None: no segment without RST that takes new positions may be made.
 fn find_ready(
     world: &World,
     me: Host,
@@ -72,7 +71,7 @@ fn find_ready(
     find_making(world, me, send_states, opening, ring)
 }
 
-// The same, where each endpoint was looked at or is to be. Those that make nothing are left.
+// The same, if each endpoint was visited or is to be. Those that make nothing are passed over.
 fn find_among(
     world: &World,
     me: Host,
@@ -100,9 +99,8 @@ fn find_among(
     None
 }
 
-// A segment that may be made, at the endpoint at this place if it may be there: none may where a newer endpoint has its
-// ports.
-// None: no segment without RST may be made that takes new positions.
+// A segment that may be made at the endpoint at this place; none may if a newer endpoint has its ports. None: no
+// segment without RST that takes new positions may be made.
 #[tactic(auto, using(crate::proofs::MakingLemmas::short_host))]
 fn make_at(
     world: &World,
@@ -167,7 +165,7 @@ fn is_quiet(endpoint: &Endpoint, opening: SynOptions) -> bool
     true
 }
 
-// Whether it may make its SYN where nothing was made before.
+// Whether it may make its SYN, if nothing was made before.
 fn may_begin(endpoint: &Endpoint, opening: SynOptions) -> bool
     requires { endpoint.now.stream.snd_una < 2 ^ 63 }
     ensures { result ≡ false → snd_max endpoint.now ≤ 0
@@ -187,7 +185,7 @@ fn may_make(endpoint: &Endpoint, plan: SegmentPlan) -> bool
     admits_making(endpoint, &plan).is_ok()
 }
 
-// What a core would make at an endpoint that is listed, and may make. None: at none of these.
+// What a core would make, and may, at an endpoint that is listed. None: nothing at any of these.
 fn find_listed(
     world: &World,
     me: Host,
@@ -208,7 +206,7 @@ fn find_listed(
     None
 }
 
-// What a core would make at the endpoint at a place, and may make. None: nothing, or a newer endpoint has its ports.
+// What a core would make, and may, at the endpoint at a place. None: nothing, or a newer endpoint has its ports.
 fn wish_at(
     world: &World,
     me: Host,
@@ -230,7 +228,7 @@ fn wish_at(
     try_candidates(world, me, &candidate_segments(endpoint, send_state, offer))
 }
 
-// Whether a text can tell that this is made: its position, its payload, and its shift.
+// Whether a text can state that this is made: its position, its payload, and its shift.
 fn can_be_told(version: Version, plan: &SegmentPlan) -> bool
     ensures small { result ≡ true → plan.now.pos ≤ greatest_position }
     ensures short { result ≡ true → plan.now.len ≤ greatest_payload }
@@ -264,8 +262,8 @@ fn try_candidates(
     None
 }
 
-// A segment that may be made, at any endpoint: this goes over all of them, if memory is refused for a list of those
-// that are to be looked at. None: no segment without RST may be made that takes new positions.
+// A segment that may be made, at any endpoint. This goes over all of them, for the case that memory ran out for the
+// list of those to visit. None: no segment without RST that takes new positions may be made.
 #[tactic(auto, using(crate::proofs::MakingLemmas::short_host))]
 fn find_making(
     world: &World,
@@ -318,7 +316,7 @@ fn try_endpoint(
     if let Some(plan) = try_syn(world, me, endpoint, offer) {
         return Some(plan);
     }
-    // Above the greatest position stands no byte that was accepted, nor an end after one.
+    // Above the greatest position there is no accepted byte, and no end after one.
     if GREATEST_POSITION < endpoint.snd_max() {
         return None;
     }
@@ -339,7 +337,8 @@ fn try_syn(
     requires steps { world.now.steps < most_steps }
     requires opening { MayOpen world.now.header.version offer.opening }
     ensures some { IfSome result (λ m. IsMakeable world.now.header me world.now.world m) }
-    ensures none { IfNone result (IsSynRefused world.now.header me world.now.world endpoint.now offer.opening offer.at_syn) }
+    ensures none { IfNone result
+        (IsSynRefused world.now.header me world.now.world endpoint.now offer.opening offer.at_syn) }
 {
     if 0 < endpoint.snd_max() {
         return None;

@@ -1,4 +1,4 @@
-//! A made segment on its way out.
+//! How a made segment is sent.
 
 ghost use Rattle.std.specs.Prelude.{◌≡◌, ◌≤◌, IfOk, true, length};
 ghost use Rattle.case_forms.specs.declared.trace.Header.{Header};
@@ -12,15 +12,15 @@ use segment::{Bytes, EncFault, SegFault, Segment, decode, encode};
 use spec_tcp::Emission;
 use std::alloc::{AllocError, Global};
 
-/// How a made segment goes out, and what flies then.
+/// How a made segment is sent, and the segment then in transit.
 #[derive(Drop)]
 pub(crate) struct Outgoing {
     pub(crate) wire: Wire,
     pub(crate) flying: Flying,
 }
 
-/// A made segment as it goes out, with this MSS option if there is one, and with its shift if it is a SYN that gives
-/// one. The error is that memory ran out.
+/// A made segment as it is sent, with this MSS option if there is one, and with its shift if it is a SYN that has one.
+/// The error is that memory ran out.
 pub(crate) fn wire_of(alloc: Global, m: &Emission, mss: Option<u16>) -> Result<Wire, OutOfMemory>
     requires short { length m.now.payload ≤ greatest_payload }
     ensures shows { IfOk result (λ w. (h : Header) → matches_sent h w m.now ≡ true) }

@@ -10,7 +10,7 @@ use endpoint_state::Endpoint;
 use seqno::Word;
 use window_rules::offered_edge;
 
-// The greatest payload that a core lets out, in bytes: with a header and both options it fits into a segment.
+// The greatest payload that a core sends, in bytes: with a header and both options it fits into a segment.
 pub(crate) const GREATEST_PAYLOAD: u16 = 65_487;
 
 // The greatest shift of a window (RFC 7323, 2.3).
@@ -21,11 +21,11 @@ pub(crate) const GREATEST_SHIFT: u8 = 14;
 pub(crate) struct SynOptions {
     /// Its initial send sequence number (RFC 9293, 3.4.1).
     pub(crate) iss: Word,
-    /// By how many bits it shifts the windows that it offers, if it tells that (RFC 7323, 2.2).
+    /// By how many bits it shifts the windows that it offers, if its SYN carries that (RFC 7323, 2.2).
     pub(crate) shift: Option<u8>,
 }
 
-/// What an endpoint offers with its segments: the window field of a SYN, and that of others.
+/// What an endpoint offers with its segments: the window field of a SYN, and that of other segments.
 #[derive(Clone, Copy)]
 pub(crate) struct AdvertisedWindow {
     pub(crate) opening: SynOptions,
@@ -33,8 +33,9 @@ pub(crate) struct AdvertisedWindow {
     pub(crate) window: u16,
 }
 
-/// What an endpoint offers, where its host has a ring of so many bytes for what it takes. No shift is offered if this
-/// version scales no windows, nor once the peer's SYN carried none (RFC 7323, 2.2); above 14 it is 14 (RFC 7323, 2.3).
+/// What an endpoint offers, if its host has a ring of so many bytes for what it takes. No shift is offered if this
+/// version doesn't scale windows, or once the peer's SYN carried none (RFC 7323, 2.2). A shift of more than 14 counts
+/// as 14 (RFC 7323, 2.3).
 pub(crate) fn offer_of(
     version: Version,
     endpoint: &Endpoint,
@@ -63,8 +64,8 @@ pub(crate) fn offer_of(
     }
 }
 
-/// What a core would make at an endpoint, in this order, if it may: a reset that is due; what seems lost; its SYN; new
-/// bytes, as many as fit, with the FIN after the last; these without it; an acknowledgment that it owes.
+/// What a core would make at an endpoint, the first of these that it may: a reset that is due; what seems lost; its
+/// SYN; as many new bytes as fit, with the FIN after the last; these without the FIN; an acknowledgment that it owes.
 pub(crate) fn candidate_segments(
     endpoint: &Endpoint,
     send_state: SendState,
@@ -90,13 +91,13 @@ pub(crate) fn candidate_segments(
     ]
 }
 
-// New bytes: as many as are there and fit into both windows and a segment (RFC 9293, 3.8.6; RFC 5681, 3.1).
+// New bytes: as many as exist and fit into both windows and a segment (RFC 9293, 3.8.6; RFC 5681, 3.1).
 fn new_bytes(endpoint: &Endpoint, offer: AdvertisedWindow) -> SegmentPlan {
     bytes_from(endpoint, endpoint.snd_max(), edge_of(endpoint), offer)
 }
 
-// What seems lost, from the first of it on: the SYN, or bytes with the FIN after the last. A segment goes out again
-// also where the congestion window is less than one (RFC 5681, 3.1).
+// What seems lost, from the first of it on: the SYN, or bytes with the FIN after the last. A segment is retransmitted
+// even if the congestion window is less than one segment (RFC 5681, 3.1).
 fn retransmitted(
     endpoint: &Endpoint,
     again: Again,
@@ -121,14 +122,14 @@ fn retransmitted(
     (bytes.len != 0).then_some(bytes)
 }
 
-// The position at which bytes end at most by both windows.
+// The position up to which both windows let bytes go.
 fn edge_of(endpoint: &Endpoint) -> u64 {
     let snd_una = endpoint.stream.snd_una.min(GREATEST_POSITION);
     let offered = offered_edge(snd_una, endpoint.window.snd_wnd, endpoint.probe_due);
     offered.min(endpoint.control.send_edge(snd_una))
 }
 
-// Bytes from a position on, up to that one at most.
+// Bytes from a position on, at most up to that one.
 fn bytes_from(endpoint: &Endpoint, from: u64, edge: u64, offer: AdvertisedWindow) -> SegmentPlan {
     let end = edge.min(endpoint.stream.accepted.end());
     let most = u64::from(endpoint.control.values.smss).min(u64::from(GREATEST_PAYLOAD));
@@ -136,7 +137,7 @@ fn bytes_from(endpoint: &Endpoint, from: u64, edge: u64, offer: AdvertisedWindow
     plain(endpoint, from, len, offer.window)
 }
 
-// The same with the FIN, if it stands after the last byte.
+// The same with the FIN, if it follows the last byte.
 fn with_fin(endpoint: &Endpoint, plan: SegmentPlan) -> Option<SegmentPlan> {
     let last = plan.pos.saturating_add(u64::from(plan.len));
     if !endpoint.stream.ended || last != endpoint.stream.accepted.end() {

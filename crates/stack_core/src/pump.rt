@@ -1,4 +1,4 @@
-//! A segment is made, and goes out.
+//! A segment is made and sent.
 
 ghost use Rattle.std.specs.Prelude.{◌≡◌, ◌<◌, ◌≤◌, ◌*◌, suc, IfNone, IfOk, OnOk, OnErr};
 ghost use Rattle.std.specs.Option.{IfSome};
@@ -32,10 +32,10 @@ use spec_step::Label;
 use spec_tcp_laws::forgetting_is_free;
 
 impl HostCore {
-    /// A segment goes out, and flies: its line. First a reset that waits and answers a segment; else a segment is made:
-    /// a reset that is due, what seems lost, new bytes, or an acknowledgment that is owed. None, and nothing is
-    /// changed: no reset waits, and no segment without RST may be made that takes new positions. The error is that
-    /// memory ran out; then the tick has passed, and the segment may be made and not gone out.
+    /// Sends a segment, which is a line. A waiting reset that answers a segment goes first; else a segment is made: a
+    /// reset that is due, what seems lost, new bytes, or an acknowledgment that is owed. None: nothing is changed,
+    /// because no reset waits and no segment without RST that takes new positions may be made. The error is that memory
+    /// ran out; then the tick has passed, and the segment may have been made and not sent.
     pub fn pump(&mut self, tick: Tick) -> Result<Option<Flying>, OutOfMemory>
         requires tick { IsAfter self.old.last tick }
         requires events { self.old.events < 10000000 }
@@ -51,7 +51,7 @@ impl HostCore {
         pumped
     }
 
-    // The same, but that what is recorded then is a run.
+    // The same, without the fact that what is then recorded is a run.
     fn record_pump(&mut self, tick: Tick) -> Result<Option<Flying>, OutOfMemory>
         requires tick { IsAfter self.old.last tick }
         requires events { self.old.events < 10000000 }
@@ -106,7 +106,7 @@ impl HostCore {
         )
     }
 
-    // What the next endpoint is given with its first SYN, where its version tells a shift.
+    // What the next endpoint is given with its first SYN, if its version carries a shift.
     fn opening(&self) -> SynOptions {
         SynOptions {
             iss: Word(self.iss),
@@ -134,7 +134,7 @@ impl HostCore {
         Ok(())
     }
 
-    // The initial send sequence number that a segment gave is spent: the next is 65,536 more.
+    // The initial send sequence number that a segment gave is used up: the next is 65,536 more.
     fn spend_iss(&mut self, plan: SegmentPlan)
         ensures { self.new ≡ self.old }
     {
@@ -143,7 +143,7 @@ impl HostCore {
         }
     }
 
-    // What was made is remembered.
+    // Remembers what was made.
     fn update_after_making(&mut self, plan: SegmentPlan)
         ensures { self.new ≡ self.old }
     {
@@ -153,7 +153,7 @@ impl HostCore {
         }
     }
 
-    // A segment that was made goes out, in an event that began.
+    // A segment that was made is sent, in an event that began.
     fn send(&mut self, number: u32) -> Result<Flying, OutOfMemory>
         requires room { steps_in self.old.recorded.entries < 4 * self.old.events }
         requires events { self.old.events ≤ 10000000 }
@@ -172,7 +172,7 @@ impl HostCore {
         Ok(flying)
     }
 
-    // How it goes out, and what flies then.
+    // How it is sent, and the segment then in transit.
     fn outgoing(&self, number: u32) -> Result<Outgoing, OutOfMemory>
         requires waits { WaitsToGo self.now number }
         ensures { IfOk result (λ x. MayGo self.now number x.wire x.flying) }

@@ -34,7 +34,8 @@ use std::alloc::{AllocError, Global};
 use std::marker::Model;
 use verdict::Rule;
 
-/// What one host recorded. Contracts see its header, its host and its entries: its world is that to which they lead.
+/// What one host recorded. Contracts see its header, its host and its entries; its world is the one to which these
+/// lead.
 #[derive(Drop)]
 pub struct Recording {
     pub(crate) me: Host,
@@ -65,14 +66,14 @@ impl Recording {
         }
     }
 
-    /// What is recorded is a run of the host: a call that does nothing, whose contract says it.
+    /// Does nothing; its contract says that what is recorded is a run of the host.
     pub fn is_recording(&self)
         ensures { IsKept self.now.header self.now.me (first_event_line self.now.header) self.now.entries }
     {
         let _ = &self.me;
     }
 
-    /// Where it allocates.
+    /// Its allocator.
     pub(crate) fn allocator(&self) -> Global {
         *self.entries.allocator()
     }
@@ -98,7 +99,7 @@ impl Recording {
         self.entries.as_slice()
     }
 
-    /// The world, of which all is discarded that may be.
+    /// The world, with whatever may be discarded discarded.
     pub(crate) fn world(&self) -> &World
         ensures header { result.now.header ≡ self.now.header }
         ensures world { result.now.world ≡ forget (world_left self.now) }
@@ -107,7 +108,7 @@ impl Recording {
         &self.world
     }
 
-    /// Whether the machine admits a step at a moment in microseconds. An error is the least rule that the step breaks.
+    /// Whether the model permits a step at a moment in microseconds. The error is the least rule that the step breaks.
     pub fn admits(&self, moment: u64, label: &Label) -> Result<(), Rule>
         requires steps { steps_in self.now.entries < most_steps }
         requires label { IsWithinLimits label.now }
@@ -151,28 +152,29 @@ impl Recording {
         self.world.made(self.me, number)
     }
 
-    /// What the host has, as far as it is kept.
+    /// The host's state, as far as it is kept.
     pub fn body(&self) -> &HostTcp
         ensures { result.now ≡ forget_body (pick (world_left self.now).hosts self.now.me).body }
     {
         self.world.body(self.me)
     }
 
-    /// The segment that the host let out with this line.
+    /// The segment that the host sent with this line.
     pub fn sent(&self, line: u64) -> Option<&Emission>
         ensures { option_copied result ≡ lookup (nat_eq line) (pick (world_left self.now).hosts self.now.me).wire }
     {
         self.world.sent(self.me, line)
     }
 
-    // A host has at most as many endpoints as there were steps: a call that does nothing, whose contract says it.
+    // Does nothing; its contract says that a host has at most as many endpoints as there were steps.
     pub(crate) fn few_endpoints(&self)
-        ensures { length (forget_body (pick (world_left self.now).hosts self.now.me).body).endpoints ≤ steps_in self.now.entries }
+        ensures { length (forget_body (pick (world_left self.now).hosts self.now.me).body).endpoints
+            ≤ steps_in self.now.entries }
     {
         self.world.is_kept();
     }
 
-    /// A step joins at a tick. The error is that memory ran out, and then nothing is changed.
+    /// Adds a step at a tick. The error is that memory ran out; nothing is changed then.
     pub fn step(&mut self, tick: Tick, label: Label) -> Result<(), OutOfMemory>
         requires steps { steps_in self.old.entries < most_steps }
         requires label { IsWithinLimits label }
@@ -186,7 +188,7 @@ impl Recording {
         match apply(&mut self.world, tick.moment, &label) {
             Ok(()) => {}
             Err(StepFault::OutOfMemory) => return Err(AllocError),
-            // What may join is permitted.
+            // Whatever may be added is permitted.
             Err(StepFault::Broken(_)) => unreachable!(),
         }
         self.entries.push_reserved(Entry {
@@ -197,8 +199,7 @@ impl Recording {
         Ok(())
     }
 
-    /// A segment of the other host is brought, at a tick. The error is that memory ran out, and then nothing is
-    /// changed.
+    /// Brings a segment of the other host, at a tick. The error is that memory ran out; nothing is changed then.
     pub fn bring(&mut self, tick: Tick, flying: Flying) -> Result<(), OutOfMemory>
         requires joins { Joins self.old (entry_at self.old.me tick (Bring flying)) }
         ensures ok { OnOk result (self.new ≡ with_entry self.old (entry_at self.old.me tick (Bring flying))) }

@@ -1,4 +1,4 @@
-//! Resets that answer segments of the other host, and wait to go out.
+//! Resets that answer segments of the other host, and wait to be sent.
 
 ghost use Rattle.std.specs.Prelude.{◌≡◌, ◌<◌, ◌+◌, ◌^◌, true, false, suc, slice_get, OnOk, OnErr, IfNone};
 ghost use Rattle.std.specs.Option.{IfSome};
@@ -11,8 +11,8 @@ use case_forms::OutOfMemory;
 use spec_step::Label;
 use std::collections::VecDeque;
 
-/// A step is about to make a segment under the number after this count: where it is a reset that answers, it is
-/// awaited. The error is that memory ran out, and then nothing is changed.
+/// A step is about to make a segment under the number after this count; if it is a reset that answers a segment, it
+/// joins the queue. The error is that memory ran out; nothing is changed then.
 pub(crate) fn await_reset(
     resets: &mut VecDeque<u32>,
     label: &Label,
@@ -28,7 +28,7 @@ pub(crate) fn await_reset(
     Ok(())
 }
 
-/// The first of the awaited resets that waits still; those before it leave the queue. None: no reset waits.
+/// The first reset in the queue that still waits; those before it leave the queue. None: no reset waits.
 pub(crate) fn next_reset(resets: &mut VecDeque<u32>, recording: &Recording) -> Option<u32>
     requires awaited { AreAwaited (made_of recording.now) resets.old.items }
     ensures awaited { AreAwaited (made_of recording.now) resets.new.items }
@@ -51,7 +51,7 @@ fn first_of(resets: &VecDeque<u32>) -> Option<u32>
     resets.front().copied()
 }
 
-// Whether a reset that answers was made under this number, and did not go out.
+// Whether a reset that answers was made under this number, and was not sent.
 fn is_waiting(recording: &Recording, number: u32) -> bool
     ensures yes { result ≡ true → (e : Emission) × IsWaitingReset (made_of recording.now) number e }
     ensures no { result ≡ false → (e : Emission) → IsWaitingReset (made_of recording.now) number e → ⊥ }

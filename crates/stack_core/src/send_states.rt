@@ -1,12 +1,12 @@
-//! What a core remembers of each endpoint so that it chooses well. Whether a step is permitted is decided by the
-//! machine each time, and no contract rests on anything here. Positions and windows count bytes.
+//! What a core remembers of each endpoint so that it chooses well. The model decides each time whether a step is
+//! permitted; no contract depends on anything here. Positions and windows count bytes.
 
 use case_forms::{Answer, Expired, OutOfMemory, SegmentPlan};
 use endpoint_state::Endpoint;
 use std::alloc::Global;
 use std::collections::VecDeque;
 
-/// Positions that are made again: from `next` on, up to `end`.
+/// Positions to retransmit: from `next` on, up to `end`.
 #[derive(Clone, Copy)]
 pub(crate) struct Again {
     pub(crate) next: u64,
@@ -22,7 +22,7 @@ pub(crate) struct SendState {
     pub(crate) again: Option<Again>,
     /// How many bytes its threads read.
     pub(crate) read: u64,
-    /// It stands among those at which something may be made.
+    /// It is listed among those at which something may be made.
     listed: bool,
 }
 
@@ -43,7 +43,7 @@ pub(crate) struct SendStates {
 }
 
 impl SendStates {
-    /// Nothing is remembered of any endpoint yet.
+    /// Nothing is remembered yet.
     pub(crate) fn new(alloc: Global) -> SendStates {
         SendStates {
             all: Vec::new(alloc),
@@ -51,7 +51,7 @@ impl SendStates {
         }
     }
 
-    /// There is room for one endpoint more, and for each in the list. The error is that memory ran out.
+    /// Makes room for one more endpoint, and for each in the list. The error is that memory ran out.
     pub(crate) fn make_room(&mut self) -> Result<(), OutOfMemory> {
         self.all.reserve(1)?;
         let missing = self.all.len().saturating_sub(self.listed.len());
@@ -64,7 +64,7 @@ impl SendStates {
         self.all.get(place as usize).copied().unwrap_or(NOTHING)
     }
 
-    /// This is remembered of the endpoint at a place, and something may be made there. Without room for it, it is
+    /// Remembers this of the endpoint at a place, where something may be made. If there is no room for it, it is
     /// forgotten.
     pub(crate) fn set(&mut self, place: u32, send_state: SendState) {
         let place_index = place as usize;
@@ -100,7 +100,7 @@ impl SendStates {
     }
 }
 
-/// What is remembered of an endpoint before a segment comes in.
+/// What is remembered of an endpoint before a segment arrives.
 #[derive(Clone, Copy)]
 pub(crate) struct Seen {
     snd_una: u64,
@@ -119,7 +119,7 @@ impl Seen {
     }
 }
 
-/// Before a segment comes in.
+/// What is noted before a segment arrives.
 #[derive(Clone, Copy)]
 pub(crate) struct Before {
     /// The place of the endpoint of its ports, and what is remembered of it.
@@ -134,9 +134,9 @@ pub(crate) struct Before {
 }
 
 impl SendState {
-    /// Once a segment came in for the endpoint at this place. What takes positions is acknowledged, whether it was
-    /// taken or not (RFC 9293, 3.10.7.4). The first segment that is not acknowledged is made again in fast recovery
-    /// (RFC 5681, 3.2); all of it, where a window of 0 opened; and a SYN, where the peer's SYN came once more.
+    /// Called once a segment for the endpoint at this place arrived. What takes positions is acknowledged, whether it
+    /// was taken or not (RFC 9293, 3.10.7.4). Fast recovery retransmits the first outstanding segment (RFC 5681, 3.2).
+    /// All outstanding data is retransmitted if a window of 0 opened, and a SYN if the peer's SYN arrived once more.
     pub(crate) fn after_arrival(
         mut self,
         place: u32,
@@ -164,7 +164,7 @@ impl SendState {
         self
     }
 
-    /// Once a segment was made.
+    /// Called once a segment was made.
     pub(crate) fn after_making(mut self, plan: &SegmentPlan) -> SendState {
         if plan.flags.ack {
             self.acknowledges = false;
@@ -185,7 +185,7 @@ impl SendState {
         self
     }
 
-    /// Once a timer expired: all that is not acknowledged is made again (RFC 6298, 5.4).
+    /// Called once a timer expired: all outstanding data is retransmitted (RFC 6298, 5.4).
     pub(crate) fn after_expiry(mut self, now: &Endpoint, expired: Expired) -> SendState {
         match expired {
             Expired::Rto(_) | Expired::Persist => self.again = Some(all_outstanding(now)),
@@ -194,7 +194,8 @@ impl SendState {
         self
     }
 
-    /// Once a call had its effect: a read may open the window so far that the peer is notified (RFC 9293, 3.8.6.2.2).
+    /// Called once a call had its effect: a read may open the window so far that the peer is notified (RFC 9293,
+    /// 3.8.6.2.2).
     pub(crate) fn after_call(mut self, now: &Endpoint, answer: &Answer, ring: u16) -> SendState {
         if let Answer::Bytes(bytes) = answer {
             self.read = self.read.saturating_add(bytes.len() as u64);
@@ -209,14 +210,14 @@ impl SendState {
         self
     }
 
-    /// How many bytes there is room for: the ring less what was taken in order and not read.
+    /// How many bytes there is room for: the ring minus what was taken in order and not read.
     pub(crate) fn room(&self, now: &Endpoint, ring: u16) -> u64 {
         let waiting = now.rcv_nxt().saturating_sub(1).saturating_sub(self.read);
         u64::from(ring).saturating_sub(waiting)
     }
 }
 
-// All that was made and is not acknowledged.
+// All that is outstanding.
 fn all_outstanding(now: &Endpoint) -> Again {
     Again {
         next: now.stream.snd_una,

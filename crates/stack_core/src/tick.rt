@@ -1,4 +1,4 @@
-//! When events are, and the keys under which their entries stand.
+//! When events are, and the keys of their entries.
 
 use case_forms::Host;
 
@@ -7,11 +7,11 @@ use case_forms::Host;
 pub struct Tick {
     /// In microseconds.
     pub moment: u64,
-    /// Above that of the event before.
+    /// More than that of the previous event.
     pub counter: u64,
 }
 
-/// Where an event stands among those of both hosts: by its moment in microseconds, then by its counter, then by its
+/// The place of an event among those of both hosts: by its moment in microseconds, then by its counter, then by its
 /// host.
 #[derive(Clone, Copy, PartialEq, Eq)]
 pub struct Key {

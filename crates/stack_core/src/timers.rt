@@ -23,10 +23,10 @@ use endpoint::has_more;
 use endpoint_state::{Endpoint, HostTcp};
 use spec_step::Label;
 
-// A core gives up after so many expiries without an answer.
+// A core gives up after this many expiries without an answer.
 const TRIES: u32 = 12;
 
-/// A timer that may expire, with what is chosen there.
+/// A timer that may expire, with the values chosen for its expiry.
 #[derive(Clone, Copy)]
 pub(crate) struct Due {
     pub(crate) ports: Ports,
@@ -34,9 +34,9 @@ pub(crate) struct Due {
 }
 
 impl HostCore {
-    /// A timer that is due expires: its line. False, and nothing is changed: no line of a retransmission timer, a
-    /// persist timer or a wait in TIME-WAIT is permitted. The error is that memory ran out; then the tick has passed,
-    /// and nothing is added.
+    /// A timer that is due expires, which is a line. False: nothing is changed, because no line of a retransmission
+    /// timer, a persist timer or a wait in TIME-WAIT is permitted. The error is that memory ran out; then the tick has
+    /// passed, and nothing is added.
     pub fn timers(&mut self, tick: Tick) -> Result<bool, OutOfMemory>
         requires tick { IsAfter self.old.last tick }
         requires events { self.old.events < 10000000 }
@@ -50,7 +50,7 @@ impl HostCore {
         timed
     }
 
-    // The same, but that what is recorded then is a run.
+    // The same, without the fact that what is then recorded is a run.
     fn record_expiry(&mut self, tick: Tick) -> Result<bool, OutOfMemory>
         requires tick { IsAfter self.old.last tick }
         requires events { self.old.events < 10000000 }
@@ -74,7 +74,7 @@ impl HostCore {
         Ok(true)
     }
 
-    // It is remembered what an expiry asks of its endpoint.
+    // Remembers what an expiry requires of its endpoint.
     fn update_after_expiry(&mut self, due: Due)
         ensures { self.new ≡ self.old }
     {
@@ -103,7 +103,7 @@ impl HostCore {
     }
 }
 
-// A timer that may expire at a moment, at an endpoint that is to be looked at by then. None: no retransmission timer,
+// A timer that may expire at a moment, at an endpoint that is to be visited by then. None: no retransmission timer,
 // persist timer or wait in TIME-WAIT may.
 fn find_due(wakes: &mut DeadlineQueue, recording: &Recording, moment: u64) -> Option<Due>
     requires steps { steps_in recording.now.entries < most_steps }
@@ -120,7 +120,7 @@ fn find_due(wakes: &mut DeadlineQueue, recording: &Recording, moment: u64) -> Op
     find_any_due(recording, moment)
 }
 
-// The same, where each endpoint was looked at or is to be.
+// The same, if each endpoint was visited or is to be.
 fn find_among(wakes: &mut DeadlineQueue, recording: &Recording, moment: u64) -> Option<Due>
     requires steps { steps_in recording.now.entries < most_steps }
     requires all { length (kept_ends recording.now) ≤ wakes.old.looked }
@@ -147,11 +147,11 @@ fn find_among(wakes: &mut DeadlineQueue, recording: &Recording, moment: u64) -> 
             return find_any_due(recording, moment);
         }
     }
-    // A newer endpoint has the ports of one whose timer would be due.
+    // A newer endpoint has the ports of the one whose timer would be due.
     find_any_due(recording, moment)
 }
 
-// The endpoint of the first entry is to be looked at when its next timer may expire. False: memory refused that.
+// The endpoint of the first entry is to be visited when its next timer may expire. False: memory ran out.
 fn look_later(wakes: &mut DeadlineQueue, wake: Deadline, header: &Header, body: &HostTcp) -> bool
     requires first { slice_get wakes.old.entries.keys 0 ≡ Some wake }
     requires timed { AreTimed header.now wakes.old.looked wakes.old.entries.keys body.now.endpoints }
@@ -182,7 +182,7 @@ fn next_due(header: &Header, body: &HostTcp, place: u32) -> Option<u64>
     }
 }
 
-// The same of an endpoint.
+// The same for an endpoint.
 fn earliest(header: &Header, endpoint: &Endpoint) -> Option<u64>
     ensures some { IfSome result (λ m. IsStillBefore header.now m endpoint.now) }
     ensures none { IfNone result (IsStill header.now endpoint.now) }
@@ -196,7 +196,7 @@ fn earliest(header: &Header, endpoint: &Endpoint) -> Option<u64>
     least(again, least(probe, over))
 }
 
-// The same of the retransmission timer alone.
+// The same for the retransmission timer only.
 fn again_due(header: &Header, endpoint: &Endpoint) -> Option<u64>
     ensures { IsSlow header.now endpoint.now Rto result }
 {
@@ -204,7 +204,7 @@ fn again_due(header: &Header, endpoint: &Endpoint) -> Option<u64>
     due_since(timers.rto_armed, timers.rto, header.grain)
 }
 
-// Of the persist timer, which needs something to send.
+// For the persist timer, which needs something to send.
 fn probe_due(header: &Header, endpoint: &Endpoint) -> Option<u64>
     ensures { IsSlow header.now endpoint.now Persist result }
 {
@@ -218,7 +218,7 @@ fn probe_due(header: &Header, endpoint: &Endpoint) -> Option<u64>
     due_since(timers.persist_armed, timers.rto, header.grain)
 }
 
-// Of the wait in TIME-WAIT.
+// For the wait in TIME-WAIT.
 fn wait_over(header: &Header, endpoint: &Endpoint) -> Option<u64>
     ensures { IsSlow header.now endpoint.now Msl2 result }
 {
@@ -236,7 +236,7 @@ fn due_since(armed: Option<u64>, time: u64, grain: u64) -> Option<u64>
     }
 }
 
-// The lesser of two moments, of those that are there.
+// The lesser of two moments, if both exist; else the one that does.
 fn least(one: Option<u64>, other: Option<u64>) -> Option<u64>
     ensures { result ≡ least one other }
 {
@@ -247,8 +247,8 @@ fn least(one: Option<u64>, other: Option<u64>) -> Option<u64>
     }
 }
 
-// A timer that may expire at a moment, at any endpoint: this goes over all of them, if memory is refused for a list of
-// those that are to be looked at. None: no retransmission timer, persist timer or wait in TIME-WAIT may.
+// A timer that may expire at a moment, at any endpoint. This goes over all of them, for the case that memory ran out
+// for the list of those to visit. None: no retransmission timer, persist timer or wait in TIME-WAIT may.
 fn find_any_due(recording: &Recording, moment: u64) -> Option<Due>
     requires steps { steps_in recording.now.entries < most_steps }
     ensures some { IfSome result (λ due. IsDueAt recording.now moment due.ports due.expired) }
@@ -267,7 +267,7 @@ fn find_any_due(recording: &Recording, moment: u64) -> Option<Due>
     None
 }
 
-// The same of an endpoint.
+// The same for an endpoint.
 fn due_at(recording: &Recording, moment: u64, endpoint: &Endpoint) -> Option<Due>
     requires steps { steps_in recording.now.entries < most_steps }
     ensures some { IfSome result (λ due. IsDueAt recording.now moment due.ports due.expired) }

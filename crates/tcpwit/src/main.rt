@@ -17,7 +17,7 @@ use std::rt::Files;
 use std::sync::Wait;
 use std::thread::Threads;
 
-// How many bytes of standard input are asked for at once; a pipe would else be read byte by byte.
+// How many bytes of standard input are requested at once; otherwise a pipe would be read byte by byte.
 const INPUT_BYTES: usize = 64 * 1024;
 
 fn main(rt: HostRuntime) -> ExitCode {
@@ -36,7 +36,7 @@ fn main(rt: HostRuntime) -> ExitCode {
     ExitCode::from(status)
 }
 
-// Runs with the words after the program's name. Where they find no memory nothing is read or written.
+// Runs with the words after the program's name. If there is no memory for them, nothing is read or written.
 fn run_given<R: BufRead, W: Write, H: Files + Threads + Wait + Sync>(
     rt: &H,
     alloc: Global,
@@ -62,7 +62,7 @@ fn run_given<R: BufRead, W: Write, H: Files + Threads + Wait + Sync>(
     Ok(status)
 }
 
-// Runs on the files of these names.
+// Runs on the files with these names.
 fn run_named<W: Write, H: Files>(
     rt: &H,
     alloc: Global,

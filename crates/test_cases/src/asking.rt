@@ -1,4 +1,4 @@
-//! The ways in which a case is asked for.
+//! The ways in which a case is checked.
 
 ghost use Rattle.std.specs.Prelude.{◌≤◌, length};
 
@@ -19,13 +19,13 @@ use witness::begins_witness;
 // How many threads check the cases of one input.
 const WORKERS: &str = "4";
 
-// How many threads check the cases of the input that is asked for with several numbers of them.
+// How many threads check the cases of the input that is checked with several numbers of threads.
 const CREWS: [&str; 3] = ["1", "2", "64"];
 
 /// How many bytes of each of two texts are read at once.
 pub const PIECES: [usize; 3] = [1, 7, 4096];
 
-// Inputs with lines that end a case and lines that don't, and for each what is printed and the status.
+// Inputs with lines that end a case and lines that don't, each with the expected output and status.
 const ENDS: [(&str, &str); 10] = [
     ("", "0"),
     ("end\n", "bad trace 1 0 0 header\n2"),
@@ -45,7 +45,8 @@ const ENDS: [(&str, &str); 10] = [
     ("END\n", "bad trace 1 0 3 header\n2"),
 ];
 
-/// Asks for each case by itself: by `check_case`, by the word `check`, and by its two texts in pieces of several sizes.
+/// Checks each case on its own: by `check_case`, by the command `check`, and by its two texts in pieces of several
+/// sizes.
 pub fn ask_each(
     alloc: Global,
     cases: &[Case],
@@ -64,8 +65,8 @@ pub fn ask_each(
     Ok(())
 }
 
-/// Asks for all cases in one input of `many`, but for those whose text is cut: after them no line `end` can stand, so
-/// each is asked for as the only case of an input.
+/// Checks all cases in one input of `many`, except those whose text is cut off: no line `end` can follow them, so each
+/// is the only case of an input.
 pub fn ask_many<H: Threads + Wait + Sync>(
     rt: &H,
     alloc: Global,
@@ -80,7 +81,7 @@ pub fn ask_many<H: Threads + Wait + Sync>(
     Ok(())
 }
 
-/// Asks for inputs of `many` that are all ends.
+/// Checks inputs of `many` that consist only of ends of cases.
 pub fn ask_ends<H: Threads + Wait + Sync>(
     rt: &H,
     alloc: Global,
@@ -97,8 +98,8 @@ pub fn ask_ends<H: Threads + Wait + Sync>(
     Ok(())
 }
 
-/// Asks for an input of `many` with each of several numbers of threads. The same is wanted of each, as it is printed,
-/// then the status.
+/// Checks an input of `many` with each of several numbers of threads. The expected output and status are the same for
+/// each.
 pub fn ask_crews<H: Threads + Wait + Sync>(
     rt: &H,
     alloc: Global,
@@ -117,7 +118,7 @@ pub fn ask_crews<H: Threads + Wait + Sync>(
     Ok(())
 }
 
-// Asks for all cases that a line `end` can follow, in one input. The status is the greatest of theirs.
+// Checks all cases that a line `end` can follow, in one input. The status is the greatest of theirs.
 fn ask_together<H: Threads + Wait + Sync>(
     rt: &H,
     alloc: Global,
@@ -143,7 +144,7 @@ fn ask_together<H: Threads + Wait + Sync>(
     Ok(())
 }
 
-// One input with these cases, each before a line `end`.
+// One input with these cases, each followed by a line `end`.
 fn join(alloc: Global, cases: &[Case]) -> Result<Vec<u8>, AllocError> {
     let mut input = Vec::new(alloc);
     for case in cases.iter().filter(|case| case.is_ended()) {
@@ -153,7 +154,7 @@ fn join(alloc: Global, cases: &[Case]) -> Result<Vec<u8>, AllocError> {
     Ok(input)
 }
 
-// Adds a line where a case is not answered as wanted. Both answers are what is printed, then the status.
+// Adds a line if a case doesn't have the expected answer. Both answers are the output, then the status.
 fn compare(
     alloc: Global,
     case: &Case,
@@ -171,7 +172,7 @@ fn compare(
     Ok(())
 }
 
-// What the checker answers, as it would be printed, then the status that belongs to it.
+// What the checker answers, as it would be printed, then its status.
 fn by_check_case(alloc: Global, text: &[u8]) -> Result<String, AllocError> {
     match check_case(alloc, text) {
         Ok(verdict @ Verdict::Yes { .. }) => format!(in alloc; "{verdict}\n0"),
@@ -193,7 +194,7 @@ fn shown(alloc: Global, text: &str, fault: &TextFault) -> Result<String, AllocEr
     )
 }
 
-// What the word `check` prints, then the status.
+// What the command `check` prints, then the status.
 fn by_check(alloc: Global, text: &[u8]) -> Result<String, AllocError> {
     let mut output = Vec::new(alloc);
     let mut reader = Counted::new(text);
@@ -234,7 +235,7 @@ pub fn by_pair(
     format!(in alloc; "{printed}{status}")
 }
 
-/// How many bytes of a case stand before its witness.
+/// How many bytes of a case come before its witness.
 pub fn witness_begins(text: &[u8]) -> usize
     ensures { result ≤ length text.now }
 {
@@ -249,7 +250,7 @@ pub fn witness_begins(text: &[u8]) -> usize
     at.min(text.len())
 }
 
-// What the words of `many` with so many threads print for an input, then the status.
+// What the command `many` with so many threads prints for an input, then the status.
 fn by_many<H: Threads + Wait + Sync>(
     rt: &H,
     alloc: Global,

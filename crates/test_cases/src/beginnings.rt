@@ -1,7 +1,8 @@
 //! Each beginning of a case, byte by byte.
 //!
-//! A beginning that ends inside a line is cut there: that line is refused with its number and its length. Line k of
-//! `beginnings/NAME.txt`, counted from 0, has what is wanted for the beginning that ends after k whole lines.
+//! A beginning that ends inside a line is cut off there: that line is refused with its number and its length. Line k of
+//! `beginnings/NAME.txt`, counted from 0, has the line that is expected for the beginning that ends after k whole
+//! lines.
 
 use crate::table::Case;
 use std::alloc::{AllocError, Global};
@@ -15,8 +16,8 @@ struct Place {
 }
 
 impl Place {
-    // Where the line after this one stands. The line `witness 1` is the last of the trace where it is cut, and else the
-    // first of the witness.
+    // The place of the line after this one. The line `witness 1` is the last of the trace if it is cut off, and else
+    // the first of the witness.
     fn next(self, line: &str) -> Place {
         if line == "witness 1" {
             return Place {
@@ -52,7 +53,7 @@ pub fn push_beginnings(rt: &HostRuntime, name: &str, cases: &mut Vec<Case>) -> i
     Ok(())
 }
 
-// Adds the beginnings that end inside a line, each with the answer that the line is cut.
+// Adds the beginnings that end inside a line, each with the answer that the line is cut off.
 fn push_inside(
     alloc: Global,
     name: &str,

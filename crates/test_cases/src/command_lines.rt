@@ -1,4 +1,4 @@
-//! Command lines, which are read as the program reads its own, and the line that is wanted for each.
+//! Command lines, which are read as the program reads its own, and the expected line for each.
 
 ghost use Rattle.std.specs.Io.{WritesAtMost};
 
@@ -10,7 +10,7 @@ use std::io;
 use std::sync::Wait;
 use std::thread::Threads;
 
-// What stands in the input. Only `check` and `many` read it, and the fault of its first line is their answer.
+// The input. Only `check` and `many` read it, and the fault of its first line is their answer.
 const INPUT: &[u8] = b"trace 9\nend\n";
 
 // A command line of these words, after the program's name.
@@ -51,8 +51,8 @@ fn fill(word: &[u8], buf: &mut [u8]) -> Result<usize, FillError>
     Ok(word.len())
 }
 
-/// Asks for each row of a table: the line that is wanted, then the words after the program's name, with a tab before
-/// each. Answers how many rows there are.
+/// Runs each row of a table: the expected line, then the words after the program's name, with a tab before each. The
+/// result is the number of rows.
 pub fn ask_rows<H: Threads + Wait + Sync>(
     rt: &H,
     alloc: Global,
@@ -77,7 +77,7 @@ pub fn ask_rows<H: Threads + Wait + Sync>(
     Ok(count)
 }
 
-// The status that belongs to a line that is printed.
+// The status that belongs to a printed line.
 fn status_of(line: &str) -> u8 {
     if line.starts_with("src ") {
         0
@@ -88,7 +88,7 @@ fn status_of(line: &str) -> u8 {
     }
 }
 
-// The bytes of a word: each letter is the byte of its number, so that ÿ is a byte that stands in no text.
+// The bytes of a word: each letter is the byte of its number, so that ÿ is a byte that no UTF-8 text contains.
 fn bytes_of(alloc: Global, word: &str) -> Result<Vec<u8>, AllocError> {
     let mut bytes = Vec::new(alloc);
     for letter in word.chars() {

@@ -1,4 +1,4 @@
-//! Which lines `draw` of `tcpwit_lab` shows of a case that has more than 400.
+//! Which lines `tcpwit_lab draw` shows of a case with more than 400.
 
 use drawing::{Range, draw};
 use std::alloc::{AllocError, Global};
@@ -16,7 +16,7 @@ enum Fault {
     Answer(u64),
     /// The call has no effect.
     Effect(u64),
-    /// The witness names the line that begins the first call in place of the one that ends this call.
+    /// The witness names the line that begins the first call instead of the one that ends this call.
     Again(u64),
     /// The witness ends before the call.
     Cut(u64),
@@ -24,8 +24,8 @@ enum Fault {
     Witness,
 }
 
-// For each picture: what is wrong with the case, the range that is asked for, and the first and the last line that the
-// picture has to show.
+// For each picture: what is wrong with the case, the requested range, and the first and the last line that the picture
+// must show.
 const PICTURES: [(Fault, Option<u64>, Option<u64>, &str); 13] = [
     (Fault::Nothing, None, None, "7 406"),
     (Fault::Witness, None, None, "7 406"),
@@ -42,7 +42,7 @@ const PICTURES: [(Fault, Option<u64>, Option<u64>, &str); 13] = [
     (Fault::Answer(480), Some(20), Some(900), "20 900"),
 ];
 
-/// Draws the case with each fault, and answers how many pictures there are.
+/// Draws the case with each fault. The result is the number of pictures.
 pub fn ask_drawn(alloc: Global, differing: &mut Vec<String>) -> Result<usize, AllocError> {
     for (fault, from, to, wanted) in &PICTURES {
         let case = case_with(alloc, *fault)?;

@@ -1,4 +1,4 @@
-//! What `judge` of `tcpwit_lab` says of a trace, and the text and the status that are wanted.
+//! What `tcpwit_lab judge` prints for a trace, and the expected text and status.
 
 use checker::{CaseFault, check_case};
 use judging::{Judgement, Options, judge, options_of};
@@ -6,8 +6,8 @@ use std::alloc::{AllocError, Global};
 use std::{fs, io};
 use why::fault_line;
 
-/// Asks for each text of a table: a line `== STATUS NAME WORDS` with the name of a trace and the words after `judge`,
-/// and after it the text that is wanted. Answers how many texts there are.
+/// Checks each text of a table: a line `== STATUS NAME WORDS` with the name of a trace and the words after `judge`,
+/// followed by the expected text. The result is the number of texts.
 pub fn ask_judged(
     rt: &HostRuntime,
     alloc: Global,
@@ -52,7 +52,7 @@ fn answered(alloc: Global, words: &[&str], trace: &[u8]) -> Result<String, Alloc
     }
 }
 
-// The status and the text, if the case is the one of the last word: its verdict stands there.
+// The status and the text, if the case is the one of the last word: its verdict is there.
 fn said(alloc: Global, options: Options<'_>, judgement: &Judgement) -> Result<String, AllocError> {
     let text = String::from_utf8_lossy(alloc, judgement.text.as_slice())?;
     let verdict = match check_case(alloc, judgement.case.as_slice()) {

@@ -1,5 +1,5 @@
 //! Traces without a witness: recordings of the Linux kernel in `data/kernel/`, and written traces in `data/found/`. A
-//! witness is found for each, and the verdict on both is held to its line of `expected.txt` in that folder.
+//! witness is found for each, and the verdict on both is compared with its line of `expected.txt` in that folder.
 
 use checker::check_case;
 use std::alloc::{AllocError, Global};
@@ -7,7 +7,7 @@ use std::io::ErrorKind;
 use std::{fs, io};
 use witness_search::find;
 
-/// Finds a witness for each trace of a folder, and says how many there are.
+/// Finds a witness for each trace of a folder. The result is the number of traces.
 pub fn ask_folder(
     rt: &HostRuntime,
     folder: &str,

@@ -135,7 +135,7 @@ fn moved_verdict(verdict: Verdict, by: u64) -> Verdict {
     }
 }
 
-// Adds a line if a case as version 4 isn't answered as wanted.
+// Adds a line if a case as version 4 doesn't have the expected answer.
 fn compare(
     alloc: Global,
     case: &Case,

@@ -1,12 +1,12 @@
-//! Lines of the greatest length, and one byte longer. An end is not counted, and a line without one is measured whole.
+//! Lines of the greatest length, and one byte longer. The LF isn't counted, and a line without one is measured whole.
 
 use crate::table::Case;
 use std::alloc::{AllocError, Global};
 
 const HEADER: &str = "trace 1\nskew 0\nmsl 120000000\ngrain 1000\nminrto 1000000\nextra 0\n";
 
-// So many letters, which may be digits of hex: what stands between the header and them, what follows them, and the line
-// that is wanted.
+// So many letters, which may be hex digits: what is between the header and them, what follows them, and the expected
+// line.
 #[derive(Clone, Copy)]
 struct Long {
     before: &'static str,

@@ -1,23 +1,23 @@
-//! Asks for the answer to every case file, in several ways, and holds each answer to the line that is wanted.
+//! Checks every case file, in several ways, and compares each answer with the expected line.
 //!
 //! The case of each name is `data/NAME.case`, and `data/expected.txt` has the line that `tcpwit check` must print for
-//! it (`data/README.md`). Beside the files, each beginning of two of them is asked for, lines of the greatest length,
-//! inputs of several cases, pairs of texts that no case would be cut into, the command lines of
-//! `data/command_lines.txt`, what `tcpwit_lab` says of some cases (`data/told.txt`) and of some traces
-//! (`data/judged.txt`), and the cases that are found for recordings of the Linux kernel (`data/kernel/`) and for
-//! written traces (`data/found/`). Each case file is also checked as version 4. Where all is answered as wanted, three
-//! lines with the counts are printed. Else each answer that differs has a line on standard error, with the name of the
-//! case, how it was asked, what was wanted and what was found, and the program ends with status 1.
+//! it (`data/README.md`). The program also checks each beginning of two of the files, lines of the greatest length,
+//! inputs of several cases, pairs of texts that no case would be split into, the command lines of
+//! `data/command_lines.txt`, what `tcpwit_lab` prints for some cases (`data/told.txt`) and for some traces
+//! (`data/judged.txt`), and the witnesses that are found for recordings of the Linux kernel (`data/kernel/`) and for
+//! written traces (`data/found/`). Each case file is also checked as version 4. If all answers are as expected, it
+//! prints three lines with the counts. Else standard error has a line for each answer that differs, with the name of
+//! the case, how it was checked, what was expected and what was found, and the program ends with status 1.
 //!
 //! - `table`: cases, and those of the files
 //! - `beginnings`: each beginning of a case
 //! - `long_lines`: lines of the greatest length, and one byte longer
-//! - `pairs`: a trace and a witness as two texts, into which no case would be cut
-//! - `asking`: by `check_case`, by the word `check`, as two texts in pieces, and by the words of `many`
-//! - `command_lines`: by words, as the program is given them
-//! - `told`: what `tcpwit_lab` says of a case; `judged`: how much of a run keeps the RFCs
-//! - `kernel`: cases that are found for recordings of the Linux kernel and for written traces
-//! - `drawn`: which lines of a long case are drawn; `printed`: bytes that no terminal obeys
+//! - `pairs`: a trace and a witness as two texts, into which no case would be split
+//! - `asking`: by `check_case`, by the command `check`, as two texts in pieces, and by the command `many`
+//! - `command_lines`: command lines, read as the program reads its own
+//! - `told`: what `tcpwit_lab` prints for a case; `judged`: how much of a run follows the RFCs
+//! - `kernel`: witnesses found for recordings of the Linux kernel and for written traces
+//! - `drawn`: which lines of a long case are drawn; `printed`: bytes that no terminal interprets
 //! - `version_four`: rewrites a case as version 4
 //! - `less_judged`: each case file as version 4, with more and less of congestion control judged
 #![tactic(auto)]
@@ -86,8 +86,7 @@ fn main(rt: HostRuntime) -> io::Result<ExitCode> {
     Ok(ExitCode::SUCCESS)
 }
 
-// Asks what `tcpwit_lab` makes of written traces, of a long case and of texts with ESC, and answers a line with the
-// counts.
+// Runs `tcpwit_lab` on written traces, on a long case and on texts with ESC. The result is a line with the counts.
 fn ask_lab(rt: &HostRuntime, differing: &mut Vec<String>) -> io::Result<String> {
     let alloc = rt.alloc();
     let written = kernel::ask_folder(rt, "found", differing)?;

@@ -1,4 +1,4 @@
-//! Traces and witnesses as two texts into which no case would be cut, as two files may be.
+//! Traces and witnesses as two texts into which no case would be split, as two files may be.
 
 use crate::asking::{PIECES, by_pair, witness_begins};
 use std::alloc::{AllocError, Global};
@@ -71,8 +71,8 @@ const PAIRS: [(&str, &str, &str); 18] = [
     ),
 ];
 
-/// Asks for each pair, and for the trace of a whole case with each beginning of its witness's first line. Answers how
-/// many pairs there are.
+/// Checks each pair, and the trace of a whole case with each beginning of its witness's first line. The result is the
+/// number of pairs.
 pub fn ask_pairs(rt: &HostRuntime, name: &str, differing: &mut Vec<String>) -> io::Result<usize> {
     let alloc = rt.alloc();
     for (trace, witness, wanted) in &PAIRS {
@@ -101,7 +101,7 @@ pub fn ask_pairs(rt: &HostRuntime, name: &str, differing: &mut Vec<String>) -> i
     Ok(PAIRS.len().saturating_add(line.len()).saturating_add(1))
 }
 
-// Asks for two texts, in pieces of several sizes.
+// Checks two texts, in pieces of several sizes.
 fn ask(
     alloc: Global,
     trace: &[u8],

@@ -1,4 +1,4 @@
-//! A text in which one byte is ESC, which a terminal would obey: `tcpwit_lab` prints no such byte.
+//! A text in which one byte is ESC, which a terminal would interpret: `tcpwit_lab` prints no such byte.
 
 use drawing::{Range, draw, show};
 use line_fields::TextFault;
@@ -9,8 +9,8 @@ use witness_search::find;
 
 const ESC: u8 = 0x1b;
 
-/// Puts ESC at each place of the example of that name, and asks `find`, `show` and `draw`. Answers how many texts there
-/// are.
+/// Puts ESC at each place of the example of that name, and runs `find`, `show` and `draw`. The result is the number of
+/// texts.
 pub fn ask_printed(rt: &HostRuntime, name: &str, differing: &mut Vec<String>) -> io::Result<usize> {
     let alloc = rt.alloc();
     let case = fs::read(rt, format!(in alloc; "examples/{name}.case")?.as_str())?;

@@ -4,7 +4,7 @@ use std::alloc::{AllocError, Global};
 use std::io::ErrorKind;
 use std::{fs, io};
 
-/// A case: its name, its text, and the line that is wanted for it, without an end.
+/// A case: its name, its text, and the expected line, without an LF.
 #[derive(Drop)]
 pub struct Case {
     /// What a line on standard error calls it: the name of its file, or what its text is.
@@ -16,7 +16,7 @@ pub struct Case {
 }
 
 impl Case {
-    /// The status that belongs to the line that is wanted: 0 for a yes, 1 for a no, 2 for a text that is refused.
+    /// The status that belongs to the expected line: 0 for a yes, 1 for a no, 2 for a text that is refused.
     pub fn status(&self) -> u8 {
         if self.wanted.as_str().starts_with("yes ") {
             0
@@ -27,7 +27,7 @@ impl Case {
         }
     }
 
-    /// Whether the text is empty or ends with an LF, so that a line `end` can stand after it.
+    /// Whether the text is empty or ends with an LF, so that a line `end` can follow it.
     pub fn is_ended(&self) -> bool {
         self.text.is_empty() || self.text.as_slice().ends_with(b"\n")
     }
@@ -47,7 +47,7 @@ pub fn read_table(rt: &HostRuntime) -> io::Result<Vec<Case>> {
     Ok(cases)
 }
 
-// The case of that name, with the line that is wanted.
+// The case of that name, with the expected line.
 fn read_case(rt: &HostRuntime, name: &str, wanted: &str) -> io::Result<Case> {
     let alloc = rt.alloc();
     let path = format!(in alloc; "{name}.case")?;
@@ -58,7 +58,7 @@ fn read_case(rt: &HostRuntime, name: &str, wanted: &str) -> io::Result<Case> {
     })
 }
 
-/// Says of each case file that the table does not name that it has no line.
+/// Reports each case file that has no line in the table.
 pub fn push_untold(
     rt: &HostRuntime,
     cases: &[Case],
@@ -73,7 +73,7 @@ pub fn push_untold(
     Ok(())
 }
 
-// Says of a file that it has no line, where it is a case that the table does not name.
+// Reports a file if it is a case that has no line in the table.
 fn push_if_untold(
     alloc: Global,
     path: &str,

@@ -1,12 +1,12 @@
-//! What `explain`, `show` and `draw` of `tcpwit_lab` say of a case, and the text that is wanted.
+//! What `explain`, `show` and `draw` of `tcpwit_lab` print for a case, and the expected text.
 
 use drawing::{Range, draw, show};
 use std::alloc::{AllocError, Global};
 use std::{fs, io};
 use why::{Origin, explain};
 
-/// Asks for each text of a table: a line `== WORD NAME` with the word of `tcpwit_lab` and the name of a case, and after
-/// it the text that is wanted. The word `simulated` stands for `explain --simulated`. Answers how many texts there are.
+/// Checks each text of a table: a line `== WORD NAME` with the command of `tcpwit_lab` and the name of a case, followed
+/// by the expected text. The word `simulated` means `explain --simulated`. The result is the number of texts.
 pub fn ask_told(
     rt: &HostRuntime,
     alloc: Global,
@@ -31,7 +31,7 @@ pub fn ask_told(
     Ok(count)
 }
 
-// What a word says of a case; nothing if the word is another one, or the trace can't be read.
+// What a command prints for a case; nothing if the word is another one, or the trace can't be read.
 fn told(alloc: Global, word: &str, case: &[u8]) -> Result<Vec<u8>, AllocError> {
     let range = Range {
         from: None,

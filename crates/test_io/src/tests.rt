@@ -1,5 +1,5 @@
 //! - `buffers`, `line_order`: what must not take long, however much waits
-//! - `segments`: what is written of segments, which the program only reads
+//! - `segments`: segments as they are written; the program only reads them
 //! - `first_pages`: the calls that the first pages of the libraries show
 //! - `ends`: the reader and the writer that fail
 //! - `counted_calls`: each call of a `Counted` makes one call of its end, and fails if that fails
@@ -7,7 +7,7 @@
 //! - `two_texts`: a case in two texts, judged in pieces, up to a call that fails, and with no more of it read than a
 //!   step needs
 //! - `runs`: what the program answers, and that it flushes
-//! - `workers`: cases under gates that hold them, by several numbers of workers
+//! - `workers`: cases under gates that hold them, with several numbers of workers
 
 mod buffers;
 mod counted_calls;

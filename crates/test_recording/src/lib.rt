@@ -1,6 +1,6 @@
-//! Tests of recordings, over threads and over one thread that does each turn itself.
+//! Tests of recordings, made with several threads or with one thread that does each turn itself.
 //!
-//! Tests are proved with the crate in which they stand, so these stand in one that has nothing else.
+//! Tests are proved with their crate, so these have a crate of their own.
 #![tactic(auto)]
 
 #[cfg(test)]

@@ -1,4 +1,4 @@
--- What a trace tells where all rounds ended: sums over the answers of a thread.
+-- What a trace shows if all rounds ended: sums over the answers of a thread.
 use Rattle.std.specs.Prelude.{ℕ, ◌+◌, ◌*◌, ◌==◌, ◌&&◌, Bool, if◌then◌else◌, List, [], ◌∷◌, length}
 use Rattle.case_forms.specs.declared.calls.Answer.{Answer}
 use Rattle.case_forms.specs.declared.calls.Answer.TheVariants as answers
@@ -8,7 +8,7 @@ use Rattle.case_forms.specs.declared.trace.Line.{Line}
 use Rattle.two_hosts.specs.declared.ends.Measure.{Measure}
 use Rattle.two_hosts.specs.declared.ends.Measure.TheVariants.{Bytes, Dones, Eofs}
 
--- what an answer adds: the bytes that a read was told, or 1 for `ok`, or 1 for `eof`
+-- what an answer adds: the bytes that a read returned, or 1 for `ok`, or 1 for `eof`
 abbrev pub amount : Measure → Answer → ℕ
 amount Bytes (answers.Bytes bytes) = length bytes
 amount Dones answers.Done = 1
@@ -29,9 +29,9 @@ abbrev pub told : Measure → ℕ → List Line → ℕ
 told measure thread [] = 0
 told measure thread (line ∷ lines) = line_amount measure thread line + told measure thread lines
 
--- host 1's thread was told the 64 bytes of each round and then the end, and was answered `ok` once, as it closed; host
--- 0's thread was answered `ok` three times, as it awaited, ended sending and closed (`specs/Rounds` says it of what
--- they were answered)
+-- host 1's thread read the 64 bytes of each round and then the end, and was answered `ok` once, when it closed; host
+-- 0's thread was answered `ok` three times, when it awaited, ended sending and closed (`specs/Rounds` states it for the
+-- answers themselves)
 abbrev pub has_ended : ℕ → List Line → Bool
 has_ended rounds lines =
     (told Bytes 3 lines == 64 * rounds) && (told Eofs 3 lines == 1) && (told Dones 3 lines == 1) &&

@@ -9,7 +9,7 @@ use Rattle.case_forms.specs.declared.version.Version.{Version}
 use Rattle.case_forms.specs.declared.version.Version.TheVariants.{One, Two, Three, Four, FourHalf}
 use Rattle.recorder.specs.Views.{BookView}
 
--- which RFC gives the first congestion window: version 1 has that of RFC 5681 alone
+-- which RFC gives the first congestion window: version 1 always has that of RFC 5681
 abbrev pub initial_of : Version → Initial
 initial_of One = Rfc5681
 initial_of Two = Rfc6928
@@ -17,8 +17,8 @@ initial_of Three = Rfc6928
 initial_of Four = Rfc6928
 initial_of FourHalf = Rfc6928
 
--- times in microseconds: no skew, a segment lives an hour at most, timers may be a millisecond early, and RTO is 200
--- milliseconds at least
+-- times in microseconds: no skew, a segment lives at most an hour, timers may be a millisecond early, and RTO is at
+-- least 200 milliseconds
 abbrev pub header_of : Version → Header
 header_of version =
     record {

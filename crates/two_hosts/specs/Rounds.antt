@@ -1,4 +1,4 @@
--- That all rounds ended, said of what both applications were answered.
+-- When all rounds ended, in terms of both applications' answers.
 use Rattle.std.specs.Prelude.{◌≡◌, ℕ, ◌*◌, ◌==◌, Bool, true, false, if◌then◌else◌, List, [], length, map, Option, None}
 use Rattle.std.specs.Prelude.{Some}
 use Rattle.std.specs.List.{concat, count_by, filter_map}
@@ -26,11 +26,11 @@ abbrev pub bytes_in : Answer → List ℕ
 bytes_in (answers.Bytes bytes) = bytes
 bytes_in _ = []
 
--- the bytes that the thread received, one read behind the other
+-- the bytes that the thread received, one read after the other
 abbrev pub received : ℕ → List Line → List ℕ
 received thread lines = concat (map bytes_in (answers_of thread lines))
 
--- the answer is `ok` alone
+-- the answer is `ok`
 abbrev pub is_done : Answer → Bool
 is_done answers.Done = true
 is_done _ = false
@@ -40,9 +40,9 @@ abbrev pub is_eof : Answer → Bool
 is_eof answers.Eof = true
 is_eof _ = false
 
--- Host 1's application, thread 3, received 64 bytes for each round, was told once that there are no more, and one of
--- its calls was answered `ok`, its `close`; three of host 0's, thread 2's, were: its `await`, its `shut` and its
--- `close`.
+-- Host 1's application, thread 3, received 64 bytes for each round, read the end once, and one of its calls was
+-- answered `ok`: its `close`. Three calls of host 0's application, thread 2, were answered `ok`: its `await`, its
+-- `shut` and its `close`.
 pub record HaveEnded (rounds : ℕ) (lines : List Line) : Type 0 where
   pub received : length (received 3 lines) ≡ 64 * rounds
   pub told_end : count_by is_eof (answers_of 3 lines) ≡ 1

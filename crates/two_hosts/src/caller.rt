@@ -11,10 +11,10 @@ use recorder::{RecFault, Receipt, Recorder, Seat, Site};
 use std::alloc::Global;
 use std::sync::Wait;
 
-/// Why an application ended before its time.
+/// Why an application ended early.
 #[derive(Clone, Copy)]
 pub(crate) enum Halt {
-    /// A call was refused, or was answered otherwise than the application goes on with.
+    /// A call was refused, or had an answer that the application can't continue with.
     Refused,
     /// Memory ran out.
     OutOfMemory,
@@ -46,7 +46,7 @@ fn own_socket(thread: u32, socket: u32) -> Result<u32, Halt>
     Ok(socket)
 }
 
-/// One application thread, with what it was answered.
+/// One application thread, with the answers of its calls.
 #[derive(Drop)]
 pub(crate) struct Caller<L: Site> {
     seat: Seat<L>,
@@ -54,7 +54,7 @@ pub(crate) struct Caller<L: Site> {
 }
 
 impl<L: Site> Caller<L> {
-    /// A thread with that seat, which has called nothing yet.
+    /// A thread with that seat, before its first call.
     pub(crate) fn new(alloc: Global, seat: Seat<L>) -> Caller<L>
         ensures { result.seat.thread ≡ seat.thread }
     {
@@ -64,13 +64,13 @@ impl<L: Site> Caller<L> {
         }
     }
 
-    /// Its seat, and what it was answered.
+    /// Its seat, and the answers of its calls.
     pub(crate) fn leave(self) -> (Seat<L>, Vec<Receipt>) {
         let Caller { seat, receipts } = self;
         (seat, receipts)
     }
 
-    /// Calls.
+    /// Makes a call.
     pub(crate) fn ask<R: Wait>(
         &mut self,
         rt: &R,
@@ -88,13 +88,13 @@ impl<L: Site> Caller<L> {
         Ok(())
     }
 
-    /// What the last call was answered. None: there was no call.
+    /// The answer of the last call. None: there was no call.
     pub(crate) fn answer(&self) -> Option<&Answer> {
         let last = self.receipts.last()?;
         Some(last.answered.answer())
     }
 
-    /// A call that is answered by a socket number of its own host.
+    /// Makes a call that is answered by a socket number of its own host.
     pub(crate) fn socket<R: Wait>(
         &mut self,
         rt: &R,
@@ -112,7 +112,7 @@ impl<L: Site> Caller<L> {
         own_socket(self.seat.thread(), socket)
     }
 
-    /// The number that the last call was answered.
+    /// The number in the last call's answer.
     pub(crate) fn number(&self) -> Result<u32, Halt> {
         match self.answer() {
             Some(Answer::Given(number)) => Ok(*number),
@@ -120,7 +120,7 @@ impl<L: Site> Caller<L> {
         }
     }
 
-    /// A call that is answered `ok`.
+    /// Makes a call that is answered `ok`.
     pub(crate) fn done<R: Wait>(
         &mut self,
         rt: &R,

@@ -1,4 +1,4 @@
-//! Whether a trace tells that all rounds ended.
+//! Whether a trace shows that all rounds ended.
 
 ghost use Rattle.std.specs.Prelude.{◌≡◌, ◌==◌};
 ghost use Rattle.two_hosts.specs.Ends.{amount, has_ended, line_amount, told};
@@ -6,7 +6,7 @@ ghost use Rattle.two_hosts.specs.Ends.{amount, has_ended, line_amount, told};
 use crate::plan::{CLIENT_THREAD, ROUND_BYTES, SERVER_THREAD};
 use case_forms::{Answer, Event, Line};
 
-// What is added up over answers.
+// The sums over answers.
 #[derive(Clone, Copy)]
 enum Measure {
     // The bytes that reads returned.
@@ -41,7 +41,7 @@ fn line_amount(measure: Measure, thread: u32, line: &Line) -> u64
     }
 }
 
-// Whether the answers of a thread add up to so much.
+// Whether the answers of a thread add up to these sums.
 fn adds_up(measure: Measure, thread: u32, lines: &[Line], total: u64) -> bool
     ensures { result ≡ (told measure thread lines.now == total) }
 {
@@ -58,7 +58,7 @@ fn adds_up(measure: Measure, thread: u32, lines: &[Line], total: u64) -> bool
     left == 0
 }
 
-/// Whether the lines tell that host 1 received all bytes of so many rounds and read the end, and that both applications
+/// Whether the lines show that host 1 received all bytes of so many rounds and read the end, and that both applications
 /// closed.
 pub(crate) fn has_ended(lines: &[Line], rounds: u16) -> bool
     ensures { result ≡ has_ended rounds lines.now }

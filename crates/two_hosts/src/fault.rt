@@ -7,7 +7,7 @@ use thiserror::Error;
 /// Why there is no recording.
 #[derive(Clone, Copy, Debug, PartialEq, Eq, Error)]
 pub enum RecordFault {
-    /// A thread could not be started, or the books could not be finished or merged for another cause than memory.
+    /// A thread couldn't be started, or the books couldn't be finished or merged, for another reason than memory.
     #[error("the recording can't be made")]
     Device,
     /// Memory ran out.

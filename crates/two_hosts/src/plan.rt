@@ -1,4 +1,4 @@
-//! What a recording is to be, and what both hosts begin with.
+//! The plan of a recording, and what both hosts begin with.
 
 ghost use Rattle.std.specs.Prelude.{◌≡◌};
 ghost use Rattle.two_hosts.specs.Plans.{header_of};
@@ -27,12 +27,12 @@ pub(crate) const SERVER_THREAD: u32 = 3;
 /// How many bytes are sent in a round.
 pub(crate) const ROUND_BYTES: usize = 64;
 
-/// What a recording is to be.
+/// The plan of a recording.
 #[derive(Clone, Copy)]
 pub struct Plan {
     /// How many rounds there are.
     pub rounds: u16,
-    /// Each so many segments of a host one is lost; none for 0.
+    /// One in this many segments of each host is lost; none if it is 0.
     pub lose: u32,
     /// The version of the texts.
     pub version: Version,

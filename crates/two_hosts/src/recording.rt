@@ -27,8 +27,8 @@ use std::thread::Threads;
 #[derive(Drop)]
 pub struct Recording {
     pub recorded: Recorded,
-    /// Whether the trace tells that host 1 received the bytes of all rounds, and that both applications came to their
-    /// end.
+    /// Whether the trace shows that host 1 received the bytes of all rounds, and that both applications ended as
+    /// planned.
     pub ended: bool,
     /// The receipts of host 0's thread, and after them those of host 1's.
     pub receipts: Vec<Receipt>,
@@ -39,13 +39,13 @@ pub struct Recording {
 pub struct Books {
     pub zero: HostBook,
     pub one: HostBook,
-    /// Whether all rounds ended, and both applications came to their end.
+    /// Whether all rounds ended, and both applications ended as planned.
     pub ended: bool,
     /// The receipts of host 0's thread, and after them those of host 1's.
     pub receipts: Vec<Receipt>,
 }
 
-// The book of a recorder of which one seat was given.
+// The book of a recorder that gave one seat.
 fn finish<L: Site, R: Wait>(
     rt: &R,
     alloc: Global,
@@ -67,7 +67,7 @@ fn finish<L: Site, R: Wait>(
     }
 }
 
-// What the applications had in the end.
+// The applications at the end.
 #[derive(Drop)]
 struct Talked<L: Site, M: Site> {
     zero: Seat<L>,
@@ -119,8 +119,8 @@ fn let_talk<
     })
 }
 
-// The book of host 0, and that of a recorder of which one seat was given. What isn't handed on is dropped by a call,
-// which the proof meets once, and not at the end of its scope.
+// The book of host 0, and that of a recorder that gave one seat. What isn't passed on is dropped by a call, so that the
+// proof meets it once, and not at the end of each scope.
 fn finish_one<M: Site, R: Wait>(
     rt: &R,
     alloc: Global,
@@ -164,7 +164,7 @@ fn finish_both<L: Site, M: Site, R: Wait>(
     }
 }
 
-// What both recorders have, once both applications ended.
+// The books of both recorders, once both applications ended.
 fn end_talk<L: Site, M: Site, R: Wait>(
     rt: &R,
     alloc: Global,
@@ -233,7 +233,7 @@ fn record_with<
     }
 }
 
-/// What both hosts record where they talk so.
+/// What both hosts record if they talk like this.
 pub fn record_books<F: WireFate + Send + Drop, G: WireFate + Send + Drop, R: Threads + Wait + Sync>(
     rt: &R,
     alloc: Global,

@@ -46,7 +46,7 @@ fn send_round<L: Site, R: Wait>(
     Ok(())
 }
 
-// How many bytes a call asks for where so many are left.
+// How many bytes a call asks for if this many are left.
 fn most_of(left: usize) -> u16
     requires { 0 < left }
     ensures { 0 < result }
@@ -104,7 +104,7 @@ fn talk_as_client<L: Site, R: Wait>(
     caller.done(rt, recorder, Call::Close(socket))
 }
 
-/// Host 1's application listens. That is answered at once.
+/// Host 1's application listens, which is answered at once.
 pub(crate) fn listen<L: Site, R: Wait>(
     rt: &R,
     recorder: &Recorder<L>,
@@ -147,7 +147,7 @@ fn talk_as_server<L: Site, R: Wait>(
 pub(crate) struct Ended<L: Site> {
     pub(crate) seat: Seat<L>,
     pub(crate) receipts: Vec<Receipt>,
-    /// Whether it came to its end.
+    /// Whether it ended as planned.
     pub(crate) whole: bool,
 }
 
@@ -172,7 +172,7 @@ pub(crate) fn run_client<L: Site, R: Wait>(
     }
 }
 
-/// Runs host 1's application, where it listens.
+/// Runs host 1's application, which listens.
 pub(crate) fn run_server<L: Site, R: Wait>(
     rt: &R,
     recorder: &Recorder<L>,

@@ -19,7 +19,7 @@ use std::thread::{JoinHandle, Scope, Threads};
 /// How many turns each loop has.
 pub(crate) const TURNS: u64 = 2_000_000;
 
-/// Both ends of the way of a host's segments, and what becomes of them.
+/// Both ends of the wire for a host's segments, and what becomes of them.
 #[derive(Drop)]
 pub(crate) struct Way<F: Drop> {
     out: Sender<Flying, Global>,
@@ -29,7 +29,7 @@ pub(crate) struct Way<F: Drop> {
 }
 
 impl<F: Drop> Way<F> {
-    /// A new way for segments of which this becomes.
+    /// A new wire for segments, with this fate.
     pub(crate) fn new(alloc: Global, wire: Wire<F>) -> Result<Way<F>, OutOfMemory> {
         let (out, from) = unbounded::<Flying, Global>(alloc)?;
         let Wire { fate, taken } = wire;
@@ -42,8 +42,8 @@ impl<F: Drop> Way<F> {
     }
 }
 
-// A host's side of both ways: where its segments go out and what becomes of them, and where those of the other host
-// come in.
+// A host's side of both wires: where its segments are sent and what becomes of them, and where those of the other host
+// arrive.
 #[derive(Drop)]
 struct Link<F: Drop> {
     out: Sender<Flying, Global>,
@@ -52,7 +52,7 @@ struct Link<F: Drop> {
     taken: u64,
 }
 
-// Both sides of the way of host 0's segments and of that back.
+// Both sides of the wire for host 0's segments and of the one back.
 fn links_of<F: Drop, G: Drop>(there: Way<F>, back: Way<G>) -> (Link<F>, Link<G>) {
     let zero = Link {
         out: there.out,
@@ -76,8 +76,8 @@ pub(crate) struct Place<'a, L: Site> {
     pub(crate) seat: Seat<L>,
 }
 
-/// Runs both applications and all loops until they end. Where a thread can't be started: out of memory if memory is
-/// refused at that time, else a fault of the device.
+/// Runs both applications and all loops until they end. The error if a thread can't be started: out of memory if memory
+/// is refused at that time, else a fault of the device.
 pub(crate) fn run_threads<
     L: Site + Send + Sync,
     M: Site + Send + Sync,
@@ -137,7 +137,7 @@ pub(crate) fn run_threads<
     )
 }
 
-// Host 0's application in its thread. Where it halts, all else ends.
+// Host 0's application in its thread. If it halts, all else ends.
 fn ask<L: Site, M: Site, R: Wait>(
     rt: &R,
     alloc: Global,
@@ -154,7 +154,7 @@ fn ask<L: Site, M: Site, R: Wait>(
     ended
 }
 
-// That of host 1.
+// Host 1's application in its thread.
 fn serve<L: Site, M: Site, R: Wait>(
     rt: &R,
     zero: &Recorder<L>,
@@ -171,7 +171,7 @@ fn serve<L: Site, M: Site, R: Wait>(
     ended
 }
 
-// Waits for both applications, and then ends the loops. Where a thread was refused all is ended at once.
+// Waits for both applications, and then ends the loops. If a thread was refused, ends all at once.
 fn end_both<L: Site, M: Site, R: Threads + Wait>(
     rt: &R,
     zero: &Recorder<L>,
@@ -193,8 +193,7 @@ fn end_both<L: Site, M: Site, R: Threads + Wait>(
     }
 }
 
-// How many blocks of memory are asked for, and how large the first is: that of a thread's stack, where nothing else is
-// said.
+// How many blocks of memory are requested, and how large the first is: as large as a thread's stack by default.
 const ASKED_BLOCKS: usize = 32;
 
 const STACK_BYTES: usize = 8_388_608;
@@ -213,8 +212,8 @@ fn ask_room(alloc: Global) -> Result<usize, OutOfMemory> {
     Ok(blocks.len())
 }
 
-// Why not all threads started, asked while those that did hold their memory. A refused thread comes back with no cause,
-// so memory is asked for: if it is refused, memory is the cause.
+// Why not all threads started, found while those that did hold their memory. A refused thread gives no cause, so memory
+// is requested: if that is refused, memory is the cause.
 fn why_not(alloc: Global, all: bool) -> Option<RecordFault> {
     if all {
         return None;
@@ -225,7 +224,7 @@ fn why_not(alloc: Global, all: bool) -> Option<RecordFault> {
     }
 }
 
-// A thread of the scope. If it is refused it is asked for once more: a refusal of memory may be the only one. None: it
+// A thread of the scope. If it is refused, it is requested once more: a refusal of memory may be the only one. None: it
 // is refused again.
 fn start<'s, E, F: FnOnce() -> T + Send + Drop + 's, T: Send + Drop + 's>(
     scope: &Scope<'s, E>,
@@ -239,7 +238,8 @@ fn start<'s, E, F: FnOnce() -> T + Send + Drop + 's, T: Send + Drop + 's>(
     }
 }
 
-// Starts the loops of a host, each in a thread of its own, for which the scope waits. Whether all of them started.
+// Starts the loops of a host, each in a thread of its own, for which the scope waits. The result is whether all of them
+// started.
 fn start_loops<
     's,
     E,
@@ -266,7 +266,7 @@ fn start_loops<
     lets_out && lets_in && lets_pass
 }
 
-// What a thread answered, once it ended. None: it was not started.
+// What a thread returned, once it ended. None: it was not started.
 fn joined<T: Drop, R: Threads + Wait>(rt: &R, handle: Option<JoinHandle<T>>) -> Option<T> {
     let handle = handle?;
     Some(handle.join(rt))
@@ -289,7 +289,7 @@ fn stop_unless<L: Site, M: Site, R: Wait>(
     }
 }
 
-// Lets a host's segments out. As it ends, all else does.
+// Sends a host's segments. When it ends, all else does.
 fn let_out<L: Site, M: Site, F: WireFate + Drop, R: Wait>(
     rt: &R,
     mine: &Recorder<L>,
@@ -301,7 +301,7 @@ fn let_out<L: Site, M: Site, F: WireFate + Drop, R: Wait>(
     stop_both(rt, mine, other);
 }
 
-// Lets the other host's segments in, so many of them. As it ends, all else does.
+// Receives the other host's segments, this many of them. When it ends, all else does.
 fn let_in<L: Site, M: Site, R: Wait>(
     rt: &R,
     mine: &Recorder<L>,
@@ -313,7 +313,7 @@ fn let_in<L: Site, M: Site, R: Wait>(
     stop_both(rt, mine, other);
 }
 
-// Lets a host's time pass. As it ends, all else does.
+// Lets a host's time pass. When it ends, all else does.
 fn let_pass<L: Site, M: Site, R: Wait>(rt: &R, mine: &Recorder<L>, other: &Recorder<M>) {
     let _ = mine.timer_loop(rt, TURNS);
     stop_both(rt, mine, other);

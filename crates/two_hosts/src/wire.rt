@@ -1,18 +1,18 @@
-//! What becomes of the segments of both hosts on their way.
+//! What becomes of the segments of both hosts in transit.
 
 use recorder::LoseEach;
 
-/// The way of one host's segments to the other.
+/// The wire from one host to the other.
 #[derive(Clone, Copy)]
 pub struct Wire<F> {
     /// What becomes of each segment.
     pub fate: F,
-    /// How many segments the other host takes before it closes its end.
+    /// How many segments the other host receives before it closes its end.
     pub taken: u64,
 }
 
 impl Wire<LoseEach> {
-    /// Each `every`-th segment is lost, none where `every` is 0, and the end stays open for so many segments.
+    /// Each `every`-th segment is lost, or none if `every` is 0, and the end stays open for this many segments.
     pub fn losing(every: u32, taken: u64) -> Wire<LoseEach> {
         Wire {
             fate: LoseEach::new(every),
@@ -26,8 +26,8 @@ impl Wire<LoseEach> {
 pub struct Talk<F, G> {
     /// How many rounds there are.
     pub rounds: u16,
-    /// The way of host 0's segments.
+    /// The wire for host 0's segments.
     pub there: Wire<F>,
-    /// The way of host 1's segments.
+    /// The wire for host 1's segments.
     pub back: Wire<G>,
 }

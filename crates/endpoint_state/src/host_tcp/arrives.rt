@@ -1,5 +1,5 @@
-//! A segment arrives (RFC 9293, 3.10.7): whom it finds, what that one may do, and what it does. What finds nothing is
-//! answered by a reset (3.5.2).
+//! A segment arrives (RFC 9293, 3.10.7): which endpoint or listener it finds, what that may do, and what it does. A
+//! segment that finds neither is answered by a reset (3.5.2).
 
 ghost use Rattle.std.specs.Prelude.{◌≡◌, ◌<◌, ◌+◌, ◌^◌, Some, length, [], ◌∷◌, ◌++◌, IfOk, OnOk, OnErr};
 ghost use Rattle.std.specs.List.{All};
@@ -31,7 +31,7 @@ use std::alloc::Global;
 use verdict::Rule;
 use window_rules::Profile;
 
-/// Whom a segment finds (RFC 9293, 3.10.7): the endpoint of its ports that is not CLOSED, or else the open listener on
+/// What a segment finds (RFC 9293, 3.10.7): the endpoint of its ports that is not CLOSED, or else the open listener on
 /// its destination port.
 #[derive(Clone, Copy)]
 pub(crate) enum Found {
@@ -42,7 +42,7 @@ pub(crate) enum Found {
 }
 
 impl HostTcp {
-    /// Whom a segment finds that comes in. None: no such endpoint or listener.
+    /// What an arriving segment finds. None: no such endpoint or listener.
     pub(crate) fn taker(&self, m: &Emission) -> Option<Found>
         ensures taker { taker_found self.now result ≡ taker self.now m.now }
         ensures open { IfSome result (IsOpen self.now) }
@@ -79,7 +79,8 @@ impl HostTcp {
         }
     }
 
-    /// Who may take a segment that came in (RFC 9293, 3.10.7). An error is the first rule that is broken.
+    /// Which endpoint or listener may take a segment that arrived (RFC 9293, 3.10.7). The error is the first broken
+    /// rule.
     pub(crate) fn admitted_taking(
         &self,
         header: &Header,
@@ -175,8 +176,8 @@ impl HostTcp {
         }
     }
 
-    /// This host takes a segment that came in, at a moment in microseconds (RFC 9293, 3.10.7). An error is the first
-    /// rule that is broken, or that memory ran out; nothing is changed then.
+    /// This host takes a segment that arrived, at a moment in microseconds (RFC 9293, 3.10.7). The error is the first
+    /// broken rule, or that memory ran out; nothing is changed then.
     #[tactic(auto, using(crate::proofs::BodyLemmas::body_same, crate::proofs::Readable::room_reads))]
     pub(crate) fn take(
         &mut self,
@@ -290,7 +291,7 @@ impl HostTcp {
         }
     }
 
-    /// Whether a reset may answer a segment that came in (RFC 9293, 3.5.2). An error is the first rule that is broken.
+    /// Whether a reset may answer a segment that arrived (RFC 9293, 3.5.2). The error is the first broken rule.
     pub(crate) fn admits_reset(&self, m: &Emission) -> Result<(), Rule>
         ensures { result_err result ≡ first_broken (reset_rules self.now m.now) }
     {
@@ -331,7 +332,7 @@ fn joins_by(endpoint: &Endpoint, m: &Arrived<'_>) -> Option<u32>
     }
 }
 
-// Before the connection stands, an acknowledgment of another number than the own SYN's.
+// Before the connection is established, an acknowledgment of a number other than that of its own SYN.
 fn is_stray_ack(endpoint: &Endpoint, m: &Emission) -> bool
     ensures { result ≡ is_stray_ack endpoint.now m.now }
 {

@@ -1,4 +1,4 @@
-//! Socket calls (RFC 9293, 3.9.1 and 3.10): which answers they may have, and what a host has then.
+//! Socket calls (RFC 9293, 3.9.1 and 3.10): which answers they may have, and what the host's state is then.
 
 ghost use Rattle.std.specs.Prelude.{◌≡◌, ◌<◌, ◌+◌, ◌^◌, None, Some, false, true, length, [], ◌∷◌, ◌++◌};
 ghost use Rattle.std.specs.Prelude.{OnOk, OnErr, slice_get};
@@ -149,7 +149,7 @@ impl HostTcp {
         }
     }
 
-    // `recv`: these bytes are delivered, which wait.
+    // `recv`: these waiting bytes are delivered.
     #[tactic(auto, using(crate::proofs::BodyLemmas::body_same))]
     fn deliver(&mut self, number: u32, bytes: &[u8])
         requires kept { All HasRoom self.old.endpoints }
@@ -193,10 +193,11 @@ impl HostTcp {
         }
     }
 
-    // A listener is gone, and with it its children that were not accepted.
+    // A listener ends, and with it its children that were not accepted.
     fn end_listener(&mut self, place: u32, number: u32)
         requires { All HasRoom self.old.endpoints }
-        ensures { self.new ≡ forget_body (record (without_listener self.old place) { sockets = dead self.old.sockets number }) }
+        ensures { self.new ≡ forget_body
+            (record (without_listener self.old place) { sockets = dead self.old.sockets number }) }
     {
         self.listeners.close(place);
         self.endpoints.orphan(place);
@@ -235,7 +236,7 @@ impl HostTcp {
         Ok(())
     }
 
-    // The first child that stands in a listener's queue.
+    // The first child in a listener's queue.
     fn first_child(&self, place: u32) -> Option<u32>
         ensures { result ≡ slice_get (queue_of self.now place) 0 }
     {
@@ -245,8 +246,8 @@ impl HostTcp {
         }
     }
 
-    // What ends, once a call was answered `done`: with `shut` the sending, with `close` and `abort` what the socket
-    // number names.
+    // What ends once a call is answered `ok`: for `shut` the sending, for `close` and `abort` what the socket number
+    // names.
     #[tactic(auto, using(crate::proofs::BodyLemmas::body_same))]
     fn end(&mut self, profile: Profile, call: &Call)
         requires { All HasRoom self.old.endpoints }
@@ -266,7 +267,7 @@ impl HostTcp {
         }
     }
 
-    /// What this host has once a call got an answer that it may have (RFC 9293, 3.9.1 and 3.10). If memory runs out,
+    /// The host's state after a call got an answer that it may have (RFC 9293, 3.9.1 and 3.10). If memory runs out,
     /// nothing is changed.
     #[tactic(auto, using(crate::proofs::BodyLemmas::body_same))]
     pub(crate) fn do_call(

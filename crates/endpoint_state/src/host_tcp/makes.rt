@@ -20,8 +20,8 @@ use std::alloc::Global;
 use verdict::Rule;
 
 impl HostTcp {
-    /// The place of the endpoint that may make this segment (RFC 9293, 3.8 and 3.10). An error is the first rule that
-    /// is broken.
+    /// The place of the endpoint that may make this segment (RFC 9293, 3.8 and 3.10). The error is the first broken
+    /// rule.
     pub(crate) fn admitted_making(&self, plan: &SegmentPlan) -> Result<u32, Rule>
         requires kept { All HasRoom self.now.endpoints }
         requires small { plan.now.pos ≤ greatest_position }

@@ -15,7 +15,7 @@ use endpoint::admits_recovery;
 use verdict::Rule;
 
 impl HostTcp {
-    /// The place of the endpoint where fast recovery may begin. An error is the first rule that is broken.
+    /// The place of the endpoint where fast recovery may begin. The error is the first broken rule.
     pub(crate) fn admitted_recovery(&self, recovery: Recovery, moment: u64) -> Result<u32, Rule>
         ensures rule { result_err result ≡ first_broken (recovering_rules moment recovery self.now) }
         ensures place { IfOk result (λ place. place_of self.now recovery.lport recovery.rport ≡ Some place) }
@@ -25,7 +25,7 @@ impl HostTcp {
         Ok(place)
     }
 
-    /// Fast recovery begins. An error is the first rule that is broken; nothing is changed then.
+    /// Fast recovery begins. The error is the first broken rule; nothing is changed then.
     #[tactic(auto, using(crate::proofs::BodyLemmas::body_same))]
     pub(crate) fn recover(&mut self, recovery: Recovery, moment: u64) -> Result<(), Rule>
         requires { All HasRoom self.old.endpoints }

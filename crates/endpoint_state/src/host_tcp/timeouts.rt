@@ -15,8 +15,8 @@ use endpoint::admits_expiry;
 use verdict::Rule;
 
 impl HostTcp {
-    /// The place of the endpoint of these ports whose timer may expire at this moment, in microseconds. An error is the
-    /// first rule that is broken.
+    /// The place of the endpoint of these ports whose timer may expire at this moment, in microseconds. The error is
+    /// the first broken rule.
     pub(crate) fn admitted_expiry(
         &self,
         header: &Header,
@@ -32,8 +32,8 @@ impl HostTcp {
         Ok(place)
     }
 
-    /// The timer of the endpoint of these ports expires, at a moment in microseconds. An error is the first rule that
-    /// is broken; nothing is changed then.
+    /// The timer of the endpoint of these ports expires, at a moment in microseconds. The error is the first broken
+    /// rule; nothing is changed then.
     #[tactic(auto, using(crate::proofs::BodyLemmas::body_same))]
     pub(crate) fn expire(
         &mut self,

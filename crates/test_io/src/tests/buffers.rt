@@ -3,14 +3,14 @@
 use std::alloc::{AllocError, Global};
 use streams::{ReceiveBuffer, Transmissions};
 
-// A buffer that took the SYN.
+// A buffer that has taken the SYN.
 fn met(alloc: Global) -> ReceiveBuffer {
     let mut buffer = ReceiveBuffer::new(alloc);
     buffer.take_syn();
     buffer
 }
 
-// Keeps these bytes if they may be kept; the answer is the next position then.
+// Keeps these bytes if they may be kept; the result is the next position then.
 fn keep(
     buffer: &mut ReceiveBuffer,
     position: u64,
@@ -32,7 +32,7 @@ fn deliver(alloc: Global, buffer: &mut ReceiveBuffer, most: usize) -> Result<Vec
     Ok(bytes)
 }
 
-// No byte takes time that grows with those that wait.
+// The time for a byte doesn't grow with the number of those that wait.
 #[test]
 fn bytes_come_from_the_last_to_the_first(rt: HostRuntime) -> Result<(), AllocError> {
     let mut buffer = met(rt.alloc());
@@ -45,7 +45,7 @@ fn bytes_come_from_the_last_to_the_first(rt: HostRuntime) -> Result<(), AllocErr
     Ok(())
 }
 
-// No making takes time that grows with those before it.
+// The time to make a segment doesn't grow with the number made before.
 #[test]
 fn segments_are_made_over_and_over(rt: HostRuntime) -> Result<(), AllocError> {
     let mut transmissions = Transmissions::new(rt.alloc());

@@ -1,7 +1,7 @@
 //! Each call of a `Counted` makes one call of its end, fails if that fails, and at no other; loops go on to the last
 //! piece, or up to the call that fails.
 //!
-//! What happens at an end is one word a call: what was answered, and `x` for a failure.
+//! What happens at an end is one word per call: the answer, or `x` for a failure.
 
 use crate::tests::ends::{Sink, Source};
 use counted::{Counted, ReadFault};
@@ -76,7 +76,7 @@ fn a_piece_is_one_call(rt: HostRuntime) -> Result<(), Fail> {
     Ok(())
 }
 
-// What one reading of all has read, whether it failed, and how many calls it made; and the same once more.
+// What one call that reads all has read, whether it failed, and how many calls it made; and the same once more.
 fn all_read(alloc: Global, fails_at: u32) -> Result<String, AllocError> {
     let mut source = Source::new(b"abcde", 2, fails_at);
     let mut told = String::new(alloc);
@@ -144,7 +144,7 @@ fn a_write_is_one_call(rt: HostRuntime) -> Result<(), Fail> {
     Ok(())
 }
 
-// What was taken of a writing of all, whether it failed, and how many calls it made.
+// What was taken of one call that writes all, whether it failed, and how many calls it made.
 fn all_written(alloc: Global, fails_at: u32) -> Result<String, AllocError> {
     let mut sink = Sink::new(alloc, fails_at);
     let mut writer = Counted::new(&mut sink);

@@ -1,10 +1,10 @@
-//! A reader and a writer that count their calls, give or take a few bytes a call, and fail at one of them.
+//! A reader and a writer that count their calls, handle a few bytes a call, and fail at one call.
 
 use std::alloc::Global;
 use std::io;
 use std::io::{BufRead, ErrorKind, Read, Write};
 
-// The failure of a call. A call that is interrupted is not made again.
+// The failure of a call. A call that is interrupted isn't repeated.
 fn unplugged() -> io::Error {
     io::Error::new(ErrorKind::Interrupted, "unplugged")
 }
@@ -21,7 +21,7 @@ pub(crate) struct Source<'a> {
 }
 
 impl Source<'_> {
-    /// A reader of these bytes, of which nothing is read yet.
+    /// A reader of these bytes, before anything is read.
     pub(crate) fn new(left: &[u8], size: usize, fails_at: u32) -> Source<'_> {
         Source {
             left,
@@ -31,7 +31,7 @@ impl Source<'_> {
         }
     }
 
-    // One call more: how many bytes it gives.
+    // Counts one more call, and returns how many bytes it gives.
     fn one_more(&mut self) -> io::Result<usize> {
         self.calls = self.calls.saturating_add(1);
         if self.calls == self.fails_at {

@@ -50,7 +50,7 @@ fn offer_all(window: &mut Window, lines: &[(u64, u32)]) -> Result<(), OutOfMemor
     Ok(())
 }
 
-// A step takes no time that grows with the lines.
+// The time for a step doesn't grow with the number of lines.
 #[test]
 fn many_lines_wait_at_once(rt: HostRuntime) {
     let mut lines = Vec::new(rt.alloc());

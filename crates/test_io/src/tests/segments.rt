@@ -1,4 +1,4 @@
-//! What is written of segments.
+//! Segments as they are written.
 
 mod encoding;
 

@@ -113,7 +113,7 @@ fn word<T>(read: &Result<Option<T>, SourceFault>) -> &'static str {
     }
 }
 
-// What is read of a header of version 1 and these lines, then how many of the calls failed.
+// What is read from a header of version 1 and these lines, then how many of the calls failed.
 fn trace_read(alloc: Global, lines: &str, fails_at: u32) -> Result<String, AllocError> {
     let text = format!(in alloc; "trace 1\nskew 0\nmsl 1\ngrain 1\nminrto 1\nextra 0\n{lines}")?;
     let mut source = Source::new(text.as_bytes(), 4096, fails_at);
@@ -149,7 +149,7 @@ fn a_trace_is_read_up_to_a_failure(rt: HostRuntime) -> Result<(), Fail> {
     Ok(())
 }
 
-// What is read of this witness of version 1, then how many of the calls failed.
+// What is read from this witness of version 1, then how many of the calls failed.
 fn witness_read(alloc: Global, text: &[u8], fails_at: u32) -> Result<String, AllocError> {
     let mut source = Source::new(text, 4096, fails_at);
     let mut reader = StepReader::new(alloc, Version::One, Counted::new(&mut source));

@@ -71,7 +71,7 @@ const WITNESS: &str = "witness 1\n\
 130 D 1 data 68656c6c6f\n\
 131 L 24\n";
 
-// What a case in two texts is answered, then how many calls of each reader failed.
+// The answer to a case in two texts, then how many calls of each reader failed.
 fn told(
     alloc: Global,
     answer: &Result<Verdict, CaseFault>,
@@ -90,7 +90,7 @@ fn told(
     }
 }
 
-// The answer to these two texts, of which so many bytes are read a call, and one call fails or none.
+// The answer to these two texts, with so many bytes read in each call, and one call that fails or none.
 fn judged(
     alloc: Global,
     texts: (&str, &str),
@@ -122,8 +122,7 @@ fn a_read_that_fails_is_no_verdict(rt: HostRuntime) -> Result<(), Fail> {
     Ok(())
 }
 
-// The first step takes a line of a moment that is not reached, and after its line the trace ends in one that can't be
-// read.
+// The first step takes a line whose moment isn't reached, and the line after it, the trace's last, can't be read.
 #[test]
 fn a_fault_of_the_trace_behind_a_broken_step_is_told(rt: HostRuntime) -> Result<(), Fail> {
     let trace =
@@ -137,15 +136,15 @@ fn a_fault_of_the_trace_behind_a_broken_step_is_told(rt: HostRuntime) -> Result<
     Ok(())
 }
 
-// What two readers handed out, one line a call.
+// What two readers returned, one line per call.
 #[derive(Drop)]
 struct Handed {
     /// Lines of the trace.
     trace: Cell<u64>,
     /// Lines of the witness.
     witness: Cell<u64>,
-    /// How many lines of the trace after its header were at most handed out, beyond those that are placed, as the
-    /// witness was asked for a line.
+    /// The greatest number of lines of the trace after its header that were returned, beyond those that are placed,
+    /// when the witness was asked for a line.
     ahead: Cell<u64>,
 }
 
@@ -164,7 +163,7 @@ impl Handed {
     }
 }
 
-// A reader that hands out one line a call, and notes it.
+// A reader that returns one line per call, and notes it.
 #[derive(Drop)]
 struct ByLines<'a, 'h> {
     left: &'a [u8],
@@ -220,7 +219,7 @@ fn many_calls(alloc: Global, calls: u32) -> Result<(String, String), AllocError>
     Ok((trace, witness))
 }
 
-// The answer to so many calls, then how many lines of the trace were handed out, and whether at most two ahead of the
+// The answer to so many calls, then how many lines of the trace were returned, and whether at most two ahead of the
 // steps.
 fn judged_by_lines(alloc: Global, calls: u32) -> Result<String, AllocError> {
     let (trace, witness) = many_calls(alloc, calls)?;
@@ -247,7 +246,7 @@ fn judged_by_lines(alloc: Global, calls: u32) -> Result<String, AllocError> {
     format!(in alloc; "{told} {lines} {is_bounded}")
 }
 
-// At each step the header, the lines that are placed, and at most two more were handed out.
+// At each step the header, the lines that are placed, and at most two more were returned.
 #[test]
 fn no_more_of_a_trace_is_read_than_steps_need(rt: HostRuntime) -> Result<(), Fail> {
     let told = judged_by_lines(rt.alloc(), 100_000)?;

@@ -1,4 +1,4 @@
-//! Cases under gates that hold them, by several numbers of workers.
+//! Cases under gates that hold them, with several numbers of workers.
 
 use checker::CaseFault;
 use line_fields::{FaultKind, Span, TextFault};
@@ -23,7 +23,7 @@ const CUT: &str = "witness 1\n10 L 7\n11 D 1 ok 5\n12 L 8\n12 D 2 state LISTEN\n
 // How many turns a wait has at most.
 const MOST_TURNS: u64 = 2_000_000;
 
-// What a case counts once it was let in and then out, each once.
+// What a case counts once it has entered and left, each once.
 const THROUGH: u64 = 101;
 
 // Holds one case until another is checked, for a number of turns at most, and counts the calls of each of three cases.
@@ -45,7 +45,7 @@ impl Holds {
         }
     }
 
-    // Adds to the calls of a case, and far more if they were not as many as they should be.
+    // Adds to the calls of a case, and far more if they weren't as many as they should be.
     fn count(&self, case: usize, due: u64, more: u64) {
         if case < 3 {
             let before = self.calls[case].fetch_add(more, Ordering::SeqCst);

@@ -1,4 +1,4 @@
-//! Talks by chance: segments meet drawn fates, a window closes, both ends close, some at once, and TIME-WAIT ends.
+//! Random talks: segments have drawn fates, a window closes, both ends close, sometimes at once, and TIME-WAIT ends.
 
 ghost use Rattle.std.specs.Prelude.{◌≡◌};
 ghost use Rattle.case_forms.specs.declared.calls.Host.TheVariants.{Zero, One};
@@ -12,10 +12,10 @@ use recorder::Site;
 use std::alloc::Global;
 use std::sync::Wait;
 
-// How often segments go both ways before what is left to do is looked at.
+// How often segments are exchanged before checking what is left to do.
 const EXCHANGES: u32 = 6;
 
-// Segments go both ways with drawn fates, and both clocks go on.
+// Segments are exchanged with drawn fates, and both clocks advance.
 fn exchange_by_chance<L: Site, M: Site, R: Wait>(
     rt: &R,
     alloc: Global,
@@ -31,7 +31,7 @@ fn exchange_by_chance<L: Site, M: Site, R: Wait>(
     Some(())
 }
 
-// All segments go both ways, until what was lost was sent again.
+// All segments are exchanged, until what was lost was retransmitted.
 fn settle<L: Site, M: Site, R: Wait>(rt: &R, alloc: Global, pair: &Pair<L, M>) -> Option<()> {
     for _ in 0..EXCHANGES {
         pair.exchange(rt, alloc, 2)?;
@@ -40,7 +40,7 @@ fn settle<L: Site, M: Site, R: Wait>(rt: &R, alloc: Global, pair: &Pair<L, M>) -
     Some(())
 }
 
-// Both ends close: at once, or host 1's once it heard of host 0's.
+// Both ends close: at once, or host 1 after it received host 0's FIN.
 fn close_both<L: Site, M: Site, R: Wait>(
     rt: &R,
     alloc: Global,
@@ -60,8 +60,8 @@ fn close_both<L: Site, M: Site, R: Wait>(
     pair.cross(rt, alloc)
 }
 
-/// Host 0 fills host 1's ring over a wire that loses, doubles and holds back, sends ten bytes more, which wait until
-/// host 1 reads, and both close; with an odd seed at once.
+/// Host 0 fills host 1's ring over a wire that loses, duplicates and delays segments. It sends ten more bytes, which
+/// wait until host 1 reads, and both close; with an odd seed at once.
 pub fn talk_by_chance<L: Site, M: Site, R: Wait>(
     rt: &R,
     alloc: Global,

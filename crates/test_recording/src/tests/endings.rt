@@ -15,13 +15,13 @@ use std::sync::Wait;
 /// As many bytes as a ring has room for.
 pub const RING: usize = 4_096;
 
-/// More turns of a millisecond than the first retransmission timeout has.
+/// More turns of a millisecond than the first retransmission timeout takes.
 pub const TIMEOUT_TURNS: u64 = 1_100;
 
-/// As many turns of a millisecond as twice the longest life of a segment has, and one more.
+/// As many turns of a millisecond as twice the maximum segment lifetime takes, and one more.
 pub const LIFE_TURNS: u64 = 4_001;
 
-/// So many bytes.
+/// This many bytes.
 pub fn zeros(alloc: Global, count: usize) -> Option<Bytes>
     requires { (0 < count) × (count ≤ 4096) }
     ensures { IfSome result (λ bytes. length bytes ≡ count) }
@@ -29,7 +29,7 @@ pub fn zeros(alloc: Global, count: usize) -> Option<Bytes>
     Bytes::from_slice(alloc, &[0; RING][..count]).ok()
 }
 
-/// Both hosts close before either hears of it, and wait until TIME-WAIT ends.
+/// Both hosts close before either receives the other's FIN, and wait until TIME-WAIT ends.
 pub fn close_at_once<L: Site, M: Site, R: Wait>(
     rt: &R,
     alloc: Global,
@@ -47,7 +47,7 @@ pub fn close_at_once<L: Site, M: Site, R: Wait>(
     Some(matches!((closed, also), (Answer::Done, Answer::Done)))
 }
 
-/// Host 0 sends more than host 1 has room for, probes the window of 0, and goes on once host 1 has read.
+/// Host 0 sends more than host 1 has room for, probes the window of 0, and continues once host 1 has read.
 pub fn probe_a_window<L: Site, M: Site, R: Wait>(
     rt: &R,
     alloc: Global,
@@ -72,7 +72,7 @@ pub fn probe_a_window<L: Site, M: Site, R: Wait>(
     })
 }
 
-/// The first of four segments is lost, and the others tell host 0 so.
+/// The first of four segments is lost, which the acknowledgments of the others show host 0.
 pub fn lose_the_first<L: Site, M: Site, R: Wait>(
     rt: &R,
     alloc: Global,

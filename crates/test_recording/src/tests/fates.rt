@@ -9,7 +9,7 @@ pub struct Drawn {
 }
 
 impl Drawn {
-    /// The fates of this seed.
+    /// The fates drawn from this seed.
     pub fn new(state: u32) -> Drawn {
         Drawn { state }
     }

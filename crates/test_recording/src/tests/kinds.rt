@@ -47,7 +47,7 @@ pub struct Kinds {
     recoveries: u32,
     /// Persist timers that expired.
     probes: u32,
-    /// Recordings in which both hosts sent a FIN before one came in.
+    /// Recordings in which both hosts sent a FIN before one arrived.
     closes: u32,
     /// Waits in TIME-WAIT that ended.
     ends: u32,
@@ -65,7 +65,7 @@ impl Kinds {
         }
     }
 
-    /// What appears in this recording appeared, too.
+    /// Adds what appears in this recording.
     pub fn add(&mut self, recorded: &Recorded) {
         let lines = recorded.trace.lines.as_slice();
         let steps = recorded.witness.steps.as_slice();
@@ -83,7 +83,7 @@ impl Kinds {
     }
 }
 
-// Whether both hosts sent a FIN before one came in.
+// Whether both hosts sent a FIN before one arrived.
 fn cross(lines: &[Line]) -> bool {
     let (mut zero, mut one) = (false, false);
     for line in lines {

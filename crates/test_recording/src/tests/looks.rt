@@ -1,4 +1,4 @@
-//! The book of one host is held while the other host goes on.
+//! The book of one host is held while the other host continues.
 
 ghost use Rattle.std.specs.Prelude.{◌≡◌};
 ghost use Rattle.case_forms.specs.declared.calls.Host.TheVariants.{Zero, One};
@@ -32,7 +32,7 @@ fn is_set(flag: &AtomicBool) -> bool {
     false
 }
 
-// Asks for the state of a socket number that is nobody's, once host 0's book is held.
+// Asks for the state of a socket number that nobody has, once host 0's book is held.
 fn ask_meanwhile<M: Site, R: Wait>(
     rt: &R,
     one: &Recorder<M>,
@@ -85,7 +85,7 @@ fn is_answered_meanwhile<L: Site + Send + Sync, M: Site + Send + Sync, R: Thread
     )
 }
 
-// The same of new recorders. None: there was no seat, or memory ran out.
+// The same for new recorders. None: there was no seat, or memory ran out.
 fn look_and_ask<L: Site + Send + Sync, M: Site + Send + Sync, R: Threads + Wait + Sync>(
     rt: &R,
     alloc: Global,

@@ -28,7 +28,7 @@ fn own_socket(thread: u32, socket: u32) -> Option<u32>
     Some(socket)
 }
 
-/// None where a loop ended since memory ran out, so that no call waits for a segment that never comes.
+/// None if a loop ended because memory ran out, so that no call waits for a segment that never arrives.
 pub fn had_memory(end: LoopEnd) -> Option<()> {
     match end {
         LoopEnd::OutOfMemory => None,
@@ -44,7 +44,7 @@ pub struct Side<L: Site> {
 }
 
 impl<L: Site> Side<L> {
-    /// A host that recorded nothing yet, with that thread. None: the thread can have no seat, or memory ran out.
+    /// A host that has recorded nothing yet, with that thread. None: the thread can't have a seat, or memory ran out.
     pub fn new<R: Wait>(
         rt: &R,
         alloc: Global,
@@ -75,7 +75,7 @@ impl<L: Site> Side<L> {
         }
     }
 
-    /// Calls, and gives the answer. None: the call was refused, or memory ran out.
+    /// Makes a call, and returns the answer. None: the call was refused, or memory ran out.
     pub fn call<R: Wait>(&mut self, rt: &R, call: Call) -> Option<Answer>
         requires lane { lane self.old.seat.thread ≡ L.host }
         requires aims { Aims L.host (aim call) }
@@ -88,7 +88,7 @@ impl<L: Site> Side<L> {
         receipt.answered.answer().copy().ok()
     }
 
-    /// A call that gives a socket number of the own host.
+    /// A call that gives a socket number of its own host.
     pub fn socket<R: Wait>(&mut self, rt: &R, call: Call) -> Option<u32>
         requires lane { lane self.old.seat.thread ≡ L.host }
         requires aims { Aims L.host (aim call) }
@@ -102,7 +102,7 @@ impl<L: Site> Side<L> {
         }
     }
 
-    /// The book, in the end.
+    /// The book, at the end.
     pub fn finish<R: Wait>(self, rt: &R, alloc: Global) -> Option<HostBook>
         requires { L.parts ≡ 65535 }
         ensures { IfSome result (λ b. (b.core.recorded.me ≡ L.host) × (b.core.recorded.header ≡ L.header)) }
@@ -121,7 +121,7 @@ impl<L: Site> Side<L> {
     }
 }
 
-/// As many segments of one host as go out in so many turns come in at the other. None: memory ran out.
+/// The segments that one host sends in so many turns arrive at the other. None: memory ran out.
 pub fn carry<L: Site, M: Site, R: Wait>(
     rt: &R,
     alloc: Global,
@@ -134,7 +134,7 @@ pub fn carry<L: Site, M: Site, R: Wait>(
     had_memory(to.receive_loop(rt, into, turns))
 }
 
-/// The segments of four turns of one host meet these fates; up to eight come in at the other. None: memory ran out.
+/// The segments of four turns of one host have these fates; up to eight arrive at the other. None: memory ran out.
 pub fn carry_by<L: Site, M: Site, F: WireFate + Drop, R: Wait>(
     rt: &R,
     alloc: Global,
@@ -155,7 +155,7 @@ pub struct Pair<L: Site, M: Site> {
 }
 
 impl<L: Site, M: Site> Pair<L, M> {
-    /// So often the segments of host 0 come in at host 1, and then those of host 1 at host 0.
+    /// This many times, the segments of host 0 arrive at host 1, and then those of host 1 at host 0.
     pub fn exchange<R: Wait>(&self, rt: &R, alloc: Global, times: u8) -> Option<()> {
         for _ in 0..times {
             carry(rt, alloc, &self.zero.recorder, &self.one.recorder, 4)?;
@@ -193,7 +193,7 @@ impl<L: Site, M: Site> Pair<L, M> {
         Some((socket, child))
     }
 
-    /// Both clocks go on by so many milliseconds.
+    /// Both clocks advance by so many milliseconds.
     pub fn wait<R: Wait>(&self, rt: &R, milliseconds: u64) {
         let _ = self.zero.recorder.timer_loop(rt, milliseconds);
         let _ = self.one.recorder.timer_loop(rt, milliseconds);

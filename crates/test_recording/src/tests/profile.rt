@@ -1,4 +1,4 @@
-//! What two hosts of a recording tell at first, and in which threads.
+//! What the first segments of both hosts of a recording carry, and in which threads their lines are.
 
 ghost use Rattle.std.specs.Prelude.{◌≡◌, false};
 ghost use Rattle.case_forms.specs.Versions.{is_half};
@@ -12,7 +12,7 @@ use std::test::Fail;
 use std::thread::Threads;
 use two_hosts::{Plan, record};
 
-// What a host's first segment is to tell.
+// What a host's first segment must carry.
 #[derive(Clone, Copy)]
 struct Opening {
     host: Host,
@@ -24,10 +24,10 @@ struct Opening {
     shift: Option<u8>,
 }
 
-// What is said of a host that sent nothing: host 0 gave up before host 1 had its turn.
+// The word for a host that sent nothing: host 0 gave up before host 1 had its turn.
 const UNANSWERED: &str = "no segment";
 
-// The first segment that a host let out.
+// The first segment that a host sent.
 fn first_sent(lines: &[Line], sender: Host) -> Option<&Segment> {
     for line in lines {
         match &line.event {
@@ -38,7 +38,7 @@ fn first_sent(lines: &[Line], sender: Host) -> Option<&Segment> {
     None
 }
 
-// What is wrong with the first segment of a host; `yes` where nothing is.
+// What is wrong with the first segment of a host; `yes` if nothing is.
 fn opened(lines: &[Line], opening: Opening) -> &'static str {
     let Some(seg) = first_sent(lines, opening.host) else {
         return UNANSWERED;
@@ -87,7 +87,7 @@ fn has_own_window(header: &Header) -> bool {
     }
 }
 
-// What is wrong with this trace, where both hosts tell this shift; `yes` where nothing is.
+// What is wrong with this trace, if both hosts' SYNs carry this shift; `yes` if nothing is.
 fn judge(trace: &Trace, shift: Option<u8>) -> &'static str {
     if !has_own_window(&trace.header) {
         return "another first window";
@@ -121,8 +121,8 @@ fn judge(trace: &Trace, shift: Option<u8>) -> &'static str {
     )
 }
 
-// What is wrong with a recording of one round, where each second segment of a host is lost, but not the first; `yes`
-// where nothing is.
+// What is wrong with a recording of one round in which every second segment of a host is lost, but not the first; `yes`
+// if nothing is.
 fn told<R: Threads + Wait + Sync>(
     rt: &R,
     alloc: Global,

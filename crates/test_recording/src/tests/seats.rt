@@ -1,5 +1,5 @@
-//! A recording ends if all seats are handed in; if one is missing, all that was handed in comes back. A thread that has
-//! a seat gets no second one, and the threads of segments and timers get none.
+//! A recording ends if all seats are handed in; if one is missing, all that were handed in are returned. A thread that
+//! has a seat gets no second one, and the threads of segments and timers get none.
 
 ghost use Rattle.std.specs.Prelude.{◌≡◌};
 ghost use Rattle.case_forms.specs.declared.calls.Host.TheVariants.{Zero};
@@ -15,7 +15,8 @@ use std::sync::Wait;
 use std::sync::ledger::Blank;
 use std::test::Fail;
 
-// The seats with one more, where one came back since another is missing. None: others came back, or memory ran out.
+// The seats with one more, if one was returned because another is missing. None: others were returned, or memory ran
+// out.
 fn with_second<L: Site>(seats: Seats<L>, cause: Cause, second: Seat<L>) -> Option<Vec<Seat<L>>> {
     let mut seats = seats.into_vec();
     if seats.len() != 1 || cause != Cause::SeatMissing {
@@ -25,7 +26,7 @@ fn with_second<L: Site>(seats: Seats<L>, cause: Cause, second: Seat<L>) -> Optio
     Some(seats)
 }
 
-// Whether a recorder that came back with one of its two seats ends with both.
+// Whether a recorder that was returned with one of its two seats ends with both.
 fn ends_then<L: Site, R: Wait>(rt: &R, unfinished: Unfinished<L>, second: Seat<L>) -> bool
     requires { L.parts ≡ 65535 }
 {
@@ -40,8 +41,8 @@ fn ends_then<L: Site, R: Wait>(rt: &R, unfinished: Unfinished<L>, second: Seat<L
     }
 }
 
-// Whether a recorder of two seats comes back with the first where the second is missing, and ends with both. None:
-// memory ran out.
+// Whether a recorder of two seats is returned with the first if the second is missing, and ends with both. None: memory
+// ran out.
 fn ends_with_both<L: Site, R: Wait>(
     rt: &R,
     alloc: Global,
@@ -67,7 +68,7 @@ fn are_refused<L: Site, R: Wait>(rt: &R, recorder: &Recorder<L>) -> bool {
     true
 }
 
-// The same of a new recorder.
+// The same for a new recorder.
 fn finish_twice<L: Site, R: Wait>(rt: &R, alloc: Global, blank: Blank) -> Option<bool>
     requires name { blank.name ≡ L.name }
     requires parts { (blank.parts ≡ L.parts) × (L.parts ≡ 65535) }

@@ -11,7 +11,7 @@ use std::test::Fail;
 use std::thread::Threads;
 use two_hosts::{Plan, RecordFault, Recording, Talk, Wire, record, record_books};
 
-// How many segments a host takes at most.
+// How many segments a host receives at most.
 const MOST: u64 = 2_000_000;
 
 // The bytes that a thread received, joined.
@@ -36,10 +36,10 @@ fn are_rounds(told: &[u8], rounds: u16) -> bool {
             .all(|(place, byte)| usize::from(*byte) == place / 64 % 256)
 }
 
-// What is said of a recording whose rounds did not end, and which the checker explains.
+// The word for a recording whose rounds didn't end and which the checker explains.
 const UNENDED: &str = "a limit was met";
 
-// What is wrong with a recording of so many rounds; `yes` where nothing is.
+// What is wrong with a recording of so many rounds; `yes` if nothing is.
 fn judge(alloc: Global, recording: &Recording, rounds: u16) -> Result<&'static str, AllocError> {
     let recorded = &recording.recorded;
     let said = answer(alloc, recorded)?;
@@ -67,7 +67,7 @@ fn judge(alloc: Global, recording: &Recording, rounds: u16) -> Result<&'static s
 // What becomes of the segments of two hosts that talk.
 #[derive(Clone, Copy, Debug, PartialEq, Eq)]
 enum Way {
-    // Each segment of this count is lost, none where it is 0.
+    // Every segment with this count is lost; none if it is 0.
     Losing(u32),
     // The same, in version 2.
     LosingScaled(u32),
@@ -77,7 +77,7 @@ enum Way {
     Drawn(u32),
 }
 
-// Twice, after two others, lost, and passed twice, in turn.
+// Sent twice, sent after two others, lost, and passed on twice, in turn.
 #[derive(Clone, Copy, Drop)]
 struct InTurn {
     turn: u8,
@@ -111,7 +111,7 @@ fn talked<F: WireFate + Send + Drop, G: WireFate + Send + Drop, R: Threads + Wai
     })
 }
 
-// The recording of so many rounds in version 1, with these fates there and back.
+// The recording of so many rounds in version 1, with these fates in both directions.
 fn fated<F: WireFate + Send + Drop, R: Threads + Wait + Sync>(
     rt: &R,
     alloc: Global,
@@ -158,12 +158,12 @@ fn recording_of<R: Threads + Wait + Sync>(
     }
 }
 
-/// How often a talk is recorded whose rounds do not end. The clocks of both hosts go on while the system lets another
-/// thread of theirs wait, so where it waits for long a host gives up.
+/// How often a talk is recorded whose rounds don't end. The clocks of both hosts advance while the system lets another
+/// of their threads wait, so a host gives up if that waits for long.
 pub const TRIES: u32 = 5;
 
-// What is wrong with a talk of so many rounds; `yes` where nothing is. Each recording is explained, also one whose
-// rounds did not end.
+// What is wrong with a talk of so many rounds; `yes` if nothing is. Each recording is explained, even if its rounds
+// didn't end.
 fn said<R: Threads + Wait + Sync>(rt: &R, alloc: Global, rounds: u16, way: Way) -> &'static str {
     for _ in 0..TRIES {
         let said = match recording_of(rt, alloc, rounds, way) {

@@ -22,11 +22,12 @@ use std::test::Fail;
 // What happens.
 #[derive(Clone, Copy, Debug, PartialEq, Eq)]
 enum Scene {
-    // Nobody listens.
+    // No listener is open.
     Refused,
     // The accepted endpoint is aborted.
     Reset,
-    // Two children wait in a queue for one. Host 0 opens both, the second with an initial number that is 65,536 more.
+    // Two children wait in a queue with room for one. Host 0 opens both, the second with an initial number that is
+    // 65,536 more.
     TwoChildren,
     // One connection, between these ports.
     Connected(u16, u16),
@@ -38,9 +39,9 @@ enum Scene {
     Recovery,
     // Each segment is sent twice.
     Twice,
-    // A SYN stays away for so many milliseconds, after which it is let in or not.
+    // A SYN is delayed for so many milliseconds, after which it is accepted or not.
     Away(u64, bool),
-    // What the fates drawn from a seed bring.
+    // What happens with the fates drawn from a seed.
     Chance(u32),
 }
 
@@ -60,7 +61,7 @@ pub fn header() -> Header
     }
 }
 
-// Host 0 opens where nobody listens, and awaits.
+// Host 0 opens a connection to a port without a listener, and awaits.
 fn refused<L: Site, M: Site, R: Wait>(rt: &R, alloc: Global, pair: &mut Pair<L, M>) -> Option<bool>
     requires lanes { (lane pair.old.zero.seat.thread ≡ L.host) × (lane pair.old.one.seat.thread ≡ M.host) }
     requires hosts { (L.host ≡ Zero) × (M.host ≡ One) }
@@ -182,7 +183,7 @@ fn play<L: Site, M: Site, R: Wait>(
     }
 }
 
-// The same, of new recorders.
+// The same, for new recorders.
 fn books<R: Wait>(rt: &R, alloc: Global, scene: Scene) -> Option<(HostBook, HostBook, bool)>
     ensures hosts { IfSome result (λ b. (b.0.core.recorded.me ≡ Zero) × (b.1.core.recorded.me ≡ One)) }
     ensures headers { IfSome result (λ b.
@@ -211,7 +212,7 @@ fn shows(recorded: &Recorded, scene: Scene) -> bool {
     }
 }
 
-// What the checker says of the two books of a scene, merged.
+// What the checker says about the two books of a scene, merged.
 fn merged(alloc: Global, zero: HostBook, one: HostBook, scene: Scene) -> &'static str
     requires hosts { (zero.core.recorded.me ≡ Zero) × (one.core.recorded.me ≡ One) }
     requires headers { (zero.core.recorded.header ≡ test_header) × (one.core.recorded.header ≡ test_header) }
@@ -224,7 +225,7 @@ fn merged(alloc: Global, zero: HostBook, one: HostBook, scene: Scene) -> &'stati
     }
 }
 
-// What the checker says of a recording; where that is yes, whether it went as it should.
+// What the checker says about a recording; if that is yes, whether it went as it should.
 fn judged(said: &'static str, went: bool) -> &'static str {
     if said == "yes" && !went {
         return "another answer";
@@ -232,7 +233,7 @@ fn judged(said: &'static str, went: bool) -> &'static str {
     said
 }
 
-// What is wrong with a scene; `yes` where nothing is.
+// What is wrong with a scene; `yes` if nothing is.
 fn seen<R: Wait>(rt: &R, alloc: Global, scene: Scene) -> &'static str {
     let Some((zero, one, went)) = books(rt, alloc, scene) else {
         return "no books";
@@ -258,14 +259,15 @@ fn scenes_are_explained(rt: HostRuntime) -> Result<(), Fail> {
     Ok(())
 }
 
-// If memory is refused for a copy its segment goes once, and all else is as it was (`tools/refused_memory/copies.py`).
+// If there is no memory for a copy, its segment is sent once, and all else is as it was
+// (`tools/refused_memory/copies.py`).
 #[test]
 fn segments_sent_twice_are_explained(rt: HostRuntime) -> Result<(), Fail> {
     assert_eq!(rt; seen(&rt, rt.alloc(), Scene::Twice), "yes");
     Ok(())
 }
 
-/// What the checker says of a talk by chance, which adds to what appeared: `yes` where nothing is wrong.
+/// What the checker says about a random talk, which adds to what appeared: `yes` if nothing is wrong.
 pub fn said_by_chance<R: Wait>(
     rt: &R,
     alloc: Global,
@@ -308,7 +310,7 @@ fn book_of_zero<R: Wait>(rt: &R, alloc: Global, lport: u16, rport: u16) -> Optio
     Some(zero)
 }
 
-// That of host 1.
+// The book of host 1.
 fn book_of_one<R: Wait>(rt: &R, alloc: Global, lport: u16, rport: u16) -> Option<HostBook>
     ensures { IfSome result (λ b. (b.core.recorded.me ≡ One) × (b.core.recorded.header ≡ test_header)) }
 {
@@ -340,7 +342,7 @@ fn stranger<R: Wait>(rt: &R, alloc: Global) -> Option<u64> {
     }
 }
 
-// Host 0's lines are the call, its answer, the SYN that goes out, and after it what comes in.
+// Host 0's lines are the call, its answer, the SYN that is sent, and then what arrives.
 #[test]
 fn books_of_two_runs_are_strangers(rt: HostRuntime) -> Result<(), Fail> {
     assert_eq!(rt; stranger(&rt, rt.alloc()), Some(10));

@@ -1,4 +1,4 @@
-//! Segments that are sent twice, and one that stays away for long.
+//! Segments that are sent twice, and one that is delayed for long.
 
 ghost use Rattle.std.specs.Prelude.{◌≡◌};
 ghost use Rattle.case_forms.specs.declared.calls.Host.TheVariants.{Zero, One};
@@ -22,7 +22,7 @@ impl WireFate for Twice {
     }
 }
 
-// The segments of host 0 come in twice, then those of host 1, and again those of host 0.
+// The segments of host 0 arrive twice, then those of host 1, and again those of host 0.
 fn exchange_twice<L: Site, M: Site, R: Wait>(
     rt: &R,
     alloc: Global,
@@ -63,8 +63,8 @@ fn events<L: Site, R: Wait>(rt: &R, side: &Side<L>) -> u64 {
     side.recorder.look(rt, |book| book.events())
 }
 
-/// Whether a SYN that host 0 let out is let in by host 1 once its clock has gone on by so many milliseconds; one that
-/// is not leaves no event.
+/// Whether host 1 accepts a SYN that host 0 sent, once its clock has advanced by so many milliseconds; a SYN that it
+/// doesn't accept leaves no event.
 pub fn comes_in_after<L: Site, M: Site, R: Wait>(
     rt: &R,
     alloc: Global,

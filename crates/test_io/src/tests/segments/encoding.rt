@@ -24,7 +24,7 @@ fn writes_fields_and_options(rt: HostRuntime) -> Result<(), Fail> {
     Ok(())
 }
 
-// Whether a segment with so many bytes is written, and read again with them.
+// Whether a segment with so many bytes is written, and read again with the same bytes.
 fn is_written(alloc: Global, payload_len: usize) -> Result<bool, AllocError> {
     let mut segment = plain(alloc, (4000, 80, 0, 0, 0x10), b"")?;
     segment.payload = Bytes::from(vec![in alloc; 7u8; payload_len]?);
