@@ -7,7 +7,7 @@
 //! more.
 //!
 //! - `judge`, `Judgement`: the answer for a trace, the word with a yes, and the case of the last word
-//! - `options_of`, `Options`: the command line's words
+//! - `options_of`, `Options`: the command line's words; `values_of`: the values of two options
 //!
 //! Private modules:
 //!
@@ -28,4 +28,4 @@ mod trying;
 mod words;
 
 pub use asking::{Judgement, judge};
-pub use words::{Options, options_of};
+pub use words::{Options, options_of, values_of};
