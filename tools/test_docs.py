@@ -1,6 +1,7 @@
 #!/usr/bin/python3
 """What tools/docs.py finds in pages."""
 import os
+import re
 import shutil
 import sys
 import tempfile
@@ -79,6 +80,37 @@ class Pages(unittest.TestCase):
     def test_the_page_that_an_example_fetches(self):
         self.assertEqual(self.faults("curl http://10.9.0.2/page"), ["README.md:1: the server of the example has no page page"])
         self.assertEqual(self.faults("curl http://10.9.0.2/, http://10.9.0.2/README.md"), [])
+
+
+class Yes(unittest.TestCase):
+    """What a yes means is said in README.md and in guarantees.md, and `judge` prints sentences of it."""
+
+    def box(self, page):
+        """The paragraphs and the items of the box, each by its first word."""
+        text = docs.text_of(f"{docs.TOP}/{page}").split("## What a yes means\n\n")[1]
+        lines = re.sub(r"(?m)^> ?", "", re.match(r"(?:>.*\n)+", text)[0])
+        parts = [" ".join(part.removeprefix("- ").split()) for part in re.split(r"\n\n|\n- ", lines)]
+        return {part.split(" ")[0]: part for part in parts}
+
+    def answers(self):
+        """The word with a yes, and the lines after it that tell what that means, for each such answer of `judge`."""
+        for block in docs.text_of(f"{docs.TOP}/crates/test_cases/data/judged.txt").split("== "):
+            if found := re.search(r"^(\w+) +yes .*\n((?:(?!Under ).+\n)+)", block, re.M):
+                yield found[1], found[2].splitlines()
+
+    def test_the_box_is_the_same(self):
+        self.assertEqual(self.box("README.md"), self.box("docs/guarantees.md"))
+
+    def test_judge_prints_its_sentences(self):
+        box = self.box("README.md")
+        half = "Only host 0 was recorded; the other host isn't judged."
+        for part in half.lower().split("; "):
+            self.assertIn(part, box["A"].lower())
+        answers = list(self.answers())
+        self.assertEqual({word for word, _ in answers}, {"full", "recovery", "none"})
+        for word, lines in answers:
+            self.assertLessEqual(max(map(len, lines)), 100)
+            self.assertEqual(f"`{word}`: " + " ".join(line for line in lines if line != half), box[f"`{word}`:"])
 
 
 class Commands(unittest.TestCase):

@@ -76,7 +76,7 @@ fn drawn_up_to(to: u64, first: u64) -> Drawn {
     }
 }
 
-// The line at which a case is refused: that of the refused step or, if the step is hidden or its line was taken before,
+// The line at which a case is refused: that of the refused step or, if the step is hidden or its line was used before,
 // the line before the step. None: the case is not refused.
 fn line_refused(whole: &Whole, fates: &Fates) -> Option<u64> {
     let refused = match whole.refusal {
@@ -216,7 +216,7 @@ impl Drawing {
         )
     }
 
-    // Draws what a line tells.
+    // Draws what a line shows.
     fn line(&mut self, line: &Line) -> Result<(), OutOfMemory> {
         let number = line.number;
         if self.is_drawn(number) {
@@ -315,7 +315,7 @@ impl Drawing {
         }
     }
 
-    // The label of a segment that goes out, and its end if no line copies it.
+    // The label of a segment that is sent, and its end if no line copies it.
     fn sent(&mut self, number: u64, host: Host, wire: &Wire) -> Result<(), OutOfMemory> {
         if !self.is_drawn(number) {
             return Ok(());
@@ -344,7 +344,7 @@ impl Drawing {
         }
     }
 
-    // A segment that is lost on its way.
+    // A segment that is lost in transit.
     fn lost(&mut self, from: Point, tip: Point) -> Result<(), OutOfMemory> {
         line(&mut self.out, "lost", from, tip)?;
         let cross = Point {
@@ -356,7 +356,7 @@ impl Drawing {
         end_text(&mut self.out)
     }
 
-    // The arrow of a segment that comes in.
+    // The arrow of a segment that is received.
     fn came(&mut self, number: u64, host: Host, wire: &Wire) -> Result<(), OutOfMemory> {
         if !self.is_drawn(number) {
             return Ok(());
@@ -442,14 +442,14 @@ impl Drawing {
         end_text(&mut self.out)
     }
 
-    // A line that no step takes.
+    // A line that no step uses.
     fn unplaced(&mut self, number: u64) -> Result<(), OutOfMemory> {
         let y = self.row(number).saturating_add(ROW / 2);
         self.mark(y)?;
         add(
             &mut self.out,
             &[
-                Piece::Word("refused (unplaced): no step takes line "),
+                Piece::Word("refused (unplaced): no step uses line "),
                 Piece::Number(number),
             ],
         )?;

@@ -1,14 +1,14 @@
-//! What became of the lines of a case, as its witness tells.
+//! What became of the lines of a case, by its witness.
 
 use crate::whole::Whole;
 use case_forms::{Event, Extras, Label, Line, NamedLine, OutOfMemory, Step};
 use std::alloc::Global;
 use std::collections::{BTreeMap, BTreeSet};
 
-/// What became of a segment that came in.
+/// What became of a received segment.
 #[derive(Clone, Copy)]
 pub(crate) enum Fate {
-    /// No step before the refused one takes its line.
+    /// No step before the refused one uses its line.
     Seen,
     Waits,
     Taken,
@@ -32,26 +32,26 @@ impl Fate {
 /// What became of the lines of a case. Lines are named by their numbers.
 #[derive(Drop)]
 pub(crate) struct Fates {
-    /// For each line that came in, the line that it copies.
+    /// For each line of a received segment, the line that it copies.
     pub copies: BTreeMap<u64, u64>,
     /// The lines that were copied.
     copied: BTreeSet<u64>,
     fates: BTreeMap<u64, Fate>,
-    /// The lines that went out.
+    /// The lines of sent segments.
     gone: BTreeSet<u64>,
-    // All that comes in was taken, and both hosts are recorded: what went out and was not copied is lost.
+    // Every received segment was processed, and both hosts were recorded: a sent segment that wasn't copied is lost.
     is_told: bool,
     /// For each line that begins a call, the line after which the call has its effect.
     pub effects: BTreeMap<u64, u64>,
     // For each thread, the line that began its call.
     begun: BTreeMap<u32, u64>,
-    /// The line after which the refused step stands.
+    /// The line that the refused step follows.
     pub refused: Option<u64>,
     last: u64,
 }
 
 impl Fates {
-    /// What the witness of a case tells.
+    /// What the witness of a case shows.
     pub(crate) fn of(alloc: Global, whole: &Whole) -> Result<Fates, OutOfMemory> {
         let mut fates = Fates {
             copies: BTreeMap::new(alloc),
@@ -84,12 +84,12 @@ impl Fates {
         Ok(())
     }
 
-    /// What became of the segment that came in with a line.
+    /// What became of the segment that a line received.
     pub(crate) fn fate(&self, line: u64) -> Fate {
         self.fates.get(&line).copied().unwrap_or(Fate::Seen)
     }
 
-    /// The class of what goes out with a line and is not copied. None: a line copies it.
+    /// The class of a segment that a line sent and no line copies. None: a line copies it.
     pub(crate) fn class_sent(&self, line: u64) -> Option<&'static str> {
         if self.copied.contains(&line) {
             None
@@ -150,7 +150,7 @@ impl Fates {
     }
 }
 
-// How many lines tell of a segment that comes in.
+// How many lines show a received segment.
 fn count_came(lines: &[Line]) -> u64 {
     let mut count: u64 = 0;
     for line in lines {

@@ -1,6 +1,6 @@
 //! A case as text and as a picture.
 //!
-//! Nobody has to trust what is shown here. Of each function it is proved that it is safe and returns, and no more.
+//! The verdicts don't depend on this crate. Each function is proved only to be safe and to return.
 //!
 //! - `show`: a case as text, each line and step in words
 //! - `draw`, `Range`: a case as a picture

@@ -18,8 +18,8 @@ struct Showing {
     shown: BTreeSet<u64>,
 }
 
-/// The case as text: each line of the trace where its step stands, and hidden steps indented between them; a step that
-/// is refused is marked, and lines that no step takes stand at the end. An error is the trace's first fault.
+/// The case as text: each line of the trace at its step, and hidden steps indented between them. A refused step is
+/// marked, and lines that no step uses follow at the end. An error is the trace's first fault.
 pub fn show(alloc: Global, text: &[u8]) -> Result<Vec<u8>, TextFault> {
     let whole = Whole::read(alloc, text)?;
     let mut show = Showing {
@@ -32,7 +32,7 @@ pub fn show(alloc: Global, text: &[u8]) -> Result<Vec<u8>, TextFault> {
 }
 
 impl Showing {
-    // Writes all steps, and the lines that none takes.
+    // Writes all steps, and the lines that none uses.
     fn all(&mut self, whole: &Whole) -> Result<(), OutOfMemory> {
         let lines = whole.trace.lines.as_slice();
         let first = whole.trace.header.first_event_line();
@@ -97,12 +97,12 @@ impl Showing {
         }
     }
 
-    // Writes a line that no step takes.
+    // Writes a line that no step uses.
     fn left(&mut self, line: &Line) -> Result<(), OutOfMemory> {
         if self.shown.contains(&line.number) {
             return Ok(());
         }
-        add(&mut self.out, &[Piece::Word("not taken: ")])?;
+        add(&mut self.out, &[Piece::Word("not used: ")])?;
         self.line(line, line.moment)
     }
 }

@@ -23,11 +23,11 @@ pub(crate) enum Refusal {
     /// The verdict is yes, or a text can't be read.
     Nowhere,
     At(Refused),
-    /// No step takes this line.
+    /// No step uses this line.
     Unplaced(u64),
 }
 
-/// A case. Where its witness can't be read it has no steps.
+/// A case. It has no steps if its witness can't be read.
 #[derive(Drop)]
 pub(crate) struct Whole {
     pub trace: Trace,
@@ -89,7 +89,7 @@ fn refusal_of(alloc: Global, text: &[u8]) -> Refusal {
     }
 }
 
-// The place of the step in a line of the witness, from 0. None: no step stands there.
+// The place of the step in a line of the witness, from 0. None: that line has no step.
 fn step_at(witness_line: u64) -> Option<usize> {
     let place = witness_line.checked_sub(2)?;
     usize::try_from(place).ok()

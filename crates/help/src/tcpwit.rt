@@ -34,7 +34,7 @@ it writes anything; then it writes to whichever pipe has room, as poll(2) report
 one pipe alone, it and the checker may wait for each other forever.
 
 Output, one line:
-  yes LINES HIDDEN                 the witness explains the trace, with so many hidden steps
+  yes LINES HIDDEN                 the witness explains the trace, with HIDDEN hidden steps
   no W T RULE                      line W of the witness, for line T of the trace, breaks RULE
   bad trace LINE START STOP KIND   the trace is refused for these bytes of a line
   bad witness LINE START STOP KIND
@@ -51,7 +51,7 @@ const MANY: &str = "\
 Standard input has the cases, each ended by a line `end`. The answers come in the order of the
 cases, one line for each, as `tcpwit check` prints it. They are the same for any number of threads.
 
-Status: the greatest status of a case, as `tcpwit check` has it; 0 if there is no case.";
+Status: the highest status of a case, as of `tcpwit check`; 0 if there is no case.";
 
 const SEGMENT: &str = "\
 Nothing is read. Output: `src`, `dst` and the other fields with their values on one line, or `bad
@@ -75,9 +75,7 @@ pub(crate) fn tcpwit<'a>(alloc: Global) -> Result<Command<'a>, AllocError> {
     let command = Command::new(alloc, "tcpwit")
         .no_binary_name(true)
         .version(VERSION)
-        .about(
-            "Checks an explanation of a recorded run of two TCP hosts by RFC 9293, 6298 and 5681",
-        )
+        .about("Checks a recorded run of one or two TCP hosts against RFC 9293, 6298 and 5681")
         .subcommand_required(true)
         .subcommand(check(alloc)?)?
         .subcommand(many(alloc)?)?

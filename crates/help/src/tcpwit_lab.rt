@@ -29,8 +29,8 @@ Input: a trace. Output: a case. If no permitted step is found, the case ends wit
 `tcpwit check` refuses.";
 
 const EXPLAIN: &str = "\
-Input: a case. Output: the line of `tcpwit check`. For a no, the refused step, the endpoint before
-it, what the rule compares and what usually causes it follow.";
+Input: a case. Output: the answer of `tcpwit check`. After a no: the refused step, the endpoint
+before it, what the rule compares, and the usual causes.";
 
 const SHOW: &str = "\
 Input: a case, or a trace alone. Output: text, one event a line.";
@@ -40,9 +40,9 @@ Input: a case, or a trace alone. Output: a picture (SVG). Time goes down, segmen
 refused step is red.";
 
 const JUDGE: &str = "\
-Input: a trace. A witness is looked for with `congestion full`, then `recovery`, then `none`, up to
-the first yes. Output: a line for each word that was tried, what the yes means, and what `full`
-refused first.
+Input: a trace. The search for a witness uses `congestion full`, then `recovery`, then `none`, until
+the first yes. Output: a line for each word tried, what the yes means, and what `full` refused
+first.
 
 Status: 0 if WORD or a stricter word has a yes, 1 if none has.";
 
@@ -93,11 +93,11 @@ fn draw<'a>(alloc: Global) -> Result<Command<'a>, AllocError> {
     let from = Arg::new(alloc, "from")
         .long("from")
         .value_name("N")
-        .help("The first line of the trace that is drawn");
+        .help("The first trace line drawn");
     let to = Arg::new(alloc, "to")
         .long("to")
         .value_name("M")
-        .help("The last line of the trace that is drawn");
+        .help("The last trace line drawn");
     Ok(
         Command::new(alloc, "draw")
             .about("Draws a case or a trace as a picture")
@@ -112,14 +112,14 @@ fn judge<'a>(alloc: Global) -> Result<Command<'a>, AllocError> {
     let least = Arg::new(alloc, "least")
         .long("least")
         .value_name("WORD")
-        .help("The word that is enough for status 0: full, recovery, none [default: full]");
+        .help("The weakest word whose yes gives status 0: full, recovery, none [default: full]");
     let case = Arg::new(alloc, "case")
         .long("case")
         .value_name("FILE")
-        .help("Keeps the case of the last word that was tried");
+        .help("Writes the case of the last word tried to FILE");
     Ok(
         Command::new(alloc, "judge")
-            .about("Says how much of congestion control a recorded run keeps")
+            .about("Finds the strictest congestion word that gets a yes for a trace")
             .override_usage("tcpwit_lab judge [--least WORD] [--case FILE] < TRACE")
             .after_help(JUDGE)
             .arg(least)?

@@ -1,13 +1,12 @@
-//! How much of a recorded run keeps the RFCs.
+//! How much of the RFCs a recorded run follows.
 //!
-//! Few stacks keep RFC 5681 to the letter. So a trace is rewritten in version 4 of the texts, once for each word that a
-//! header has for congestion control, from `full` on, until `checker` accepts the witness that `witness_search` finds.
-//! The answer is the strictest word with a yes, and the first thing that `full` refused, which `why` reads from the
-//! case. The time is linear in the size of the trace. Of each function it is proved that it is safe and returns, and no
-//! more.
+//! Few stacks follow RFC 5681 to the letter. So a trace is rewritten in version 4 of the texts, once for each word of
+//! the header line `congestion`, from `full` on, until `checker` accepts the witness that `witness_search` finds. The
+//! answer is the strictest word with a yes, and the first thing that `full` refused, which `why` reads from the case.
+//! The time is linear in the size of the trace. Each function is proved only to be safe and to return.
 //!
 //! - `judge`, `Judgement`: the answer for a trace, the word with a yes, and the case of the last word
-//! - `options_of`, `Options`: the command line's words
+//! - `options_of`, `Options`: the command line's words; `values_of`: the values of two options
 //!
 //! Private modules:
 //!
@@ -28,4 +27,4 @@ mod trying;
 mod words;
 
 pub use asking::{Judgement, judge};
-pub use words::{Options, options_of};
+pub use words::{Options, options_of, values_of};

@@ -19,20 +19,18 @@ pub(crate) fn push_padded(out: &mut Vec<u8>, word: Judged) -> Result<(), OutOfMe
     )
 }
 
-/// Writes what a yes under a word says.
+/// Writes what a yes under a word says. README.md, "What a yes means", has the same sentences.
 pub(crate) fn push_yes(out: &mut Vec<u8>, word: Judged) -> Result<(), OutOfMemory> {
     push_word(
         out,
         match word {
-            Judged::Full => {
-                "The run keeps RFC 9293, RFC 6298 and RFC 5681 as this profile reads them.\n"
-            }
-            Judged::Recovery =>
-                "The run keeps RFC 9293 and RFC 6298 as this profile reads them, and data are sent again only \
-after a timeout or three duplicate acknowledgments (RFC 5681, 3.2). Not judged: the congestion window.\n",
-            Judged::Nothing =>
-                "The run keeps RFC 9293 as this profile reads it. Not judged: the congestion window, and when data \
-are sent again.\n",
+            Judged::Full => "The run follows RFC 9293, 6298 and 5681 as this profile reads them.\n",
+            Judged::Recovery => "The run follows RFC 9293 and 6298 as this profile reads them.\n\
+Data is retransmitted only if a timer expired, fast recovery began, or a closed window opened.\n\
+The congestion window isn't judged.\n",
+            Judged::Nothing => "The run follows RFC 9293 and 6298 as this profile reads them.\n\
+The congestion window isn't judged.\n\
+The choice of when to retransmit data isn't judged either.\n",
         },
     )
 }
@@ -41,7 +39,7 @@ are sent again.\n",
 pub(crate) fn push_none(out: &mut Vec<u8>) -> Result<(), OutOfMemory> {
     push_word(
         out,
-        "No witness was found, even with congestion control left unjudged.\n",
+        "No witness was found, even without judging congestion control.\n",
     )
 }
 
@@ -124,14 +122,14 @@ fn push_beyond(out: &mut Vec<u8>, bytes: u64, cwnd: u64) -> Result<(), OutOfMemo
     push_word(out, " (RFC 5681, 3.1).")
 }
 
-// Fast recovery begins after the handshake, so a SYN is sent again after a timeout alone.
+// Fast recovery begins after the handshake, so only a timeout permits retransmitting a SYN.
 fn push_again(out: &mut Vec<u8>, syn: bool) -> Result<(), OutOfMemory> {
     push_word(
         out,
         if syn {
-            " sends a SYN again before its timeout (RFC 6298, 5)."
+            " retransmits a SYN before its timeout (RFC 6298, 5)."
         } else {
-            " sends old data again without a timeout or three duplicate acknowledgments (RFC 6298, 5; RFC 5681, 3.2)."
+            " retransmits data without a timeout, fast recovery or a reopened window (old-data)."
         },
     )
 }

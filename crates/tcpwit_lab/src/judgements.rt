@@ -1,4 +1,4 @@
-//! How much of a run keeps the RFCs, and the case that shows it.
+//! How much of the RFCs a run follows, and the case that shows it.
 
 use crate::saying::{DONE, NO, say, say_bad_device, say_bad_memory, say_fault};
 use checker::CaseFault;
@@ -9,8 +9,8 @@ use std::fs;
 use std::io::{Eprint, Write};
 use std::rt::Files;
 
-/// Judges a trace, keeps the case of the last word if a file is named for it, and writes what is said. The status is 0
-/// if the least word that is asked for or a stricter one has a yes, and 1 if none has.
+/// Judges a trace, writes the case of the last word if a file is named for it, and prints the answer. The status is 0
+/// if the word that `--least` names or a stricter one has a yes, and 1 if none has.
 pub(crate) fn write_judgement<H: Files + Eprint, W: Write>(
     rt: &H,
     alloc: Global,

@@ -13,7 +13,7 @@ use why::explain;
 use witness_search::find;
 
 /// Does what the words after the program's name ask for, and answers the status: 0 if it is done, 1 if the answer is
-/// no, 2 if the text is refused, 3 if the words are none of the program's, 4 if memory ran out, and 5 if a read or a
+/// no, 2 if the text is refused, 3 for bad usage, 4 if memory ran out, and 5 if a read or a
 /// write failed.
 pub(crate) fn run<H: Files + Eprint + Input, W: Write>(
     rt: &H,

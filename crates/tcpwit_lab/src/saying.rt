@@ -16,7 +16,7 @@ pub(crate) const NO: u8 = 1;
 /// The text is refused.
 const REFUSED: u8 = 2;
 
-/// The words ask for nothing that the program does.
+/// The words are bad usage.
 pub(crate) const USAGE: u8 = 3;
 
 /// Memory ran out.

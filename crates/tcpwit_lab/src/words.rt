@@ -1,7 +1,7 @@
 //! What the words after the program's name ask for.
 
 use drawing::Range;
-use judging::{Options, options_of};
+use judging::{Options, options_of, values_of};
 use why::Origin;
 
 /// What the words ask for.
@@ -36,28 +36,10 @@ pub(crate) fn asked_by<'w>(words: &[&'w str]) -> Option<Asked<'w>> {
 // The lines that `--from N`, `--to M` or both ask for, in either order. None: other words, an option twice, a number
 // that is badly written, or M below N.
 fn range_of(options: &[&str]) -> Option<Range> {
-    let range = match options {
-        [] => Range {
-            from: None,
-            to: None,
-        },
-        [name, value] if *name == "--from" => Range {
-            from: Some(line_number(value)?),
-            to: None,
-        },
-        [name, value] if *name == "--to" => Range {
-            from: None,
-            to: Some(line_number(value)?),
-        },
-        [name, from, other, to] if *name == "--from" && *other == "--to" => Range {
-            from: Some(line_number(from)?),
-            to: Some(line_number(to)?),
-        },
-        [name, to, other, from] if *name == "--to" && *other == "--from" => Range {
-            from: Some(line_number(from)?),
-            to: Some(line_number(to)?),
-        },
-        _ => return None,
+    let (from, to) = values_of(options, "--from", "--to")?;
+    let range = Range {
+        from: line_number(from)?,
+        to: line_number(to)?,
     };
     match (range.from, range.to) {
         (Some(from), Some(to)) if to < from => None,
@@ -65,10 +47,14 @@ fn range_of(options: &[&str]) -> Option<Range> {
     }
 }
 
-// A number in digits alone, without a leading zero.
-fn line_number(value: &str) -> Option<u64> {
+// The number of a line, in digits alone without a leading zero, if one is given. None: no such number.
+fn line_number(value: Option<&str>) -> Option<Option<u64>> {
+    let Some(value) = value else {
+        return Some(None);
+    };
     if value.starts_with("+") || value.starts_with("0") {
         return None;
     }
-    value.parse::<u64>().ok()
+    let number = value.parse::<u64>().ok()?;
+    Some(Some(number))
 }

@@ -1,4 +1,4 @@
-//! What later lines of a trace tell of earlier ones. Lines are named by their places among the event lines, from 0.
+//! What later lines of a trace show of earlier ones. Lines are named by their places among the event lines, from 0.
 
 use crate::chains::{Chains, ConnectionKey};
 use case_forms::{Event, Host, Line, OutOfMemory, Wire};
@@ -14,7 +14,7 @@ pub(crate) fn connection_key(host: Host, lport: u16, rport: u16) -> ConnectionKe
     }
 }
 
-/// What later lines tell.
+/// What later lines show.
 #[derive(Drop)]
 pub(crate) struct LaterLines {
     /// For the place of each beginning, that of its end.
@@ -28,7 +28,7 @@ pub(crate) struct LaterLines {
 }
 
 impl LaterLines {
-    /// What the lines of a trace tell.
+    /// What the lines of a trace show.
     pub(crate) fn of(alloc: Global, lines: &[Line]) -> Result<LaterLines, OutOfMemory> {
         let mut ahead = LaterLines {
             ends: BTreeMap::new(alloc),

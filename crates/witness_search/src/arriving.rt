@@ -1,4 +1,4 @@
-//! A line that comes in is taken at once, or answered by a reset where one follows, or dropped.
+//! A received segment is processed at once, or answered by a reset if one follows, or dropped.
 
 use crate::ahead::connection_key;
 use crate::calls::{endpoint_at, listener_at};
@@ -106,7 +106,7 @@ struct Earlier<'t> {
 }
 
 impl<'t> Search<'t> {
-    /// A line shows a segment that comes in.
+    /// A line shows a received segment.
     pub(crate) fn come_in(&mut self, host: Host, wire: &'t Wire) -> Result<(), StepFault> {
         let line = self.number;
         if self.world.header().version.is_half() {
@@ -151,7 +151,7 @@ impl<'t> Search<'t> {
         Ok(self.copies.first(host.other(), place).unwrap_or(0))
     }
 
-    // What came in is taken, answered or dropped.
+    // A received segment is processed, answered or dropped.
     fn resolve_arrival(&mut self, host: Host, line: u64) -> Result<(), StepFault> {
         let keep = self.make_earlier(host, line)?;
         if self.try_taking(host, line, keep)? {
@@ -166,7 +166,7 @@ impl<'t> Search<'t> {
         self.drop_arrival(host, line)
     }
 
-    // Takes what came in, if that may be.
+    // Processes a received segment, if that is permitted.
     fn try_taking(&mut self, host: Host, line: u64, keep: bool) -> Result<bool, StepFault> {
         let Some(choice) = self.choice(host, line, keep) else {
             return Ok(false);
@@ -237,7 +237,7 @@ impl<'t> Search<'t> {
         self.add_expiry_after(host, ports, Timer::Msl2)
     }
 
-    // Answers what came in by a reset, where the next reset that goes out at its ports is that one.
+    // Answers a received segment by a reset, if the next reset sent at its ports is that one.
     fn try_answer(&mut self, host: Host, line: u64) -> Result<bool, StepFault> {
         let Some((key, place)) = self.reset_of(host, line) else {
             return Ok(false);

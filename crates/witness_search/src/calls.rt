@@ -1,4 +1,4 @@
-//! Calls: each has its effect as soon as the machine permits the answer that its end tells.
+//! Calls: each takes effect as soon as the model permits the answer that its end shows.
 
 use crate::search::Search;
 use case_forms::{Answer, Call, Event, Extras, Host, Label, OutOfMemory, Ports, State, Timer};

@@ -1,4 +1,4 @@
-//! The lines that went out and have no copy yet.
+//! The lines of sent segments that have no copy yet.
 
 use case_forms::{Host, OutOfMemory};
 use std::alloc::Global;
@@ -55,7 +55,7 @@ struct Sendings {
     last: u64,
 }
 
-// What went out at a host.
+// What a host sent.
 #[derive(Drop)]
 pub(crate) struct Sent<K: Ord> {
     all: Vec<Sendings>,
@@ -78,7 +78,7 @@ impl<K: Ord + Drop> Sent<K> {
         self.places.get(key).copied()
     }
 
-    // These bytes went out with a line.
+    // A line sent these bytes.
     pub(crate) fn add(&mut self, key: K, line: u64) -> Result<(), OutOfMemory> {
         let place = self.all.len();
         match self.places.entry(key)? {
@@ -95,7 +95,7 @@ impl<K: Ord + Drop> Sent<K> {
         Ok(())
     }
 
-    // The bytes of this place went out once more, with a line.
+    // A line sent the bytes of this place once more.
     fn add_again(&mut self, place: usize, line: u64) -> Result<(), OutOfMemory> {
         if let Some(known) = self.all.get_mut(place) {
             self.next.insert(known.last, line)?;
@@ -118,7 +118,7 @@ impl<K: Ord + Drop> Sent<K> {
     }
 }
 
-/// What went out, by host and bytes.
+/// What was sent, by host and bytes.
 #[derive(Drop)]
 pub(crate) struct Copies<'t> {
     zero: Sent<Key<'t>>,
@@ -126,7 +126,7 @@ pub(crate) struct Copies<'t> {
 }
 
 impl<'t> Copies<'t> {
-    /// Nothing went out.
+    /// Nothing was sent.
     pub(crate) fn new(alloc: Global) -> Copies<'t> {
         Copies {
             zero: Sent::new(alloc),
@@ -148,7 +148,7 @@ impl<'t> Copies<'t> {
         }
     }
 
-    /// These bytes of a host went out with a line.
+    /// A line sent these bytes of a host.
     pub(crate) fn send(
         &mut self,
         host: Host,

@@ -1,4 +1,4 @@
-//! Expiries: those that the trace tells, and lines that are added for those that it doesn't.
+//! Expiries: those that the trace shows, and lines that are added for those that it lacks.
 
 use crate::calls::endpoint_at;
 use crate::deeds::extras_of;
@@ -29,7 +29,7 @@ fn expired_at(endpoint: &Endpoint, timer: Timer, moment: u64) -> Expired {
 }
 
 impl Search<'_> {
-    /// A line tells that a timer expired.
+    /// A line shows that a timer expired.
     pub(crate) fn expire_told(
         &mut self,
         host: Host,
@@ -70,7 +70,7 @@ impl Search<'_> {
         }
     }
 
-    /// Adds a line that tells of an expiry before the line that is looked at, of which no step was written yet, if the
+    /// Adds a line that shows an expiry before the line that is looked at, of which no step was written yet, if the
     /// timer may expire now. The answer is whether the line was added.
     pub(crate) fn add_expiry(
         &mut self,
@@ -125,7 +125,7 @@ impl Search<'_> {
         Ok(true)
     }
 
-    /// Adds a line that tells of an expiry at these ports, if it may be now, and tries calls there.
+    /// Adds a line that shows an expiry at these ports, if it may be now, and tries calls there.
     pub(crate) fn try_expiry(
         &mut self,
         host: Host,

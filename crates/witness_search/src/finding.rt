@@ -12,10 +12,10 @@ use witness::push_witness;
 // About how many bytes the line of a step has, without bytes in hex.
 const USUAL_STEP: usize = 40;
 
-/// The text of a case: the trace, in which lines are added for expiries that it doesn't tell and that were needed, and
-/// a witness. Where a line's step is not permitted in the world that was reached, the witness ends with that step, so
-/// that `check` names the rule. An error is the trace's first fault; its kind is `OutOfMemory` if memory ran out, and
-/// where more than 40,000,000 steps would be needed.
+/// The text of a case: the trace, with lines added for expiries that it lacks and that were needed, and a witness. If a
+/// line's step is not permitted in the world that was reached, the witness ends with that step, so that `check` names
+/// the rule. An error is the trace's first fault; its kind is `OutOfMemory` if memory ran out, or if more than
+/// 40,000,000 steps would be needed.
 pub fn find(alloc: Global, text: &[u8]) -> Result<Vec<u8>, TextFault> {
     let trace = read_trace(alloc, text)?;
     let (added, witness) = search(alloc, &trace)?;
@@ -68,7 +68,7 @@ pub(crate) fn unused_thread(lines: &[Line]) -> u32 {
     greatest.saturating_add(1)
 }
 
-// Writes the text of the trace, with the lines that are added. What stands after the last of them is copied as it is.
+// Writes the text of the trace, with the lines that are added. What follows the last of them is copied unchanged.
 pub(crate) fn push_trace(
     out: &mut Vec<u8>,
     text: &[u8],
@@ -115,7 +115,7 @@ pub(crate) fn push_before<'a>(
     Ok(left)
 }
 
-// Writes a line that tells of an expiry.
+// Writes a line that shows an expiry.
 fn push_expiry(out: &mut Vec<u8>, line: &Added, thread: u32) -> Result<(), OutOfMemory> {
     push_number(out, line.moment)?;
     push_space(out)?;

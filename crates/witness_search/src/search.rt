@@ -13,7 +13,7 @@ use std::mem::replace;
 /// A line that is added: a timer expires.
 #[derive(Clone, Copy)]
 pub(crate) struct Added {
-    /// The place of the event line before which it stands.
+    /// The place of the event line that it precedes.
     pub before: usize,
     pub moment: u64,
     pub host: Host,
@@ -21,7 +21,7 @@ pub(crate) struct Added {
     pub timer: Timer,
 }
 
-/// A search on its way.
+/// A search in progress.
 #[derive(Drop)]
 pub(crate) struct Search<'t> {
     pub alloc: Global,
@@ -30,7 +30,7 @@ pub(crate) struct Search<'t> {
     pub ahead: LaterLines,
     pub copies: Copies<'t>,
     pub calls: Calls,
-    /// For the place of a line that goes out, the number of its segment, where it was made before.
+    /// For the place of a line of a sent segment, the number of that segment if it was built before.
     pub made: BTreeMap<usize, u32>,
     pub steps: Steps,
     pub added: Vec<Added>,
@@ -117,7 +117,7 @@ impl<'t> Search<'t> {
         self.world.finish(thread, answer)
     }
 
-    /// A made segment goes out with the line.
+    /// The line sends a built segment.
     pub(crate) fn send_in_world(
         &mut self,
         host: Host,
@@ -128,13 +128,13 @@ impl<'t> Search<'t> {
         self.world.send(host, self.number, made, wire, self.moment)
     }
 
-    /// A segment of the host that is not recorded comes in with the line.
+    /// The line receives a segment of the host that is not recorded.
     pub(crate) fn hear_in_world(&mut self, host: Host, wire: &Wire) -> Result<(), StepFault> {
         has_room(&self.world)?;
         self.world.hear(host, self.number, wire, self.moment)
     }
 
-    /// A copy of another line comes in with the line.
+    /// The line receives a copy of another line.
     pub(crate) fn arrive_in_world(
         &mut self,
         host: Host,

@@ -1,4 +1,4 @@
-//! A line that goes out is made at its moment.
+//! A segment is built at the moment of the line that sends it.
 
 use crate::ahead::connection_key;
 use crate::calls::endpoint_at;
@@ -61,7 +61,7 @@ pub(crate) fn plan_of(world: &World, host: Host, wire: &Wire) -> SegmentPlan {
 }
 
 impl<'t> Search<'t> {
-    /// A line shows a segment that goes out: it is made, if it wasn't.
+    /// A line shows a sent segment: it is built, if it wasn't before.
     pub(crate) fn go_out(&mut self, host: Host, wire: &'t Wire) -> Result<(), StepFault> {
         let key = connection_key(host, wire.seg.src, wire.seg.dst);
         self.ahead.pass(key, self.place);
@@ -129,7 +129,7 @@ impl<'t> Search<'t> {
         }
     }
 
-    // What lets old data go out again.
+    // What permits old data to be retransmitted.
     fn send_again(&mut self, host: Host, ports: Ports) -> Result<bool, StepFault> {
         if self.try_recovery(host, ports)? {
             return Ok(true);

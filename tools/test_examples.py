@@ -1,0 +1,42 @@
+#!/usr/bin/python3
+"""The cases in examples/ are those that the program test_cases checks."""
+import os
+import unittest
+
+TOP = os.path.dirname(os.path.dirname(os.path.abspath(__file__)))
+CHECKED = f"{TOP}/crates/test_cases/data"
+# The name of a copy, if it isn't that of the example.
+COPIES = {
+    "handshake.case": "examples/handshake_and_five_bytes.case",
+    "queue_full.case": "queue-full-backlog-1-extra-0-child-2.case",
+}
+# Examples without a copy, and the page that writes the same case and checks it.
+PAGES = {"first.case": "docs/start/first-case.md"}
+
+
+def read(path):
+    """The text of a file."""
+    with open(path, encoding="ascii") as file:
+        return file.read()
+
+
+class Examples(unittest.TestCase):
+    def test_each_is_a_copy(self):
+        names = sorted(name for name in os.listdir(f"{TOP}/examples") if name.endswith(".case"))
+        self.assertEqual([name for name in [*COPIES, *PAGES] if name not in names], [])
+        for name in names:
+            if name not in PAGES:
+                self.assertEqual(read(f"{TOP}/examples/{name}"), read(f"{CHECKED}/{COPIES.get(name, f'examples/{name}')}"), name)
+
+    def test_the_others_are_written_by_a_page(self):
+        for name, page in PAGES.items():
+            text = "".join(f"    {line}\n" for line in read(f"{TOP}/examples/{name}").splitlines())
+            self.assertIn(f"    cat > {name} << 'EOT'\n{text}    EOT\n    ./tcpwit check < {name}\n\n    yes ", read(f"{TOP}/{page}"))
+
+    def test_each_copy_has_an_example(self):
+        copies = {os.path.basename(COPIES.get(name, name)) for name in os.listdir(f"{TOP}/examples")}
+        self.assertEqual([name for name in os.listdir(f"{CHECKED}/examples") if name not in copies], [])
+
+
+if __name__ == "__main__":
+    unittest.main()
