@@ -35,27 +35,27 @@ fn describe_stream(out: &mut Vec<u8>, endpoint: &Endpoint) -> Result<(), OutOfMe
     say(
         out,
         &[
-            Word("  sending: una "),
+            Word("  sending: SND.UNA "),
             Number(endpoint.stream.snd_una),
-            Word(", made up to "),
+            Word(", sent up to "),
             Number(endpoint.snd_max()),
-            Word(", accepted up to "),
+            Word(", accepted from the program up to "),
             Number(endpoint.stream.accepted.end()),
             Word(if endpoint.stream.ended {
-                ", sending is ended"
+                ", sending has ended"
             } else {
                 ""
             }),
-            Word(", may be made again up to "),
+            Word(", may be retransmitted up to "),
             Number(endpoint.recover),
         ],
     )?;
     say(
         out,
         &[
-            Word("  receiving: next "),
+            Word("  receiving: RCV.NXT "),
             Number(endpoint.rcv_nxt()),
-            Word(", own windows reached "),
+            Word(", advertised up to "),
             Number(endpoint.window.rcv_adv),
         ],
     )
@@ -67,7 +67,7 @@ fn describe_windows(out: &mut Vec<u8>, endpoint: &Endpoint) -> Result<(), OutOfM
     say(
         out,
         &[
-            Word("  windows: the peer offers "),
+            Word("  windows: SND.WND "),
             Number(u64::from(endpoint.window.snd_wnd)),
             Word(", cwnd "),
             Number(u64::from(congestion.cwnd)),

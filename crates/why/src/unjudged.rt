@@ -29,8 +29,8 @@ fn say_word(
 ) -> Result<(), OutOfMemory> {
     let (before, after) = match scene.header.version {
         Version::One | Version::Two | Version::Three => (
-            "version 4 of the texts has a header line `congestion ",
-            "`, which leaves it unjudged",
+            "in version 4, the header line `congestion ",
+            "` leaves it unjudged",
         ),
         Version::Four | Version::FourHalf => ("`congestion ", "` in the header leaves it unjudged"),
     };

@@ -112,7 +112,7 @@ fn allowed_bytes(
                 or(out, start)?;
                 add(
                     out,
-                    &[Piece::Word(" ok N with a number N that was never given")],
+                    &[Piece::Word(" ok N with a number N that was never returned")],
                 )?;
             }
             Ok(())

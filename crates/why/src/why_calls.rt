@@ -53,9 +53,9 @@ fn given_before(out: &mut Vec<u8>, world: &World, number: u32) -> Result<(), Out
         &[
             Piece::Word("socket number "),
             Piece::Number(u64::from(number)),
-            Piece::Word(" was given before, at "),
+            Piece::Word(" was returned before, at "),
             Piece::At(host),
-            Piece::Word("; each is given once, at either host"),
+            Piece::Word("; each is returned once, at either host"),
         ],
     )?;
     describe_socket(out, world, host, number)
@@ -92,12 +92,12 @@ pub(crate) fn why_thread(
     if let Some(call) = pending {
         add(out, &[Piece::Word(": ")])?;
         push_call(out, call)?;
-        return say(out, &[Piece::Word("; it had no effect yet")]);
+        return say(out, &[Piece::Word("; it hasn't taken effect yet")]);
     }
     add(
         out,
         &[
-            Piece::Word(", had its effect in line "),
+            Piece::Word(", took effect in line "),
             Piece::Number(effect_at(scene, thread)),
             Piece::Word(" of the witness, with the answer"),
         ],
@@ -198,7 +198,7 @@ fn describe_named(out: &mut Vec<u8>, world: &World, socket: u32) -> Result<(), O
             &[
                 Piece::Word("socket number "),
                 Piece::Number(u64::from(socket)),
-                Piece::Word(" was never given"),
+                Piece::Word(" was never returned"),
             ],
         );
     }
@@ -249,7 +249,7 @@ fn describe_listener(
                 Piece::At(host),
                 Piece::Word("'s listener on port "),
                 Piece::Number(u64::from(listener.port)),
-                Piece::Word(": children that may be accepted "),
+                Piece::Word(", children in its queue: "),
                 Piece::Number(listener.queue.len() as u64),
             ],
         ),

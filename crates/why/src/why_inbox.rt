@@ -34,7 +34,7 @@ pub(crate) fn describe_waiting(
                 out,
                 &[
                     Piece::At(host),
-                    Piece::Word(" has no endpoint of its ports"),
+                    Piece::Word(" has no endpoint with its ports"),
                 ],
             )
         }
@@ -46,9 +46,9 @@ fn by_positions(out: &mut Vec<u8>, m: &Emission, positions: (u64, u64)) -> Resul
     say(
         out,
         &[
-            Piece::Word("the segment: positions "),
+            Piece::Word("the segment: position "),
             Piece::Number(positions.0),
-            Piece::Word(" on, "),
+            Piece::Word(", "),
             Piece::Number(m.payload.len() as u64),
             Piece::Word(" bytes,"),
             Piece::Word(if m.flags.syn { " SYN" } else { "" }),
@@ -91,10 +91,10 @@ pub(crate) fn nothing_waits(
     add(
         out,
         &[
-            Piece::Word("nothing waits in the inbox of "),
-            Piece::At(host),
-            Piece::Word(" under line "),
+            Piece::Word("the segment of line "),
             Piece::Number(line),
+            Piece::Word(" isn't in the inbox of "),
+            Piece::At(host),
         ],
     )?;
     let comes_in = match scene.line(line) {
@@ -102,15 +102,15 @@ pub(crate) fn nothing_waits(
         None => false,
     };
     if !comes_in {
-        return say(out, &[Piece::Word(": that is no I line of this host")]);
+        return say(out, &[Piece::Word(": that isn't an I line of this host")]);
     }
     if !scene.taken.contains_key(&line) {
-        return say(out, &[Piece::Word(": that line isn't taken yet")]);
+        return say(out, &[Piece::Word(": that line isn't used yet")]);
     }
     say(
         out,
         &[
-            Piece::Word(": it was taken, dropped or answered in line "),
+            Piece::Word(": it was processed, dropped or answered in line "),
             Piece::Number(emptied_at(scene, host, line)),
             Piece::Word(" of the witness"),
         ],

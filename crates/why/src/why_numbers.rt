@@ -75,7 +75,7 @@ fn meant(out: &mut Vec<u8>, half: bool, position: u64) -> Result<(), OutOfMemory
     }
     say(
         out,
-        &[Piece::Word(", it was meant as "), Piece::Number(position)],
+        &[Piece::Word(", it was built with "), Piece::Number(position)],
     )
 }
 
@@ -88,7 +88,7 @@ pub(crate) fn unacceptable(
         return say(
             out,
             &[Piece::Word(
-                "it has a SYN: that is acceptable in SYN-RECEIVED alone, at position 0 and with an ACK",
+                "it has a SYN, which is acceptable only in SYN-RECEIVED, at position 0 and with ACK",
             )],
         );
     }
@@ -101,7 +101,7 @@ pub(crate) fn unacceptable(
     add(
         out,
         &[
-            Piece::Word("it takes "),
+            Piece::Word("it occupies "),
             Piece::Number(length_of(m)),
             Piece::Word(" positions, from "),
             Piece::Number(first),
@@ -118,7 +118,7 @@ fn receive_window(out: &mut Vec<u8>, endpoint: &Endpoint) -> Result<(), OutOfMem
         Some(last) if next <= last => say(
             out,
             &[
-                Piece::Word("its first or last has to lie in the receive window, from "),
+                Piece::Word("its first or last has to be in the receive window, from "),
                 Piece::Number(next),
                 Piece::Word(" to "),
                 Piece::Number(last),
@@ -150,7 +150,7 @@ pub(crate) fn ack_range(
         return say(
             out,
             &[Piece::Word(
-                "it has no ACK; a reset needs one in SYN-SENT, any other segment always",
+                "it has no ACK, which a reset needs in SYN-SENT and any other segment always",
             )],
         );
     }
@@ -162,12 +162,12 @@ pub(crate) fn ack_range(
         &[
             Piece::Word("it acknowledges "),
             Piece::Number(m.ack()),
-            Piece::Word(", una is "),
+            Piece::Word("; SND.UNA is "),
             Piece::Number(endpoint.stream.snd_una),
-            Piece::Word(", and segments were made up to "),
+            Piece::Word(", sent up to "),
             Piece::Number(endpoint.snd_max()),
             Piece::Word(if endpoint.state.is_syn_received() {
-                "; in SYN-RECEIVED it has to be above una"
+                "; in SYN-RECEIVED it has to be above SND.UNA"
             } else {
                 ""
             }),
@@ -192,10 +192,11 @@ pub(crate) fn ack_of_syn(
         Some(iss) => say(
             out,
             &[
-                Piece::Word(", that of the own SYN is "),
+                Piece::Word("; "),
                 Piece::Number(u64::from(iss.0.wrapping_add(1))),
+                Piece::Word(" acknowledges the own SYN"),
             ],
         ),
-        None => say(out, &[Piece::Word(", and no own SYN was made")]),
+        None => say(out, &[Piece::Word("; the own SYN wasn't built yet")]),
     }
 }

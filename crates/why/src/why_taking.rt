@@ -43,7 +43,7 @@ fn why_at(
     match asked.1 {
         Rule::State => say(
             out,
-            &[Piece::Word("in SYN-SENT a segment is taken that has SYN or RST")],
+            &[Piece::Word("in SYN-SENT only a segment with SYN or RST is processed")],
         ),
         Rule::NotPeer => not_peer(out, scene, host, endpoint, read),
         Rule::Number => number(out, scene.header.version.is_half(), endpoint, read),
@@ -69,7 +69,7 @@ fn why_listening(
     match rule {
         Rule::State => say(
             out,
-            &[Piece::Word("a listener takes a segment with SYN, without ACK and RST")],
+            &[Piece::Word("a listener processes only a segment with SYN, without ACK and RST")],
         ),
         Rule::Growth => say(
             out,
@@ -82,7 +82,7 @@ fn why_listening(
         Rule::Sample => say(
             out,
             &[Piece::Word(
-                "the step measures a round trip, and a child has made nothing that could be acknowledged",
+                "the step measures a round trip, but a child has sent nothing that could be acknowledged",
             )],
         ),
         _ => Ok(()),
@@ -137,12 +137,12 @@ fn not_peer(
         .body(host)
         .place_of(endpoint.lport, endpoint.rport)
         .unwrap_or(0);
-    add(out, &[Piece::Word("the taker is ")])?;
+    add(out, &[Piece::Word("the receiver is ")])?;
     push_name(out, EndpointId { host, number })?;
     if m.is_reset_reply() {
         add(
             out,
-            &[Piece::Word("; the reset answers a segment made by ")],
+            &[Piece::Word("; the reset answers a segment built by ")],
         )?;
         push_name(out, m.sender())?;
         return say(out, &[]);
@@ -151,7 +151,7 @@ fn not_peer(
         add(out, &[Piece::Word(", its peer is ")])?;
         push_name(out, peer)?;
     }
-    add(out, &[Piece::Word("; the segment was made by ")])?;
+    add(out, &[Piece::Word("; the segment was built by ")])?;
     push_name(out, m.sender())?;
     if let Some(peer_at_send) = m.peer_at_send() {
         add(out, &[Piece::Word(" for ")])?;
@@ -219,7 +219,7 @@ fn sample(out: &mut Vec<u8>, endpoint: &Endpoint, m: &Arrived<'_>) -> Result<(),
         return say(
             out,
             &[
-                Piece::Word("it acknowledges nothing new: una is "),
+                Piece::Word("it acknowledges nothing new: SND.UNA is "),
                 Piece::Number(snd_una),
                 Piece::Word("; a round trip is measured by a new acknowledgment, not by a reset"),
             ],
@@ -232,7 +232,7 @@ fn sample(out: &mut Vec<u8>, endpoint: &Endpoint, m: &Arrived<'_>) -> Result<(),
             Piece::Number(snd_una),
             Piece::Word(" up to "),
             Piece::Number(m.ack()),
-            Piece::Word(", and a position there was made more than once"),
+            Piece::Word(", and a position there was sent more than once"),
         ],
     )
 }
@@ -246,14 +246,14 @@ fn scale_unread(
         out,
         &[
             Piece::Word(if m.is_scaled() {
-                "windows were scaled at its maker when it was made"
+                "its sender scaled windows when it built the segment"
             } else {
-                "windows were not scaled at its maker when it was made"
+                "its sender didn't scale windows when it built the segment"
             }),
             Piece::Word(if endpoint.is_scaling() {
-                ", and are scaled at its taker"
+                ", and its receiver scales them"
             } else {
-                ", and are not scaled at its taker"
+                ", and its receiver doesn't"
             }),
         ],
     )

@@ -74,11 +74,11 @@ fn why_sent(
             out,
             &[
                 Piece::At(host),
-                Piece::Word(" made no segment of the number "),
+                Piece::Word(" built no segment with the number "),
                 Piece::Number(u64::from(number)),
-                Piece::Word("; up to here "),
+                Piece::Word("; so far "),
                 Piece::Number(u64::from(scene.world.count())),
-                Piece::Word(" were made at both hosts"),
+                Piece::Word(" were built at both hosts"),
             ],
         ),
         Some(made) => match rule {
@@ -86,9 +86,9 @@ fn why_sent(
             _ => say(
                 out,
                 &[
-                    Piece::Word("made segment "),
+                    Piece::Word("segment "),
                     Piece::Number(u64::from(number)),
-                    Piece::Word(" went out before, in trace line "),
+                    Piece::Word(" was already sent in trace line "),
                     Piece::Number(shown_before(scene, number)),
                 ],
             ),
@@ -160,7 +160,7 @@ fn differ(out: &mut Vec<u8>, name: &str, made: u64, shown: u64) -> Result<(), Ou
         &[
             Piece::Word("  "),
             Piece::Word(name),
-            Piece::Word(": made "),
+            Piece::Word(": built "),
             Piece::Number(made),
             Piece::Word(", the line shows "),
             Piece::Number(shown),
@@ -169,7 +169,7 @@ fn differ(out: &mut Vec<u8>, name: &str, made: u64, shown: u64) -> Result<(), Ou
 }
 
 fn differ_bytes(out: &mut Vec<u8>, made: &[u8], shown: &[u8]) -> Result<(), OutOfMemory> {
-    first_difference(out, "payload byte ", "made", made, shown)
+    first_difference(out, "payload byte ", "built", made, shown)
 }
 
 /// The first byte in which two runs of bytes differ: what they are of, and the word for the first of them.
@@ -203,16 +203,11 @@ pub(crate) fn first_difference<'a>(
 
 fn differ_shift(out: &mut Vec<u8>, m: &Emission, wire: &Wire) -> Result<(), OutOfMemory> {
     match (m.shift, wire.seg.scale) {
-        (Some(given), Some(told)) => differ(
-            out,
-            "shift of windows",
-            u64::from(given),
-            u64::from(told),
-        ),
+        (Some(given), Some(told)) => differ(out, "window shift", u64::from(given), u64::from(told)),
         (None, Some(told)) => say(
             out,
             &[
-                Piece::Word("  shift of windows: made with none, the line shows "),
+                Piece::Word("  window shift: built with none, the line shows "),
                 Piece::Number(u64::from(told)),
             ],
         ),
@@ -239,9 +234,9 @@ fn why_came(
             _ => say(
                 out,
                 &[
-                    Piece::Word("it comes in at "),
+                    Piece::Word("it arrives at "),
                     Piece::Number(moment),
-                    Piece::Word(", it went out at "),
+                    Piece::Word(", it was sent at "),
                     Piece::Number(m.moment),
                     Piece::Word(", the maximum segment lifetime is "),
                     Piece::Number(scene.header.msl),
@@ -268,9 +263,9 @@ fn no_emission(
             Piece::Word("line "),
             Piece::Number(copied),
             Piece::Word(if is_emission {
-                " is not taken yet; it is an O line of "
+                " isn't used yet; it is an O line of "
             } else {
-                " is no O line of "
+                " isn't an O line of "
             }),
             Piece::At(host),
         ],

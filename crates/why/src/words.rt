@@ -170,12 +170,12 @@ pub fn push_event(out: &mut Vec<u8>, numbers: &Numbers, line: &Line) -> Result<(
             push_call(out, call)
         }
         Event::CallEnd(answer) => {
-            add(out, &[Word("thread "), thread, Word(" is told")])?;
+            add(out, &[Word("thread "), thread, Word(" gets")])?;
             push_told(out, answer)
         }
         Event::Sent(host, wire) => push_passing(out, numbers, (*host, " sends ", *host), &wire.seg),
         Event::Came(host, wire) => {
-            push_passing(out, numbers, (*host, " gets ", host.other()), &wire.seg)
+            push_passing(out, numbers, (*host, " receives ", host.other()), &wire.seg)
         }
         Event::Expired(host, lport, rport, timer) => add(
             out,
@@ -231,7 +231,7 @@ fn push_taking(
         out,
         &[
             At(host),
-            Word(" takes line "),
+            Word(" processes line "),
             Number(line),
             Word(", cwnd "),
             Number(u64::from(choice.cwnd)),
@@ -285,7 +285,7 @@ pub fn push_label(out: &mut Vec<u8>, label: &Label<NamedLine>) -> Result<(), Out
                 At(*host),
                 Word(" answers line "),
                 Number(*line),
-                Word(" by a reset"),
+                Word(" with a reset"),
             ],
         ),
         Label::F { host, recovery } => push_recovery(out, *host, *recovery),
