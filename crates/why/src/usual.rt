@@ -1,13 +1,13 @@
-//! What usually causes each rule to be broken, whatever the step.
+//! The usual causes of each broken rule, at any step.
 
 use verdict::Rule;
 
-/// What usually causes a rule to be broken.
+/// What usually causes a step to break a rule.
 #[derive(Clone, Copy)]
 pub(crate) struct Cause {
     /// A fault of a stack, of the program that writes the trace, or of the witness.
     pub usual: &'static str,
-    /// What else causes it if the segments were captured. Empty: nothing.
+    /// A further cause if the segments were captured. Empty: none.
     pub captured: &'static str,
 }
 
@@ -21,39 +21,6 @@ pub(crate) fn anywhere(usual: &'static str) -> Cause {
 
 /// The usual causes of a rule.
 pub(crate) fn usual_cause(rule: Rule) -> Cause {
-    match rule {
-        Rule::LineRange
-        | Rule::LineAgain
-        | Rule::ThreadOrder
-        | Rule::MomentFalls
-        | Rule::MomentOff
-        | Rule::Overdue
-        | Rule::Unplaced => of_order(rule),
-        Rule::ThreadBusy
-        | Rule::NoCall
-        | Rule::DoneTwice
-        | Rule::AnswerDiffers
-        | Rule::Socket
-        | Rule::CallAnswer => of_calls(rule),
-        Rule::NoEndpoint
-        | Rule::State
-        | Rule::Iss
-        | Rule::BytesDiffer
-        | Rule::NotMade
-        | Rule::PayloadRange
-        | Rule::AckField
-        | Rule::OldData
-        | Rule::Offered
-        | Rule::Congestion
-        | Rule::Size => of_sending(rule),
-        Rule::Growth | Rule::Sample | Rule::TimerOff | Rule::TimerEarly | Rule::Recovery => {
-            of_timers(rule)
-        }
-        _ => of_arrivals(rule),
-    }
-}
-
-fn of_order(rule: Rule) -> Cause {
     match rule {
         Rule::LineRange => anywhere(
             "the trace was cut, or a line was added without renumbering the witness",
@@ -72,12 +39,6 @@ fn of_order(rule: Rule) -> Cause {
             captured: "`skew` is smaller than the clock error",
         },
         Rule::Overdue => anywhere("the witness lacks a step for a line, or has it too late"),
-        _ => anywhere("the witness ends too early"),
-    }
-}
-
-fn of_calls(rule: Rule) -> Cause {
-    match rule {
         Rule::ThreadBusy => anywhere(
             "the trace lacks the end of a call, or two threads share one number",
         ),
@@ -91,15 +52,10 @@ fn of_calls(rule: Rule) -> Cause {
         Rule::Socket => anywhere(
             "the trace has file descriptors as socket numbers; it may return each number only once",
         ),
-        _ => anywhere(
+        Rule::CallAnswer => anywhere(
             "the stack delivers data twice, obeys a reset outside its window, or skips TIME-WAIT; or the \
 witness has the effect at the wrong place",
         ),
-    }
-}
-
-fn of_sending(rule: Rule) -> Cause {
-    match rule {
         Rule::NoEndpoint => anywhere(
             "a reset, an expiry or a call already closed the connection, or the witness has the open too late",
         ),
@@ -135,15 +91,10 @@ peer shrank",
             "the stack lacks slow start, doesn't reduce cwnd after an expiry, starts with more than `initial` \
 allows, or doesn't follow RFC 5681",
         ),
-        _ => Cause {
+        Rule::Size => Cause {
             usual: "the stack ignores the peer's MSS, which is 536 if its SYN has none",
             captured: "segmentation offload is on, so the capture shows many segments as one",
         },
-    }
-}
-
-fn of_arrivals(rule: Rule) -> Cause {
-    match rule {
         Rule::NoEmission => Cause {
             usual: "the trace lacks the segment's O line, or the witness names another line",
             captured: "the sender's capture lost the segment, or the clocks are off by more than `skew`",
@@ -173,14 +124,6 @@ the window",
         Rule::QueueFull => anywhere(
             "the stack queues more children than backlog and `extra` allow; raise `extra`",
         ),
-        _ => anywhere(
-            "one side scales windows by an option that the other side didn't send or process",
-        ),
-    }
-}
-
-fn of_timers(rule: Rule) -> Cause {
-    match rule {
         Rule::Growth => anywhere(
             "the window grows faster than RFC 5681 allows; the witness may choose at most the greatest value",
         ),
@@ -196,9 +139,13 @@ too early",
 a sample of data sent twice",
             captured: COARSE_CLOCK,
         },
-        _ => anywhere(
+        Rule::Recovery => anywhere(
             "the stack began after fewer than three duplicate acknowledgments (SACK, early retransmit)",
         ),
+        Rule::ScaleUnread => anywhere(
+            "one side scales windows by an option that the other side didn't send or process",
+        ),
+        Rule::Unplaced => anywhere("the witness ends too early"),
     }
 }
 
