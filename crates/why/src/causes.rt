@@ -1,4 +1,4 @@
-//! What usually causes a rule to be broken at a step, by what is known there.
+//! What usually causes a step to break a rule, by what is known at the step.
 
 use crate::fitting::say_fitting;
 use crate::reasons::{Reason, misplaced};
@@ -15,11 +15,11 @@ use verdict::Rule;
 pub enum Origin {
     /// They were captured, perhaps on a network.
     Captured,
-    /// They went over a simulated wire, where each is recorded as its stack sends it.
+    /// They were sent over a simulated wire, which records each one as its stack sends it.
     Simulated,
 }
 
-/// Writes what usually causes it, after the windows that would be a cause here.
+/// Writes the usual causes, after the other windows that the segment would fit.
 pub(crate) fn say_cause(
     out: &mut Vec<u8>,
     scene: &Scene<'_>,
@@ -66,7 +66,7 @@ fn cause_at(scene: &Scene<'_>, rule: Rule) -> Cause {
     }
 }
 
-// The causes at a segment that an endpoint sends.
+// The causes if an endpoint sends a segment.
 fn at_sending(endpoint: &Endpoint, plan: &SegmentPlan, rule: Rule, congestion: Judged) -> Cause {
     match rule {
         Rule::State | Rule::OldData if endpoint.state.is_time_wait() => anywhere(
@@ -80,7 +80,7 @@ fn at_sending(endpoint: &Endpoint, plan: &SegmentPlan, rule: Rule, congestion: J
     }
 }
 
-// The causes at a step that takes a line.
+// The causes if a step uses a line.
 fn at_line(scene: &Scene<'_>, event: &Event, extras: Extras, rule: Rule) -> Cause {
     match (event, rule, extras) {
         (Event::Sent(host, wire), Rule::BytesDiffer, Extras::One(number)) => {
@@ -95,7 +95,7 @@ fn at_line(scene: &Scene<'_>, event: &Event, extras: Extras, rule: Rule) -> Caus
     }
 }
 
-// The causes if a segment begins where it may not.
+// The causes if a segment begins at a position where it may not.
 fn of_old_data(endpoint: &Endpoint, plan: &SegmentPlan, congestion: Judged) -> Cause {
     match (misplaced(endpoint, plan), congestion) {
         (Reason::Gap { .. }, _) => Cause {
@@ -114,7 +114,7 @@ fn of_old_data(endpoint: &Endpoint, plan: &SegmentPlan, congestion: Judged) -> C
     }
 }
 
-// The causes if a segment went out otherwise than it was made.
+// The causes if the segment sent differs from the one built.
 fn of_bytes(made: &Emission, wire: &Wire) -> Cause {
     let seg = &wire.seg;
     let is_same = made.lport == seg.src && made.rport == seg.dst && made.seq == seg.seq;
@@ -149,7 +149,7 @@ fn of_early(timer: Timer) -> Cause {
     }
 }
 
-// The causes if a timer expires that is off.
+// The causes if a timer expires although it's off.
 fn of_off(timer: Timer) -> Cause {
     match timer {
         Timer::Rto => usual_cause(Rule::TimerOff),

@@ -1,11 +1,11 @@
 //! An endpoint in words.
 
-use crate::text::{Piece, add, say};
+use crate::text::{Piece, add, say, word_if};
 use case_forms::{Host, OutOfMemory};
 use endpoint_state::Endpoint;
 use line_fields::state_name;
 
-/// Writes what rules read of an endpoint, before the step.
+/// Writes the values of an endpoint that rules compare, as they are before the step.
 pub(crate) fn describe(
     out: &mut Vec<u8>,
     host: Host,
@@ -41,11 +41,7 @@ fn describe_stream(out: &mut Vec<u8>, endpoint: &Endpoint) -> Result<(), OutOfMe
             Number(endpoint.snd_max()),
             Word(", accepted from the program up to "),
             Number(endpoint.stream.accepted.end()),
-            Word(if endpoint.stream.ended {
-                ", sending has ended"
-            } else {
-                ""
-            }),
+            Word(word_if(endpoint.stream.ended, ", sending has ended")),
             Word(", may be retransmitted up to "),
             Number(endpoint.recover),
         ],
@@ -73,26 +69,17 @@ fn describe_windows(out: &mut Vec<u8>, endpoint: &Endpoint) -> Result<(), OutOfM
             Number(u64::from(congestion.cwnd)),
             Word(", ssthresh "),
             Number(u64::from(congestion.ssthresh)),
-            Word(if endpoint.control.profile.bounds_windows() {
-                ""
-            } else {
-                " (neither is judged)"
-            }),
+            Word(word_if(
+                !endpoint.control.profile.bounds_windows(),
+                " (neither is judged)",
+            )),
             Word(", SMSS "),
             Number(u64::from(congestion.smss)),
             Word(", "),
             Number(u64::from(congestion.dup)),
             Word(" duplicate acknowledgments"),
-            Word(if congestion.fast {
-                ", in fast recovery"
-            } else {
-                ""
-            }),
-            Word(if endpoint.is_scaling() {
-                ", windows are scaled"
-            } else {
-                ""
-            }),
+            Word(word_if(congestion.fast, ", in fast recovery")),
+            Word(word_if(endpoint.is_scaling(), ", windows are scaled")),
         ],
     )
 }

@@ -11,7 +11,7 @@ const BEFORE: usize = 60;
 
 const SHOWN: usize = 110;
 
-/// Writes the line at fault, and a mark under the columns.
+/// Writes the line with the fault, and a mark under its columns.
 pub(crate) fn mark(out: &mut Vec<u8>, text: &[u8], fault: &TextFault) -> Result<(), OutOfMemory> {
     let Some(line) = line_at(text, fault.span.line) else {
         return say(
@@ -35,7 +35,7 @@ pub(crate) fn mark(out: &mut Vec<u8>, text: &[u8], fault: &TextFault) -> Result<
     say(out, &[Piece::Word(meaning(fault.kind))])
 }
 
-// Writes spaces under bytes that are shown, as many as they take columns, and a tab under a tab.
+// Writes a space under each column of the bytes shown, and a tab under a tab.
 fn push_blank(out: &mut Vec<u8>, bytes: &[u8]) -> Result<(), OutOfMemory> {
     for byte in bytes {
         let blank = if *byte == b'\t' {
@@ -50,7 +50,7 @@ fn push_blank(out: &mut Vec<u8>, bytes: &[u8]) -> Result<(), OutOfMemory> {
     Ok(())
 }
 
-// Writes marks under the first so many of bytes that are shown; one mark if there are none.
+// Writes marks under the first `count` of the bytes shown; one mark if there are none.
 fn push_marks(out: &mut Vec<u8>, bytes: &[u8], count: usize) -> Result<(), OutOfMemory> {
     let start = out.len();
     for byte in bytes.iter().take(count) {

@@ -1,4 +1,4 @@
-//! The rules of making segments.
+//! The rules of building segments.
 
 use crate::described::describe;
 use crate::reasons::{Reason, end_of, misplaced};
@@ -11,7 +11,7 @@ use endpoint_state::Endpoint;
 use verdict::Rule;
 use window_rules::offered_edge;
 
-/// What the rule compares at a segment that is to be made.
+/// What the rule compares at a segment to be built.
 pub(crate) fn explain_rule(
     out: &mut Vec<u8>,
     scene: &Scene<'_>,
@@ -46,16 +46,21 @@ fn why_at(
         Rule::PayloadRange => payload_range(out, endpoint, plan),
         Rule::AckField => ack_field(out, endpoint, plan),
         Rule::Iss => iss(out, endpoint, plan),
-        _ => say(
-            out,
-            &[
-                Piece::Word("it has "),
-                Piece::Number(u64::from(plan.len)),
-                Piece::Word(" bytes, SMSS is "),
-                Piece::Number(u64::from(endpoint.control.values.smss)),
-            ],
-        ),
+        Rule::Size => size(out, endpoint, plan),
+        _ => Ok(()),
     }
+}
+
+fn size(out: &mut Vec<u8>, endpoint: &Endpoint, plan: &SegmentPlan) -> Result<(), OutOfMemory> {
+    say(
+        out,
+        &[
+            Piece::Word("it has "),
+            Piece::Number(u64::from(plan.len)),
+            Piece::Word(" bytes, SMSS is "),
+            Piece::Number(u64::from(endpoint.control.values.smss)),
+        ],
+    )
 }
 
 fn offered(out: &mut Vec<u8>, endpoint: &Endpoint, plan: &SegmentPlan) -> Result<(), OutOfMemory> {
@@ -154,19 +159,24 @@ fn old_data(
             ],
         ),
         Reason::Again { .. } | Reason::Beyond { .. } | Reason::Other => {
-            say(
-                out,
-                &[
-                    Piece::Word("; sent up to "),
-                    Piece::Number(endpoint.snd_max()),
-                    Piece::Word(", may be retransmitted up to "),
-                    Piece::Number(endpoint.recover),
-                    Piece::Word(" (raised by an expiry or fast recovery)"),
-                ],
-            )?;
+            say_outstanding(out, endpoint)?;
             say_due(out, endpoint, moment)
         }
     }
+}
+
+// How much was sent, and how much of it may be retransmitted.
+fn say_outstanding(out: &mut Vec<u8>, endpoint: &Endpoint) -> Result<(), OutOfMemory> {
+    say(
+        out,
+        &[
+            Piece::Word("; sent up to "),
+            Piece::Number(endpoint.snd_max()),
+            Piece::Word(", may be retransmitted up to "),
+            Piece::Number(endpoint.recover),
+            Piece::Word(" (raised by an expiry or fast recovery)"),
+        ],
+    )
 }
 
 // When the retransmission timer is due, and how far that is from the step's moment.
@@ -375,7 +385,7 @@ const KINDS: [Kind; 6] = [
     },
 ];
 
-// Which kinds of segments the state allows at these ports.
+// Which kinds of segments may be built at these ports.
 fn may_make(
     out: &mut Vec<u8>,
     scene: &Scene<'_>,

@@ -1,4 +1,4 @@
-//! Numbers of what is taken as positions, and the ranges that the rules ask for.
+//! Numbers of a received segment as positions, and the ranges that the rules require.
 
 use crate::text::{Piece, add, say};
 use case_forms::{OutOfMemory, POSITIONS};
@@ -6,7 +6,7 @@ use endpoint_state::Endpoint;
 use seqno::{Word, read_near};
 use spec_tcp::Arrived;
 
-// What a number reads as, near a position.
+// The position that a number reads as, near another one.
 fn reads(
     out: &mut Vec<u8>,
     name: &str,
@@ -38,7 +38,7 @@ fn place_read(number: Word, near: u64, base: Option<Word>) -> Option<u64> {
     }
 }
 
-// How both numbers read; in a half case nobody knows what they were meant as.
+// The positions that both numbers read as. Without a half case, also those that the segment was built with.
 pub(crate) fn number(
     out: &mut Vec<u8>,
     half: bool,
@@ -111,7 +111,7 @@ pub(crate) fn unacceptable(
     receive_window(out, endpoint)
 }
 
-// The receive window of an endpoint, and what a segment has to do with it.
+// The receive window of an endpoint, and how a segment has to fit it.
 fn receive_window(out: &mut Vec<u8>, endpoint: &Endpoint) -> Result<(), OutOfMemory> {
     let next = endpoint.rcv_nxt();
     match endpoint.window.rcv_adv.checked_sub(1) {
@@ -134,7 +134,7 @@ fn receive_window(out: &mut Vec<u8>, endpoint: &Endpoint) -> Result<(), OutOfMem
     }
 }
 
-// How many positions a segment takes.
+// How many positions a segment occupies.
 fn length_of(m: &Arrived<'_>) -> u64 {
     (m.payload().len() as u64)
         .saturating_add(u64::from(m.flags().syn))
@@ -175,7 +175,7 @@ pub(crate) fn ack_range(
     )
 }
 
-/// The acknowledgment number beside that of the own SYN.
+/// The acknowledgment number, and the one that acknowledges the own SYN.
 pub(crate) fn ack_of_syn(
     out: &mut Vec<u8>,
     endpoint: &Endpoint,

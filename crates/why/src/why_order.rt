@@ -5,7 +5,7 @@ use crate::text::{Piece, say};
 use case_forms::{Event, Label, Line, NamedLine, OutOfMemory, Step, Timer};
 use verdict::Rule;
 
-/// Whether a rule is of the order of lines.
+/// Whether a rule is one of the order of lines.
 pub(crate) fn is_of_order(rule: Rule) -> bool {
     matches!(
         rule,
@@ -19,7 +19,7 @@ pub(crate) fn is_of_order(rule: Rule) -> bool {
     )
 }
 
-/// What is in the way.
+/// What the rule compares.
 pub(crate) fn explain_rule(
     out: &mut Vec<u8>,
     scene: &Scene<'_>,
@@ -92,7 +92,7 @@ fn wanted(line: &Line, half: bool) -> &'static str {
     }
 }
 
-/// What is left over after the last step.
+/// The event lines that no step used.
 pub(crate) fn why_unplaced(out: &mut Vec<u8>, scene: &Scene<'_>) -> Result<(), OutOfMemory> {
     let (taken, all) = (scene.taken.len() as u64, scene.lines.len() as u64);
     say(
@@ -147,7 +147,7 @@ fn thread_order(out: &mut Vec<u8>, scene: &Scene<'_>, number: u64) -> Result<(),
     Ok(())
 }
 
-// Whether no step took a line yet.
+// Whether no step used a line yet.
 fn is_left(scene: &Scene<'_>, line: &Line) -> bool {
     !scene.taken.contains_key(&line.number)
 }

@@ -1,4 +1,4 @@
-//! The rules of dropping what came in, and of answering it by a reset.
+//! The rules of dropping a received segment, and of answering it with a reset.
 
 use crate::scene::Scene;
 use crate::text::{Piece, say};
@@ -9,7 +9,7 @@ use endpoint_state::Endpoint;
 use line_fields::state_name;
 use spec_tcp::Emission;
 
-/// What the rule compares at a segment that is to be dropped or answered.
+/// What the rule compares at a segment to be dropped or answered.
 pub(crate) fn explain_rule(
     out: &mut Vec<u8>,
     scene: &Scene<'_>,

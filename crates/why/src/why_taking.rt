@@ -1,4 +1,4 @@
-//! The rules of taking what came in.
+//! The rules of processing a received segment.
 
 use crate::scene::Scene;
 use crate::text::{Piece, add, say};
@@ -10,7 +10,7 @@ use endpoint_state::Endpoint;
 use spec_tcp::{Arrived, Emission, EndpointId};
 use verdict::Rule;
 
-/// What the rule compares at a segment that is to be taken.
+/// What the rule compares at a segment to be processed.
 pub(crate) fn explain_rule(
     out: &mut Vec<u8>,
     scene: &Scene<'_>,
@@ -52,11 +52,12 @@ fn why_at(
         Rule::QueueFull => queue_full(out, scene, host, endpoint),
         Rule::Growth => growth(out, scene, endpoint, read, asked.0),
         Rule::Sample => sample(out, endpoint, read),
-        _ => scale_unread(out, endpoint, read),
+        Rule::ScaleUnread => scale_unread(out, endpoint, read),
+        _ => Ok(()),
     }
 }
 
-// What the rule compares if no endpoint is there that isn't CLOSED.
+// What the rule compares if no endpoint has the ports, or it is CLOSED.
 fn why_listening(
     out: &mut Vec<u8>,
     scene: &Scene<'_>,

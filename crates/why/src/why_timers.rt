@@ -9,7 +9,7 @@ use endpoint::{greatest_recovery, greatest_values};
 use endpoint_state::Endpoint;
 use verdict::Rule;
 
-/// What the rule compares at an expiry, at a moment.
+/// What the rule compares at an expiry.
 pub(crate) fn why_expiry(
     out: &mut Vec<u8>,
     scene: &Scene<'_>,
@@ -27,7 +27,8 @@ pub(crate) fn why_expiry(
             out, endpoint, cwnd, ssthresh, asked.0,
         ),
         (Rule::TimerOff, _) => off(out, endpoint, timer),
-        _ => early(out, scene, endpoint, timer, asked.0),
+        (Rule::TimerEarly, _) => early(out, scene, endpoint, timer, asked.0),
+        _ => Ok(()),
     }
 }
 
@@ -58,7 +59,7 @@ fn growth(
     )
 }
 
-// Why a timer may not expire at all.
+// Why a timer can't expire at all.
 fn off(out: &mut Vec<u8>, endpoint: &Endpoint, timer: Timer) -> Result<(), OutOfMemory> {
     match timer {
         Timer::Rto => say(
@@ -143,7 +144,7 @@ fn giveup_off(out: &mut Vec<u8>, endpoint: &Endpoint) -> Result<(), OutOfMemory>
     )
 }
 
-// From when on a timer may expire.
+// The moment from which on a timer may expire.
 fn early(
     out: &mut Vec<u8>,
     scene: &Scene<'_>,
@@ -201,7 +202,8 @@ pub(crate) fn why_recovery(
                 Piece::Word("; both have to be at least 1"),
             ],
         ),
-        _ => bad_recovery(out, endpoint, recovery, scene.moment()),
+        Rule::Recovery => bad_recovery(out, endpoint, recovery, scene.moment()),
+        _ => Ok(()),
     }
 }
 
@@ -244,7 +246,7 @@ fn duplicates(out: &mut Vec<u8>, endpoint: &Endpoint) -> Result<(), OutOfMemory>
     )
 }
 
-// The values that the step chooses, beside the greatest ones.
+// The values that the step chooses, next to the greatest ones.
 fn chosen(
     out: &mut Vec<u8>,
     endpoint: &Endpoint,

@@ -1,4 +1,4 @@
-//! The rules of the machine at a step that takes a line.
+//! The rules of the model at a step that uses a line.
 
 use crate::described::describe;
 use crate::scene::Scene;
@@ -33,7 +33,7 @@ pub(crate) fn explain_rule(
     }
 }
 
-/// A host has no endpoint of these ports.
+/// A host has no endpoint with these ports.
 pub(crate) fn no_endpoint(
     out: &mut Vec<u8>,
     host: Host,
@@ -59,7 +59,7 @@ fn first_extra(extras: Extras) -> u32 {
     }
 }
 
-// A segment that goes out: the made one beside the line's.
+// A segment sent: the built one next to the line's.
 fn why_sent(
     out: &mut Vec<u8>,
     scene: &Scene<'_>,
@@ -83,7 +83,7 @@ fn why_sent(
         ),
         Some(made) => match rule {
             Rule::BytesDiffer => differences(out, made.emission(), wire),
-            _ => say(
+            Rule::NotMade => say(
                 out,
                 &[
                     Piece::Word("segment "),
@@ -92,11 +92,12 @@ fn why_sent(
                     Piece::Number(shown_before(scene, number)),
                 ],
             ),
+            _ => Ok(()),
         },
     }
 }
 
-// The O line that showed a made segment before the step; 0 if there is none.
+// The O line that showed a built segment before the step; 0 if there is none.
 fn shown_before(scene: &Scene<'_>, number: u32) -> u64 {
     let mut found = 0;
     for step in scene.steps.iter().take(scene.place) {
@@ -116,7 +117,7 @@ fn is_going_out(scene: &Scene<'_>, number: u64) -> bool {
     }
 }
 
-// Both sides, field by field, if they differ.
+// The fields in which the built segment and the line differ.
 fn differences(out: &mut Vec<u8>, m: &Emission, wire: &Wire) -> Result<(), OutOfMemory> {
     let seg = &wire.seg;
     differ(out, "source port", u64::from(m.lport), u64::from(seg.src))?;
@@ -172,7 +173,7 @@ fn differ_bytes(out: &mut Vec<u8>, made: &[u8], shown: &[u8]) -> Result<(), OutO
     first_difference(out, "payload byte ", "built", made, shown)
 }
 
-/// The first byte in which two runs of bytes differ: what they are of, and the word for the first of them.
+/// The first byte that differs. `of` says what the bytes are, and `word` where the first ones are from.
 pub(crate) fn first_difference<'a>(
     out: &mut Vec<u8>,
     of: &'a str,
@@ -215,7 +216,7 @@ fn differ_shift(out: &mut Vec<u8>, m: &Emission, wire: &Wire) -> Result<(), OutO
     }
 }
 
-// A segment that comes in, beside the line that it copies.
+// A segment received, next to the line that it copies.
 fn why_came(
     out: &mut Vec<u8>,
     scene: &Scene<'_>,
@@ -231,7 +232,7 @@ fn why_came(
         None => no_emission(out, scene, other, copied),
         Some(m) => match rule {
             Rule::CopyDiffers => copy_differs(out, m, wire),
-            _ => say(
+            Rule::Lifetime => say(
                 out,
                 &[
                     Piece::Word("it arrives at "),
@@ -242,11 +243,12 @@ fn why_came(
                     Piece::Number(scene.header.msl),
                 ],
             ),
+            _ => Ok(()),
         },
     }
 }
 
-// What the line is that should have gone out at a host.
+// What is wrong with the line that the received segment should copy.
 fn no_emission(
     out: &mut Vec<u8>,
     scene: &Scene<'_>,
