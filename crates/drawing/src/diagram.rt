@@ -99,7 +99,7 @@ const KEY: [(&str, u64, &str); 6] = [
     ("reset", 590, "reset"),
     ("waits", 654, "waits"),
     ("lost", 720, "lost"),
-    ("seen", 776, "only seen"),
+    ("seen", 776, "not reached"),
 ];
 
 #[derive(Drop)]
@@ -449,7 +449,7 @@ impl Drawing {
         add(
             &mut self.out,
             &[
-                Piece::Word("refused (unplaced): no step takes line "),
+                Piece::Word("refused (unplaced): no step uses line "),
                 Piece::Number(number),
             ],
         )?;

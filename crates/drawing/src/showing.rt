@@ -102,7 +102,7 @@ impl Showing {
         if self.shown.contains(&line.number) {
             return Ok(());
         }
-        add(&mut self.out, &[Piece::Word("not taken: ")])?;
+        add(&mut self.out, &[Piece::Word("not used: ")])?;
         self.line(line, line.moment)
     }
 }
