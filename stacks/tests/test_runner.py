@@ -419,12 +419,12 @@ class TheCommand(unittest.TestCase):
 
     def test_the_compared_values_are_shown(self):
         refused = self.outcome("no 9 0 congestion", "", "one")
-        refused.why, refused.seconds = "the step: 1 M\n  sending: una 1\n\nends at 2681", 1.5
+        refused.why, refused.seconds = "the step: 1 M\n  sending: SND.UNA 1\n\nnew bytes end at 2681", 1.5
         _, out = self.reported("--junit", f"{self.folder}/report.xml", outcomes=[refused])
-        self.assertIn("    the step: 1 M\n      sending: una 1\n    ends at 2681\n", out)
+        self.assertIn("    the step: 1 M\n      sending: SND.UNA 1\n    new bytes end at 2681\n", out)
         with open(f"{self.folder}/report.xml") as file:
             report = file.read()
-        self.assertIn("\nthe step: 1 M\n  sending: una 1\nends at 2681</failure>", report)
+        self.assertIn("\nthe step: 1 M\n  sending: SND.UNA 1\nnew bytes end at 2681</failure>", report)
         self.assertEqual(report.count('time="1.500"'), 2)
 
     def test_the_report_knows_against(self):

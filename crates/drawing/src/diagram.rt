@@ -99,7 +99,7 @@ const KEY: [(&str, u64, &str); 6] = [
     ("reset", 590, "reset"),
     ("waits", 654, "waits"),
     ("lost", 720, "lost"),
-    ("seen", 776, "only seen"),
+    ("seen", 776, "not reached"),
 ];
 
 #[derive(Drop)]

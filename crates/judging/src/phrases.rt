@@ -5,80 +5,31 @@ use verdict::Rule;
 /// What is wrong with a line whose step breaks the rule.
 pub(crate) fn phrase(rule: Rule) -> &'static str {
     match rule {
-        Rule::LineRange
-        | Rule::LineAgain
-        | Rule::ThreadOrder
-        | Rule::MomentFalls
-        | Rule::MomentOff
-        | Rule::Overdue
-        | Rule::Unplaced => of_order(rule),
-        Rule::ThreadBusy
-        | Rule::NoCall
-        | Rule::DoneTwice
-        | Rule::AnswerDiffers
-        | Rule::Socket
-        | Rule::CallAnswer => of_calls(rule),
-        Rule::NoEndpoint
-        | Rule::State
-        | Rule::Iss
-        | Rule::BytesDiffer
-        | Rule::NotMade
-        | Rule::PayloadRange
-        | Rule::AckField
-        | Rule::OldData
-        | Rule::Offered
-        | Rule::Congestion
-        | Rule::Size => of_sending(rule),
-        Rule::Growth | Rule::Sample | Rule::TimerOff | Rule::TimerEarly | Rule::Recovery => {
-            of_timers(rule)
-        }
-        _ => of_arrivals(rule),
-    }
-}
-
-fn of_order(rule: Rule) -> &'static str {
-    match rule {
         Rule::LineRange => "the trace has no such event line, or one of another kind",
         Rule::LineAgain => "the line is used twice",
         Rule::ThreadOrder => "an earlier line of the same thread comes after it",
         Rule::MomentFalls => "it comes after a later moment",
         Rule::MomentOff => "it happens at another moment than the trace and its skew allow",
         Rule::Overdue => "an earlier line is overdue",
-        _ => "nothing explains the line",
-    }
-}
-
-fn of_calls(rule: Rule) -> &'static str {
-    match rule {
         Rule::ThreadBusy => "a call begins in a thread whose last call hasn't ended",
         Rule::NoCall => "a call ends in a thread that has no open call",
         Rule::DoneTwice => "one call has two effects",
         Rule::AnswerDiffers => "the call's answer isn't that of its effect",
         Rule::Socket => "the call returns a socket number that was returned before",
-        _ => "the call can't have this answer at this point",
-    }
-}
-
-fn of_sending(rule: Rule) -> &'static str {
-    match rule {
+        Rule::CallAnswer => "the call can't have this answer at this point",
         Rule::NoEndpoint => "no connection or listener exists at these ports",
         Rule::State => "the state of the connection doesn't allow this segment",
         Rule::Iss => "the initial sequence number is missing, or was given before",
         Rule::BytesDiffer => "the segment isn't the one that its host sends at this point",
         Rule::NotMade => "its host sends no such segment at this point",
         Rule::PayloadRange =>
-            "the segment carries data that the program hasn't sent, or a FIN before their end",
+            "the segment carries data that the program hasn't sent, or a FIN before its end",
         Rule::AckField =>
             "the segment acknowledges before the peer's SYN arrived, or not at all after it",
         Rule::OldData => "the segment begins at a position that may not be sent now",
         Rule::Offered => "the segment ends beyond the window that its peer offers",
         Rule::Congestion => "the segment ends beyond the congestion window",
-        _ => "the segment carries more bytes than the peer's maximum segment size",
-    }
-}
-
-fn of_arrivals(rule: Rule) -> &'static str {
-    match rule {
+        Rule::Size => "the segment carries more bytes than the peer's maximum segment size",
         Rule::NoEmission => "no segment that the other host sent before is left to arrive here",
         Rule::CopyDiffers => "the segment arrives with other bytes than it was sent with",
         Rule::Lifetime => "the segment arrives later than its maximum lifetime allows",
@@ -88,16 +39,12 @@ fn of_arrivals(rule: Rule) -> &'static str {
         Rule::Unacceptable => "the segment is outside the receive window",
         Rule::AckRange => "the segment acknowledges what wasn't sent, or nothing",
         Rule::QueueFull => "the listen queue is full",
-        _ => "only one of the two hosts scales windows",
-    }
-}
-
-fn of_timers(rule: Rule) -> &'static str {
-    match rule {
         Rule::Growth => "the congestion window or the slow start threshold is greater than allowed",
-        Rule::Sample => "a round trip is measured by data that were sent twice, or by none",
+        Rule::Sample => "a round trip is measured by data that was sent twice, or by none",
         Rule::TimerOff => "a timer expires that isn't running",
         Rule::TimerEarly => "a timer expires too early",
-        _ => "fast recovery begins where it may not",
+        Rule::Recovery => "fast recovery begins where it may not",
+        Rule::ScaleUnread => "only one of the two hosts scales windows",
+        Rule::Unplaced => "nothing explains the line",
     }
 }

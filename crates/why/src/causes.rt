@@ -1,4 +1,4 @@
-//! What usually causes a rule to be broken at a step, by what is known there.
+//! What usually causes a step to break a rule, by what is known at the step.
 
 use crate::fitting::say_fitting;
 use crate::reasons::{Reason, misplaced};
@@ -15,11 +15,11 @@ use verdict::Rule;
 pub enum Origin {
     /// They were captured, perhaps on a network.
     Captured,
-    /// They went over a simulated wire, where each is recorded as its stack sends it.
+    /// They were sent over a simulated wire, which records each one as its stack sends it.
     Simulated,
 }
 
-/// Writes what usually causes it, after the windows that would be a cause here.
+/// Writes the usual causes, after the other windows that the segment would fit.
 pub(crate) fn say_cause(
     out: &mut Vec<u8>,
     scene: &Scene<'_>,
@@ -52,10 +52,10 @@ fn cause_at(scene: &Scene<'_>, rule: Rule) -> Cause {
             None => usual_cause(rule),
         },
         (Label::T { .. }, Rule::NoEndpoint) => anywhere(
-            "the segment finds no connection, so the witness has to drop it (K) or answer it by a reset (R)",
+            "the segment finds no connection, so the witness has to drop it (K) or answer it with a reset (R)",
         ),
         (Label::F { .. }, Rule::Recovery) => match scene.header.congestion {
-            Judged::Nothing => anywhere("all was acknowledged before"),
+            Judged::Nothing => anywhere("everything was already acknowledged"),
             Judged::Full | Judged::Recovery => usual_cause(rule),
         },
         (Label::L(named), _) => match scene.line(named.number) {
@@ -66,11 +66,11 @@ fn cause_at(scene: &Scene<'_>, rule: Rule) -> Cause {
     }
 }
 
-// The causes at a segment that an endpoint sends.
+// The causes if an endpoint sends a segment.
 fn at_sending(endpoint: &Endpoint, plan: &SegmentPlan, rule: Rule, congestion: Judged) -> Cause {
     match rule {
         Rule::State | Rule::OldData if endpoint.state.is_time_wait() => anywhere(
-            "the stack leaves out TIME-WAIT, or ends it before twice the header's `msl`",
+            "the stack skips TIME-WAIT, or ends it before 2 `msl`",
         ),
         Rule::OldData => of_old_data(endpoint, plan, congestion),
         Rule::Congestion if endpoint.control.values.smss < u32::from(plan.len) => {
@@ -80,7 +80,7 @@ fn at_sending(endpoint: &Endpoint, plan: &SegmentPlan, rule: Rule, congestion: J
     }
 }
 
-// The causes at a step that takes a line.
+// The causes if a step uses a line.
 fn at_line(scene: &Scene<'_>, event: &Event, extras: Extras, rule: Rule) -> Cause {
     match (event, rule, extras) {
         (Event::Sent(host, wire), Rule::BytesDiffer, Extras::One(number)) => {
@@ -95,7 +95,7 @@ fn at_line(scene: &Scene<'_>, event: &Event, extras: Extras, rule: Rule) -> Caus
     }
 }
 
-// The causes if a segment begins where it may not.
+// The causes if a segment begins at a position where it may not.
 fn of_old_data(endpoint: &Endpoint, plan: &SegmentPlan, congestion: Judged) -> Cause {
     match (misplaced(endpoint, plan), congestion) {
         (Reason::Gap { .. }, _) => Cause {
@@ -103,18 +103,18 @@ fn of_old_data(endpoint: &Endpoint, plan: &SegmentPlan, congestion: Judged) -> C
             captured: "the capture lost the segments before this one",
         },
         (Reason::Acknowledged { .. }, _) => anywhere(
-            "the stack sends again what was acknowledged, or the witness has the acknowledgment too early",
+            "the stack retransmits acknowledged data, or the witness has the acknowledgment too early",
         ),
         (_, Judged::Nothing) => anywhere(if endpoint.is_up() {
             "the witness lacks an F step before it; under `none` it may have one at any moment"
         } else {
-            "the trace lacks the expiry (a `T` line) before it, which a SYN needs under each word"
+            "the trace lacks the expiry (a `T` line) before it, which a SYN needs under every word"
         }),
         _ => usual_cause(Rule::OldData),
     }
 }
 
-// The causes if a segment went out otherwise than it was made.
+// The causes if the segment sent differs from the one built.
 fn of_bytes(made: &Emission, wire: &Wire) -> Cause {
     let seg = &wire.seg;
     let is_same = made.lport == seg.src && made.rport == seg.dst && made.seq == seg.seq;
@@ -124,15 +124,14 @@ fn of_bytes(made: &Emission, wire: &Wire) -> Cause {
     }
     if ahead <= u32::MAX / 2 {
         Cause {
-            usual: "the stack acknowledges what never arrived, skips a gap in what arrived, or accepts data after the \
-FIN",
+            usual: "the stack acknowledges what never arrived, skips a gap, or accepts data after the FIN",
             captured: "the capture lost a segment that arrived",
         }
     } else {
         Cause {
-            usual: "the stack doesn't keep data inside the window that it offered: it takes the window back, or drops \
+            usual: "the stack doesn't keep data inside the window that it offered: it shrinks the window, or drops \
 data (`keep` 0 in the witness)",
-            captured: "the stack processed an arrival later than the capture shows",
+            captured: "the stack processed a segment later than the capture shows",
         }
     }
 }
@@ -140,8 +139,8 @@ data (`keep` 0 in the witness)",
 // The causes if a timer expires early.
 fn of_early(timer: Timer) -> Cause {
     let usual = match timer {
-        Timer::Persist => "the stack probes a closed window before its timeout is over",
-        Timer::Msl2 => "TIME-WAIT is shorter than twice the header's `msl`",
+        Timer::Persist => "the stack probes a closed window before its timeout",
+        Timer::Msl2 => "TIME-WAIT is shorter than 2 `msl`",
         Timer::Rto | Timer::Giveup => return usual_cause(Rule::TimerEarly),
     };
     Cause {
@@ -150,15 +149,15 @@ fn of_early(timer: Timer) -> Cause {
     }
 }
 
-// The causes if a timer expires that is off.
+// The causes if a timer expires although it's off.
 fn of_off(timer: Timer) -> Cause {
     match timer {
         Timer::Rto => usual_cause(Rule::TimerOff),
         Timer::Persist => anywhere(
-            "the stack probes though the window is open or nothing is left to send",
+            "the stack probes although the window is open or nothing is left to send",
         ),
         Timer::Msl2 => anywhere(
-            "the witness lacks the arrival that leads to TIME-WAIT, or has it later",
+            "the witness lacks the segment that leads to TIME-WAIT, or has it later",
         ),
         Timer::Giveup => anywhere(
             "the stack gives up after fewer than three expiries, or with nothing outstanding",

@@ -1,28 +1,28 @@
-//! What a step does to an endpoint, as its congestion control sees it.
+//! What a step changes at an endpoint, for congestion control.
 
 use endpoint_state::Endpoint;
 use window_rules::Congestion;
 
-/// What congestion control goes by at an endpoint.
+/// The values of an endpoint that congestion control depends on.
 #[derive(Clone, Copy)]
 pub(crate) struct Values {
     /// The oldest position that isn't acknowledged.
     pub una: u64,
-    /// The position after all that was sent.
+    /// The position after everything sent.
     pub sent: u64,
     /// Expiries of the retransmission timer since a new acknowledgment.
     pub backoffs: u32,
     pub congestion: Congestion,
 }
 
-/// What happened between two values.
+/// What happened between two sets of values.
 #[derive(Clone, Copy)]
 pub(crate) enum Change {
     /// The own SYN is acknowledged.
     Begins,
-    /// So many positions are newly acknowledged.
+    /// This many positions are newly acknowledged.
     Acknowledged(u64),
-    /// A duplicate acknowledgment came.
+    /// A duplicate acknowledgment arrived.
     Duplicate,
     /// The retransmission timer expired.
     Timeout,
@@ -32,7 +32,7 @@ pub(crate) enum Change {
 }
 
 impl Values {
-    /// Those before anything is sent.
+    /// The values before anything is sent.
     pub(crate) fn start() -> Values {
         Values {
             una: 0,

@@ -1,11 +1,11 @@
 //! An endpoint in words.
 
-use crate::text::{Piece, add, say};
+use crate::text::{Piece, add, say, word_if};
 use case_forms::{Host, OutOfMemory};
 use endpoint_state::Endpoint;
 use line_fields::state_name;
 
-/// Writes what rules read of an endpoint, before the step.
+/// Writes the values of an endpoint that rules compare, as they are before the step.
 pub(crate) fn describe(
     out: &mut Vec<u8>,
     host: Host,
@@ -35,27 +35,23 @@ fn describe_stream(out: &mut Vec<u8>, endpoint: &Endpoint) -> Result<(), OutOfMe
     say(
         out,
         &[
-            Word("  sending: una "),
+            Word("  sending: SND.UNA "),
             Number(endpoint.stream.snd_una),
-            Word(", made up to "),
+            Word(", sent up to "),
             Number(endpoint.snd_max()),
-            Word(", accepted up to "),
+            Word(", accepted from the program up to "),
             Number(endpoint.stream.accepted.end()),
-            Word(if endpoint.stream.ended {
-                ", sending is ended"
-            } else {
-                ""
-            }),
-            Word(", may be made again up to "),
+            Word(word_if(endpoint.stream.ended, ", sending has ended")),
+            Word(", may be retransmitted up to "),
             Number(endpoint.recover),
         ],
     )?;
     say(
         out,
         &[
-            Word("  receiving: next "),
+            Word("  receiving: RCV.NXT "),
             Number(endpoint.rcv_nxt()),
-            Word(", own windows reached "),
+            Word(", advertised up to "),
             Number(endpoint.window.rcv_adv),
         ],
     )
@@ -67,32 +63,23 @@ fn describe_windows(out: &mut Vec<u8>, endpoint: &Endpoint) -> Result<(), OutOfM
     say(
         out,
         &[
-            Word("  windows: the peer offers "),
+            Word("  windows: SND.WND "),
             Number(u64::from(endpoint.window.snd_wnd)),
             Word(", cwnd "),
             Number(u64::from(congestion.cwnd)),
             Word(", ssthresh "),
             Number(u64::from(congestion.ssthresh)),
-            Word(if endpoint.control.profile.bounds_windows() {
-                ""
-            } else {
-                " (neither is judged)"
-            }),
+            Word(word_if(
+                !endpoint.control.profile.bounds_windows(),
+                " (neither is judged)",
+            )),
             Word(", SMSS "),
             Number(u64::from(congestion.smss)),
             Word(", "),
             Number(u64::from(congestion.dup)),
             Word(" duplicate acknowledgments"),
-            Word(if congestion.fast {
-                ", in fast recovery"
-            } else {
-                ""
-            }),
-            Word(if endpoint.is_scaling() {
-                ", windows are scaled"
-            } else {
-                ""
-            }),
+            Word(word_if(congestion.fast, ", in fast recovery")),
+            Word(word_if(endpoint.is_scaling(), ", windows are scaled")),
         ],
     )
 }

@@ -1,5 +1,5 @@
-//! Which congestion windows that grow by other rules a segment would fit, if `congestion` refuses it. That is computed
-//! from the case, and is said only if it's true of it.
+//! If `congestion` refuses a segment: the congestion windows with other growth rules that it would fit. They are
+//! computed from the case.
 
 use crate::other_windows::OtherWindows;
 use crate::scene::Scene;
@@ -8,7 +8,7 @@ use case_forms::{Label, OutOfMemory, SegmentPlan};
 use verdict::Rule;
 
 /// Writes which other windows the segment of the step would fit; nothing if there are none. A segment of more than SMSS
-/// bytes is too large for any.
+/// bytes fits none.
 pub(crate) fn say_fitting(
     out: &mut Vec<u8>,
     scene: &Scene<'_>,

@@ -1,30 +1,30 @@
 //! Why a case gets its verdict, in plain words.
 //!
-//! `explain` says the verdict and what it rests on. Nobody has to trust what is said here: the verdict is `checker`'s,
-//! and the values that a rule compares are read from the world of `endpoint_state` and from the functions that the
-//! rules themselves call. Of each function it is proved that it is safe and returns, and no more.
+//! `explain` prints the verdict and the reason for it. You don't have to trust the reason: the verdict is `checker`'s.
+//! The values that a rule compares come from the world of `endpoint_state` and from the functions that the rules call.
+//! Each function is proved only to be safe and to return.
 //!
 //! - `explain`, `Said`, `Origin`: a case in words; `fault_line`: a fault of a text, as one line
 //! - `refused_by`, `Refused`, `Reason`: what a verdict refuses, as values
 //! - `text`: lines of plain words, and bytes of a text escaped; `words`: segments, calls and steps in words;
 //!   `numbers`: numbers on the wire as positions; `parts`: the two texts of a case, and their lines. The crate
-//!   `drawing` uses these four
+//!   `drawing` uses these four.
 //!
 //! Private modules:
 //!
-//! - `verdict_in_words`: the verdict's line, and what it rests on
-//! - `marks`: a line at fault, with a mark under its columns
-//! - `scene`: the world before the step that is refused; `whole`: the case that it is of
-//! - `reasons`: how much is sent beyond the congestion window, and where a segment begins that may not
+//! - `verdict_in_words`: the verdict's line, and the reason for it
+//! - `marks`: a line with a fault, and a mark under its columns
+//! - `scene`: the world before the refused step; `whole`: its case
+//! - `reasons`: how far a segment exceeds the congestion window, or why it may not begin at its position
 //! - `described`: an endpoint in words
 //! - `why_order`, `why_calls`, `why_making`, `why_wire`, `why_taking`, `why_reset`, `why_timers`: what each rule
 //!   compares
-//! - `why_answers`: the answers that a call may have; `why_inbox`: what waits in an inbox; `why_numbers`: numbers read
-//!   as positions
-//! - `causes`: what usually causes a rule to be broken at a step; `usual`: what does at any step
-//! - `fitting`: which other congestion windows a segment would fit; `other_windows`, `segment_window`, `changes`: those
-//!   windows, kept while the case is replayed
-//! - `unjudged`: the header's word that leaves a refusal unjudged
+//! - `why_answers`: the answers that a call may have; `why_inbox`: the segments in an inbox; `why_numbers`: numbers
+//!   read as positions
+//! - `causes`: the usual causes at a step that breaks a rule; `usual`: those at any step
+//! - `fitting`: the other congestion windows that a segment would fit; `other_windows`, `segment_window`, `changes`:
+//!   those windows, kept while the case is replayed
+//! - `unjudged`: the congestion word that leaves a refusal unjudged
 //! - `refusal`: what a verdict refuses, as values
 #![tactic(auto)]
 

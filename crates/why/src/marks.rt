@@ -11,7 +11,7 @@ const BEFORE: usize = 60;
 
 const SHOWN: usize = 110;
 
-/// Writes the line at fault, and a mark under the columns.
+/// Writes the line with the fault, and a mark under its columns.
 pub(crate) fn mark(out: &mut Vec<u8>, text: &[u8], fault: &TextFault) -> Result<(), OutOfMemory> {
     let Some(line) = line_at(text, fault.span.line) else {
         return say(
@@ -35,7 +35,7 @@ pub(crate) fn mark(out: &mut Vec<u8>, text: &[u8], fault: &TextFault) -> Result<
     say(out, &[Piece::Word(meaning(fault.kind))])
 }
 
-// Writes spaces under bytes that are shown, as many as they take columns, and a tab under a tab.
+// Writes a space under each column of the bytes shown, and a tab under a tab.
 fn push_blank(out: &mut Vec<u8>, bytes: &[u8]) -> Result<(), OutOfMemory> {
     for byte in bytes {
         let blank = if *byte == b'\t' {
@@ -50,7 +50,7 @@ fn push_blank(out: &mut Vec<u8>, bytes: &[u8]) -> Result<(), OutOfMemory> {
     Ok(())
 }
 
-// Writes marks under the first so many of bytes that are shown; one mark if there are none.
+// Writes marks under the first `count` of the bytes shown; one mark if there are none.
 fn push_marks(out: &mut Vec<u8>, bytes: &[u8], count: usize) -> Result<(), OutOfMemory> {
     let start = out.len();
     for byte in bytes.iter().take(count) {
@@ -65,15 +65,14 @@ fn push_marks(out: &mut Vec<u8>, bytes: &[u8], count: usize) -> Result<(), OutOf
 fn meaning(kind: FaultKind) -> &'static str {
     match kind {
         FaultKind::Header =>
-            "a line of the header is another one, or is missing, or has another count of fields",
-        FaultKind::Field => "no such word may stand here, or a field is empty, missing or too many",
+            "a header line is missing, is another line, or isn't exactly a word and a value",
+        FaultKind::Field => "a field is an unknown word, empty, missing or too many",
         FaultKind::Number =>
-            "the number is badly written (a sign, a leading zero) or out of its limits",
+            "the number is badly written (a sign, a leading zero) or outside its limits",
         FaultKind::Hex =>
-            "bytes are written as two hex digits each, and there is a limit to how many",
+            "an odd count of hex digits, a character that is no digit, or too many bytes",
         FaultKind::Segment(fault) => meaning_of_segment(fault),
-        FaultKind::MomentFalls =>
-            "the moment is below that of the event line before: lines stand in the order of their moments",
+        FaultKind::MomentFalls => "the moment is below that of the event line before it",
         FaultKind::LineTooLong => "a line has at most 140,000 bytes",
         FaultKind::Cut => "the last line has no line feed: the text was cut off",
         FaultKind::TooManyLines => "a text has at most 10,000,000 lines",
@@ -83,12 +82,11 @@ fn meaning(kind: FaultKind) -> &'static str {
 
 fn meaning_of_segment(fault: SegFault) -> &'static str {
     match fault {
-        SegFault::Short => "a TCP segment has 20 bytes at least",
-        SegFault::Offset =>
-            "the TCP header's data offset is below 5, or points behind the last byte",
+        SegFault::Short => "a TCP segment has at least 20 bytes",
+        SegFault::Offset => "the TCP header's data offset is below 5, or points past the last byte",
         SegFault::OptionLength =>
             "an option of the TCP header is shorter than 2 bytes, or longer than the header",
-        SegFault::TooLong => "a TCP segment has 65,515 bytes at most",
+        SegFault::TooLong => "a TCP segment has at most 65,515 bytes",
         SegFault::OutOfMemory => "memory ran out",
     }
 }

@@ -8,7 +8,7 @@ use std::collections::BTreeMap;
 // A host, its own port and the peer's.
 type ConnectionKey = (u8, u16, u16);
 
-/// The initial sequence numbers that were shown last.
+/// The latest initial sequence numbers that lines showed.
 #[derive(Drop)]
 pub struct Numbers {
     first: BTreeMap<ConnectionKey, u32>,
@@ -23,8 +23,8 @@ impl Numbers {
         }
     }
 
-    /// A line is seen: a SYN that goes out tells its host's initial sequence number; in a half case one that comes in
-    /// tells the other host's.
+    /// Reads a line. A SYN sent carries its host's initial sequence number; in a half case, a SYN received carries the
+    /// other host's.
     pub fn read(&mut self, line: &Line) -> Result<(), OutOfMemory> {
         match &line.event {
             Event::Sent(host, wire) => self.see(*host, wire),

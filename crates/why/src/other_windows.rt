@@ -1,5 +1,5 @@
-//! Congestion windows that grow by other rules than this profile's. They are kept for one endpoint while a case is
-//! replayed, in constant time for each segment that is sent or acknowledged.
+//! Congestion windows with growth rules other than this profile's. They are kept for one endpoint while a case is
+//! replayed, in constant time for each segment sent or acknowledged.
 
 use crate::changes::{Change, Values};
 use crate::reasons::end_of;
@@ -9,7 +9,7 @@ use endpoint_state::World;
 use std::alloc::Global;
 use window_rules::{Congestion, congestion_edge, counted_after, may_grow, on_duplicate};
 
-/// The windows of the endpoint that sends the segment of a step.
+/// The windows of the endpoint that builds the segment of a step.
 #[derive(Drop)]
 pub(crate) struct OtherWindows {
     host: Host,
@@ -23,7 +23,7 @@ pub(crate) struct OtherWindows {
 }
 
 impl OtherWindows {
-    /// Those for a step. None: it sends no segment.
+    /// The windows for a step. None: it builds no segment.
     pub(crate) fn of(alloc: Global, label: &Label<NamedLine>) -> Option<OtherWindows> {
         match label {
             Label::M { host, plan } => Some(OtherWindows {
@@ -43,7 +43,7 @@ impl OtherWindows {
         }
     }
 
-    /// Follows the world by one step.
+    /// Follows the world after one step.
     pub(crate) fn follow(&mut self, world: &World) -> Result<(), OutOfMemory> {
         let Some(endpoint) = world.body(self.host).endpoint_of(self.lport, self.rport) else {
             return Ok(());
@@ -55,12 +55,12 @@ impl OtherWindows {
         Ok(())
     }
 
-    /// Whether it has at most SMSS bytes.
+    /// Whether the segment has at most SMSS bytes.
     pub(crate) fn is_segment(&self, plan: &SegmentPlan) -> bool {
         u32::from(plan.len) <= self.now.congestion.smss
     }
 
-    /// The window that slow start by SMSS bytes for each acknowledgment gives, in bytes, if the segment fits it.
+    /// The window if slow start adds SMSS bytes for each acknowledgment, in bytes. None: the segment doesn't fit it.
     pub(crate) fn upper_for(&self, plan: &SegmentPlan) -> Option<u64> {
         let una = self.now.una;
         if POSITIONS <= una {
@@ -77,7 +77,8 @@ impl OtherWindows {
         }
     }
 
-    /// How many segments are in flight after the step's, and how many a window that counts them allows, if it fits.
+    /// How many segments are in flight with this one, and how many a window that counts them allows. None: more are in
+    /// flight.
     pub(crate) fn segments_fit(&self) -> Option<(u64, u64)> {
         let flight = self.segments.flight().saturating_add(1);
         let allowed = self.segments.allowed(&self.now);
@@ -89,7 +90,7 @@ impl OtherWindows {
     }
 }
 
-// The upper window after a step. What doesn't grow it is the endpoint's own.
+// The upper window after a step. Only its growth differs from the endpoint's own.
 fn grown(upper: &Congestion, before: &Values, after: &Values) -> Congestion {
     let was = Congestion {
         cwnd: upper.cwnd,
@@ -111,7 +112,7 @@ fn grown(upper: &Congestion, before: &Values, after: &Values) -> Congestion {
     }
 }
 
-// How much is acknowledged, so that slow start adds SMSS bytes.
+// How many acknowledged bytes to count, so that slow start adds SMSS bytes.
 fn as_told(was: &Congestion, acked: u64) -> u64 {
     if was.cwnd < was.ssthresh {
         acked.max(u64::from(was.smss))

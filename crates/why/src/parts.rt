@@ -28,7 +28,7 @@ pub fn cut(text: &[u8]) -> Parts<'_> {
     }
 }
 
-/// The line of this number, from 1, without its end. None: the text has no such line.
+/// The line with this number, counted from 1, without its end. None: the text has no such line.
 pub fn line_at(text: &[u8], number: u64) -> Option<&[u8]> {
     let mut here: u64 = 1;
     for raw in text.lines_with_terminator() {

@@ -1,22 +1,22 @@
-//! What the rules compare that judge how much is sent, and when it is sent again.
+//! What the rules `congestion` and `old-data` compare: how much is sent, and what is retransmitted.
 
 use case_forms::{POSITIONS, SegmentPlan};
 use endpoint_state::Endpoint;
 
-/// Why a step is refused, for the two rules that ask how much is sent, and when it is sent again.
+/// Why a step is refused, for the rules `congestion` and `old-data`.
 #[derive(Clone, Copy)]
 pub enum Reason {
-    /// `congestion`: new data end so many bytes beyond the congestion edge.
+    /// `congestion`: new data ends this many bytes beyond the congestion edge.
     Beyond {
         bytes: u64,
         /// The congestion window, in bytes.
         cwnd: u64,
     },
-    /// `old-data`: the segment begins above all that was sent.
+    /// `old-data`: the segment begins beyond everything sent.
     Gap {
         /// The position at which it begins.
         pos: u64,
-        /// The end of what was sent.
+        /// The position after everything sent.
         sent: u64,
     },
     /// `old-data`: the segment begins below the oldest position that isn't acknowledged.
@@ -25,7 +25,7 @@ pub enum Reason {
         pos: u64,
         una: u64,
     },
-    /// `old-data`: what was sent before may not be sent again.
+    /// `old-data`: outstanding data may not be retransmitted now.
     Again {
         /// It is a SYN.
         syn: bool,

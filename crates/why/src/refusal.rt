@@ -11,8 +11,8 @@ use verdict::{Rule, Verdict};
 /// The step that a verdict refuses.
 #[derive(Clone, Copy)]
 pub struct Refused {
-    /// The number of its line in the trace. If the step takes no line: the line of the segment that it takes, drops or
-    /// answers, or else the line after the last one that was taken.
+    /// The number of its line in the trace. If the step uses no line: the line of the segment that it processes, drops
+    /// or answers, or else the line after the last one used.
     pub line: u64,
     pub rule: Rule,
     pub reason: Reason,
@@ -42,7 +42,7 @@ pub fn refused_by(
     }
 }
 
-// The line that is meant where the verdict names this one, which is 0 if it names none.
+// The line for `Refused`, if the verdict names this one; 0 means that it names none.
 fn line_of(scene: &Scene<'_>, named: u64) -> u64 {
     if named != 0 {
         return named;
@@ -56,7 +56,7 @@ fn line_of(scene: &Scene<'_>, named: u64) -> u64 {
     }
 }
 
-// The line after the last one that was taken.
+// The line after the last one used.
 fn line_after(scene: &Scene<'_>) -> u64 {
     let mut last = scene.header.first_event_line().saturating_sub(1);
     for step in scene.steps.iter().take(scene.place) {

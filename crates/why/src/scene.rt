@@ -1,4 +1,4 @@
-//! A case up to the step that is refused: the world before it, and what was taken.
+//! A case up to the refused step: the world before it, and the lines used.
 
 ghost use Rattle.std.specs.Prelude.{◌<◌, IsTrue, OnOk};
 ghost use Rattle.case_forms.specs.Witnesses.{IsWithinLimits};
@@ -16,7 +16,7 @@ use std::alloc::{AllocError, Global};
 use std::collections::BTreeMap;
 use verdict::Rule;
 
-// Whether one more step may be done; no witness that `check` reads has so many.
+// Whether the world can do one more step. It always can in a witness that `check` reads.
 fn has_room(world: &World) -> Result<(), StepFault>
     ensures { OnOk result (world.now.steps < most_steps) }
 {
@@ -36,9 +36,9 @@ pub(crate) struct Scene<'t> {
     pub steps: &'t [Step],
     /// The place of the step among the steps, from 0.
     pub place: usize,
-    /// For each line that was taken, the place of the step that took it.
+    /// For each line used, the place of the step that used it.
     pub taken: BTreeMap<u64, usize>,
-    /// If the step makes a segment, other congestion windows of the endpoint that makes it.
+    /// If the step builds a segment, other congestion windows of the endpoint that builds it.
     pub others: Option<OtherWindows>,
 }
 
@@ -51,7 +51,7 @@ impl<'t> Scene<'t> {
         }
     }
 
-    /// The world before a step, where the steps before it are permitted.
+    /// The world before a step, if the steps before it are permitted.
     pub(crate) fn before(
         alloc: Global,
         header: &'t Header,
@@ -114,7 +114,7 @@ impl<'t> Scene<'t> {
         self.lines.get(usize::try_from(place).ok()?)
     }
 
-    /// The step that is refused. None: the fault shows after the last one.
+    /// The refused step. None: a rule is broken after the last step.
     pub(crate) fn step(&self) -> Option<&'t Step> {
         self.steps.get(self.place)
     }
@@ -124,12 +124,12 @@ impl<'t> Scene<'t> {
         self.world.body(host).endpoint_of(lport, rport)
     }
 
-    /// A segment as an endpoint reads it. None: the endpoint is further than positions go.
+    /// A segment as an endpoint reads it. None: the endpoint is beyond the greatest position.
     pub(crate) fn as_read<'m>(&self, endpoint: &Endpoint, m: &'m Emission) -> Option<Arrived<'m>> {
         Arrived::checked_read(self.header.version, endpoint, m)
     }
 
-    /// Whether the state of the endpoint at the ports of a making allows a segment of this kind there.
+    /// Whether the state of the endpoint at the segment's ports lets it build a segment of this kind.
     pub(crate) fn allows_kind(
         &self,
         host: Host,

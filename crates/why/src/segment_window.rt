@@ -1,19 +1,19 @@
-//! A congestion window that counts segments, as that of Linux does, whatever their sizes.
+//! A congestion window that counts segments of any size, like that of Linux.
 
 use crate::changes::{Change, Values};
 use case_forms::OutOfMemory;
 use std::alloc::Global;
 
-/// RFC 5681 with every count in segments. In slow start the window grows by all segments that an acknowledgment covers.
+/// RFC 5681 with counts in segments. In slow start, the window grows by all segments that an acknowledgment covers.
 #[derive(Drop)]
 pub(crate) struct SegmentWindow {
     /// The congestion window.
     window: u64,
     /// The slow start threshold.
     threshold: u64,
-    /// What was acknowledged in congestion avoidance and didn't let the window grow yet.
+    /// The segments acknowledged in congestion avoidance that haven't increased the window yet.
     counted: u64,
-    /// Where each segment that was sent ends, in the order of their positions.
+    /// The end of each segment sent, in the order of positions.
     ends: Vec<u64>,
     /// How many of them are acknowledged.
     acknowledged: usize,
@@ -32,14 +32,25 @@ impl SegmentWindow {
 
     /// Follows an endpoint from the values before a step to those after it.
     pub(crate) fn follow(&mut self, before: &Values, after: &Values) -> Result<(), OutOfMemory> {
+        self.record(before, after)?;
+        let covered = self.cover(after.una);
+        self.change(before, after, covered);
+        Ok(())
+    }
+
+    // Records the end of a segment sent. A new connection begins with none.
+    fn record(&mut self, before: &Values, after: &Values) -> Result<(), OutOfMemory> {
         if after.sent < before.sent {
             self.ends.clear();
             self.acknowledged = 0;
-        }
-        if before.sent < after.sent {
+        } else if before.sent < after.sent {
             self.ends.push(after.sent)?;
         }
-        let covered = self.cover(after.una);
+        Ok(())
+    }
+
+    // Changes the window for one step, which acknowledged `covered` segments.
+    fn change(&mut self, before: &Values, after: &Values, covered: u64) {
         match before.change(after) {
             Change::Begins => self.begin(after),
             Change::Acknowledged(_) if before.congestion.fast => self.window = self.threshold,
@@ -51,7 +62,6 @@ impl SegmentWindow {
             Change::Recovery => self.recover(before),
             Change::Duplicate | Change::Other => {}
         }
-        Ok(())
     }
 
     /// How many segments are in flight.
@@ -65,7 +75,7 @@ impl SegmentWindow {
         self.window.saturating_add(if limited { 2 } else { 0 })
     }
 
-    // Counts the segments that end at or below `una` as acknowledged, and answers how many they are.
+    // Counts the segments that end at or below `una` as acknowledged, and returns their number.
     fn cover(&mut self, una: u64) -> u64 {
         let mut covered: u64 = 0;
         for end in self.ends.get(self.acknowledged..).unwrap_or(&[]) {
@@ -88,7 +98,7 @@ impl SegmentWindow {
         self.counted = 0;
     }
 
-    // So many segments are newly acknowledged.
+    // This many segments are newly acknowledged.
     fn grow(&mut self, covered: u64) {
         let slow = covered.min(self.threshold.saturating_sub(self.window));
         self.window = self.window.saturating_add(slow);

@@ -1,6 +1,6 @@
-//! Lines of plain words, as bytes at the end of a `Vec`. If memory runs out a part may have been written.
+//! Lines of plain words, appended to a `Vec`. If memory runs out, part of a line may have been written.
 //!
-//! Bytes that are quoted from a text are escaped, so that a terminal shows them and doesn't obey them.
+//! Bytes quoted from a text are escaped, so that a terminal shows them and doesn't obey them.
 
 use case_forms::{Host, OutOfMemory};
 use line_fields::{TextFault, push_end, push_number, push_space, push_word};
@@ -17,7 +17,7 @@ pub enum Piece<'a> {
     At(Host),
 }
 
-// Of bytes that are shown no more than so many.
+// At most this many bytes are shown.
 const SHOWN: usize = 160;
 
 const HEX_DIGITS: &[u8] = b"0123456789abcdef";
@@ -36,6 +36,11 @@ pub fn add(out: &mut Vec<u8>, pieces: &[Piece<'_>]) -> Result<(), OutOfMemory> {
         push_piece(out, piece)?;
     }
     Ok(())
+}
+
+/// The word if the condition is true, else nothing.
+pub(crate) fn word_if(is_so: bool, word: &'static str) -> &'static str {
+    if is_so { word } else { "" }
 }
 
 fn push_piece(out: &mut Vec<u8>, piece: &Piece<'_>) -> Result<(), OutOfMemory> {
@@ -60,9 +65,9 @@ fn push_raw(out: &mut Vec<u8>, bytes: &[u8]) -> Result<(), OutOfMemory> {
     }
 }
 
-/// Writes bytes of a text. Printable ASCII and tabs stay as they are; any other byte becomes `\x` and its two hex
-/// digits, such as `\x1b`.
-pub fn push_escaped(out: &mut Vec<u8>, bytes: &[u8]) -> Result<(), OutOfMemory> {
+// Writes bytes of a text. Printable ASCII and tabs stay as they are; any other byte becomes `\x` and its two hex
+// digits, such as `\x1b`.
+fn push_escaped(out: &mut Vec<u8>, bytes: &[u8]) -> Result<(), OutOfMemory> {
     for byte in bytes {
         if is_shown(*byte) {
             out.push(*byte)?;
@@ -85,7 +90,7 @@ fn hex_digit(value: u8) -> u8 {
     *HEX_DIGITS.get(usize::from(value)).unwrap_or(&b'?')
 }
 
-/// The line that tells of a text's fault.
+/// The line that reports a text's fault.
 pub fn fault_line(alloc: Global, refusal: &str, fault: &TextFault) -> Result<Vec<u8>, OutOfMemory> {
     let mut line = Vec::new(alloc);
     push_word(&mut line, refusal)?;

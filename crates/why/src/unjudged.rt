@@ -1,4 +1,4 @@
-//! Which word on congestion control, in a header of version 4, leaves a refusal unjudged.
+//! Which `congestion` word, in a header of version 4, leaves a refusal unjudged.
 
 use crate::reasons::{Reason, misplaced};
 use crate::scene::Scene;
@@ -6,7 +6,7 @@ use crate::text::{Piece, say};
 use case_forms::{Host, Judged, Label, OutOfMemory, Recovery, SegmentPlan, Version};
 use verdict::Rule;
 
-/// Writes which word leaves it unjudged, if the header's word doesn't and another one does.
+/// Writes which word leaves the refusal unjudged, if the header's word doesn't and another one does.
 pub(crate) fn say_unjudged(
     out: &mut Vec<u8>,
     scene: &Scene<'_>,
@@ -29,8 +29,8 @@ fn say_word(
 ) -> Result<(), OutOfMemory> {
     let (before, after) = match scene.header.version {
         Version::One | Version::Two | Version::Three => (
-            "version 4 of the texts has a header line `congestion ",
-            "`, which leaves it unjudged",
+            "in version 4, the header line `congestion ",
+            "` leaves it unjudged",
         ),
         Version::Four | Version::FourHalf => ("`congestion ", "` in the header leaves it unjudged"),
     };
@@ -49,7 +49,7 @@ fn say_word(
     )
 }
 
-// The strictest word under which the step doesn't break the rule. None: it breaks it under each.
+// The strictest word under which the step doesn't break the rule. None: it breaks it under every word.
 fn lenient_word(scene: &Scene<'_>, rule: Rule) -> Option<Judged> {
     match (&scene.step()?.label, rule) {
         (Label::M { .. }, Rule::Congestion) => Some(Judged::Recovery),
@@ -61,7 +61,7 @@ fn lenient_word(scene: &Scene<'_>, rule: Rule) -> Option<Judged> {
     }
 }
 
-// Old data may go again once fast recovery began, which it may after the handshake alone.
+// Outstanding data may be retransmitted once fast recovery began, which it may only after the handshake.
 fn at_old_data(scene: &Scene<'_>, host: Host, plan: &SegmentPlan) -> Option<Judged> {
     let endpoint = scene.endpoint(host, plan.lport, plan.rport)?;
     match misplaced(endpoint, plan) {
@@ -70,7 +70,7 @@ fn at_old_data(scene: &Scene<'_>, host: Host, plan: &SegmentPlan) -> Option<Judg
     }
 }
 
-// A child begins with a window of 0 under each word.
+// A child begins with a window of 0 under every word.
 fn at_taking(scene: &Scene<'_>, host: Host, line: u64) -> Option<Judged> {
     let taker = scene.taker(host, scene.world.waiting(host, line)?)?;
     if taker.state.is_closed() {
@@ -80,7 +80,7 @@ fn at_taking(scene: &Scene<'_>, host: Host, line: u64) -> Option<Judged> {
     }
 }
 
-// Something has to be outstanding under each word.
+// Something has to be outstanding under every word.
 fn at_recovery(scene: &Scene<'_>, host: Host, recovery: Recovery) -> Option<Judged> {
     let endpoint = scene.endpoint(host, recovery.lport, recovery.rport)?;
     if endpoint.stream.snd_una == endpoint.snd_max() {

@@ -1,4 +1,4 @@
-//! The verdict on a case, and in plain words what it rests on.
+//! The verdict on a case, and the reason for it in plain words.
 
 use crate::causes::{Origin, say_cause};
 use crate::marks::mark;
@@ -13,8 +13,7 @@ use checker::{CaseFault, check_case};
 use std::alloc::{AllocError, Global};
 use verdict::{Rule, Verdict, print_verdict};
 
-/// What is said of a case: the line that `tcpwit check` prints and its status, and after a no or a fault some lines
-/// more.
+/// What is printed for a case: the line that `tcpwit check` prints, its status, and more lines after a no or a fault.
 #[derive(Drop)]
 pub struct Said {
     pub text: Vec<u8>,
@@ -22,7 +21,7 @@ pub struct Said {
     pub status: u8,
 }
 
-/// Explains the verdict on a case whose segments come from there.
+/// Explains the verdict on a case, whose segments have this origin.
 pub fn explain(alloc: Global, text: &[u8], origin: Origin) -> Result<Said, OutOfMemory> {
     let parts = cut(text);
     match check_case(alloc, text) {
@@ -64,7 +63,7 @@ fn explain_verdict(
     }
 }
 
-// The step and the trace line, as they are written.
+// The step and the trace line, as written.
 fn quote(
     out: &mut Vec<u8>,
     parts: Parts<'_>,
@@ -88,7 +87,7 @@ fn quote(
     Ok(())
 }
 
-// What is known at the step, what the rule compares, and what usually causes that.
+// What is known at the step, what the rule compares, and the usual causes.
 fn explain_no(
     alloc: Global,
     out: &mut Vec<u8>,

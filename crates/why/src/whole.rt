@@ -15,7 +15,7 @@ pub(crate) struct Whole {
 }
 
 impl Whole {
-    /// Reads both texts, which can be read if there is memory.
+    /// Reads both texts, which have no fault.
     pub(crate) fn read(alloc: Global, parts: Parts<'_>) -> Result<Whole, OutOfMemory> {
         let Ok(trace) = read_trace(alloc, parts.trace) else {
             return Err(AllocError);
@@ -29,7 +29,7 @@ impl Whole {
         })
     }
 
-    /// The world before the step in a line of the witness; for line 0, after the last step.
+    /// The world before the step of a witness line; for line 0, after the last step.
     pub(crate) fn scene(&self, alloc: Global, witness_line: u64) -> Result<Scene<'_>, OutOfMemory> {
         let steps = self.steps.as_slice();
         let place = match usize::try_from(witness_line.saturating_sub(2)) {

@@ -7,7 +7,7 @@ use line_fields::push_answer;
 use spec_tcp::SocketTarget;
 use std::alloc::Global;
 
-/// Writes the answers that a call may have, `or` between them.
+/// Writes the answers that a call may have, with `or` between them.
 pub(crate) fn allowed(
     alloc: Global,
     out: &mut Vec<u8>,
@@ -73,7 +73,7 @@ fn allowed_one(
     Ok(())
 }
 
-// Parts the answers.
+// Writes `or` before any answer but the first.
 fn or(out: &mut Vec<u8>, start: usize) -> Result<(), OutOfMemory> {
     if out.len() == start {
         return Ok(());
@@ -81,7 +81,7 @@ fn or(out: &mut Vec<u8>, start: usize) -> Result<(), OutOfMemory> {
     add(out, &[Piece::Word(" or")])
 }
 
-// The answers with a number or with bytes.
+// The answers with a number or bytes.
 fn allowed_bytes(
     alloc: Global,
     out: &mut Vec<u8>,
@@ -112,7 +112,7 @@ fn allowed_bytes(
                 or(out, start)?;
                 add(
                     out,
-                    &[Piece::Word(" ok N with a number N that was never given")],
+                    &[Piece::Word(" ok N with a number N that was never returned")],
                 )?;
             }
             Ok(())
@@ -121,7 +121,7 @@ fn allowed_bytes(
     }
 }
 
-// The bytes that a receive of at most so many may be given on a socket number.
+// The bytes that `recv` may return, for a socket number and a maximum.
 fn next_bytes(
     alloc: Global,
     out: &mut Vec<u8>,

@@ -13,10 +13,10 @@ use spec_tcp::SocketTarget;
 use std::alloc::Global;
 use verdict::Rule;
 
-// Data of more bytes than these is shown by its length.
+// Of data with more bytes than this, only the length is shown.
 const SHOWN: usize = 60;
 
-/// What is known of a thread's call whose effect is refused.
+/// What is known of a thread's call, if its effect is refused.
 pub(crate) fn why_effect(
     alloc: Global,
     out: &mut Vec<u8>,
@@ -41,7 +41,7 @@ pub(crate) fn why_effect(
     say(out, &[])
 }
 
-// A socket number that is given a second time.
+// A socket number that is returned a second time.
 fn given_before(out: &mut Vec<u8>, world: &World, number: u32) -> Result<(), OutOfMemory> {
     let host = if world.body(Host::Zero).is_given(number) {
         Host::Zero
@@ -53,15 +53,15 @@ fn given_before(out: &mut Vec<u8>, world: &World, number: u32) -> Result<(), Out
         &[
             Piece::Word("socket number "),
             Piece::Number(u64::from(number)),
-            Piece::Word(" was given before, at "),
+            Piece::Word(" was returned before, at "),
             Piece::At(host),
-            Piece::Word("; each is given once, at either host"),
+            Piece::Word("; each is returned once, at either host"),
         ],
     )?;
     describe_socket(out, world, host, number)
 }
 
-/// Where a thread is in its calls.
+/// The open call of a thread.
 pub(crate) fn why_thread(
     out: &mut Vec<u8>,
     scene: &Scene<'_>,
@@ -92,12 +92,12 @@ pub(crate) fn why_thread(
     if let Some(call) = pending {
         add(out, &[Piece::Word(": ")])?;
         push_call(out, call)?;
-        return say(out, &[Piece::Word("; it had no effect yet")]);
+        return say(out, &[Piece::Word("; it hasn't taken effect yet")]);
     }
     add(
         out,
         &[
-            Piece::Word(", had its effect in line "),
+            Piece::Word(", took effect in line "),
             Piece::Number(effect_at(scene, thread)),
             Piece::Word(" of the witness, with the answer"),
         ],
@@ -108,7 +108,7 @@ pub(crate) fn why_thread(
     say(out, &[])
 }
 
-// The last line that began a call of a thread and was taken; 0 where none is.
+// The last used line that began a call of a thread; 0 if there is none.
 fn begun_at(scene: &Scene<'_>, thread: u32) -> u64 {
     let mut begun = 0;
     for line in scene.lines {
@@ -136,7 +136,7 @@ fn effect_at(scene: &Scene<'_>, thread: u32) -> u64 {
     found
 }
 
-// Writes an answer, of long data the length alone.
+// Writes an answer, and of long data only the length.
 fn push_shown(out: &mut Vec<u8>, answer: &Answer) -> Result<(), OutOfMemory> {
     match answer {
         Answer::Bytes(bytes) if SHOWN < bytes.len() => push_told(out, answer),
@@ -144,7 +144,7 @@ fn push_shown(out: &mut Vec<u8>, answer: &Answer) -> Result<(), OutOfMemory> {
     }
 }
 
-/// The answer of an end beside that of the effect.
+/// The answer of an `E` line next to that of the effect.
 pub(crate) fn why_end(
     out: &mut Vec<u8>,
     scene: &Scene<'_>,
@@ -167,7 +167,7 @@ pub(crate) fn why_end(
     }
 }
 
-// What a call finds.
+// What a call refers to.
 fn describe_meant(out: &mut Vec<u8>, world: &World, call: &Call) -> Result<(), OutOfMemory> {
     match call {
         Call::Listen(host, port, _) => match world.body(*host).listener_on(*port) {
@@ -198,7 +198,7 @@ fn describe_named(out: &mut Vec<u8>, world: &World, socket: u32) -> Result<(), O
             &[
                 Piece::Word("socket number "),
                 Piece::Number(u64::from(socket)),
-                Piece::Word(" was never given"),
+                Piece::Word(" was never returned"),
             ],
         );
     }
@@ -206,7 +206,7 @@ fn describe_named(out: &mut Vec<u8>, world: &World, socket: u32) -> Result<(), O
     describe_socket(out, world, Host::One, socket)
 }
 
-// What a socket number names at a host that gave it.
+// What a socket number names at the host that returned it.
 fn describe_socket(
     out: &mut Vec<u8>,
     world: &World,
@@ -234,7 +234,7 @@ fn describe_socket(
     }
 }
 
-// The listener at a place of a host's.
+// A host's listener.
 fn describe_listener(
     out: &mut Vec<u8>,
     world: &World,
@@ -249,7 +249,7 @@ fn describe_listener(
                 Piece::At(host),
                 Piece::Word("'s listener on port "),
                 Piece::Number(u64::from(listener.port)),
-                Piece::Word(": children that may be accepted "),
+                Piece::Word(", children in its queue: "),
                 Piece::Number(listener.queue.len() as u64),
             ],
         ),

@@ -1,14 +1,14 @@
-//! What waits in an inbox, or what became of it.
+//! A segment in an inbox, or why it isn't there.
 
 use crate::described::describe;
 use crate::scene::Scene;
-use crate::text::{Piece, add, say};
+use crate::text::{Piece, add, say, word_if};
 use crate::why_wire::no_endpoint;
 use crate::words::push_flags;
 use case_forms::{Event, Host, Label, OutOfMemory};
 use spec_tcp::Emission;
 
-/// A segment that waits. In a half case it has no positions where nobody reads it: then its numbers are printed.
+/// A segment in an inbox. In a half case it has no positions unless an endpoint reads it; then its numbers are printed.
 pub(crate) fn describe_waiting(
     out: &mut Vec<u8>,
     scene: &Scene<'_>,
@@ -34,27 +34,27 @@ pub(crate) fn describe_waiting(
                 out,
                 &[
                     Piece::At(host),
-                    Piece::Word(" has no endpoint of its ports"),
+                    Piece::Word(" has no endpoint with its ports"),
                 ],
             )
         }
     }
 }
 
-// A segment by the position at which it begins and the one that it acknowledges.
+// A segment, by the position at which it begins and the one that it acknowledges.
 fn by_positions(out: &mut Vec<u8>, m: &Emission, positions: (u64, u64)) -> Result<(), OutOfMemory> {
     say(
         out,
         &[
-            Piece::Word("the segment: positions "),
+            Piece::Word("the segment: position "),
             Piece::Number(positions.0),
-            Piece::Word(" on, "),
+            Piece::Word(", "),
             Piece::Number(m.payload.len() as u64),
             Piece::Word(" bytes,"),
-            Piece::Word(if m.flags.syn { " SYN" } else { "" }),
-            Piece::Word(if m.flags.ack { " ACK" } else { "" }),
-            Piece::Word(if m.flags.fin { " FIN" } else { "" }),
-            Piece::Word(if m.flags.rst { " RST" } else { "" }),
+            Piece::Word(word_if(m.flags.syn, " SYN")),
+            Piece::Word(word_if(m.flags.ack, " ACK")),
+            Piece::Word(word_if(m.flags.fin, " FIN")),
+            Piece::Word(word_if(m.flags.rst, " RST")),
             Piece::Word(", acknowledges "),
             Piece::Number(positions.1),
             Piece::Word(", window "),
@@ -63,7 +63,7 @@ fn by_positions(out: &mut Vec<u8>, m: &Emission, positions: (u64, u64)) -> Resul
     )
 }
 
-// A segment by the numbers in its header.
+// A segment, by the numbers in its header.
 fn by_numbers(out: &mut Vec<u8>, m: &Emission) -> Result<(), OutOfMemory> {
     add(out, &[Piece::Word("the segment: ")])?;
     push_flags(out, m.flags)?;
@@ -81,7 +81,7 @@ fn by_numbers(out: &mut Vec<u8>, m: &Emission) -> Result<(), OutOfMemory> {
     )
 }
 
-/// Nothing waits under a line: what became of it.
+/// Why the segment of a line isn't in the inbox.
 pub(crate) fn nothing_waits(
     out: &mut Vec<u8>,
     scene: &Scene<'_>,
@@ -91,10 +91,10 @@ pub(crate) fn nothing_waits(
     add(
         out,
         &[
-            Piece::Word("nothing waits in the inbox of "),
-            Piece::At(host),
-            Piece::Word(" under line "),
+            Piece::Word("the segment of line "),
             Piece::Number(line),
+            Piece::Word(" isn't in the inbox of "),
+            Piece::At(host),
         ],
     )?;
     let comes_in = match scene.line(line) {
@@ -102,22 +102,22 @@ pub(crate) fn nothing_waits(
         None => false,
     };
     if !comes_in {
-        return say(out, &[Piece::Word(": that is no I line of this host")]);
+        return say(out, &[Piece::Word(": that isn't an I line of this host")]);
     }
     if !scene.taken.contains_key(&line) {
-        return say(out, &[Piece::Word(": that line isn't taken yet")]);
+        return say(out, &[Piece::Word(": that line isn't used yet")]);
     }
     say(
         out,
         &[
-            Piece::Word(": it was taken, dropped or answered in line "),
+            Piece::Word(": it was processed, dropped or answered in line "),
             Piece::Number(emptied_at(scene, host, line)),
             Piece::Word(" of the witness"),
         ],
     )
 }
 
-// The line of the witness that took what came in with a line out of the inbox; 0 if there is none.
+// The witness line that processed, dropped or answered the segment of a line; 0 if there is none.
 fn emptied_at(scene: &Scene<'_>, host: Host, line: u64) -> u64 {
     let mut found: u64 = 0;
     for (place, step) in scene.steps.iter().enumerate().take(scene.place) {

@@ -1,4 +1,4 @@
-//! The rules of making segments.
+//! The rules of building segments.
 
 use crate::described::describe;
 use crate::reasons::{Reason, end_of, misplaced};
@@ -11,7 +11,7 @@ use endpoint_state::Endpoint;
 use verdict::Rule;
 use window_rules::offered_edge;
 
-/// What the rule compares at a segment that is to be made.
+/// What the rule compares at a segment to be built.
 pub(crate) fn explain_rule(
     out: &mut Vec<u8>,
     scene: &Scene<'_>,
@@ -46,16 +46,21 @@ fn why_at(
         Rule::PayloadRange => payload_range(out, endpoint, plan),
         Rule::AckField => ack_field(out, endpoint, plan),
         Rule::Iss => iss(out, endpoint, plan),
-        _ => say(
-            out,
-            &[
-                Piece::Word("it holds "),
-                Piece::Number(u64::from(plan.len)),
-                Piece::Word(" bytes, SMSS is "),
-                Piece::Number(u64::from(endpoint.control.values.smss)),
-            ],
-        ),
+        Rule::Size => size(out, endpoint, plan),
+        _ => Ok(()),
     }
+}
+
+fn size(out: &mut Vec<u8>, endpoint: &Endpoint, plan: &SegmentPlan) -> Result<(), OutOfMemory> {
+    say(
+        out,
+        &[
+            Piece::Word("it has "),
+            Piece::Number(u64::from(plan.len)),
+            Piece::Word(" bytes, SMSS is "),
+            Piece::Number(u64::from(endpoint.control.values.smss)),
+        ],
+    )
 }
 
 fn offered(out: &mut Vec<u8>, endpoint: &Endpoint, plan: &SegmentPlan) -> Result<(), OutOfMemory> {
@@ -71,9 +76,9 @@ fn offered(out: &mut Vec<u8>, endpoint: &Endpoint, plan: &SegmentPlan) -> Result
             Piece::Number(end_of(plan)),
             Piece::Word(", the offered edge is "),
             Piece::Number(edge),
-            Piece::Word(" = una "),
+            Piece::Word(" = SND.UNA "),
             Piece::Number(snd_una),
-            Piece::Word(" + window "),
+            Piece::Word(" + SND.WND "),
             Piece::Number(u64::from(endpoint.window.snd_wnd)),
             Piece::Word(if endpoint.probe_due {
                 " (a probe of one byte is due)"
@@ -98,11 +103,11 @@ fn congestion(
     add(
         out,
         &[
-            Piece::Word("ends at "),
+            Piece::Word("new bytes end at "),
             Piece::Number(end_of(plan)),
             Piece::Word(", the congestion edge is "),
             Piece::Number(edge),
-            Piece::Word(" = una "),
+            Piece::Word(" = SND.UNA "),
             Piece::Number(snd_una),
             Piece::Word(" + cwnd "),
             Piece::Number(cwnd),
@@ -140,33 +145,38 @@ fn old_data(
         Reason::Gap { sent, .. } => say(
             out,
             &[
-                Piece::Word(": a gap behind "),
+                Piece::Word(": a gap after "),
                 Piece::Number(sent),
-                Piece::Word(", up to which segments were made"),
+                Piece::Word(", where the sent data ends"),
             ],
         ),
         Reason::Acknowledged { una, .. } => say(
             out,
             &[
-                Piece::Word(": below una "),
+                Piece::Word(": below SND.UNA "),
                 Piece::Number(una),
-                Piece::Word(", so that is acknowledged; an empty segment may begin one below una"),
+                Piece::Word(", so it is acknowledged; an empty segment may begin one below"),
             ],
         ),
         Reason::Again { .. } | Reason::Beyond { .. } | Reason::Other => {
-            say(
-                out,
-                &[
-                    Piece::Word("; segments were made up to "),
-                    Piece::Number(endpoint.snd_max()),
-                    Piece::Word(", and of that what ends at or below "),
-                    Piece::Number(endpoint.recover),
-                    Piece::Word(" may be made again: an expiry or fast recovery moves that"),
-                ],
-            )?;
+            say_outstanding(out, endpoint)?;
             say_due(out, endpoint, moment)
         }
     }
+}
+
+// How much was sent, and how much of it may be retransmitted.
+fn say_outstanding(out: &mut Vec<u8>, endpoint: &Endpoint) -> Result<(), OutOfMemory> {
+    say(
+        out,
+        &[
+            Piece::Word("; sent up to "),
+            Piece::Number(endpoint.snd_max()),
+            Piece::Word(", may be retransmitted up to "),
+            Piece::Number(endpoint.recover),
+            Piece::Word(" (raised by an expiry or fast recovery)"),
+        ],
+    )
 }
 
 // When the retransmission timer is due, and how far that is from the step's moment.
@@ -209,20 +219,17 @@ fn payload_range(
         &[
             Piece::Word("it begins at "),
             Piece::Number(plan.pos),
-            Piece::Word(" and holds "),
+            Piece::Word(" and has "),
             Piece::Number(u64::from(plan.len)),
             Piece::Word(" bytes, up to "),
             Piece::Number(end_of(plan)),
         ],
     )?;
     if plan.flags.syn {
-        return say(
-            out,
-            &[Piece::Word("; a SYN stands at 0 and holds no bytes")],
-        );
+        return say(out, &[Piece::Word("; a SYN is at 0 and has no bytes")]);
     }
     if plan.flags.rst {
-        return say(out, &[Piece::Word("; a reset holds no bytes")]);
+        return say(out, &[Piece::Word("; a reset has no bytes")]);
     }
     say(
         out,
@@ -235,9 +242,9 @@ fn payload_range(
             Piece::Word("; sends accepted the bytes from 1 up to "),
             Piece::Number(endpoint.stream.accepted.end()),
             Piece::Word(if endpoint.stream.ended {
-                ", and sending is ended: a FIN stands there"
+                ", and sending has ended, with a FIN there"
             } else {
-                ", and sending is not ended: no FIN may go"
+                ", and sending hasn't ended: no FIN may be sent"
             }),
         ],
     )
@@ -252,14 +259,14 @@ fn ack_field(
         out,
         &[
             Piece::Word(if plan.flags.ack {
-                "it has an acknowledgment"
+                "it has ACK"
             } else {
-                "it has no acknowledgment"
+                "it has no ACK"
             }),
             Piece::Word(if endpoint.rcv_nxt() == 0 {
-                ", and the peer's SYN was not taken"
+                ", and the peer's SYN wasn't received"
             } else {
-                ", and the peer's SYN was taken"
+                ", and the peer's SYN was received"
             }),
         ],
     )
@@ -378,7 +385,7 @@ const KINDS: [Kind; 6] = [
     },
 ];
 
-// Which kinds of segments the state allows at these ports.
+// Which kinds of segments may be built at these ports.
 fn may_make(
     out: &mut Vec<u8>,
     scene: &Scene<'_>,

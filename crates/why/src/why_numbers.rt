@@ -1,4 +1,4 @@
-//! Numbers of what is taken as positions, and the ranges that the rules ask for.
+//! Numbers of a received segment as positions, and the ranges that the rules require.
 
 use crate::text::{Piece, add, say};
 use case_forms::{OutOfMemory, POSITIONS};
@@ -6,7 +6,7 @@ use endpoint_state::Endpoint;
 use seqno::{Word, read_near};
 use spec_tcp::Arrived;
 
-// What a number reads as, near a position.
+// The position that a number reads as, near another one.
 fn reads(
     out: &mut Vec<u8>,
     name: &str,
@@ -38,7 +38,7 @@ fn place_read(number: Word, near: u64, base: Option<Word>) -> Option<u64> {
     }
 }
 
-// How both numbers read; in a half case nobody knows what they were meant as.
+// The positions that both numbers read as. Without a half case, also those that the segment was built with.
 pub(crate) fn number(
     out: &mut Vec<u8>,
     half: bool,
@@ -75,7 +75,7 @@ fn meant(out: &mut Vec<u8>, half: bool, position: u64) -> Result<(), OutOfMemory
     }
     say(
         out,
-        &[Piece::Word(", it was meant as "), Piece::Number(position)],
+        &[Piece::Word(", it was built with "), Piece::Number(position)],
     )
 }
 
@@ -88,7 +88,7 @@ pub(crate) fn unacceptable(
         return say(
             out,
             &[Piece::Word(
-                "it has a SYN: that is acceptable in SYN-RECEIVED alone, at position 0 and with an ACK",
+                "it has a SYN, which is acceptable only in SYN-RECEIVED, at position 0 and with ACK",
             )],
         );
     }
@@ -101,7 +101,7 @@ pub(crate) fn unacceptable(
     add(
         out,
         &[
-            Piece::Word("it takes "),
+            Piece::Word("it occupies "),
             Piece::Number(length_of(m)),
             Piece::Word(" positions, from "),
             Piece::Number(first),
@@ -111,14 +111,14 @@ pub(crate) fn unacceptable(
     receive_window(out, endpoint)
 }
 
-// The receive window of an endpoint, and what a segment has to do with it.
+// The receive window of an endpoint, and how a segment has to fit it.
 fn receive_window(out: &mut Vec<u8>, endpoint: &Endpoint) -> Result<(), OutOfMemory> {
     let next = endpoint.rcv_nxt();
     match endpoint.window.rcv_adv.checked_sub(1) {
         Some(last) if next <= last => say(
             out,
             &[
-                Piece::Word("its first or last has to lie in the receive window, from "),
+                Piece::Word("its first or last has to be in the receive window, from "),
                 Piece::Number(next),
                 Piece::Word(" to "),
                 Piece::Number(last),
@@ -134,7 +134,7 @@ fn receive_window(out: &mut Vec<u8>, endpoint: &Endpoint) -> Result<(), OutOfMem
     }
 }
 
-// How many positions a segment takes.
+// How many positions a segment occupies.
 fn length_of(m: &Arrived<'_>) -> u64 {
     (m.payload().len() as u64)
         .saturating_add(u64::from(m.flags().syn))
@@ -150,7 +150,7 @@ pub(crate) fn ack_range(
         return say(
             out,
             &[Piece::Word(
-                "it has no ACK; a reset needs one in SYN-SENT, any other segment always",
+                "it has no ACK, which a reset needs in SYN-SENT and any other segment always",
             )],
         );
     }
@@ -162,12 +162,12 @@ pub(crate) fn ack_range(
         &[
             Piece::Word("it acknowledges "),
             Piece::Number(m.ack()),
-            Piece::Word(", una is "),
+            Piece::Word("; SND.UNA is "),
             Piece::Number(endpoint.stream.snd_una),
-            Piece::Word(", and segments were made up to "),
+            Piece::Word(", sent up to "),
             Piece::Number(endpoint.snd_max()),
             Piece::Word(if endpoint.state.is_syn_received() {
-                "; in SYN-RECEIVED it has to be above una"
+                "; in SYN-RECEIVED it has to be above SND.UNA"
             } else {
                 ""
             }),
@@ -175,7 +175,7 @@ pub(crate) fn ack_range(
     )
 }
 
-/// The acknowledgment number beside that of the own SYN.
+/// The acknowledgment number, and the one that acknowledges the own SYN.
 pub(crate) fn ack_of_syn(
     out: &mut Vec<u8>,
     endpoint: &Endpoint,
@@ -192,10 +192,11 @@ pub(crate) fn ack_of_syn(
         Some(iss) => say(
             out,
             &[
-                Piece::Word(", that of the own SYN is "),
+                Piece::Word("; "),
                 Piece::Number(u64::from(iss.0.wrapping_add(1))),
+                Piece::Word(" acknowledges the own SYN"),
             ],
         ),
-        None => say(out, &[Piece::Word(", and no own SYN was made")]),
+        None => say(out, &[Piece::Word("; the own SYN wasn't built yet")]),
     }
 }

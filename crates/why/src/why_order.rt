@@ -5,7 +5,7 @@ use crate::text::{Piece, say};
 use case_forms::{Event, Label, Line, NamedLine, OutOfMemory, Step, Timer};
 use verdict::Rule;
 
-/// Whether a rule is of the order of lines.
+/// Whether a rule is one of the order of lines.
 pub(crate) fn is_of_order(rule: Rule) -> bool {
     matches!(
         rule,
@@ -19,7 +19,7 @@ pub(crate) fn is_of_order(rule: Rule) -> bool {
     )
 }
 
-/// What is in the way.
+/// What the rule compares.
 pub(crate) fn explain_rule(
     out: &mut Vec<u8>,
     scene: &Scene<'_>,
@@ -70,7 +70,7 @@ fn line_range(out: &mut Vec<u8>, scene: &Scene<'_>, named: NamedLine) -> Result<
         Some(line) => say(
             out,
             &[
-                Piece::Word("extra numbers that the step gives: "),
+                Piece::Word("extra numbers in the step: "),
                 Piece::Number(u64::from(named.extras.count())),
                 Piece::Word("; "),
                 Piece::Word(wanted(line, scene.header.version.is_half())),
@@ -84,7 +84,7 @@ fn wanted(line: &Line, half: bool) -> &'static str {
     match &line.event {
         Event::CallBegin(_) => "a B line has none",
         Event::CallEnd(_) => "an E line has none",
-        Event::Sent(_, _) => "an O line has 1, the number of the made segment that it shows",
+        Event::Sent(_, _) => "an O line has 1, the number of the built segment that it shows",
         Event::Came(_, _) if half => "an I line of a half case has none",
         Event::Came(_, _) => "an I line has 1, the number of the O line that it copies",
         Event::Expired(_, _, _, Timer::Rto) => "a T line of rto has 2, cwnd and ssthresh",
@@ -92,7 +92,7 @@ fn wanted(line: &Line, half: bool) -> &'static str {
     }
 }
 
-/// What is left over after the last step.
+/// The event lines that no step used.
 pub(crate) fn why_unplaced(out: &mut Vec<u8>, scene: &Scene<'_>) -> Result<(), OutOfMemory> {
     let (taken, all) = (scene.taken.len() as u64, scene.lines.len() as u64);
     say(
@@ -100,11 +100,11 @@ pub(crate) fn why_unplaced(out: &mut Vec<u8>, scene: &Scene<'_>) -> Result<(), O
         &[
             Piece::Word("the witness has "),
             Piece::Number(scene.steps.len() as u64),
-            Piece::Word(" steps; of the "),
-            Piece::Number(all),
-            Piece::Word(" event lines no step takes "),
+            Piece::Word(" steps; unused event lines: "),
             Piece::Number(all.saturating_sub(taken)),
-            Piece::Word(", and this one is the first of them"),
+            Piece::Word(" of "),
+            Piece::Number(all),
+            Piece::Word(", and this is the first"),
         ],
     )
 }
@@ -116,7 +116,7 @@ fn line_again(out: &mut Vec<u8>, scene: &Scene<'_>, number: u64) -> Result<(), O
             &[
                 Piece::Word("line "),
                 Piece::Number(number),
-                Piece::Word(" was taken before, by line "),
+                Piece::Word(" was already used by line "),
                 Piece::Number((*place as u64).saturating_add(2)),
                 Piece::Word(" of the witness"),
             ],
@@ -139,7 +139,7 @@ fn thread_order(out: &mut Vec<u8>, scene: &Scene<'_>, number: u64) -> Result<(),
                     Piece::Number(earlier.number),
                     Piece::Word(" of the same thread "),
                     Piece::Number(u64::from(thread)),
-                    Piece::Word(" isn't taken yet, and stands before it"),
+                    Piece::Word(" comes first and isn't used yet"),
                 ],
             );
         }
@@ -147,7 +147,7 @@ fn thread_order(out: &mut Vec<u8>, scene: &Scene<'_>, number: u64) -> Result<(),
     Ok(())
 }
 
-// Whether no step took a line yet.
+// Whether no step used a line yet.
 fn is_left(scene: &Scene<'_>, line: &Line) -> bool {
     !scene.taken.contains_key(&line.number)
 }
@@ -182,11 +182,11 @@ fn moment_off(
             &[
                 Piece::Word("the step's moment is "),
                 Piece::Number(step.moment),
-                Piece::Word(", the line may be taken from "),
+                Piece::Word(", the line may be used from "),
                 Piece::Number(line.moment),
                 Piece::Word(" to "),
                 Piece::Number(line.moment.saturating_add(scene.header.skew)),
-                Piece::Word(" (its moment and the skew "),
+                Piece::Word(" (its moment plus skew "),
                 Piece::Number(scene.header.skew),
                 Piece::Word(")"),
             ],
@@ -203,7 +203,7 @@ fn overdue(out: &mut Vec<u8>, scene: &Scene<'_>, step: &Step) -> Result<(), OutO
                 &[
                     Piece::Word("line "),
                     Piece::Number(line.number),
-                    Piece::Word(" isn't taken yet and had to be by "),
+                    Piece::Word(" had to be used by "),
                     Piece::Number(line.moment.saturating_add(scene.header.skew)),
                     Piece::Word("; the step's moment is "),
                     Piece::Number(step.moment),

@@ -1,4 +1,4 @@
-//! The rules of dropping what came in, and of answering it by a reset.
+//! The rules of dropping a received segment, and of answering it with a reset.
 
 use crate::scene::Scene;
 use crate::text::{Piece, say};
@@ -9,7 +9,7 @@ use endpoint_state::Endpoint;
 use line_fields::state_name;
 use spec_tcp::Emission;
 
-/// What the rule compares at a segment that is to be dropped or answered.
+/// What the rule compares at a segment to be dropped or answered.
 pub(crate) fn explain_rule(
     out: &mut Vec<u8>,
     scene: &Scene<'_>,
@@ -21,7 +21,7 @@ pub(crate) fn explain_rule(
     };
     describe_waiting(out, scene, host, m)?;
     if m.flags.rst {
-        return say(out, &[Piece::Word("no reset answers a reset")]);
+        return say(out, &[Piece::Word("a reset is never answered")]);
     }
     match scene.taker(host, m) {
         Some(endpoint) if !endpoint.state.is_closed() => why_at(out, scene, endpoint, m),
@@ -30,7 +30,7 @@ pub(crate) fn explain_rule(
             &[
                 Piece::Word("a listener is open on port "),
                 Piece::Number(u64::from(m.rport)),
-                Piece::Word(": there a reset answers a segment with ACK, and this one has none"),
+                Piece::Word(": a reset answers only a segment with ACK, and this one has none"),
             ],
         ),
     }
@@ -49,7 +49,7 @@ fn why_at(
                 Piece::Word("in "),
                 Piece::Word(state_name(endpoint.state)),
                 Piece::Word(
-                    " no reset answers: one does where nobody has the ports, at a listener, in SYN-SENT and in SYN-RECEIVED",
+                    " no reset answers a segment; one may in SYN-SENT, in SYN-RECEIVED, at a listener, or without an endpoint",
                 ),
             ],
         );
@@ -59,7 +59,7 @@ fn why_at(
         &[
             Piece::Word("in "),
             Piece::Word(state_name(endpoint.state)),
-            Piece::Word(" a reset answers a segment with ACK of another number than the own SYN's"),
+            Piece::Word(" a reset answers only an ACK that isn't of the own SYN"),
         ],
     )?;
     if !m.flags.ack {

@@ -1,4 +1,4 @@
-//! The rules of taking what came in.
+//! The rules of processing a received segment.
 
 use crate::scene::Scene;
 use crate::text::{Piece, add, say};
@@ -10,7 +10,7 @@ use endpoint_state::Endpoint;
 use spec_tcp::{Arrived, Emission, EndpointId};
 use verdict::Rule;
 
-/// What the rule compares at a segment that is to be taken.
+/// What the rule compares at a segment to be processed.
 pub(crate) fn explain_rule(
     out: &mut Vec<u8>,
     scene: &Scene<'_>,
@@ -43,7 +43,7 @@ fn why_at(
     match asked.1 {
         Rule::State => say(
             out,
-            &[Piece::Word("in SYN-SENT a segment is taken that has SYN or RST")],
+            &[Piece::Word("in SYN-SENT only a segment with SYN or RST is processed")],
         ),
         Rule::NotPeer => not_peer(out, scene, host, endpoint, read),
         Rule::Number => number(out, scene.header.version.is_half(), endpoint, read),
@@ -52,11 +52,12 @@ fn why_at(
         Rule::QueueFull => queue_full(out, scene, host, endpoint),
         Rule::Growth => growth(out, scene, endpoint, read, asked.0),
         Rule::Sample => sample(out, endpoint, read),
-        _ => scale_unread(out, endpoint, read),
+        Rule::ScaleUnread => scale_unread(out, endpoint, read),
+        _ => Ok(()),
     }
 }
 
-// What the rule compares if no endpoint is there that isn't CLOSED.
+// What the rule compares if no endpoint has the ports, or it is CLOSED.
 fn why_listening(
     out: &mut Vec<u8>,
     scene: &Scene<'_>,
@@ -69,7 +70,7 @@ fn why_listening(
     match rule {
         Rule::State => say(
             out,
-            &[Piece::Word("a listener takes a segment with SYN, without ACK and RST")],
+            &[Piece::Word("a listener processes only a segment with SYN, without ACK and RST")],
         ),
         Rule::Growth => say(
             out,
@@ -82,7 +83,7 @@ fn why_listening(
         Rule::Sample => say(
             out,
             &[Piece::Word(
-                "the step measures a round trip, and a child has made nothing that could be acknowledged",
+                "the step measures a round trip, but a child has sent nothing that could be acknowledged",
             )],
         ),
         _ => Ok(()),
@@ -137,12 +138,12 @@ fn not_peer(
         .body(host)
         .place_of(endpoint.lport, endpoint.rport)
         .unwrap_or(0);
-    add(out, &[Piece::Word("the taker is ")])?;
+    add(out, &[Piece::Word("the receiver is ")])?;
     push_name(out, EndpointId { host, number })?;
     if m.is_reset_reply() {
         add(
             out,
-            &[Piece::Word("; the reset answers a segment made by ")],
+            &[Piece::Word("; the reset answers a segment built by ")],
         )?;
         push_name(out, m.sender())?;
         return say(out, &[]);
@@ -151,7 +152,7 @@ fn not_peer(
         add(out, &[Piece::Word(", its peer is ")])?;
         push_name(out, peer)?;
     }
-    add(out, &[Piece::Word("; the segment was made by ")])?;
+    add(out, &[Piece::Word("; the segment was built by ")])?;
     push_name(out, m.sender())?;
     if let Some(peer_at_send) = m.peer_at_send() {
         add(out, &[Piece::Word(" for ")])?;
@@ -219,7 +220,7 @@ fn sample(out: &mut Vec<u8>, endpoint: &Endpoint, m: &Arrived<'_>) -> Result<(),
         return say(
             out,
             &[
-                Piece::Word("it acknowledges nothing new: una is "),
+                Piece::Word("it acknowledges nothing new: SND.UNA is "),
                 Piece::Number(snd_una),
                 Piece::Word("; a round trip is measured by a new acknowledgment, not by a reset"),
             ],
@@ -232,7 +233,7 @@ fn sample(out: &mut Vec<u8>, endpoint: &Endpoint, m: &Arrived<'_>) -> Result<(),
             Piece::Number(snd_una),
             Piece::Word(" up to "),
             Piece::Number(m.ack()),
-            Piece::Word(", and a position there was made more than once"),
+            Piece::Word(", and a position there was sent more than once"),
         ],
     )
 }
@@ -246,14 +247,14 @@ fn scale_unread(
         out,
         &[
             Piece::Word(if m.is_scaled() {
-                "windows were scaled at its maker when it was made"
+                "its sender scaled windows when it built the segment"
             } else {
-                "windows were not scaled at its maker when it was made"
+                "its sender didn't scale windows when it built the segment"
             }),
             Piece::Word(if endpoint.is_scaling() {
-                ", and are scaled at its taker"
+                ", and its receiver scales them"
             } else {
-                ", and are not scaled at its taker"
+                ", and its receiver doesn't"
             }),
         ],
     )

@@ -9,7 +9,7 @@ use endpoint::{greatest_recovery, greatest_values};
 use endpoint_state::Endpoint;
 use verdict::Rule;
 
-/// What the rule compares at an expiry, at a moment.
+/// What the rule compares at an expiry.
 pub(crate) fn why_expiry(
     out: &mut Vec<u8>,
     scene: &Scene<'_>,
@@ -27,7 +27,8 @@ pub(crate) fn why_expiry(
             out, endpoint, cwnd, ssthresh, asked.0,
         ),
         (Rule::TimerOff, _) => off(out, endpoint, timer),
-        _ => early(out, scene, endpoint, timer, asked.0),
+        (Rule::TimerEarly, _) => early(out, scene, endpoint, timer, asked.0),
+        _ => Ok(()),
     }
 }
 
@@ -58,17 +59,17 @@ fn growth(
     )
 }
 
-// Why a timer may not expire at all.
+// Why a timer can't expire at all.
 fn off(out: &mut Vec<u8>, endpoint: &Endpoint, timer: Timer) -> Result<(), OutOfMemory> {
     match timer {
         Timer::Rto => say(
             out,
             &[
-                Piece::Word("the timer is off: una "),
+                Piece::Word("the timer is off: SND.UNA "),
                 Piece::Number(endpoint.stream.snd_una),
-                Piece::Word(", made up to "),
+                Piece::Word(", sent up to "),
                 Piece::Number(endpoint.snd_max()),
-                Piece::Word("; a segment that takes positions arms it"),
+                Piece::Word("; a SYN, data or a FIN arms it"),
             ],
         ),
         Timer::Persist => persist_off(out, endpoint),
@@ -85,7 +86,7 @@ fn persist_off(out: &mut Vec<u8>, endpoint: &Endpoint) -> Result<(), OutOfMemory
         return say(
             out,
             &[
-                Piece::Word("the timer is off: a window of 0 arms it, and the peer offers "),
+                Piece::Word("the timer is off: a window of 0 arms it, and SND.WND is "),
                 Piece::Number(u64::from(endpoint.window.snd_wnd)),
             ],
         );
@@ -94,23 +95,23 @@ fn persist_off(out: &mut Vec<u8>, endpoint: &Endpoint) -> Result<(), OutOfMemory
         return say(
             out,
             &[
-                Piece::Word("the timer is armed, but the handshake is not done: una "),
+                Piece::Word("the timer is armed, but the handshake isn't done: SND.UNA "),
                 Piece::Number(endpoint.stream.snd_una),
-                Piece::Word(", next "),
+                Piece::Word(", RCV.NXT "),
                 Piece::Number(endpoint.rcv_nxt()),
-                Piece::Word("; both have to be 1 at least"),
+                Piece::Word("; both have to be at least 1"),
             ],
         );
     }
     say(
         out,
         &[
-            Piece::Word("the timer is armed, but there is nothing to probe with: una "),
+            Piece::Word("the timer is armed, but there is nothing to probe with: SND.UNA "),
             Piece::Number(endpoint.stream.snd_una),
-            Piece::Word(", accepted up to "),
+            Piece::Word(", accepted from the program up to "),
             Piece::Number(endpoint.stream.accepted.end()),
             Piece::Word(if endpoint.stream.ended {
-                " and the FIN behind"
+                ", and the FIN after it"
             } else {
                 ", and no FIN"
             }),
@@ -122,9 +123,9 @@ fn giveup_off(out: &mut Vec<u8>, endpoint: &Endpoint) -> Result<(), OutOfMemory>
     say(
         out,
         &[
-            Piece::Word("expiries since a segment was taken: "),
+            Piece::Word("expiries since a segment was processed: "),
             Piece::Number(u64::from(endpoint.unanswered_expiries)),
-            Piece::Word(", three are needed; not acknowledged: "),
+            Piece::Word(", three are needed; outstanding: "),
             Piece::Number(endpoint.flight()),
             Piece::Word(if endpoint.timers.persist_armed.is_some() {
                 " positions, and the persist timer is armed"
@@ -143,7 +144,7 @@ fn giveup_off(out: &mut Vec<u8>, endpoint: &Endpoint) -> Result<(), OutOfMemory>
     )
 }
 
-// From when on a timer may expire.
+// The moment from which on a timer may expire.
 fn early(
     out: &mut Vec<u8>,
     scene: &Scene<'_>,
@@ -169,7 +170,7 @@ fn early(
             Piece::Number(time),
             Piece::Word(" and may expire a clock tick ("),
             Piece::Number(grain),
-            Piece::Word(") before: from "),
+            Piece::Word(") early: from "),
             Piece::Number(earliest),
             Piece::Word(" on; the step's moment is "),
             Piece::Number(moment),
@@ -194,14 +195,15 @@ pub(crate) fn why_recovery(
         Rule::State => say(
             out,
             &[
-                Piece::Word("the handshake is not done: una "),
+                Piece::Word("the handshake isn't done: SND.UNA "),
                 Piece::Number(endpoint.stream.snd_una),
-                Piece::Word(", next "),
+                Piece::Word(", RCV.NXT "),
                 Piece::Number(endpoint.rcv_nxt()),
-                Piece::Word("; both have to be 1 at least"),
+                Piece::Word("; both have to be at least 1"),
             ],
         ),
-        _ => bad_recovery(out, endpoint, recovery, scene.moment()),
+        Rule::Recovery => bad_recovery(out, endpoint, recovery, scene.moment()),
+        _ => Ok(()),
     }
 }
 
@@ -244,7 +246,7 @@ fn duplicates(out: &mut Vec<u8>, endpoint: &Endpoint) -> Result<(), OutOfMemory>
     )
 }
 
-// The values that the step chooses, beside the greatest ones.
+// The values that the step chooses, next to the greatest ones.
 fn chosen(
     out: &mut Vec<u8>,
     endpoint: &Endpoint,

@@ -1,4 +1,4 @@
-//! The rules of the machine at a step that takes a line.
+//! The rules of the model at a step that uses a line.
 
 use crate::described::describe;
 use crate::scene::Scene;
@@ -33,7 +33,7 @@ pub(crate) fn explain_rule(
     }
 }
 
-/// A host has no endpoint of these ports.
+/// A host has no endpoint with these ports.
 pub(crate) fn no_endpoint(
     out: &mut Vec<u8>,
     host: Host,
@@ -59,7 +59,7 @@ fn first_extra(extras: Extras) -> u32 {
     }
 }
 
-// A segment that goes out: the made one beside the line's.
+// A segment sent: the built one next to the line's.
 fn why_sent(
     out: &mut Vec<u8>,
     scene: &Scene<'_>,
@@ -74,29 +74,30 @@ fn why_sent(
             out,
             &[
                 Piece::At(host),
-                Piece::Word(" made no segment of the number "),
+                Piece::Word(" built no segment with the number "),
                 Piece::Number(u64::from(number)),
-                Piece::Word("; up to here "),
+                Piece::Word("; so far "),
                 Piece::Number(u64::from(scene.world.count())),
-                Piece::Word(" were made at both hosts"),
+                Piece::Word(" were built at both hosts"),
             ],
         ),
         Some(made) => match rule {
             Rule::BytesDiffer => differences(out, made.emission(), wire),
-            _ => say(
+            Rule::NotMade => say(
                 out,
                 &[
-                    Piece::Word("made segment "),
+                    Piece::Word("segment "),
                     Piece::Number(u64::from(number)),
-                    Piece::Word(" went out before, in trace line "),
+                    Piece::Word(" was already sent in trace line "),
                     Piece::Number(shown_before(scene, number)),
                 ],
             ),
+            _ => Ok(()),
         },
     }
 }
 
-// The O line that showed a made segment before the step; 0 if there is none.
+// The O line that showed a built segment before the step; 0 if there is none.
 fn shown_before(scene: &Scene<'_>, number: u32) -> u64 {
     let mut found = 0;
     for step in scene.steps.iter().take(scene.place) {
@@ -116,7 +117,7 @@ fn is_going_out(scene: &Scene<'_>, number: u64) -> bool {
     }
 }
 
-// Both sides, field by field, if they differ.
+// The fields in which the built segment and the line differ.
 fn differences(out: &mut Vec<u8>, m: &Emission, wire: &Wire) -> Result<(), OutOfMemory> {
     let seg = &wire.seg;
     differ(out, "source port", u64::from(m.lport), u64::from(seg.src))?;
@@ -160,7 +161,7 @@ fn differ(out: &mut Vec<u8>, name: &str, made: u64, shown: u64) -> Result<(), Ou
         &[
             Piece::Word("  "),
             Piece::Word(name),
-            Piece::Word(": made "),
+            Piece::Word(": built "),
             Piece::Number(made),
             Piece::Word(", the line shows "),
             Piece::Number(shown),
@@ -169,10 +170,10 @@ fn differ(out: &mut Vec<u8>, name: &str, made: u64, shown: u64) -> Result<(), Ou
 }
 
 fn differ_bytes(out: &mut Vec<u8>, made: &[u8], shown: &[u8]) -> Result<(), OutOfMemory> {
-    first_difference(out, "payload byte ", "made", made, shown)
+    first_difference(out, "payload byte ", "built", made, shown)
 }
 
-/// The first byte in which two runs of bytes differ: what they are of, and the word for the first of them.
+/// The first byte that differs. `of` says what the bytes are, and `word` where the first ones are from.
 pub(crate) fn first_difference<'a>(
     out: &mut Vec<u8>,
     of: &'a str,
@@ -203,16 +204,11 @@ pub(crate) fn first_difference<'a>(
 
 fn differ_shift(out: &mut Vec<u8>, m: &Emission, wire: &Wire) -> Result<(), OutOfMemory> {
     match (m.shift, wire.seg.scale) {
-        (Some(given), Some(told)) => differ(
-            out,
-            "shift of windows",
-            u64::from(given),
-            u64::from(told),
-        ),
+        (Some(given), Some(told)) => differ(out, "window shift", u64::from(given), u64::from(told)),
         (None, Some(told)) => say(
             out,
             &[
-                Piece::Word("  shift of windows: made with none, the line shows "),
+                Piece::Word("  window shift: built with none, the line shows "),
                 Piece::Number(u64::from(told)),
             ],
         ),
@@ -220,7 +216,7 @@ fn differ_shift(out: &mut Vec<u8>, m: &Emission, wire: &Wire) -> Result<(), OutO
     }
 }
 
-// A segment that comes in, beside the line that it copies.
+// A segment received, next to the line that it copies.
 fn why_came(
     out: &mut Vec<u8>,
     scene: &Scene<'_>,
@@ -236,22 +232,23 @@ fn why_came(
         None => no_emission(out, scene, other, copied),
         Some(m) => match rule {
             Rule::CopyDiffers => copy_differs(out, m, wire),
-            _ => say(
+            Rule::Lifetime => say(
                 out,
                 &[
-                    Piece::Word("it comes in at "),
+                    Piece::Word("it arrives at "),
                     Piece::Number(moment),
-                    Piece::Word(", it went out at "),
+                    Piece::Word(", it was sent at "),
                     Piece::Number(m.moment),
                     Piece::Word(", the maximum segment lifetime is "),
                     Piece::Number(scene.header.msl),
                 ],
             ),
+            _ => Ok(()),
         },
     }
 }
 
-// What the line is that should have gone out at a host.
+// What is wrong with the line that the received segment should copy.
 fn no_emission(
     out: &mut Vec<u8>,
     scene: &Scene<'_>,
@@ -268,9 +265,9 @@ fn no_emission(
             Piece::Word("line "),
             Piece::Number(copied),
             Piece::Word(if is_emission {
-                " is not taken yet; it is an O line of "
+                " isn't used yet; it is an O line of "
             } else {
-                " is no O line of "
+                " isn't an O line of "
             }),
             Piece::At(host),
         ],

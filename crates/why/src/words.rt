@@ -1,7 +1,7 @@
 //! Segments, calls, answers and steps in words.
 
 use crate::numbers::Numbers;
-use crate::text::{Piece, add};
+use crate::text::{Piece, add, word_if};
 use case_forms::{
     Answer, Call, Event, Flags, Host, Label, Line, NamedLine, OutOfMemory, Recovery, SegmentPlan,
     TakeChoice,
@@ -9,7 +9,7 @@ use case_forms::{
 use line_fields::{push_answer, timer_name};
 use segment::{Flag, Segment};
 
-/// Writes the flags, the positions, the bytes and the window of a segment of a host.
+/// Writes the flags, positions, byte count and window of a segment of a host.
 pub fn push_segment(
     out: &mut Vec<u8>,
     numbers: &Numbers,
@@ -48,11 +48,11 @@ pub fn push_flags(out: &mut Vec<u8>, flags: Flags) -> Result<(), OutOfMemory> {
     add(
         out,
         &[
-            Piece::Word(if flags.syn { "SYN " } else { "" }),
-            Piece::Word(if flags.rst { "RST " } else { "" }),
-            Piece::Word(if flags.fin { "FIN " } else { "" }),
-            Piece::Word(if flags.ack { "ACK " } else { "" }),
-            Piece::Word(if is_bare { "- " } else { "" }),
+            Piece::Word(word_if(flags.syn, "SYN ")),
+            Piece::Word(word_if(flags.rst, "RST ")),
+            Piece::Word(word_if(flags.fin, "FIN ")),
+            Piece::Word(word_if(flags.ack, "ACK ")),
+            Piece::Word(word_if(is_bare, "- ")),
         ],
     )
 }
@@ -89,7 +89,7 @@ fn push_connect(out: &mut Vec<u8>, host: Host, lport: u16, rport: u16) -> Result
     )
 }
 
-/// Writes a call, with counts in place of bytes.
+/// Writes a call, with counts instead of bytes.
 pub fn push_call(out: &mut Vec<u8>, call: &Call) -> Result<(), OutOfMemory> {
     use Piece::{Number, Word};
     match call {
@@ -123,7 +123,7 @@ pub fn push_call(out: &mut Vec<u8>, call: &Call) -> Result<(), OutOfMemory> {
     }
 }
 
-/// Writes an answer, with a count in place of bytes.
+/// Writes an answer, with a count instead of bytes.
 pub fn push_told(out: &mut Vec<u8>, answer: &Answer) -> Result<(), OutOfMemory> {
     match answer {
         Answer::Bytes(bytes) => add(
@@ -138,7 +138,7 @@ pub fn push_told(out: &mut Vec<u8>, answer: &Answer) -> Result<(), OutOfMemory> 
     }
 }
 
-// Writes a segment that passes the wire at a host. The other word is the verb.
+// Writes a segment that a host sends or receives. The word is the verb.
 fn push_passing(
     out: &mut Vec<u8>,
     numbers: &Numbers,
@@ -160,7 +160,7 @@ fn push_passing(
     push_segment(out, numbers, sender, seg)
 }
 
-/// Writes what a line tells.
+/// Writes the event of a line.
 pub fn push_event(out: &mut Vec<u8>, numbers: &Numbers, line: &Line) -> Result<(), OutOfMemory> {
     use Piece::{At, Number, Word};
     let thread = Number(u64::from(line.thread));
@@ -170,12 +170,12 @@ pub fn push_event(out: &mut Vec<u8>, numbers: &Numbers, line: &Line) -> Result<(
             push_call(out, call)
         }
         Event::CallEnd(answer) => {
-            add(out, &[Word("thread "), thread, Word(" is told")])?;
+            add(out, &[Word("thread "), thread, Word(" gets")])?;
             push_told(out, answer)
         }
         Event::Sent(host, wire) => push_passing(out, numbers, (*host, " sends ", *host), &wire.seg),
         Event::Came(host, wire) => {
-            push_passing(out, numbers, (*host, " gets ", host.other()), &wire.seg)
+            push_passing(out, numbers, (*host, " receives ", host.other()), &wire.seg)
         }
         Event::Expired(host, lport, rport, timer) => add(
             out,
@@ -192,7 +192,7 @@ pub fn push_event(out: &mut Vec<u8>, numbers: &Numbers, line: &Line) -> Result<(
     }
 }
 
-// Writes a segment that is made.
+// Writes that a segment is built.
 fn push_plan(out: &mut Vec<u8>, host: Host, plan: &SegmentPlan) -> Result<(), OutOfMemory> {
     use Piece::{At, Number, Word};
     add(
@@ -219,7 +219,7 @@ fn push_plan(out: &mut Vec<u8>, host: Host, plan: &SegmentPlan) -> Result<(), Ou
     )
 }
 
-// Writes that a segment is taken, with what is chosen there.
+// Writes that a segment is processed, with the values chosen.
 fn push_taking(
     out: &mut Vec<u8>,
     host: Host,
@@ -231,17 +231,17 @@ fn push_taking(
         out,
         &[
             At(host),
-            Word(" takes line "),
+            Word(" processes line "),
             Number(line),
             Word(", cwnd "),
             Number(u64::from(choice.cwnd)),
             Word(if choice.keep { ", kept" } else { ", not kept" }),
-            Word(if choice.sample { ", measured" } else { "" }),
+            Word(word_if(choice.sample, ", measured")),
         ],
     )
 }
 
-// Writes that fast recovery begins, with what is chosen there.
+// Writes that fast recovery begins, with the values chosen.
 fn push_recovery(out: &mut Vec<u8>, host: Host, recovery: Recovery) -> Result<(), OutOfMemory> {
     use Piece::{At, Number, Word};
     add(
@@ -285,7 +285,7 @@ pub fn push_label(out: &mut Vec<u8>, label: &Label<NamedLine>) -> Result<(), Out
                 At(*host),
                 Word(" answers line "),
                 Number(*line),
-                Word(" by a reset"),
+                Word(" with a reset"),
             ],
         ),
         Label::F { host, recovery } => push_recovery(out, *host, *recovery),
