@@ -40,13 +40,13 @@ class AsRoot(unittest.TestCase):
     def test_an_interface_that_does_not_exist(self):
         status, error = self.record("--interface", "none\x1b[2J", "--", "true")
         self.assertEqual(status, 2)
-        self.assertRegex(error, rb"^tcpwit-record: tcpdump says: none\\x1b\[2J: No such device[^\n]*\n  tcpdump -D lists the interfaces[^\n]*\n$")
+        self.assertRegex(error, rb"^tcpwit-record: tcpdump printed: none\\x1b\[2J: No such device[^\n]*\n  tcpdump -D lists the interfaces[^\n]*\n$")
 
     def test_a_capture_that_cannot_be_written(self):
         os.makedirs(f"{self.folder}/out/run.pcap")
         status, error = self.record("--namespace", "--", "true")
         self.assertEqual(status, 2)
-        self.assertRegex(error, rb"/out/run.pcap: Is a directory\n  name a folder that can be written by --out\n$")
+        self.assertRegex(error, rb"/out/run.pcap: Is a directory\n  name a writable folder with --out\n$")
 
     def test_programs_that_the_system_refuses(self):
         name = self.script(b"text", "no program\n").decode()

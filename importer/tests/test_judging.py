@@ -68,7 +68,7 @@ class Judging(test_command.WithFiles):
             self.refused(words, "tcpwit-import: ValueError: some fault (")
             status, out, error = self.recorded(*self.lab(LINES, "exit 1"))
         self.assertEqual((status, out), (2, ""))
-        self.assertRegex(error, r"tcpwit-record: ValueError: some fault \(mock.py, line \d+\)\n  this is a fault of tcpwit-record: report it")
+        self.assertRegex(error, r"tcpwit-record: ValueError: some fault \(mock.py, line \d+\)\n  this is a bug in tcpwit-record: report it")
 
     def test_several_traces_are_named(self):
         two = [test_command.talk(zero=("10.9.0.1", port)) for port in (4000, 4001)]
@@ -95,9 +95,9 @@ class Judging(test_command.WithFiles):
                                    ("", "exit 9", "ended with status 9"), ("", "kill -KILL $$", "ended by signal 9")):
             with self.subTest(end):
                 self.refused([*words, "--quiet", *self.lab(answer, end)], cause)
-        self.refused([*self.captures, *self.logs, "--quiet", "--out", "/dev/null", *self.lab(LINES)], "/dev/null is no file")
+        self.refused([*self.captures, *self.logs, "--quiet", "--out", "/dev/null", *self.lab(LINES)], "/dev/null isn't a file")
         for known in ("exit 0", "exit 1", "exit 3"):
-            self.refused([*words, "--quiet", *self.lab(LINES, known=known)], "doesn't know the word judge")
+            self.refused([*words, "--quiet", *self.lab(LINES, known=known)], "has no command judge")
 
     def test_a_program_that_is_none(self):
         words = [*self.captures, *self.logs, "--quiet", "--out", f"{self.folder}/run.trace"]
@@ -110,8 +110,8 @@ class Judging(test_command.WithFiles):
         self.refused([*words, "--lab", f"{self.folder}/text"], "text: Exec format error")
         with mock.patch.dict(os.environ, {"PATH": self.folder}), mock.patch.object(judging, "TOP", self.folder):
             os.environ.pop(judging.VARIABLE, None)
-            self.refused(words, "tcpwit_lab is not in the PATH")
-            self.refused(words, "install the package tcpwit, which has tcpwit and tcpwit_lab")
+            self.refused(words, "tcpwit_lab is not in PATH")
+            self.refused(words, "install the package tcpwit, which contains tcpwit and tcpwit_lab")
             os.symlink(self.lab(LINES)[1], f"{self.folder}/tcpwit_lab")
             self.assertEqual(judging.lab(None), f"{self.folder}/tcpwit_lab")
         with mock.patch.dict(os.environ, {judging.VARIABLE: f"{self.folder}/lab"}):
@@ -160,9 +160,9 @@ class Judging(test_command.WithFiles):
     def test_a_recording_that_fails(self):
         status, out, error = self.recorded(*self.lab("bad trace 9 12 13 number\n", "exit 2"))
         self.assertEqual((status, out), (2, ""))
-        self.assertIn("run.trace: bad trace 9 12 13 number\n  read what tcpwit_lab explain says", error)
+        self.assertIn("run.trace: bad trace 9 12 13 number\n  read what tcpwit_lab explain prints", error)
         with mock.patch("os.geteuid", return_value=0):
-            self.refused(["--transfer", "5", *self.lab(LINES, known="exit 3")], "doesn't know the word judge", recording)
+            self.refused(["--transfer", "5", *self.lab(LINES, known="exit 3")], "has no command judge", recording)
         self.logs = self.logs[:2] + [f"{self.folder}/nothing"]
         self.assertEqual(self.recorded(*self.lab(LINES))[:2], (2, ""))
 

@@ -69,10 +69,10 @@ def profile(text):
         word, _, value = line.split("#")[0].strip().partition(" ")
         if word:
             if word not in values:
-                raise ValueError(f"{word} is no word of a profile")
+                raise ValueError(f"{word} isn't a word of a profile")
             values[word] = value.strip()
             if word in HEADER and not re.fullmatch("[0-9]+", values[word]):
-                raise ValueError(f"{word} {values[word]!r} is no number")
+                raise ValueError(f"{word} {values[word]!r} isn't a number")
     return values
 
 

@@ -62,7 +62,7 @@ class Scenario:
 def seconds(text):
     """A time in seconds, as microseconds."""
     if not re.fullmatch(r"\d+(\.\d{1,6})?", text):
-        raise ValueError(f"{text} is no time in seconds")
+        raise ValueError(f"{text} isn't a time in seconds")
     whole, _, part = text.partition(".")
     return int(whole) * 1_000_000 + int((part + "000000")[:6])
 
@@ -70,7 +70,7 @@ def seconds(text):
 def number(text, most=2**32 - 1):
     """A number, at most the greatest that has room where it is used."""
     if not re.fullmatch(r"[0-9]+", text):
-        raise ValueError(f"{text} is no number")
+        raise ValueError(f"{text} isn't a number")
     if int(text) > most:
         raise ValueError(f"{text} is above {most}")
     return int(text)
@@ -84,7 +84,7 @@ def half(text):
 def place(text):
     """A sequence number of a script: a name or a number, perhaps with more or less."""
     if not re.fullmatch(r"(nxt|iss|una|rcv|irs|edge|[0-9]+)([+-][0-9]+)?", text):
-        raise ValueError(f"{text} is no sequence number")
+        raise ValueError(f"{text} isn't a sequence number")
 
 
 def tcp_options(text):
@@ -101,7 +101,7 @@ EXPECT = {"within": seconds, "seq": place, "ack": place, "len": half}
 
 def host(text):
     if text not in ("0", "1"):
-        raise ValueError(f"{text} is no host: 0 or 1")
+        raise ValueError(f"{text} isn't a host: 0 or 1")
     return int(text)
 
 
@@ -113,7 +113,7 @@ def rule(words):
     if made.kind == "byte":
         made.byte, words = number(words[0]), words[1:]
     elif made.kind not in KINDS:
-        raise ValueError(f"{made.kind} is no kind of segment")
+        raise ValueError(f"{made.kind} isn't a kind of segment")
     if deed != "lose":
         if len(words) < 2 or words[-2] != {"double": "after", "hold": "for"}[deed]:
             raise ValueError("the time is missing")
@@ -155,7 +155,7 @@ def call(line, words):
     if word == "after":
         return Do(line, word, [host(args[0]), args[1], number(args[2])])
     if word not in CALLS:
-        raise ValueError(f"{word} is no call")
+        raise ValueError(f"{word} isn't a call")
     count = CALLS[word]
     need, rest = args[:count], args[count:]
     if word == "listen":
@@ -186,17 +186,17 @@ def act(line, words):
         return Do(line, word, [seconds(args[0])])
     if word == "put":
         if not re.fullmatch(r"[SFRPAU]+|-", args[0]):
-            raise ValueError(f"{args[0]} are no flags")
+            raise ValueError(f"{args[0]} aren't flags")
         return Do(line, word, [args[0]], options(args[1:], PUT))
     if word in ("expect", "never"):
         if args[0] not in KINDS:
-            raise ValueError(f"{args[0]} is no kind of segment")
+            raise ValueError(f"{args[0]} isn't a kind of segment")
         return Do(line, word, [args[0]], options(args[1:], EXPECT))
     if word == "window":
         return Do(line, word, [half(args[0])])
     if word == "acks" and args[0] in ("on", "off"):
         return Do(line, word, [args[0]])
-    raise ValueError(f"{word} is no word of a script")
+    raise ValueError(f"{word} isn't a word of a script")
 
 
 def read(name, text):

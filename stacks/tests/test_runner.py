@@ -60,28 +60,28 @@ class Language(unittest.TestCase):
         self.assertEqual((steps[2].options, steps[2].expected), ({"lasted": 180000000}, ("timeout", "refused")))
 
     def test_faults_name_the_line(self):
-        self.fault("lose 2 syn 1\n", "x, line 3: 2 is no host")
-        self.fault("lose 0 sin 1\n", "sin is no kind")
+        self.fault("lose 2 syn 1\n", "x, line 3: 2 isn't a host")
+        self.fault("lose 0 sin 1\n", "sin isn't a kind")
         self.fault("lose 0 syn\n", "which of them is missing")
         self.fault("double 0 syn 1\n", "the time is missing")
-        self.fault("delay fast\n", "fast is no time")
-        self.fault("thread 1 host 0\n  halt c\n", "line 4: halt is no call")
+        self.fault("delay fast\n", "fast isn't a time")
+        self.fault("thread 1 host 0\n  halt c\n", "line 4: halt isn't a call")
         self.fault("thread 1 host 0\n  open 1 2\n", "a name is missing")
         self.fault("thread 1 host 0\n  send c\n", "a word is missing")
         self.fault("  send c 5\n", "a step stands outside")
-        self.fault("peer 80 to 4000\n  put XY\n", "XY are no flags")
-        self.fault("peer 80 to 4000\n  expect pong\n", "pong is no kind")
+        self.fault("peer 80 to 4000\n  put XY\n", "XY aren't flags")
+        self.fault("peer 80 to 4000\n  expect pong\n", "pong isn't a kind")
         self.fault("whatever\n", "whatever is not understood")
 
     def test_values_that_have_no_room_are_faults(self):
-        for step, told in (("put A seq 5x", "5x is no sequence"), ("put A ack foo", "foo is no sequence"), ("put A win 65536", "65536 is above 65535"),
-                           ("put S mss 99999", "99999 is above 65535"), ("put A fill 256", "256 is above 255"), ("put A len x", "x is no number"),
-                           ("put A times -1", "-1 is no number"), ("put A raw 0101", "0101 is not 4 to 40 bytes"), ("put A raw " + "01" * 44, "is not 4 to 40"),
-                           ("put A each x", "x is no time"), ("expect ack seq 1+", "1+ is no sequence"), ("never ack within soon", "soon is no time"),
+        for step, told in (("put A seq 5x", "5x isn't a sequence"), ("put A ack foo", "foo isn't a sequence"), ("put A win 65536", "65536 is above 65535"),
+                           ("put S mss 99999", "99999 is above 65535"), ("put A fill 256", "256 is above 255"), ("put A len x", "x isn't a number"),
+                           ("put A times -1", "-1 isn't a number"), ("put A raw 0101", "0101 is not 4 to 40 bytes"), ("put A raw " + "01" * 44, "is not 4 to 40"),
+                           ("put A each x", "x isn't a time"), ("expect ack seq 1+", "1+ isn't a sequence"), ("never ack within soon", "soon isn't a time"),
                            ("window 65536", "65536 is above")):
             self.fault(f"peer 80 to 4000\n  {step}\n", told)
-        for step, told in (("send c many", "many is no number"), ("recv c all", "all is no number"), ("open 4000 70000 as c", "70000 is above 65535"),
-                           ("listen \u0663 as d", "\u0663 is no number")):
+        for step, told in (("send c many", "many isn't a number"), ("recv c all", "all isn't a number"), ("open 4000 70000 as c", "70000 is above 65535"),
+                           ("listen \u0663 as d", "\u0663 isn't a number")):
             self.fault(f"thread 1 host 0\n  {step}\n", told)
         self.fault("peer 80 to 65536\n", "65536 is above 65535")
         self.fault("mss 0 65536\n", "65536 is above 65535")
@@ -365,8 +365,8 @@ class TheCommand(unittest.TestCase):
         self.assertEqual(len(names()), len(os.listdir(folder)))
 
     def test_a_profile_that_cannot_be_used(self):
-        for text, cause in (("mls 5", "profile: mls is no word of a profile"), ("msl fast", "profile: msl 'fast' is no number"),
-                            ("msl", "profile: msl '' is no number"), ("msl 5", "even a trace without lines is answered 'bad trace 3'")):
+        for text, cause in (("mls 5", "profile: mls isn't a word of a profile"), ("msl fast", "profile: msl 'fast' isn't a number"),
+                            ("msl", "profile: msl '' isn't a number"), ("msl 5", "even a trace without lines is answered 'bad trace 3'")):
             with open(f"{self.folder}/profile", "w") as file:
                 file.write(text)
             judge = f"{self.folder}/judge"
@@ -691,7 +691,7 @@ for line in sys.stdin:
         with open(path, "wb") as file:
             file.write(b"\xff\xfe")
         for words in ([path], ["open-plain", "--profile", path], ["open-plain", "--against", path]):
-            self.assertEqual(self.run_it("true", *words), (2, "", f"{path} is no text\n"))
+            self.assertEqual(self.run_it("true", *words), (2, "", f"{path} isn't text\n"))
 
     def test_a_file_that_fails_is_named(self):
         stack, there, full = self.adapter(answer="= - ok"), f"{self.folder}/adapter/report.xml", f"{self.folder}/full"
@@ -770,7 +770,7 @@ for line in sys.stdin:
         for words, cause in ((["/nowhere"], "neither a folder"), (["true", "--profile", "/nowhere", "data-bulk"], "/nowhere: No such file"),
                              (["true", "data-bluk"], "'data-bluk' is neither a file"), (["true", "data-bulk", ""], "'' is neither"),
                              (["runner"], "runner/build"), (["scenarios/../scenarios"], "build"),
-                             (["true", "--jobs", "0"], "'0' is no number"), (["true", "--jobs", "x"], "'x' is no number"),
+                             (["true", "--jobs", "0"], "'0' isn't a number"), (["true", "--jobs", "x"], "'x' isn't a number"),
                              (["true", "data-bulk", "--check", "true", "--lab", "true"], "true is older than this suite"),
                              (["true", "data-bulk", "--check", "true", *self.programs()[2:]], "true check printed nothing and ended with status 0"),
                              (["true", "data-bulk", "--junit", ""], "--junit: the name is empty")):
