@@ -142,7 +142,7 @@ class Clone(unittest.TestCase):
         os.remove(f"{self.top}/tools/unproved.py")
         status, _, error = self.run_in_clone("stacks/run", "true", "data-bulk")
         self.assertEqual(status, 2)
-        self.assertIn("tcpwit and tcpwit_lab aren't found. The package tcpwit has both", error)
+        self.assertIn("tcpwit and tcpwit_lab aren't found. The package tcpwit contains both", error)
         for name in ("tcpwit", "tcpwit_lab"):
             self.write(f"bin/{name}", PROGRAM)
         self.assertEqual(self.found("importer"), ([f"{self.folder}/bin/tcpwit_lab"], ""))
