@@ -45,7 +45,7 @@ def parser():
     group = words.add_argument_group("header values, to replace the detected ones")
     group.add_argument("--version", type=int, choices=sorted(headers.LINES), help="format version (default: 2 for two hosts, 3 for one; 4 with --congestion)")
     for name in headers.LIMITS:
-        group.add_argument("--" + name, type=number_within(*headers.LIMITS[name]), metavar="N")
+        group.add_argument("--" + name, type=number_within(*headers.LIMITS[name]), metavar="N", help=headers.HELP[name])
     for name, values in headers.WORDS.items():
         group.add_argument("--" + name, choices=values, help=headers.HELP.get(name))
     return words

@@ -11,7 +11,15 @@ WORDS_OF_CONGESTION = (FULL, "recovery", "none")
 VALUES = {"skew": 0, "msl": 60_000_000, "grain": 4000, "minrto": 200_000, "extra": 1, "initial": 6928, "congestion": FULL}
 LIMITS = {"skew": (0, 10**9), "msl": (1, 3_600_000_000), "grain": (0, 60_000_000), "minrto": (0, 60_000_000), "extra": (0, 65535)}
 WORDS = {"initial": ("5681", "6928"), "congestion": WORDS_OF_CONGESTION}
-HELP = {"congestion": "how much of congestion control is judged; selects format version 4"}
+HELP = {
+    "skew": "largest remaining clock error, in microseconds",
+    "msl": "maximum segment lifetime, in microseconds",
+    "grain": "granularity of the retransmission timer, in microseconds",
+    "minrto": "minimum retransmission timeout, in microseconds",
+    "extra": "children that a listen queue holds beyond its backlog",
+    "initial": "RFC of the initial congestion window",
+    "congestion": "how much of congestion control is judged; selects format version 4",
+}
 LINES = {
     1: ("skew", "msl", "grain", "minrto", "extra"),
     2: ("skew", "msl", "grain", "minrto", "extra", "initial"),

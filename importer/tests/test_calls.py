@@ -1,4 +1,4 @@
-"""System calls become the calls of a trace."""
+"""Tests how system calls become the calls of a trace."""
 import tempfile
 import unittest
 
@@ -24,7 +24,7 @@ def both_of(one, two):
 
 class Calls(unittest.TestCase):
     def told(self, lines, host=0, talk=None, step=2 * 10**7):
-        """The texts of the calls that a log's lines make: the connection's SYN comes at the moment AT."""
+        """The texts of the calls for a log's lines. The connection's SYN arrives at the moment AT."""
         talk = talk or Talk(at=AT + step)
         rows = []
         for number, line in enumerate(lines):
@@ -99,7 +99,7 @@ class Calls(unittest.TestCase):
                          ["B send 1 68656c6c6f0000", "E ok 7", "B send 1 0000", "E ok 2"])
         self.assertIn("changed: 2 calls with bytes that a reset left unsent according to the captures, written as zeros (first: byte 6 of 10.9.0.1:4000)",
                       self.notes.lines())
-        # What was received came in a segment: if none has it, the capture lost it.
+        # Received bytes arrived in a segment; if no segment has them, the capture lost it.
         with self.assertRaisesRegex(Problem, "byte 1 of 10.9.0.2:80 is neither"):
             self.client("splice(3, NULL, 6, NULL, 6, 0) = 4", talk=talk)
 

@@ -1,4 +1,4 @@
-"""The commands: what they print, and how they fail."""
+"""Tests what the commands print, and how they fail."""
 import contextlib
 import fnmatch
 import io
@@ -34,7 +34,7 @@ SERVER = [(8, AT - SECOND, "socket(AF_INET, SOCK_STREAM, IPPROTO_TCP) = 3"),
 
 
 def talk(**options):
-    """A connection on which five bytes go, and both ends close."""
+    """A connection that carries five bytes, then both ends close."""
     found = Talk(at=AT, **options)
     found.at = AT + 7 * 10**6
     found.send(0, ACK | PSH, b"hello")
@@ -47,7 +47,7 @@ def talk(**options):
 
 
 def run(*words, command=importing):
-    """Runs a command in this process: status, standard output, standard error."""
+    """Runs a command in this process. Returns status, standard output and standard error."""
     out, error = io.StringIO(), io.StringIO()
     with contextlib.redirect_stdout(out), contextlib.redirect_stderr(error):
         try:
@@ -214,7 +214,7 @@ class Command(WithFiles):
         words = [*gap.write(self.folder), *self.logs]
         self.refused(words, "byte 1 that 10.9.0.1:4000 sent was acknowledged and is not in the capture")
         self.assertEqual(run(*words, "--keep-gaps")[0], 0)
-        # A segment that was lost on the way is no gap.
+        # A segment lost in transit isn't a gap.
         lost = talk()
         lost.frames[1] = lost.frames[1][:3]
         lost.frames[0] = lost.frames[0][:4]
@@ -224,7 +224,7 @@ class Command(WithFiles):
         words = [*self.captures, *self.write_logs([line for line in CLIENT if "write" not in line[2]], SERVER)]
         self.refused(words, "5 bytes that 10.9.0.1:4000 sent are in no call")
         self.assertEqual(run(*words, "--keep-gaps")[0], 0)
-        # A call that did not end may have sent anything.
+        # A call that didn't end may have sent any bytes.
         begun = [(7, AT + 6 * 10**6, 'write(3, "hello", 5 <unfinished ...>') if "write" in line[2] else line for line in CLIENT if "close" not in line[2]]
         self.assertEqual(run(*self.captures, *self.write_logs(begun, SERVER))[0], 0)
 
@@ -350,7 +350,7 @@ class Command(WithFiles):
             done = subprocess.run(["sh", "-c", f'exec "$@" {output}', "sh", *words], stderr=subprocess.PIPE, text=True, timeout=100, check=False)
             self.assertEqual(done.returncode, 2, output)
             self.assertRegex(done.stderr, rf"^tcpwit-import: {cause}\n  .+\n$")
-        # The reader of a pipe has gone: nothing is to be said.
+        # The reader of the pipe is gone: nothing must be printed.
         reader, writer = os.pipe()
         os.close(reader)
         with os.fdopen(writer, "wb") as pipe:

@@ -1,4 +1,4 @@
-"""What both commands do with `tcpwit_lab judge`: a script that answers as told takes its part."""
+"""Tests how both commands use `tcpwit_lab judge`, which a script with chosen answers replaces."""
 import errno
 import os
 import subprocess
@@ -13,8 +13,8 @@ from tcpwit_import.recording.running import Traced
 from . import test_command
 from .test_command import run
 
-# Keeps the words and the trace that it was given, and a case and a picture if they are wanted; answers to `judge` what the test chose.
-# Before that it is asked whether it knows `judge`, by no other word and an empty trace.
+# Saves its arguments and the trace, and a case and a picture if requested; `judge` prints the answer that the test chose.
+# Before that, the commands check that it has `judge`, without other arguments and with an empty trace.
 SCRIPT = """#!/bin/sh
 [ "$*" = judge ] && {known}
 echo "$@" >> {folder}/words
@@ -29,7 +29,7 @@ LINES = "full      no 57 88 congestion\nnone      yes 101 85\nThe run keeps RFC 
 
 class Judging(test_command.WithFiles):
     def lab(self, answer, end="exit 0", known="exit 2"):
-        """A program that answers so; the words that name it."""
+        """Writes a program with this answer. Returns the options that name it."""
         with open(f"{self.folder}/answer", "w", encoding="ascii") as file:
             file.write(answer)
         with open(f"{self.folder}/lab", "w", encoding="ascii") as file:
@@ -38,7 +38,7 @@ class Judging(test_command.WithFiles):
         return ["--lab", f"{self.folder}/lab"]
 
     def text(self, name):
-        """What is in a file."""
+        """The text of a file."""
         with open(f"{self.folder}/{name}", encoding="ascii") as file:
             return file.read()
 
@@ -121,7 +121,7 @@ class Judging(test_command.WithFiles):
         self.assertEqual([judging.case_of(name) for name in ("a/run.trace", "run", "a.case")], ["a/run.case", "run.case", "a.case.case"])
 
     def recorded(self, *words):
-        """A recording of the same files."""
+        """Records the same files."""
         with mock.patch("os.geteuid", return_value=0), mock.patch("tcpwit_import.recording.cli.refuse_missing"), \
                 mock.patch("tcpwit_import.recording.cli.recorded", return_value=self.captures + self.logs):
             return run("--transfer", "5", "--out", f"{self.folder}/kept", *words, command=recording)

@@ -25,7 +25,7 @@ DESCRIPTION = f"""Records a program's TCP, converts it into a trace, and judges 
   tcpwit-record --namespace -- ./run-my-tests           a network of its own, with a loopback: a whole case of a program that is both hosts
   tcpwit-record --pair 'python3 -m http.server 80' -- curl -o page http://{ADDRESSES[1]}/
                                                         two hosts of its own: a whole case. The server has {ADDRESSES[1]}, the client {ADDRESSES[0]}
-  tcpwit-record --transfer 20000 --lose 3               a pair with a client and a server of its own
+  tcpwit-record --transfer 20000 --lose 3               a pair with a built-in client and server
 
 Capturing and network namespaces need root; the programs run as the user who called sudo. Nothing outside the namespaces is changed.
 tcpwit-record prints the lines of tcpwit_lab judge: how strictly congestion control can be judged with a yes. The programs' own
@@ -86,7 +86,7 @@ def parser():
     form.add_argument("--namespace", action="store_true", help="PROGRAM is both hosts, on a loopback of its own")
     words.add_argument("--serve", action="store_true", help="PROGRAM is a server: it runs until it is interrupted, or for --seconds")
     words.add_argument("--seconds", type=within(0.1, 86400), metavar="N", help="end the program after this time")
-    words.add_argument("--interface", metavar="IF", help="the interface to capture a half case at (default: any)")
+    words.add_argument("--interface", metavar="IF", help="the interface for capturing a half case (default: any)")
     words.add_argument("--out", type=named_file, metavar="DIR", help="the folder for all files (default: a new one, tcpwit-TIME)")
     words.add_argument("--no-check", action="store_true", help="record and import, but don't judge")
     words.add_argument("--lab", type=named_file, metavar="PATH", help="the program tcpwit_lab, which judges traces")
