@@ -515,7 +515,7 @@ class HostCalls:
                 self.tell(event, endpoint, "recv", (room,), answer)
 
     def received_data(self, event, endpoint, known, room):
-        """Bytes that came: in parts if they are more than a line may hold, all but the first at the end."""
+        """Adds received bytes: in parts if they are more than a line may hold, all but the first at the end."""
         came = event.result
         if came > LONGEST:
             self.notes.change("calls of more than 65,535 bytes, split into parts", event.place)

@@ -210,7 +210,7 @@ def read(name, text):
         try:
             if line[0] == " ":
                 if inside is None:
-                    raise ValueError("a step stands outside of a thread")
+                    raise ValueError("a step is outside of a thread")
                 inside(at, words)
             else:
                 inside = top(scenario, words, line.split("#")[0])

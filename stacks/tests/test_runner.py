@@ -68,7 +68,7 @@ class Language(unittest.TestCase):
         self.fault("thread 1 host 0\n  halt c\n", "line 4: halt isn't a call")
         self.fault("thread 1 host 0\n  open 1 2\n", "a name is missing")
         self.fault("thread 1 host 0\n  send c\n", "a word is missing")
-        self.fault("  send c 5\n", "a step stands outside")
+        self.fault("  send c 5\n", "a step is outside")
         self.fault("peer 80 to 4000\n  put XY\n", "XY aren't flags")
         self.fault("peer 80 to 4000\n  expect pong\n", "pong isn't a kind")
         self.fault("whatever\n", "whatever is not understood")
