@@ -1,14 +1,14 @@
 #!/usr/bin/env python3
 """Writes the case of one long transfer to standard output: a trace, and a witness that explains it.
 
-Host 1 listens and host 0 connects. Then comes round after round: host 0 sends 64 to 100 bytes, which go out in one segment
-and arrive; host 1 receives them and acknowledges, and the acknowledgment arrives. A round has 8 event lines and 14 steps.
-The numbers of host 0 wrap in the first or second round, those of host 1 behind its SYN. The congestion window grows by all
-that is acknowledged, each round trip is measured, and nothing is lost.
+Host 1 listens and host 0 connects. In each round, host 0 sends 64 to 100 bytes in one segment, and the segment arrives; host 1
+receives and acknowledges them, and the acknowledgment arrives. A round has 8 event lines and 14 steps. The sequence numbers of
+host 0 wrap in the first or second round, those of host 1 after its SYN. The congestion window grows with every acknowledgment,
+each round trip is measured, and nothing is lost.
 
-The first argument is the count of rounds, 160,000 where it is missing: then the case has 1,280,012 event lines, 2,240,021 steps
-and 232 million bytes. The verdict on N rounds is `yes A B` with A = 12 + 8 N and B = 9 + 6 N. The second argument, at most 1460,
-is how many bytes are sent in a round in place of 64 to 100; then both SYNs tell an MSS of 1460.
+The first argument is the number of rounds (default: 160,000, a case of 1,280,012 event lines, 2,240,021 steps and 232 million
+bytes). The verdict on N rounds is `yes A B` with A = 12 + 8 N and B = 9 + 6 N. The second argument, at most 1460, is the number of
+bytes in a round, instead of 64 to 100; both SYNs then carry an MSS of 1460.
 """
 
 import random
@@ -18,18 +18,18 @@ ROUNDS = 160_000
 FIRST_EVENT_LINE = 7
 HEADER = ["trace 1", "skew 0", "msl 120000000", "grain 1000", "minrto 1000000", "extra 0"]
 
-# Ports and initial send sequence numbers by host, sockets, and what windows are offered.
+# Ports and initial send sequence numbers by host, sockets, and the offered window.
 PORTS = (4000, 80)
 FIRST_NUMBERS = (4_294_967_200, 4_294_967_295)
 LISTENER, SENDER, RECEIVER = 5, 6, 7
 WINDOW = 65535
 
-# The MSS that a SYN tells where a size is given, and the initial windows without it and with it (RFC 5681, 3.1).
+# The MSS in the SYNs if a size is given, and the initial windows without and with it (RFC 5681, 3.1).
 MSS = 1460
 INITIAL_WINDOW = 4 * 536
 INITIAL_WINDOW_OF_MSS = 3 * MSS
 
-# Which thread calls at which host, and which records the segments there.
+# The thread that calls at each host, and the one that records segments there.
 CALLERS = (2, 1)
 WIRES = (3, 4)
 
@@ -37,7 +37,7 @@ FLAG_BITS = {"S": 0x02, "A": 0x10, "AS": 0x12}
 
 
 class Case:
-    """The event lines and the steps so far, the moment of the last of them, and how many segments were made."""
+    """The event lines and steps so far, the moment of the last one, and the number of segments made."""
 
     def __init__(self, tells_mss=False):
         self.options = f"0204{MSS:04x}" if tells_mss else ""
@@ -48,7 +48,7 @@ class Case:
         self.made = 0
 
     def event(self, thread, what, extra=""):
-        """One event line, and the step that takes it, ten microseconds after the line before. Answers its number."""
+        """Adds an event line and the step for it, ten microseconds after the previous line. Returns its number."""
         self.moment += 10
         number = FIRST_EVENT_LINE + len(self.events)
         self.events.append(f"{self.moment} {thread} {what}")
@@ -56,17 +56,17 @@ class Case:
         return number
 
     def step(self, what):
-        """A hidden step, at the moment of the line before."""
+        """Adds a hidden step, at the moment of the previous line."""
         self.steps.append(f"{self.moment} {what}")
 
     def call(self, thread, call, answer):
-        """A call that has its effect at once."""
+        """Adds a call that has its effect at once."""
         self.event(thread, f"B {call}")
         self.step(f"D {thread} {answer}")
         self.event(thread, f"E {answer}")
 
     def segment(self, host, position, flags, acked, payload=b"", first=""):
-        """Makes a segment, which goes out and arrives. Answers the number of the line by which it came in."""
+        """Makes a segment that is sent and arrives. Returns the number of the line of its arrival."""
         other = 1 - host
         sequence = (FIRST_NUMBERS[host] + position) % 2**32
         acknowledgment = 0 if acked is None else (FIRST_NUMBERS[other] + acked) % 2**32
@@ -81,12 +81,12 @@ class Case:
         return self.event(WIRES[other], f"I {other} {hexed}", f" {out}")
 
     def take(self, host, line, window, keep, sample):
-        """The host takes what came by that line, and chooses its congestion window."""
+        """Processes the segment of a line at the host, and sets its congestion window."""
         self.step(f"T {host} {line} {window} {keep} {sample}")
 
 
 def connect(case):
-    """The listener, the handshake, and the accepted socket."""
+    """Adds the listener, the handshake and the accepted socket."""
     case.call(CALLERS[1], f"listen 1 {PORTS[1]} 4", f"ok {LISTENER}")
     case.call(CALLERS[0], f"open 0 {PORTS[0]} {PORTS[1]}", f"ok {SENDER}")
     line = case.segment(0, 0, "S", None, first=f" {FIRST_NUMBERS[0]}")
@@ -99,7 +99,7 @@ def connect(case):
 
 
 def transfer(case, sent, payload):
-    """One round, behind so many bytes."""
+    """Adds a round, after this many bytes."""
     size = len(payload)
     position = 1 + sent
     case.call(CALLERS[0], f"send {SENDER} {payload.hex()}", f"ok {size}")

@@ -1,8 +1,8 @@
 #!/usr/bin/env python3
-"""Writes a case of calls one behind the other, to standard output.
+"""Writes a case of successive calls to standard output.
 
-One thread asks for the state of a socket number that is nobody's, each time at a moment of its own. The argument is how often,
-100,000 where it is missing. The verdict on N calls is `yes A B` with A = 2 N and B = N.
+One thread requests the state of an unused socket number, each time at a new moment. The argument is the number of calls (default:
+100,000). The verdict on N calls is `yes A B` with A = 2 N and B = N.
 """
 
 import sys

@@ -1,12 +1,11 @@
 #!/usr/bin/env python3
-"""Writes a case with many threads whose numbers collide in a table with hashes, to standard output.
+"""Writes a case with many threads whose numbers collide in a hash table to standard output.
 
-Each thread begins a `status` call and ends it. The numbers are such that the hasher of the kit's maps, whose seed is fixed,
-gives them hashes that begin in one 32nd of the places of a table of that size. So a check that keeps threads in such a table
-walks over a good part of it for each, and takes four times as long for twice as many threads.
+Each thread begins and ends a `status` call. The toolchain's hash function has a fixed seed. It maps the chosen numbers to one 32nd
+of the slots of a table of that size. A check that keeps threads in such a table searches a large part of it for each thread, and
+takes four times as long for twice as many threads.
 
-The one argument is the count of threads, 147,000 where it is missing. The verdict on N threads is `yes A B` with A = 2 N and
-B = N.
+The argument is the number of threads (default: 147,000). The verdict on N threads is `yes A B` with A = 2 N and B = N.
 """
 
 import sys
@@ -15,11 +14,11 @@ COUNT = 147_000
 FIRST_EVENT_LINE = 7
 HEADER = ["trace 1", "skew 0", "msl 120000000", "grain 1000", "minrto 1000000", "extra 0"]
 
-# The kit's hasher: where it begins, what it multiplies by for four bytes, and how many entries a group of places takes.
+# The toolchain's hasher: its initial state, its multiplier for four bytes, and the number of slots in a group.
 START = 0x243F6A8885A308D3
 FACTOR = 0x9E3779B97F4A7C15 ^ 8
 GROUP_LOAD = 9
-# Which part of the places the hashes begin in.
+# The part of the slots where the hashes begin.
 CROWD = 32
 
 LOW_64 = 2**64 - 1
@@ -27,7 +26,7 @@ LOW_32 = 2**32 - 1
 
 
 def colliding(count):
-    """So many numbers of 32 bits, the hashes of which begin in the first places of a table for that many."""
+    """This many 32-bit numbers whose hashes begin in the first slots of a table of that size."""
     groups = 1
     while GROUP_LOAD * groups < count:
         groups *= 2

@@ -1,13 +1,12 @@
 #!/usr/bin/env python3
-"""Times a checker on all cases of this folder, and another one beside it, and prints the ratios.
+"""Times a checker on all cases of this folder, optionally compares it with another one, and prints the ratios.
 
     python3 bench/compare.py OURS [OTHER] [--runs N] [--only WORD]
 
-OURS and OTHER are programs that answer `check` and `many --workers 1` on standard input. The runs of both are interleaved, and
-of N runs, 5 where N is missing, the least processor time counts, with the system's part, and the greatest memory. A case
-that grows is run at one size and at twice that size, and OURS has to take at most 2.3 times as long for the second. Of OURS
-each case is also timed by its two texts in two files, where it is one case. If OURS takes longer, or answers differ, the last
-lines say so, and the status is 1.
+OURS and OTHER are programs that support `check` and `many --workers 1` on standard input. Their runs alternate. The result of N
+runs (default: 5) is the least processor time, including system time, and the peak memory. A case that can grow is run at one size
+and at twice that size; OURS may take at most 2.3 times as long for the second. Each single case is also timed for OURS as two
+files. If OURS takes longer, or answers differ, the last lines report it, and the status is 1.
 """
 
 import argparse
@@ -19,7 +18,7 @@ import tempfile
 BENCH = os.path.dirname(os.path.abspath(__file__))
 MOST_GROWTH = 2.3
 
-# What is run: a name, the script, its arguments at one size and at twice that size (or None), and the words.
+# The runs: a name, the script, its arguments at one size and at twice that size (or None), and the program's arguments.
 CASES = [
     ("whole transfer", "bulk_transfer.py", (["20000"], ["40000"]), ["check"]),
     ("large segments", "bulk_transfer.py", (["5000", "1000"], ["10000", "1000"]), ["check"]),
@@ -48,7 +47,7 @@ class Cost:
             self.printed = printed.read()
 
     def run_into(self, words, text, printed):
-        """The same, but what is printed goes to this file and isn't kept."""
+        """The same, but the output goes to this file and isn't kept."""
         with open(text, "rb") as given:
             child = subprocess.Popen(words, stdin=given, stdout=printed)
             _, status, usage = os.wait4(child.pid, 0)
@@ -66,7 +65,7 @@ def written(script, arguments, path):
 
 
 def parted(path):
-    """The trace and the witness of a case as two files, or None where it has no witness."""
+    """The trace and the witness of a case as two files, or None if it has no witness."""
     names = path + ".trace", path + ".witness"
     has_witness = False
     with open(path, "rb") as case, open(names[0], "wb") as trace, open(names[1], "wb") as witness:
@@ -77,7 +76,7 @@ def parted(path):
 
 
 def measured(programs, words, path, runs):
-    """What each program costs, and OURS by two files."""
+    """The cost of each program, and of OURS with two files."""
     costs = [Cost() for _ in programs]
     files = parted(path) if words == ["check"] else None
     by_files = Cost() if files else None

@@ -1,14 +1,15 @@
 #!/usr/bin/env python3
-"""Writes a case of one hostile kind and a size to standard output: `hostile_cases.py KIND SIZE`.
+"""Writes a hostile case of a given kind and size to standard output: `hostile_cases.py KIND SIZE`.
 
-Each kind makes much of one thing that a check has to remember or look for: pieces out of order, copies that wait, threads,
-timeouts and so on (the functions that `kind` marks, below). Each case is valid from size 3 on, so that the checker does all its steps, and its
-verdict is `yes`; only where lines are never placed it is `no 0 8 unplaced`, behind the last step. `verdict_of` tells the line.
+Each kind has a large number of one thing that a check must remember or search for: pieces out of order, waiting copies, threads,
+timeouts and so on (the functions marked `kind` below). From size 3 on, each case is valid, so the checker does all its steps and
+the verdict is `yes`. The only exception is the kind with lines that are never placed: it ends with `no 0 8 unplaced`, after the
+last step. `verdict_of` returns the expected line.
 
 `find_kind` marks the kinds for `tcpwit_lab find`, which reads such a case up to the line `witness 2`. The case that `find` prints must
 have the same verdict.
 
-The texts are of version 2: both hosts give a shift of 14 and an MSS of 65495, so that a million bytes may be outstanding.
+The texts have format version 2: both hosts send a shift of 14 and an MSS of 65495, so that a million bytes may be outstanding.
 """
 
 import random
@@ -22,15 +23,15 @@ FIRST_EVENT_LINE = 1 + len(HEADER)
 MSS = 65_495
 SHIFT = 14
 WINDOW = 65_535
-# Two segments, the first congestion window where they are long (RFC 6928, 2).
+# Two segments, the initial congestion window if they are long (RFC 6928, 2).
 INITIAL_WINDOW = 2 * MSS
-# The retransmission timeout where no round trip is measured, and its greatest value, in microseconds.
+# The retransmission timeout before a round trip is measured, and its maximum, in microseconds.
 FIRST_TIMEOUT = 1_000_000
 LAST_TIMEOUT = 60_000_000
 MOST_BYTES = 65_535
 LAST_PORT = 65_535
 FLAG_BITS = {"S": 0x02, "A": 0x10, "AS": 0x12, "AF": 0x11, "R": 0x04, "AR": 0x14}
-# Which thread records what goes out or comes in at each host, and timers.
+# The thread at each host that records segments sent, segments received, and timers.
 WIRES = (3, 4)
 TIMERS = (9, 10)
 CALLERS = (2, 1)
@@ -75,7 +76,7 @@ class Connection:
 
 
 class Case:
-    """The event lines and the steps so far, the moment of the last of them, how many segments were made and sockets given."""
+    """The event lines and steps so far, the moment of the last one, and the numbers of segments made and sockets assigned."""
 
     def __init__(self, skew=0):
         self.header = [f"skew {skew}" if line.startswith("skew") else line for line in HEADER]
@@ -86,7 +87,7 @@ class Case:
         self.socket = 4
 
     def line(self, thread, what):
-        """An event line that no step takes yet. Answers its number."""
+        """Adds an event line without its step. Returns its number."""
         self.moment += 1
         self.events.append(f"{self.moment} {thread} {what}")
         return FIRST_EVENT_LINE + len(self.events) - 1
@@ -95,25 +96,25 @@ class Case:
         self.steps.append(f"{self.moment} {what}")
 
     def event(self, thread, what, extra=""):
-        """An event line and the step that takes it. Answers its number."""
+        """Adds an event line and its step. Returns its number."""
         number = self.line(thread, what)
         self.step(f"L {number}{extra}")
         return number
 
     def call(self, thread, call, answer):
-        """A call that has its effect at once."""
+        """Adds a call that has its effect at once."""
         self.event(thread, f"B {call}")
         self.step(f"D {thread} {answer}")
         self.event(thread, f"E {answer}")
 
     def given(self, thread, call):
-        """A call that is given a new socket number, which is answered."""
+        """Adds a call that returns a new socket number. Returns that number."""
         self.socket += 1
         self.call(thread, call, f"ok {self.socket}")
         return self.socket
 
     def make(self, connection, host, position, size, flags, window=WINDOW):
-        """A segment is made. Answers its number."""
+        """Makes a segment. Returns its number."""
         ports = connection.ports[host], connection.ports[1 - host]
         first = f" {connection.firsts[host]} {SHIFT}" if "S" in flags else ""
         self.step(f"M {host} {ports[0]} {ports[1]} {position} {size} {flags} {window}{first}")
@@ -121,28 +122,28 @@ class Case:
         return self.made
 
     def make_again(self, connection, host, position, size, flags):
-        """A segment is made whose SYN went before, if it has one. Answers its number."""
+        """Makes a segment whose SYN, if any, was sent before. Returns its number."""
         ports = connection.ports[host], connection.ports[1 - host]
         self.step(f"M {host} {ports[0]} {ports[1]} {position} {size} {flags} {WINDOW}")
         self.made += 1
         return self.made
 
     def goes(self, host, text, made):
-        """A made segment goes out. Answers the number of its line."""
+        """Sends a made segment. Returns the number of its line."""
         return self.event(WIRES[host], f"O {host} {text}", f" {made}")
 
     def comes(self, host, text, out):
-        """A copy comes in at the host. Answers the number of its line."""
+        """Delivers a copy to the host. Returns the number of its line."""
         return self.event(WIRES[host], f"I {host} {text}", f" {out}")
 
     def carry(self, connection, host, position, flags, acked, payload=b"", window=WINDOW):
-        """A segment is made, goes out and comes in. Answers the number of the line by which it came."""
+        """Makes, sends and delivers a segment. Returns the number of the line of its arrival."""
         text = connection.text(host, position, flags, acked, payload, window)
         made = self.make(connection, host, position, len(payload), flags, window)
         return self.comes(1 - host, text, self.goes(host, text, made))
 
     def refuse(self, host, line):
-        """The host answers the segment of a line by a reset. Returns the number of the reset."""
+        """Answers the segment of a line with a reset. Returns the number of the reset."""
         self.step(f"R {host} {line}")
         self.made += 1
         return self.made
@@ -161,7 +162,7 @@ class Case:
 
 
 def handshake(case, connection, listener):
-    """A connection of host 0 to a listener of host 1. Answers the opener's socket."""
+    """Connects host 0 to a listener of host 1. Returns the opener's socket."""
     opener = case.given(CALLERS[0], f"open 0 {connection.ports[0]} {connection.ports[1]}")
     case.take(1, case.carry(connection, 0, 0, "S", None), 0)
     case.take(0, case.carry(connection, 1, 0, "AS", 1), INITIAL_WINDOW)
@@ -170,7 +171,7 @@ def handshake(case, connection, listener):
 
 
 def connected(case, connection, room=0):
-    """A connection whose congestion window is at least `room`. Answers both sockets, and how many bytes were sent."""
+    """Opens a connection whose congestion window is at least `room`. Returns both sockets and the number of bytes sent."""
     listener = case.given(CALLERS[1], f"listen 1 {connection.ports[1]} 4")
     opener = handshake(case, connection, listener)
     child = case.given(CALLERS[1], f"accept {listener}")
@@ -189,14 +190,14 @@ def connected(case, connection, room=0):
 
 
 def send_all(case, opener, count):
-    """Host 0 is given so many bytes to send."""
+    """Sends this many bytes from host 0, in calls."""
     for begin in range(0, count, MOST_BYTES):
         size = min(MOST_BYTES, count - begin)
         case.call(CALLERS[0], f"send {opener} {bytes(size).hex()}", f"ok {size}")
 
 
 def outstanding(case, connection, sent, count):
-    """Host 0 makes so many segments of one byte, which go out. Answers the text and the line of each."""
+    """Makes and sends this many one-byte segments from host 0. Returns the text and the line of each."""
     found = []
     for position in range(1 + sent, 1 + sent + count):
         text = connection.text(0, position, "A", 1, b"\0")
@@ -206,7 +207,7 @@ def outstanding(case, connection, sent, count):
 
 
 def receive_all(case, child, count):
-    """Host 1 reads so many bytes that wait."""
+    """Receives this many waiting bytes at host 1."""
     for begin in range(0, count, MOST_BYTES):
         size = min(MOST_BYTES, count - begin)
         case.call(CALLERS[1], f"recv {child} {size}", f"data {bytes(size).hex()}")
@@ -243,7 +244,7 @@ def pieces_in_any_order(count):
 
 
 def outstanding_until_a_timeout(count):
-    """A case with so many segments outstanding, and with an expiry of the retransmission timer behind them."""
+    """A case with this many outstanding segments, followed by an expiry of the retransmission timer."""
     case, connection = Case(), Connection()
     opener, _, sent = connected(case, connection, count)
     send_all(case, opener, count)
@@ -316,7 +317,7 @@ def sent_one_by_one(count):
 
 
 def copied(case, count):
-    """So many copies of one acknowledgment of host 0 wait at host 1. Answers their lines."""
+    """Delivers this many copies of an acknowledgment of host 0 to host 1, where they wait. Returns their lines."""
     connection = Connection()
     connected(case, connection)
     text = connection.text(0, 1, "A", 1)
@@ -357,13 +358,13 @@ def duplicate_acknowledgments(count):
     return case
 
 
-# The first state of the kit's hasher, and its multiplier.
+# The initial state of the toolchain's hasher, and its multiplier.
 HASH_START = 0x243F6A8885A308D3
 HASH_FACTOR = 0x9E3779B97F4A7C15
 
 
 def hashed(number, size, state=HASH_START):
-    """The state of the kit's hasher after one more number, of `size` bytes."""
+    """The state of the toolchain's hasher after one more number of `size` bytes."""
     if size == 2:
         words = number | number >> 8 << 16
     else:
@@ -373,7 +374,7 @@ def hashed(number, size, state=HASH_START):
 
 
 def begins_early(state, groups):
-    """Whether a key with this hash begins in the first quarter of the places of a table with so many groups of them."""
+    """Whether a key with this hash begins in the first quarter of the slots of a table with this many groups."""
     return ((state ^ (state >> 32)) & (groups - 1)) < max(groups // 4, 1)
 
 
@@ -383,7 +384,7 @@ def crowds(number, size, groups):
 
 
 def groups_for(count):
-    """How many groups of places a table of the kit has for so many entries."""
+    """How many groups of slots a table of the toolchain has for this many entries."""
     groups = 1
     while 9 * groups < count:
         groups *= 2
@@ -402,7 +403,7 @@ def half_a_call(case, is_open):
 
 @kind(50_000, 100_000, 200_000)
 def copies_on_lines_that_collide(count):
-    """The lines between are calls, so that a copy stands only where the kit's hasher, whose seed is fixed, would crowd a table."""
+    """Fills the lines in between with calls, so that copies are only on lines whose numbers collide under the toolchain's hasher (its seed is fixed)."""
     case, connection = Case(), Connection()
     connected(case, connection)
     text = connection.text(0, 1, "A", 1)
@@ -421,7 +422,7 @@ def copies_on_lines_that_collide(count):
 
 @kind(50_000, 100_000, 200_000)
 def made_under_numbers_that_collide(count):
-    """The segments between are host 1's, so that host 0 makes one only where its number would crowd a table with hashes."""
+    """Host 1 makes the segments in between, so that host 0 makes only those whose numbers collide in a hash table."""
     case, connection = Case(), Connection()
     connected(case, connection)
     groups = groups_for(count)
@@ -435,7 +436,7 @@ def made_under_numbers_that_collide(count):
 
 @kind(12_500, 25_000, 50_000)
 def children_on_places_that_collide(count):
-    """Each listener is closed before the next is opened, and has a child only where its place would crowd a table with hashes."""
+    """Each listener is closed before the next one opens. It has a child only if its place collides in a hash table."""
     case, connection = Case(), Connection()
     case.given(CALLERS[0], f"open 0 {connection.ports[0]} {connection.ports[1]}")
     text = connection.text(0, 0, "S", None)
@@ -453,7 +454,7 @@ def children_on_places_that_collide(count):
 
 
 def callers(count):
-    """The connections of so many ports of host 0 to one listener."""
+    """Connects this many ports of host 0 to one listener."""
     return [Connection((port, 80), (port * 65_537 % 2**32, 100)) for port in range(1, 1 + count)]
 
 
@@ -663,7 +664,7 @@ def lines_of_one_thread_that_wait(count):
     return case
 
 
-# FxHash reads words of eight bytes: its multiplier, and the digest that every payload is chosen to give.
+# FxHash reads words of eight bytes: its multiplier, and the digest that every payload has.
 FX_FACTOR = 0x517CC1B727220A95
 FX_WANTED = 0x123456789ABCDEF0
 
@@ -673,7 +674,7 @@ def fx_turned(state):
 
 
 def colliding_payload(header, size):
-    """A payload of `size` bytes that gives a segment with this header, in hex, the wanted digest by its last eight bytes."""
+    """A payload of `size` bytes whose last eight give a segment with this hex header the wanted digest."""
     first = bytes.fromhex(header) + bytes(size - 8)
     state = len(first) + 8
     for (word,) in struct.iter_unpack("<Q", first):
@@ -684,7 +685,7 @@ def colliding_payload(header, size):
 
 @find_kind(10_000, 20_000, 40_000)
 def segments_whose_digests_collide(count):
-    """FxHash gives all data segments of a connection one digest. Each is read and acknowledged before the next is sent."""
+    """All data segments of a connection have the same FxHash digest. Each is received and acknowledged before the next is sent."""
     case, connection = Case(), Connection()
     opener, child, _ = connected(case, connection)
     for position in range(1, 1 + 60 * count, 60):
@@ -700,8 +701,8 @@ def segments_whose_digests_collide(count):
 def segments_with_equal_long_prefixes(count):
     """Only the last eight of the 1,480 bytes of these segments differ.
 
-    Within a connection the sequence numbers would differ too, and these are among the first bytes. So each segment is the first of a new
-    connection, with the ports and the initial sequence numbers of all the others, and the connection is then aborted.
+    Within a connection, the sequence numbers would differ too, and they are among the first bytes. So each segment is the first of a new
+    connection with the same ports and initial sequence numbers, and the connection is then aborted.
     """
     case, connection = Case(), Connection()
     listener = case.given(CALLERS[1], "listen 1 80 65535")
@@ -731,7 +732,7 @@ def calls_of_threads_that_collide(count):
 
 
 def ports_that_collide(count):
-    """So many pairs of ports of host 1 that crowd a table whose keys are hosts and ports."""
+    """This many pairs of ports of host 1 that collide in a table keyed by hosts and ports."""
     groups, found = groups_for(count), []
     for port in range(1, LAST_PORT + 1):
         state = hashed(port, 2, hashed(1, 1))
@@ -745,7 +746,7 @@ def ports_that_collide(count):
 
 @find_kind(10_000, 20_000, 40_000)
 def connections_whose_ports_collide(count):
-    """Host 1 has no listener and answers each SYN by a reset."""
+    """Host 1 has no listener and answers each SYN with a reset."""
     case = Case()
     for port, other in ports_that_collide(count):
         connection = Connection((other, port), (1000, 0))
@@ -757,7 +758,7 @@ def connections_whose_ports_collide(count):
 
 
 def resets_on_crowded_lines(count, first):
-    """Host 1 answers so many copies of a SYN by resets. They go out only on lines whose numbers, counted from `first`, crowd a table."""
+    """Host 1 answers this many copies of a SYN with resets. They are sent only on lines whose numbers, counted from `first`, collide in a table."""
     case, connection = Case(), Connection(firsts=(1000, 0))
     case.given(CALLERS[0], "open 0 4000 80")
     syn = connection.text(0, 0, "S", None)
@@ -782,13 +783,13 @@ def lines_that_go_out_on_places_that_collide(count):
 
 @find_kind(25_000, 50_000, 100_000)
 def lines_that_go_out_under_numbers_that_collide(count):
-    """The number of a line counts the header's lines too."""
+    """Line numbers include the header's lines."""
     return resets_on_crowded_lines(count, FIRST_EVENT_LINE)
 
 
 @find_kind(25_000, 50_000, 100_000)
 def calls_that_begin_on_places_that_collide(count):
-    """The lines between end these calls, or begin others that never end."""
+    """The lines in between end these calls, or begin others that never end."""
     case = Case()
     groups = groups_for(count)
     begun, is_open = 0, []
@@ -808,7 +809,7 @@ def calls_that_begin_on_places_that_collide(count):
 
 @find_kind(12_500, 25_000, 50_000)
 def calls_that_wait_at_places_that_collide(count):
-    """Calls that never end wait only at those endpoints of host 0 whose places there would crowd a table, four at each."""
+    """Calls that never end wait only at endpoints of host 0 whose places collide in a table, four at each."""
     case = Case()
     groups = groups_for(count)
     endpoint_of_host_0 = hashed(1, 1, hashed(0, 1))
@@ -824,7 +825,7 @@ def calls_that_wait_at_places_that_collide(count):
 
 
 def verdict_of(case):
-    """The line that must be printed: yes with its counts, or no where a line is never placed."""
+    """The expected line: yes with its counts, or no if a line is never placed."""
     taken = sum(1 for step in case.steps if step.split(" ", 2)[1] == "L")
     if taken < len(case.events):
         return f"no 0 {FIRST_EVENT_LINE} unplaced"

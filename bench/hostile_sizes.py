@@ -1,14 +1,14 @@
 #!/usr/bin/env python3
-"""Checks each kind of `hostile_cases.py` in three sizes, each twice the one before, and prints what it took.
+"""Checks each kind of `hostile_cases.py` in three sizes, each double the last, and prints time and memory.
 
     python3 bench/hostile_sizes.py PROGRAM [--lab PROGRAM] [--runs N] [--only WORD]
 
-Of N runs, 3 where N is missing, the least processor time counts, with the system's part, and the greatest memory. Both are
-printed for `check` and for the same case in two files, with the greatest ratio of a size to the one before. A ratio of time
-above 2.3, or of memory above 2.3, and a verdict that is not the wanted one are told at the end, and the status is then 1.
+The result of N runs (default: 3) is the least processor time, including system time, and the peak memory. Both are printed for
+`check` and for the same case as two files, with the largest ratio between one size and the previous one. If a ratio of time or
+memory is above 2.3, or a verdict is wrong, the last lines report it, and the status is 1.
 
-With --lab, which names `tcpwit_lab`, the kinds for `find` follow. Their rows begin with `find`, and have what it used on the trace of
-the kind. PROGRAM then checks the case that was found, which isn't timed. Without --lab these kinds are left out.
+With --lab, which names `tcpwit_lab`, the kinds for `find` follow. Their rows begin with `find`, and show its cost on the trace of
+the kind. PROGRAM then checks the case that was found, which isn't timed. Without --lab, these kinds are left out.
 """
 
 import argparse
@@ -20,13 +20,13 @@ import tempfile
 from compare import MOST_GROWTH, Cost, parted
 from hostile_cases import FIND_KINDS, KINDS, verdict_of
 
-# Less than this time or memory is mostly that of starting, and no growth is asked of it: seconds and megabytes.
+# Time or memory below this is mostly that of starting, so its growth isn't checked: seconds and megabytes.
 LEAST_SECONDS = 0.05
 LEAST_MEGABYTES = 10
 
 
 class Growth:
-    """What one way of checking took in each size."""
+    """The cost of one way of checking, for each size."""
 
     def __init__(self, words, name):
         self.words = words
@@ -45,7 +45,7 @@ class Growth:
 
 
 def write_case(function, size, path):
-    """Writes the case of a kind and a size. Answers the verdict that it must have."""
+    """Writes the case of a kind and a size. Returns the verdict that it must have."""
     case = function(size)
     with open(path, "w") as text:
         case.write(text)
@@ -53,13 +53,13 @@ def write_case(function, size, path):
 
 
 def written_apart(function, size, path):
-    """The same in a process of its own, since the memory of this one would count as the program's."""
+    """The same in a process of its own, because this process's memory would count as the program's."""
     with multiprocessing.Pool(1) as pool:
         return pool.apply(write_case, (function, size, path))
 
 
 def differing(growth, printed, wanted):
-    return [] if printed == wanted.encode() + b"\n" else [f"{growth.name}: {printed!r}, and not {wanted!r}"]
+    return [] if printed == wanted.encode() + b"\n" else [f"{growth.name}: {printed!r} instead of {wanted!r}"]
 
 
 class Checking:
@@ -69,7 +69,7 @@ class Checking:
         self.growths = [Growth(program, name), Growth(program, name + ", two files")]
 
     def run_size(self, path, wanted, runs):
-        """Adds what one size costs each way. Returns the verdicts that differ from the wanted one."""
+        """Adds the cost of one size each way. Returns the wrong verdicts."""
         files = parted(path)
         ways = [(["check"], path), (["check", "--trace", files[0], "--witness", files[1]], os.devnull)]
         told = []
@@ -90,7 +90,7 @@ class Finding:
         self.growths = [Growth(lab, "find: " + name)]
 
     def run_size(self, path, wanted, runs):
-        """Adds what `find` costs in one size. Returns the verdict on the case that it found, if that differs from the wanted one."""
+        """Adds the cost of `find` for one size. Returns the verdict on the case that it found, if that is wrong."""
         (growth,) = self.growths
         trace, _ = parted(path)
         found = path + ".found"
@@ -104,7 +104,7 @@ class Finding:
 
 
 def kinds_of(program, lab):
-    """For each kind, the way in which it is run, its function and its sizes. Kinds for `find` need a lab."""
+    """For each kind, how it is run, its function and its sizes. Kinds for `find` need a lab."""
     found = [(Checking(program, name), *made) for name, made in KINDS.items()]
     if lab is not None:
         found += [(Finding(program, [os.path.abspath(lab)], name), *made) for name, made in FIND_KINDS.items()]

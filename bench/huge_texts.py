@@ -1,10 +1,10 @@
 #!/usr/bin/env python3
-"""Checks texts that are far too long, and prints the answer to each and what it took.
+"""Checks texts that are far too long, and prints the answer to each, with time and memory.
 
     python3 bench/huge_texts.py PROGRAM [--only WORD]
 
-Each is asked for by `check`, or by `many`, and as two files. An answer that is not the wanted one is told, and the status is then 1.
-The greatest takes 200 megabytes on disk.
+Each text is given to `check` or `many`, and as two files. If an answer is wrong, the last lines report it, and the status is 1.
+The largest text takes 200 megabytes on disk.
 """
 
 import argparse
@@ -23,7 +23,7 @@ LONG = 200_000_000
 EMPTY_LINES = 20_000_000
 PIECE = 1_000_000
 
-# A name; what is repeated how often, with what stands before it and behind it, in the trace or the witness; the answer.
+# A name; what is repeated and how often, with the text before and after it, in the trace or the witness; the answer.
 TRACES = [
     ("10,000,000 lines", HEADER, LINE, MOST_LINES - 6, b"", "bad witness 1 0 0 header"),
     ("10,000,001 lines", HEADER, LINE, MOST_LINES - 5, b"", "bad trace 10000001 0 15 too-many-lines"),
@@ -31,7 +31,7 @@ TRACES = [
     ("the same without LF", HEADER, b"a", LONG, b"", "bad trace 7 0 200000000 line-too-long"),
     ("a field of 139,990 digits in each of 1,000 lines", HEADER, b"9" * 139_990 + b" 1 B\n", 1_000, b"", "bad trace 7 0 139990 number"),
     ("20,000,000 empty lines", b"", b"\n", EMPTY_LINES, b"", "bad trace 1 0 0 header"),
-    ("20,000,000 empty lines behind the header", HEADER, b"\n", EMPTY_LINES, b"", "bad trace 7 0 0 field"),
+    ("20,000,000 empty lines after the header", HEADER, b"\n", EMPTY_LINES, b"", "bad trace 7 0 0 field"),
     ("200,000,000 NULs", b"", b"\0", LONG, b"", "bad trace 1 0 200000000 line-too-long"),
     ("200,000,000 CRs", b"", b"\r", LONG, b"", "bad trace 1 0 200000000 line-too-long"),
     ("200,000,000 CRs before an LF", HEADER, b"\r", LONG, b"\n", "bad trace 7 0 199999999 line-too-long"),
@@ -60,12 +60,12 @@ def write(path, first, repeated, count, last):
 
 
 def ran(name, way, words, path, wanted):
-    """Prints what a run took. Answers what is wrong with it."""
+    """Prints the cost of a run. Returns what is wrong with it."""
     cost = Cost()
     cost.run(words, path)
     lines = cost.printed.decode(errors="replace").splitlines()
     print(f"| {name} | {way} | {wanted} | {cost.seconds:.2f} s | {cost.megabytes:.0f} MB |", flush=True)
-    return [] if lines and set(lines) == {wanted} else [f"{name}, {way}: {lines[:2]}, and not {wanted!r}"]
+    return [] if lines and set(lines) == {wanted} else [f"{name}, {way}: {lines[:2]} instead of {wanted!r}"]
 
 
 def main():

@@ -1,8 +1,8 @@
 #!/usr/bin/env python3
 """Writes a trace of 1,000,000 event lines of about 30 bytes to standard output, in all forms.
 
-The last line lacks its LF, so that the trace is read to its end and then refused: `bad trace 1000006 0 14 cut`. No step is
-looked at, and what is timed is the reading alone. The text has 31.8 million bytes.
+The last line lacks its LF, so the trace is read to its end and then refused: `bad trace 1000006 0 14 cut`. No step is checked,
+so this times only the reading. The text has 31.8 million bytes.
 """
 
 import sys
@@ -12,7 +12,7 @@ SYN = "0fa00050fffffffe000000005002ffff00000000"
 
 HEADER = ["trace 1", "skew 0", "msl 120000000", "grain 1000", "minrto 1000000", "extra 0"]
 
-# Ten lines, two of them with the bytes of a segment; the moment stands before each.
+# Ten lines, two of them with the bytes of a segment; the moment goes before each.
 FORMS = [
     "1 B listen 0 80 128",
     "1 E ok 4294967295",

@@ -1,13 +1,13 @@
 #!/usr/bin/env python3
-"""Writes a case in which many segments of one byte are outstanding and each is made again, to standard output.
+"""Writes a case in which many one-byte segments are outstanding and retransmitted to standard output.
 
-First come as many rounds of `bulk_transfer.py`, with full segments, as the congestion window needs to hold all those bytes.
-Then host 0 sends them, one segment for each. None is acknowledged, so the retransmission timer expires, and each segment is
-made again, from the last one to the first. So a step that looks at all that is outstanding takes as long as there are bytes.
+It begins with rounds of `bulk_transfer.py` with full segments, until the congestion window is large enough for all those bytes.
+Then host 0 sends them, one per segment. None is acknowledged, so the retransmission timer expires, and each segment is
+retransmitted, from the last one to the first. A step that examines all outstanding bytes would take time proportional to their
+number.
 
-The one argument is the count of bytes, 64,000 where it is missing, and at most 65,535, since no window is scaled. The
-verdict on N bytes behind R rounds is `yes A B` with A = 15 + 8 R and B = 10 + 6 R + 2 N, where R is the least with
-2144 + 536 R >= N.
+The argument is the number of bytes (default: 64,000; at most 65,535, because no window is scaled). The verdict on N bytes after R
+rounds is `yes A B` with A = 15 + 8 R and B = 10 + 6 R + 2 N, where R is the least number with 2144 + 536 R >= N.
 """
 
 import random

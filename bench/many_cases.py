@@ -1,8 +1,8 @@
 #!/usr/bin/env python3
 """Writes 400 cases, each with a trace of 3,000 event lines and its witness, to standard output.
 
-Ten threads begin a `status` call each, all calls have their effect, and all end, 150 times over. A step takes its line at
-the moment of the line. No case differs from another, and each has the verdict `yes 3000 1500`.
+Ten threads each begin a `status` call, all calls have their effect, and all end; this is repeated 150 times. Each step has its
+line's moment. All cases are equal, and each has the verdict `yes 3000 1500`.
 """
 
 import sys
@@ -16,7 +16,7 @@ HEADER = ["trace 1", "skew 0", "msl 120000000", "grain 1000", "minrto 1000000", 
 
 
 def event_lines():
-    """One line a microsecond: in each round all threads begin, then all end."""
+    """One line per microsecond: in each round, all threads begin, then all end."""
     moment = 0
     for _ in range(ROUNDS):
         for event in ("B status 5", "E badsocket"):
@@ -26,7 +26,7 @@ def event_lines():
 
 
 def steps():
-    """The effects of a round stand between its two halves, at the moment of the last beginning."""
+    """The effects of a round are between its two halves, at the moment of the last beginning."""
     for one_round in range(ROUNDS):
         begins = one_round * 2 * THREADS
         ends = begins + THREADS

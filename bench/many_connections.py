@@ -1,10 +1,10 @@
 #!/usr/bin/env python3
-"""How long a recording core's events take beside many connections: many_connections.py [COUNT..].
+"""Measures how long a recording host's events take with many connections: many_connections.py [COUNT..].
 
-Copies the repository's last commit into a folder of its own, adds the program below as a crate, and runs it by `rt try`, which
-proves nothing and is slow, so that the ratios say more than the times. One host opens so many connections, each with its SYN
-and never an answer; then it has a turn in which each is looked at once, and 1,000 more, which are measured, in which nothing is to
-be done: a call, a pump and a look at the timers."""
+Copies the repository's last commit into a folder of its own, adds the program below as a crate, and runs it with `rt try`. That
+proves nothing and is slow, so only the ratios are meaningful. One host opens COUNT connections, each with a SYN that is never
+answered. After one turn that examines each connection, it measures 1,000 turns in which nothing is due: a call, a pump and a check
+of the timers."""
 import pathlib
 import subprocess
 import sys
@@ -32,7 +32,7 @@ fn next(core: &HostCore) -> Tick {
     }
 }
 
-// So many connections are asked for, each with its SYN.
+// Opens this many connections, each with its SYN.
 fn open(core: &mut HostCore, count: u16) -> Result<u64, OutOfMemory> {
     let mut done = 0u64;
     for port in 0..count {
@@ -52,7 +52,7 @@ fn open(core: &mut HostCore, count: u16) -> Result<u64, OutOfMemory> {
     Ok(done)
 }
 
-// So many turns in which nothing is to be done: a call, a pump and a look at the timers.
+// Does this many turns in which nothing is due: a call, a pump and a check of the timers.
 fn turn(core: &mut HostCore, turns: u32) -> Result<u64, OutOfMemory> {
     let mut done = 0u64;
     for _ in 0..turns {

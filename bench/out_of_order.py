@@ -1,15 +1,15 @@
 #!/usr/bin/env python3
-"""Writes a case in which pieces arrive out of order, to standard output.
+"""Writes a case in which pieces arrive out of order to standard output.
 
-First come as many rounds of `bulk_transfer.py`, with full segments, as the congestion window needs to hold a flight. Then
-come flights: host 0 sends some bytes in pieces of the same size, and all go out in their order. They arrive in an order
-that is drawn by lot, so that many gaps stand open at once. Host 1 keeps each piece, and once all are there it receives the
-bytes and acknowledges them. So a step that looks at all gaps takes as long as there are pieces.
+It begins with rounds of `bulk_transfer.py` with full segments, until the congestion window is large enough for a flight. In each
+flight, host 0 sends bytes in pieces of equal size, in order. They arrive in random order, so there are many gaps at once. Host 1
+keeps each piece. Once all have arrived, it receives the bytes and acknowledges them. A step that examines all gaps would take time
+proportional to the number of pieces.
 
-The arguments are the pieces of a flight, 64,000 where it is missing, the bytes of a piece, 1 where it is missing, and the
-flights, 2 where it is missing. A flight has at most 65,535 bytes, since no window is scaled. The verdict on F flights of N
-pieces behind R rounds is `yes A B` with A = 12 + 8 R + F (6 + 2 N) and B = 9 + 6 R + F (4 + 2 N), where R is the
-least with 2144 + 536 R at least the bytes of a flight.
+The arguments are the number of pieces in a flight (default: 64,000), the bytes of a piece (default: 1) and the number of flights
+(default: 2). A flight has at most 65,535 bytes, because no window is scaled. The verdict on F flights of N pieces after R rounds is
+`yes A B` with A = 12 + 8 R + F (6 + 2 N) and B = 9 + 6 R + F (4 + 2 N), where R is the least number for which 2144 + 536 R is at
+least the bytes of a flight.
 """
 
 import random
@@ -25,7 +25,7 @@ FULL_SEGMENT = 536
 
 
 def made(case, position, payload):
-    """Makes a segment of host 0, which goes out. Answers the number of its line, and its hex text."""
+    """Makes and sends a segment of host 0. Returns the number of its line, and its hex text."""
     sequence = (FIRST_NUMBERS[0] + position) % 2**32
     acknowledgment = (FIRST_NUMBERS[1] + 1) % 2**32
     hexed = f"{PORTS[0]:04x}{PORTS[1]:04x}{sequence:08x}{acknowledgment:08x}5010{WINDOW:04x}00000000{payload.hex()}"
@@ -35,7 +35,7 @@ def made(case, position, payload):
 
 
 def flight(case, sent, window, payloads, order):
-    """Sends these pieces behind so many bytes, and lets them arrive in that order."""
+    """Sends these pieces after this many bytes, and delivers them in that order."""
     size = sum(len(payload) for payload in payloads)
     whole = b"".join(payloads).hex()
     case.call(CALLERS[0], f"send {SENDER} {whole}", f"ok {size}")

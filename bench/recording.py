@@ -1,5 +1,5 @@
 #!/usr/bin/env python3
-"""How many event lines a second are recorded: recording.py PROGRAM [ROUNDS [K]]."""
+"""Measures how many event lines are recorded per second: recording.py PROGRAM [ROUNDS [K]]."""
 import subprocess
 import sys
 import time

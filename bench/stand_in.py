@@ -3,11 +3,11 @@
 
     python3 bench/stand_in.py OUT [--crate NAME] [--inline REGEX].. [--apart REGEX]..
 
-What `rt try` builds is no measure: it is full of tests that the proved program doesn't have. This takes the module that `rt try` hands
-to its compiler, takes those tests out, marks the functions that the sources mark `#[inline(always)]` and those that match a REGEX
-(--inline: put into their callers; --apart: never), and optimises it as a proved program is. The result takes 1 to 5 percent fewer
-instructions than the proved program, and is good for counting them and for nothing else: where a proof would be missing its answer may
-be anything. It takes two minutes. It leans on how the kit of November 2026 lays out its folder.
+The program that `rt try` builds is unsuitable for measuring: it is full of run-time checks that the proved program doesn't have. This
+script uses the module that `rt try` passes to its compiler and removes those checks. It marks the functions that the sources mark
+`#[inline(always)]` and those that match a REGEX (--inline: always inline them; --apart: never), and optimizes the module like a proved
+program. The result needs 1 to 5 percent fewer instructions than the proved program. Use it only to count them: if a proof is missing,
+its answers can be wrong. It takes two minutes. It depends on the folder layout of the November 2026 toolchain.
 """
 import argparse
 import glob

@@ -1,12 +1,13 @@
-/* Reads the runner's commands from standard input and calls the stack. One line in, some lines out, the last one beginning with '='.
+/* Reads the runner's commands from standard input and calls the stack. Each command is one line; the answer is one or more lines, and
+ * the last one begins with '='.
  *
  *     start HOST SEED MSS WINDOW OPTIONS      MOMENT in HEX      MOMENT tick
  *     MOMENT listen PORT BACKLOG       MOMENT open LOCAL REMOTE
  *     MOMENT await|accept|shut|close|abort|status SOCKET
  *     MOMENT send SOCKET HEX           MOMENT recv SOCKET MOST
  *
- * is answered by `out HEX` and `expired LOCAL REMOTE TIMER` as they happen, then `= NEXT ANSWER`: the next moment at which a tick is
- * wanted, or `-`, and the answer in the words of a trace.
+ * The answer has the lines `out HEX` and `expired LOCAL REMOTE TIMER` as these events happen, then `= NEXT ANSWER`: the moment of the
+ * next tick that the stack needs, or `-`, and the answer in the words of a trace.
  */
 #define _POSIX_C_SOURCE 200809L
 #include "tcpwit_stack.h"
@@ -17,7 +18,7 @@
 
 enum { LONGEST = 70000 };
 
-/* The runner's end. What the stack prints goes to standard error. */
+/* The output that the runner reads. Anything that the stack prints goes to standard error. */
 static FILE *runner;
 static uint64_t moment;
 static char line[2 * LONGEST + 200];
@@ -52,7 +53,7 @@ static int digit(char c)
     return c >= 'a' && c <= 'f' ? c - 'a' + 10 : -1;
 }
 
-/* The bytes of hex digits, into `bytes`. */
+/* Stores the bytes of hex digits in `bytes`. */
 static size_t read_hex(const char *at)
 {
     size_t count = 0;
@@ -79,7 +80,7 @@ static void finish(const char *answer, long given)
     fflush(runner);
 }
 
-/* The answer of a call that gives a number. */
+/* The answer of a call that returns a number. */
 static void finish_number(long answer)
 {
     if (answer >= 0) finish("ok", answer);

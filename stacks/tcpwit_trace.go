@@ -1,23 +1,23 @@
-// Package tcpwit writes the lines of a trace, and of a witness, from the hooks of a stack (docs/reference/formats.md,
+// Package tcpwit writes the lines of a trace and of a witness from the hooks of a stack (docs/reference/formats.md,
 // docs/how-to/embedding.md).
 //
 //	trace := tcpwit.New(file, 2)
 //	trace.Header(0, 60000000, 1000, 200000, 0, 5681)
 //	trace.BeginSend(now, thread, socket, bytes)   // before the call does anything
-//	trace.EndNumber(now, thread, taken)           // behind it: so many bytes were accepted
+//	trace.EndNumber(now, thread, taken)           // after it: the number of accepted bytes
 //	trace.Out(now, 90+host, host, header, payload)
 //
-// What to hand in, everywhere:
+// Arguments of all methods:
 //
-//   - moment: microseconds of one clock for both hosts, since any beginning. One that falls is written as the one before it.
-//   - thread: a number for each thread that calls, and others for what comes in, what goes out and the timers, for each host: lines of one
-//     thread are taken in their order, and a thread has at most one open call. A goroutine has no number: count them yourself.
-//   - host: 0 or 1. Where host 0 alone is recorded (version 3) always 0.
-//   - socket: counted by you: each number is given once in a trace, to a listener, to what is opened, to what is accepted.
+//   - moment: microseconds on one clock for both hosts, from any start. A moment that goes back is written as the previous one.
+//   - thread: a number for each calling thread, and different ones, for each host, for segments received, segments sent and timers. The
+//     lines of one thread keep their order, and a thread has at most one open call. Goroutines have no number: count them yourself.
+//   - host: 0 or 1. Always 0 if only host 0 is recorded (version 3).
+//   - socket: numbers that you choose: use each one only once in a trace, for a listener or an opened or accepted connection.
 //   - a segment: from the first byte of the TCP header to the last of the payload, without IP, in any number of parts.
 //
-// Each method that writes a line of a trace returns its number, which a witness names. One lock makes a line whole where goroutines share
-// a trace. The first error of the writer is kept in Err, and nothing is written behind it.
+// Each method that writes a line of a trace returns its number. A witness refers to lines by these numbers. Goroutines may share a trace:
+// a lock keeps each line whole. Err holds the writer's first error; nothing is written after it.
 package tcpwit
 
 import (
@@ -28,7 +28,7 @@ import (
 	"sync"
 )
 
-// Trace writes lines. A witness is written by another one.
+// Trace writes lines. Use another one for a witness.
 type Trace struct {
 	Err     error
 	mu      sync.Mutex
@@ -38,15 +38,15 @@ type Trace struct {
 	moment  uint64
 }
 
-// New makes a writer of texts of version 1, 2 or 3.
+// New returns a writer of format version 1, 2 or 3.
 func New(to io.Writer, version int) *Trace { return &Trace{to: to, version: version} }
 
 // Answers without a number or bytes.
 const (
 	OK        = "ok"
 	Again     = "again"     // not yet
-	EOF       = "eof"       // all bytes up to the peer's FIN were given
-	Closed    = "closed"    // the sending was ended, or there is no connection any more: EPIPE
+	EOF       = "eof"       // all bytes up to the peer's FIN were received
+	Closed    = "closed"    // sending was shut down, or the connection is gone: EPIPE
 	NotConn   = "notconn"   // ENOTCONN
 	Refused   = "refused"   // ECONNREFUSED
 	Reset     = "reset"     // ECONNRESET
@@ -80,10 +80,10 @@ func (t *Trace) event(moment uint64, thread uint32, format string, what ...any) 
 	return t.write("%d %d "+format, append([]any{t.moment, thread}, what...)...)
 }
 
-// Header writes the header, before all else. skew: 0 where one clock stamps all. msl: the longest time a segment travels, and half of what TIME-WAIT
-// lasts. grain: the tick of the timers' clock. minrto: the least retransmission timeout; all in microseconds. extra: how many children a queue holds
-// above its backlog. initial: 5681 or 6928, the RFC of the first window; not written in version 1. Where in doubt: a smaller minrto, a larger
-// grain and extra ask for less.
+// Header writes the header. Call it first. skew: 0 if one clock stamps everything. msl: the maximum segment lifetime, half of the length of
+// TIME-WAIT. grain: the tick of the timers' clock. minrto: the minimum retransmission timeout. These are in microseconds. extra: how many children a
+// queue holds beyond its backlog. initial: 5681 or 6928, the RFC of the initial window; not written in version 1. If in doubt, a smaller minrto and
+// a larger grain and extra are less strict.
 func (t *Trace) Header(skew, msl, grain, minrto uint64, extra uint32, initial int) {
 	t.mu.Lock()
 	defer t.mu.Unlock()
@@ -101,37 +101,37 @@ func (t *Trace) Header(skew, msl, grain, minrto uint64, extra uint32, initial in
 	}
 }
 
-// BeginListen and the other Begins: a call begins, before the stack does anything for it.
+// BeginListen and the other Begins record that a call begins, before the stack does anything for it.
 func (t *Trace) BeginListen(moment uint64, thread uint32, host int, port, backlog uint16) uint32 {
 	return t.event(moment, thread, "B listen %d %d %d", host, port, backlog)
 }
 
-// BeginOpen is a connect, also where it doesn't wait. It ends at once with a number; whether it came to stand is asked by BeginAwait.
+// BeginOpen is a connect, blocking or not. It ends at once with a number; use BeginAwait for whether the connection is established.
 func (t *Trace) BeginOpen(moment uint64, thread uint32, host int, local, remote uint16) uint32 {
 	return t.event(moment, thread, "B open %d %d %d", host, local, remote)
 }
 
-// BeginAwait asks whether a connection stands.
+// BeginAwait reports whether the connection is established.
 func (t *Trace) BeginAwait(moment uint64, thread, socket uint32) uint32 {
 	return t.event(moment, thread, "B await %d", socket)
 }
 
-// BeginAccept asks for the front child of a listener.
+// BeginAccept requests the first child in a listener's queue.
 func (t *Trace) BeginAccept(moment uint64, thread, listener uint32) uint32 {
 	return t.event(moment, thread, "B accept %d", listener)
 }
 
-// BeginSend has 1 to 65,535 bytes that are to be sent.
+// BeginSend has 1 to 65,535 bytes to send.
 func (t *Trace) BeginSend(moment uint64, thread, socket uint32, bytes []byte) uint32 {
 	return t.event(moment, thread, "B send %d %x", socket, bytes)
 }
 
-// BeginRecv asks for at most so many bytes, 1 to 65,535.
+// BeginRecv requests at most this many bytes, 1 to 65,535.
 func (t *Trace) BeginRecv(moment uint64, thread, socket, most uint32) uint32 {
 	return t.event(moment, thread, "B recv %d %d", socket, most)
 }
 
-// BeginShut ends the sending: CloseWrite.
+// BeginShut shuts down sending: CloseWrite.
 func (t *Trace) BeginShut(moment uint64, thread, socket uint32) uint32 {
 	return t.event(moment, thread, "B shut %d", socket)
 }
@@ -141,28 +141,28 @@ func (t *Trace) BeginClose(moment uint64, thread, socket uint32) uint32 {
 	return t.event(moment, thread, "B close %d", socket)
 }
 
-// BeginAbort ends by a reset: a linger of 0 and Close.
+// BeginAbort aborts with a reset: a linger of 0 and Close.
 func (t *Trace) BeginAbort(moment uint64, thread, socket uint32) uint32 {
 	return t.event(moment, thread, "B abort %d", socket)
 }
 
-// BeginStatus asks for the state.
+// BeginStatus requests the state.
 func (t *Trace) BeginStatus(moment uint64, thread, socket uint32) uint32 {
 	return t.event(moment, thread, "B status %d", socket)
 }
 
-// End and the other Ends: a call ends, once the answer is known. A call that still waits has no such line. End has an answer without more:
-// await, shut, close, abort, and every failure. A fault that the system tells once is told again by you.
+// End and the other Ends record that a call ends, once the answer is known. A call that still waits has no such line. End has an answer without
+// a value: await, shut, close, abort, and every failure. If the system reports a fault only once, repeat it yourself.
 func (t *Trace) End(moment uint64, thread uint32, answer string) uint32 {
 	return t.event(moment, thread, "E %s", answer)
 }
 
-// EndNumber is `ok` with the socket of listen, open and accept, or with how many bytes a send accepted, 1 at least.
+// EndNumber is `ok` with the socket of listen, open and accept, or with how many bytes a send accepted, at least 1.
 func (t *Trace) EndNumber(moment uint64, thread, number uint32) uint32 {
 	return t.event(moment, thread, "E ok %d", number)
 }
 
-// EndData is a recv that gave bytes, 1 at least. Where it gave none because the peer ended: End with EOF.
+// EndData is a recv that returned bytes, at least 1. If it returned none because the peer's stream ended: End with EOF.
 func (t *Trace) EndData(moment uint64, thread uint32, bytes []byte) uint32 {
 	return t.event(moment, thread, "E data %x", bytes)
 }
@@ -180,22 +180,22 @@ func joined(parts [][]byte) string {
 	return text.String()
 }
 
-// Out is a segment that leaves the host: where the stack hands it to IP, its bytes being those that the peer will see.
+// Out is a segment that is sent: call it where the stack passes it to IP, with the bytes that the peer will see.
 func (t *Trace) Out(moment uint64, thread uint32, host int, parts ...[]byte) uint32 {
 	return t.event(moment, thread, "O %d %s", host, joined(parts))
 }
 
-// In is a segment that came to the host: before the stack looks at it, also where it will be dropped.
+// In is a segment that arrived: call it before the stack examines it, even if the stack will drop it.
 func (t *Trace) In(moment uint64, thread uint32, host int, parts ...[]byte) uint32 {
 	return t.event(moment, thread, "I %d %s", host, joined(parts))
 }
 
-// Expired is a timer that expired, before what is done for it: RTO, Persist, TwoMSL or GiveUp.
+// Expired is a timer that expired: RTO, Persist, TwoMSL or GiveUp. Call it before the timer's effects.
 func (t *Trace) Expired(moment uint64, thread uint32, host int, local, remote uint16, timer string) uint32 {
 	return t.event(moment, thread, "T %d %d %d %s", host, local, remote, timer)
 }
 
-// ---- A witness, for who knows more than a trace tells. It goes to a place of its own, and behind the trace at last ----
+// ---- A witness, if your stack knows more than a trace shows. Write it to a separate place, and append it to the trace at the end ----
 
 func (t *Trace) step(moment uint64, format string, what ...any) {
 	t.mu.Lock()
@@ -213,8 +213,8 @@ func (t *Trace) Witness() {
 	t.write("witness %d", t.version)
 }
 
-// StepLine takes a line of the trace, with its numbers: none for B, E and timers but rto; for an O line the number of the made segment, counted from
-// 1 over both hosts; for an I line the O line that it copies, none in version 3; for rto cwnd and ssthresh after it.
+// StepLine places a line of the trace, with its numbers: none for B, E, and timers except rto; for an O line, the number of the made segment, counted
+// from 1 over both hosts; for an I line, the O line that it copies, or none in version 3; for rto, cwnd and ssthresh after it.
 func (t *Trace) StepLine(moment uint64, line uint32, numbers ...uint32) {
 	text := ""
 	for _, number := range numbers {
@@ -228,15 +228,15 @@ func (t *Trace) StepEffect(moment uint64, thread uint32, answer string) {
 	t.step(moment, "D %d %s", thread, answer)
 }
 
-// Made is a segment as a witness has it.
+// Made is a segment in a witness.
 type Made struct {
 	Host          int
 	Local, Remote uint16
-	Position      uint64 // of its first number: 0 for the SYN, 1 for the first byte
+	Position      uint64 // of its first sequence number: 0 for the SYN, 1 for the first byte
 	Length        int
 	Flags         string   // letters of ARSF, or "-"
-	Window        uint16   // as the field has it
-	First         []uint32 // with the first SYN of an endpoint: its number, and from version 2 on perhaps its shift
+	Window        uint16   // the header field
+	First         []uint32 // for the first SYN of an endpoint: its sequence number, and from version 2 on optionally its shift
 }
 
 // StepMake makes a segment.
@@ -255,15 +255,15 @@ func bit(b bool) int {
 	return 0
 }
 
-// StepTake takes what came by an I line: the congestion window afterwards, whether its bytes were kept, whether the round trip was measured.
+// StepTake processes the segment of an I line: the congestion window afterwards, whether its bytes were kept, whether the round trip was measured.
 func (t *Trace) StepTake(moment uint64, host int, line, cwnd uint32, kept, measured bool) {
 	t.step(moment, "T %d %d %d %d %d", host, line, cwnd, bit(kept), bit(measured))
 }
 
-// StepDrop drops what came by an I line.
+// StepDrop drops the segment of an I line.
 func (t *Trace) StepDrop(moment uint64, host int, line uint32) { t.step(moment, "K %d %d", host, line) }
 
-// StepReset answers what came by an I line by a reset, which is a made segment.
+// StepReset answers the segment of an I line with a reset, which counts as a made segment.
 func (t *Trace) StepReset(moment uint64, host int, line uint32) {
 	t.step(moment, "R %d %d", host, line)
 }

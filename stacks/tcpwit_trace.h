@@ -1,25 +1,25 @@
-/* Writes the lines of a trace, and of a witness, from the hooks of a stack (docs/reference/formats.md,
+/* Writes the lines of a trace and of a witness from the hooks of a stack (docs/reference/formats.md,
  * docs/how-to/embedding.md).
  *
- * C99. Nothing is allocated and nothing is included but fixed-width integers: the bytes go to a function of yours. A line is written
- * by several calls of it, so lock around a function of this file where threads share a trace.
+ * C99. Allocates nothing and includes only fixed-width integers; it passes the bytes to your function. One line needs several calls of
+ * that function, so if threads share a trace, hold a lock around each function of this file.
  *
  *     static void put(void *file, const char *bytes, size_t count) { fwrite(bytes, 1, count, file); }
  *     struct tcpwit trace = { put, file, 2 };
  *     tcpwit_header(&trace, 0, 60000000, 1000, 200000, 0, 5681);
  *     tcpwit_begin_send(&trace, now, thread, socket, bytes, count);   before the call does anything
- *     tcpwit_end_number(&trace, now, thread, taken);                  behind it: so many bytes were accepted
+ *     tcpwit_end_number(&trace, now, thread, taken);                  after it: the number of accepted bytes
  *     tcpwit_out(&trace, now, 90 + host, host, header, 20, payload, n);
  *
- * What to hand in, everywhere:
- *   moment   microseconds of one clock for both hosts, since any beginning. One that falls is written as the one before it.
- *   thread   a number for each thread that calls, and others for what comes in, what goes out and the timers, for each host:
- *            lines of one thread are taken in their order, and a thread has at most one open call.
- *   host     0 or 1. Where host 0 alone is recorded (version 3) always 0.
- *   socket   counted by you: each number is given once in a trace, to a listener, to what is opened, to what is accepted.
- *   segment  from the first byte of the TCP header to the last of the payload, without IP; in two parts, of which the second may be
- *            empty, since stacks keep headers and payloads apart.
- * Each function of a trace answers the number of the line that it wrote, which a witness names.
+ * Arguments of all functions:
+ *   moment   microseconds on one clock for both hosts, from any start. A moment that goes back is written as the previous one.
+ *   thread   a number for each calling thread, and different ones, for each host, for segments received, segments sent and timers.
+ *            The lines of one thread keep their order, and a thread has at most one open call.
+ *   host     0 or 1. Always 0 if only host 0 is recorded (version 3).
+ *   socket   numbers that you choose: use each one only once in a trace, for a listener or an opened or accepted connection.
+ *   segment  from the first byte of the TCP header to the last of the payload, without IP; in two parts, because stacks keep headers
+ *            and payloads apart. The second part may be empty.
+ * Each function of a trace returns the number of the line that it wrote. A witness refers to lines by these numbers.
  */
 #ifndef TCPWIT_TRACE_H
 #define TCPWIT_TRACE_H
@@ -30,7 +30,7 @@
 struct tcpwit {
     void (*put)(void *to, const char *bytes, size_t count);
     void *to;
-    int version;      /* of the text: 1, 2 or 3 */
+    int version;      /* of the format: 1, 2 or 3 */
     uint32_t line;    /* the last line that was written; 0 at first */
     uint64_t moment;  /* the last moment; 0 at first */
 };
@@ -108,9 +108,10 @@ static inline void tcpwit_header_line(struct tcpwit *t, const char *word, uint64
 
 /* ---- The header; before all else ---- */
 
-/* skew: 0 where one clock stamps all. msl: the longest time a segment travels, and half of what TIME-WAIT lasts. grain: the tick of the timers'
- * clock. minrto: the least retransmission timeout; all in microseconds. extra: how many children a queue holds above its backlog. initial: 5681 or
- * 6928, the RFC of the first window; not written in version 1. Where in doubt: a smaller minrto, a larger grain and extra ask for less. */
+/* skew: 0 if one clock stamps everything. msl: the maximum segment lifetime, half of the length of TIME-WAIT. grain: the tick of the timers'
+ * clock. minrto: the minimum retransmission timeout. These are in microseconds. extra: how many children a queue holds beyond its backlog.
+ * initial: 5681 or 6928, the RFC of the initial window; not written in version 1. If in doubt, a smaller minrto and a larger grain and extra
+ * are less strict. */
 static inline void tcpwit_header(struct tcpwit *t, uint64_t skew, uint64_t msl, uint64_t grain, uint64_t minrto, uint32_t extra, unsigned initial)
 {
     tcpwit_header_line(t, "trace ", (uint64_t)t->version);
@@ -134,7 +135,7 @@ static inline uint32_t tcpwit_begin_listen(struct tcpwit *t, uint64_t moment, ui
     return tcpwit_end_line(t);
 }
 
-/* A connect, also where it doesn't wait. It ends at once with a number; whether it came to stand is asked by an await. */
+/* A connect, blocking or not. It ends at once with a number; use an await for whether the connection is established. */
 static inline uint32_t tcpwit_begin_open(struct tcpwit *t, uint64_t moment, uint32_t thread, int host, unsigned local, unsigned remote)
 {
     tcpwit_start(t, moment, thread, " B open");
@@ -161,7 +162,7 @@ static inline uint32_t tcpwit_begin_accept(struct tcpwit *t, uint64_t moment, ui
     return tcpwit_begin_on(t, moment, thread, " B accept", listener);
 }
 
-/* Ends the sending: shutdown(SHUT_WR). */
+/* Shuts down sending: shutdown(SHUT_WR). */
 static inline uint32_t tcpwit_begin_shut(struct tcpwit *t, uint64_t moment, uint32_t thread, uint32_t socket)
 {
     return tcpwit_begin_on(t, moment, thread, " B shut", socket);
@@ -172,7 +173,7 @@ static inline uint32_t tcpwit_begin_close(struct tcpwit *t, uint64_t moment, uin
     return tcpwit_begin_on(t, moment, thread, " B close", socket);
 }
 
-/* Ends by a reset: SO_LINGER of 0 and close. */
+/* Aborts with a reset: SO_LINGER of 0 and close. */
 static inline uint32_t tcpwit_begin_abort(struct tcpwit *t, uint64_t moment, uint32_t thread, uint32_t socket)
 {
     return tcpwit_begin_on(t, moment, thread, " B abort", socket);
@@ -183,7 +184,7 @@ static inline uint32_t tcpwit_begin_status(struct tcpwit *t, uint64_t moment, ui
     return tcpwit_begin_on(t, moment, thread, " B status", socket);
 }
 
-/* 1 to 65,535 bytes that are to be sent. */
+/* 1 to 65,535 bytes to send. */
 static inline uint32_t tcpwit_begin_send(struct tcpwit *t, uint64_t moment, uint32_t thread, uint32_t socket, const void *bytes, size_t count)
 {
     tcpwit_start(t, moment, thread, " B send");
@@ -193,7 +194,7 @@ static inline uint32_t tcpwit_begin_send(struct tcpwit *t, uint64_t moment, uint
     return tcpwit_end_line(t);
 }
 
-/* At most so many bytes are asked for, 1 to 65,535. */
+/* At most this many bytes are requested, 1 to 65,535. */
 static inline uint32_t tcpwit_begin_recv(struct tcpwit *t, uint64_t moment, uint32_t thread, uint32_t socket, uint32_t most)
 {
     tcpwit_start(t, moment, thread, " B recv");
@@ -221,7 +222,7 @@ static inline const char *tcpwit_state_name(enum tcpwit_state state)
     return names[state];
 }
 
-/* An answer without more: await, shut, close, abort, and every failure. A fault that the system tells once is told again by you. */
+/* An answer without a value: await, shut, close, abort, and every failure. If the system reports a fault only once, repeat it yourself. */
 static inline uint32_t tcpwit_end(struct tcpwit *t, uint64_t moment, uint32_t thread, enum tcpwit_answer answer)
 {
     tcpwit_start(t, moment, thread, " E ");
@@ -229,7 +230,7 @@ static inline uint32_t tcpwit_end(struct tcpwit *t, uint64_t moment, uint32_t th
     return tcpwit_end_line(t);
 }
 
-/* `ok` with a number: the socket of listen, open and accept; how many bytes a send accepted, 1 at least. */
+/* `ok` with a number: the socket of listen, open and accept, or how many bytes a send accepted, at least 1. */
 static inline uint32_t tcpwit_end_number(struct tcpwit *t, uint64_t moment, uint32_t thread, uint32_t number)
 {
     tcpwit_start(t, moment, thread, " E ok");
@@ -237,7 +238,7 @@ static inline uint32_t tcpwit_end_number(struct tcpwit *t, uint64_t moment, uint
     return tcpwit_end_line(t);
 }
 
-/* A recv that gave bytes, 1 at least. Where it gave none because the peer ended: tcpwit_end with TCPWIT_EOF. */
+/* A recv that returned bytes, at least 1. If it returned none because the peer's stream ended: tcpwit_end with TCPWIT_EOF. */
 static inline uint32_t tcpwit_end_data(struct tcpwit *t, uint64_t moment, uint32_t thread, const void *bytes, size_t count)
 {
     tcpwit_start(t, moment, thread, " E data ");
@@ -265,21 +266,21 @@ static inline uint32_t tcpwit_segment(struct tcpwit *t, uint64_t moment, uint32_
     return tcpwit_end_line(t);
 }
 
-/* A segment leaves the host: where the stack hands it to IP, its bytes being those that the peer will see. */
+/* A segment is sent: call this where the stack passes it to IP, with the bytes that the peer will see. */
 static inline uint32_t tcpwit_out(struct tcpwit *t, uint64_t moment, uint32_t thread, int host, const void *header, size_t header_count,
                                   const void *payload, size_t payload_count)
 {
     return tcpwit_segment(t, moment, thread, " O", host, header, header_count, payload, payload_count);
 }
 
-/* A segment came to the host: before the stack looks at it, also where it will be dropped. */
+/* A segment arrived: call this before the stack examines it, even if the stack will drop it. */
 static inline uint32_t tcpwit_in(struct tcpwit *t, uint64_t moment, uint32_t thread, int host, const void *header, size_t header_count,
                                  const void *payload, size_t payload_count)
 {
     return tcpwit_segment(t, moment, thread, " I", host, header, header_count, payload, payload_count);
 }
 
-/* A timer expired, before what is done for it: the retransmission timer, a probe of a window of 0, the end of TIME-WAIT, or giving up. */
+/* A timer expired: the retransmission timer, the probe of a zero window, the end of TIME-WAIT, or giving up. Call this before its effects. */
 static inline uint32_t tcpwit_expired(struct tcpwit *t, uint64_t moment, uint32_t thread, int host, unsigned local, unsigned remote,
                                       enum tcpwit_timer timer)
 {
@@ -292,9 +293,9 @@ static inline uint32_t tcpwit_expired(struct tcpwit *t, uint64_t moment, uint32_
     return tcpwit_end_line(t);
 }
 
-/* ---- A witness, for who knows more than a trace tells. It goes to a place of its own, and behind the trace at last ---- */
+/* ---- A witness, if your stack knows more than a trace shows. Write it to a separate place, and append it to the trace at the end ---- */
 
-/* The first line. The others are written as things happen, each line of the trace by a step of its own. */
+/* The first line. Write the others as things happen; each line of the trace needs a step of its own. */
 static inline void tcpwit_witness(struct tcpwit *t) { tcpwit_header_line(t, "witness ", (uint64_t)t->version); }
 
 static inline void tcpwit_step(struct tcpwit *t, uint64_t moment, const char *word)
@@ -304,8 +305,8 @@ static inline void tcpwit_step(struct tcpwit *t, uint64_t moment, const char *wo
     tcpwit_text(t, word);
 }
 
-/* Line `line` of the trace, with `count` numbers (0 to 2): none for B, E and timers but rto; for an O line the number of the made segment, counted
- * from 1 over both hosts; for an I line the O line that it copies, none in version 3; for rto cwnd and ssthresh after it. */
+/* Places line `line` of the trace, with `count` numbers (0 to 2): none for B, E, and timers except rto; for an O line, the number of the made
+ * segment, counted from 1 over both hosts; for an I line, the O line that it copies, or none in version 3; for rto, cwnd and ssthresh after it. */
 static inline void tcpwit_step_line(struct tcpwit *t, uint64_t moment, uint32_t line, int count, uint32_t first, uint32_t second)
 {
     tcpwit_step(t, moment, " L");
@@ -325,8 +326,8 @@ static inline void tcpwit_step_effect(struct tcpwit *t, uint64_t moment, uint32_
     (void)tcpwit_end_line(t);
 }
 
-/* A segment is made: its ports; the position of its first number, 0 for the SYN, 1 for the first byte; its bytes; its flags, letters of ARSF or "-";
- * its window field; with the first SYN of an endpoint its number as `iss`, else -1, and from version 2 on its shift, or -1. */
+/* A segment is made: its ports; the position of its first sequence number, 0 for the SYN, 1 for the first byte; its length; its flags, letters of
+ * ARSF or "-"; its window field. For the first SYN of an endpoint, `iss` is its sequence number, else -1; from version 2 on, also its shift, or -1. */
 static inline void tcpwit_step_make(struct tcpwit *t, uint64_t moment, int host, unsigned local, unsigned remote, uint64_t position,
                                     unsigned length, const char *flags, unsigned window, int64_t iss, int shift)
 {
@@ -344,7 +345,7 @@ static inline void tcpwit_step_make(struct tcpwit *t, uint64_t moment, int host,
     (void)tcpwit_end_line(t);
 }
 
-/* What came by I line `line` is taken: the congestion window afterwards, whether its bytes were kept, whether the round trip was measured. */
+/* The segment of I line `line` is processed: the congestion window afterwards, whether its bytes were kept, whether the round trip was measured. */
 static inline void tcpwit_step_take(struct tcpwit *t, uint64_t moment, int host, uint32_t line, uint32_t cwnd, int kept, int measured)
 {
     tcpwit_step(t, moment, " T");
@@ -356,7 +357,7 @@ static inline void tcpwit_step_take(struct tcpwit *t, uint64_t moment, int host,
     (void)tcpwit_end_line(t);
 }
 
-/* What came by I line `line` is dropped. */
+/* The segment of I line `line` is dropped. */
 static inline void tcpwit_step_drop(struct tcpwit *t, uint64_t moment, int host, uint32_t line)
 {
     tcpwit_step(t, moment, " K");
@@ -365,7 +366,7 @@ static inline void tcpwit_step_drop(struct tcpwit *t, uint64_t moment, int host,
     (void)tcpwit_end_line(t);
 }
 
-/* What came by I line `line` is answered by a reset, which is a made segment. */
+/* The segment of I line `line` is answered with a reset, which counts as a made segment. */
 static inline void tcpwit_step_reset(struct tcpwit *t, uint64_t moment, int host, uint32_t line)
 {
     tcpwit_step(t, moment, " R");

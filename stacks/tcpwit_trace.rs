@@ -1,40 +1,41 @@
-//! Writes the lines of a trace, and of a witness, from the hooks of a stack (docs/reference/formats.md,
-//! docs/how-to/embedding.md). Needs `std` alone.
+//! Writes the lines of a trace and of a witness from the hooks of a stack (docs/reference/formats.md,
+//! docs/how-to/embedding.md). Needs only `std`.
 //!
 //!     let mut trace = Trace::new(file, 2);
 //!     trace.header(&Header { msl: 60_000_000, grain: 1_000, minrto: 200_000, ..Header::default() })?;
 //!     trace.begin_send(now, thread, socket, bytes)?;   // before the call does anything
-//!     trace.end_number(now, thread, taken)?;           // behind it: so many bytes were accepted
+//!     trace.end_number(now, thread, taken)?;           // after it: the number of accepted bytes
 //!     trace.out(now, 90 + host, host, &[header, payload])?;
 //!
-//! What to hand in, everywhere:
+//! Arguments of all functions:
 //!
-//! - `moment`: microseconds of one clock for both hosts, since any beginning. One that falls is written as the one before it.
-//! - `thread`: a number for each thread that calls, and others for what comes in, what goes out and the timers, for each host: lines of one
-//!   thread are taken in their order, and a thread has at most one open call.
-//! - `host`: 0 or 1. Where host 0 alone is recorded (version 3) always 0.
-//! - `socket`: counted by you: each number is given once in a trace, to a listener, to what is opened, to what is accepted.
+//! - `moment`: microseconds on one clock for both hosts, from any start. A moment that goes back is written as the previous one.
+//! - `thread`: a number for each calling thread, and different ones, for each host, for segments received, segments sent and timers. The
+//!   lines of one thread keep their order, and a thread has at most one open call.
+//! - `host`: 0 or 1. Always 0 if only host 0 is recorded (version 3).
+//! - `socket`: numbers that you choose: use each one only once in a trace, for a listener or an opened or accepted connection.
 //! - a segment: from the first byte of the TCP header to the last of the payload, without IP, in any number of parts.
 //!
-//! Each function of a trace answers the number of the line that it wrote, which a witness names. Threads share a trace behind a `Mutex`.
+//! Each function of a trace returns the number of the line that it wrote. A witness refers to lines by these numbers. To share a trace
+//! between threads, put it in a `Mutex`.
 
 use std::fmt;
 use std::io::{self, Write};
 
-/// The header's numbers; times in microseconds. Where in doubt: a smaller `minrto`, a larger `grain` and `extra` ask for less.
+/// The header's numbers; times in microseconds. If in doubt, a smaller `minrto` and a larger `grain` and `extra` are less strict.
 #[derive(Clone, Debug)]
 pub struct Header {
-    /// 0 where one clock stamps all.
+    /// 0 if one clock stamps everything.
     pub skew: u64,
-    /// The longest time a segment travels, and half of what TIME-WAIT lasts.
+    /// The maximum segment lifetime, half of the length of TIME-WAIT.
     pub msl: u64,
     /// The tick of the timers' clock.
     pub grain: u64,
-    /// The least retransmission timeout.
+    /// The minimum retransmission timeout.
     pub minrto: u64,
-    /// How many children a queue holds above its backlog.
+    /// How many children a queue holds beyond its backlog.
     pub extra: u32,
-    /// 5681 or 6928, the RFC of the first window; not written in version 1.
+    /// 5681 or 6928, the RFC of the initial window; not written in version 1.
     pub initial: u32,
 }
 
@@ -50,9 +51,9 @@ pub enum Answer {
     Ok,
     /// Not yet.
     Again,
-    /// All bytes up to the peer's FIN were given.
+    /// All bytes up to the peer's FIN were received.
     Eof,
-    /// The sending was ended, or there is no connection any more: EPIPE.
+    /// Sending was shut down, or the connection is gone: EPIPE.
     Closed,
     NotConn,
     Refused,
@@ -115,24 +116,24 @@ impl fmt::Display for Numbers<'_> {
     }
 }
 
-/// A segment as a witness has it.
+/// A segment in a witness.
 #[derive(Clone, Debug)]
 pub struct Made<'a> {
     pub host: u8,
     pub local: u16,
     pub remote: u16,
-    /// That of its first number: 0 for the SYN, 1 for the first byte.
+    /// The position of its first sequence number: 0 for the SYN, 1 for the first byte.
     pub position: u64,
     pub length: u16,
     /// Letters of `ARSF`, or `-`.
     pub flags: &'a str,
-    /// As the field has it.
+    /// The header field.
     pub window: u16,
-    /// With the first SYN of an endpoint: its number, and from version 2 on perhaps its shift.
+    /// For the first SYN of an endpoint: its sequence number, and from version 2 on optionally its shift.
     pub first: &'a [u32],
 }
 
-/// Writes lines. A witness is written by another one.
+/// Writes lines. Use another one for a witness.
 pub struct Trace<W: Write> {
     to: W,
     version: u8,
@@ -141,12 +142,12 @@ pub struct Trace<W: Write> {
 }
 
 impl<W: Write> Trace<W> {
-    /// A writer of texts of version 1, 2 or 3.
+    /// A writer of format version 1, 2 or 3.
     pub fn new(to: W, version: u8) -> Trace<W> {
         Trace { to, version, line: 0, moment: 0 }
     }
 
-    /// What was written to.
+    /// Returns the underlying writer.
     pub fn into_inner(self) -> W {
         self.to
     }
@@ -163,7 +164,7 @@ impl<W: Write> Trace<W> {
         self.write(format_args!("{moment} {thread} {text}"))
     }
 
-    /// The header, before all else.
+    /// The header. Call it first.
     pub fn header(&mut self, header: &Header) -> io::Result<()> {
         let version = self.version;
         self.write(format_args!("trace {version}"))?;
@@ -187,7 +188,7 @@ impl<W: Write> Trace<W> {
         self.event(moment, thread, format_args!("B listen {host} {port} {backlog}"))
     }
 
-    /// A connect, also where it doesn't wait. It ends at once with a number; whether it came to stand is asked by `begin_await`.
+    /// A connect, blocking or not. It ends at once with a number; use `begin_await` for whether the connection is established.
     pub fn begin_open(&mut self, moment: u64, thread: u32, host: u8, local: u16, remote: u16) -> io::Result<u32> {
         self.event(moment, thread, format_args!("B open {host} {local} {remote}"))
     }
@@ -200,17 +201,17 @@ impl<W: Write> Trace<W> {
         self.event(moment, thread, format_args!("B accept {listener}"))
     }
 
-    /// 1 to 65,535 bytes that are to be sent.
+    /// 1 to 65,535 bytes to send.
     pub fn begin_send(&mut self, moment: u64, thread: u32, socket: u32, bytes: &[u8]) -> io::Result<u32> {
         self.event(moment, thread, format_args!("B send {socket} {}", Hex(&[bytes])))
     }
 
-    /// At most so many bytes are asked for, 1 to 65,535.
+    /// At most this many bytes are requested, 1 to 65,535.
     pub fn begin_recv(&mut self, moment: u64, thread: u32, socket: u32, most: u32) -> io::Result<u32> {
         self.event(moment, thread, format_args!("B recv {socket} {most}"))
     }
 
-    /// Ends the sending: `shutdown(Shutdown::Write)`.
+    /// Shuts down sending: `shutdown(Shutdown::Write)`.
     pub fn begin_shut(&mut self, moment: u64, thread: u32, socket: u32) -> io::Result<u32> {
         self.event(moment, thread, format_args!("B shut {socket}"))
     }
@@ -219,7 +220,7 @@ impl<W: Write> Trace<W> {
         self.event(moment, thread, format_args!("B close {socket}"))
     }
 
-    /// Ends by a reset: a linger of 0 and a close.
+    /// Aborts with a reset: a linger of 0 and a close.
     pub fn begin_abort(&mut self, moment: u64, thread: u32, socket: u32) -> io::Result<u32> {
         self.event(moment, thread, format_args!("B abort {socket}"))
     }
@@ -230,17 +231,17 @@ impl<W: Write> Trace<W> {
 
     // ---- Calls end: once the answer is known. A call that still waits has no such line ----
 
-    /// An answer without more: await, shut, close, abort, and every failure. A fault that the system tells once is told again by you.
+    /// An answer without a value: await, shut, close, abort, and every failure. If the system reports a fault only once, repeat it yourself.
     pub fn end(&mut self, moment: u64, thread: u32, answer: Answer) -> io::Result<u32> {
         self.event(moment, thread, format_args!("E {answer}"))
     }
 
-    /// `ok` with the socket of listen, open and accept, or with how many bytes a send accepted, 1 at least.
+    /// `ok` with the socket of listen, open and accept, or with how many bytes a send accepted, at least 1.
     pub fn end_number(&mut self, moment: u64, thread: u32, number: u32) -> io::Result<u32> {
         self.event(moment, thread, format_args!("E ok {number}"))
     }
 
-    /// A recv that gave bytes, 1 at least. Where it gave none because the peer ended: `end` with `Answer::Eof`.
+    /// A recv that returned bytes, at least 1. If it returned none because the peer's stream ended: `end` with `Answer::Eof`.
     pub fn end_data(&mut self, moment: u64, thread: u32, bytes: &[u8]) -> io::Result<u32> {
         self.event(moment, thread, format_args!("E data {}", Hex(&[bytes])))
     }
@@ -252,22 +253,22 @@ impl<W: Write> Trace<W> {
 
     // ---- The wire and the timers ----
 
-    /// A segment leaves the host: where the stack hands it to IP, its bytes being those that the peer will see.
+    /// A segment is sent: call this where the stack passes it to IP, with the bytes that the peer will see.
     pub fn out(&mut self, moment: u64, thread: u32, host: u8, parts: &[&[u8]]) -> io::Result<u32> {
         self.event(moment, thread, format_args!("O {host} {}", Hex(parts)))
     }
 
-    /// A segment came to the host: before the stack looks at it, also where it will be dropped.
+    /// A segment arrived: call this before the stack examines it, even if the stack will drop it.
     pub fn came(&mut self, moment: u64, thread: u32, host: u8, parts: &[&[u8]]) -> io::Result<u32> {
         self.event(moment, thread, format_args!("I {host} {}", Hex(parts)))
     }
 
-    /// A timer expired, before what is done for it.
+    /// A timer expired. Call this before its effects.
     pub fn expired(&mut self, moment: u64, thread: u32, host: u8, local: u16, remote: u16, timer: Timer) -> io::Result<u32> {
         self.event(moment, thread, format_args!("T {host} {local} {remote} {timer}"))
     }
 
-    // ---- A witness, for who knows more than a trace tells. It goes to a place of its own, and behind the trace at last ----
+    // ---- A witness, if your stack knows more than a trace shows. Write it to a separate place, and append it to the trace at the end ----
 
     fn step(&mut self, moment: u64, text: fmt::Arguments<'_>) -> io::Result<()> {
         self.moment = self.moment.max(moment);
@@ -281,8 +282,8 @@ impl<W: Write> Trace<W> {
         self.write(format_args!("witness {version}")).map(|_| ())
     }
 
-    /// Takes a line of the trace, with its numbers: none for B, E and timers but rto; for an O line the number of the made segment, counted from 1 over
-    /// both hosts; for an I line the O line that it copies, none in version 3; for rto cwnd and ssthresh after it.
+    /// Places a line of the trace, with its numbers: none for B, E, and timers except rto; for an O line, the number of the made segment, counted from 1
+    /// over both hosts; for an I line, the O line that it copies, or none in version 3; for rto, cwnd and ssthresh after it.
     pub fn step_line(&mut self, moment: u64, line: u32, numbers: &[u32]) -> io::Result<()> {
         self.step(moment, format_args!("L {line}{}", Numbers(numbers)))
     }
@@ -297,17 +298,17 @@ impl<W: Write> Trace<W> {
         self.step(moment, format_args!("M {host} {local} {remote} {position} {length} {flags} {window}{}", Numbers(first)))
     }
 
-    /// Takes what came by an I line: the congestion window afterwards, whether its bytes were kept, whether the round trip was measured.
+    /// Processes the segment of an I line: the congestion window afterwards, whether its bytes were kept, whether the round trip was measured.
     pub fn step_take(&mut self, moment: u64, host: u8, line: u32, cwnd: u32, kept: bool, measured: bool) -> io::Result<()> {
         self.step(moment, format_args!("T {host} {line} {cwnd} {} {}", u8::from(kept), u8::from(measured)))
     }
 
-    /// Drops what came by an I line.
+    /// Drops the segment of an I line.
     pub fn step_drop(&mut self, moment: u64, host: u8, line: u32) -> io::Result<()> {
         self.step(moment, format_args!("K {host} {line}"))
     }
 
-    /// Answers what came by an I line by a reset, which is a made segment.
+    /// Answers the segment of an I line with a reset, which counts as a made segment.
     pub fn step_reset(&mut self, moment: u64, host: u8, line: u32) -> io::Result<()> {
         self.step(moment, format_args!("R {host} {line}"))
     }

@@ -1,11 +1,11 @@
 #!/usr/bin/env python3
-"""Holds lines to their width: 120 columns in src and specs, 160 in proofs, 100 in the prose of pages.
+"""Checks line widths: 120 columns in src and specs, 160 in proofs, 100 in the prose of pages.
 
-    tools/columns.py            says which files have more long lines than `tools/columns.txt` allows, and ends with status 1 if one has
-    tools/columns.py --write    lowers the counts in that file to those of today; none rises
-    tools/columns.py --anew     writes that file anew, as where files were renamed; the sum of all counts may not rise
+    tools/columns.py            lists the files with more long lines than `tools/columns.txt` allows; the status is 1 if there are any
+    tools/columns.py --write    lowers the counts in that file to the current ones, but raises none
+    tools/columns.py --anew     rewrites that file, for example after files were renamed; the sum of all counts may not rise
 
-A column is a character. The prose of a page is what is neither a table nor a block of commands or output; a line of one word may be
+A column is a character. The prose of a page excludes tables and blocks of commands or output. A line with a single word may be
 wider. `tools/columns.txt` has a line for each file with long lines: their count and the file's name.
 """
 import argparse
@@ -15,9 +15,9 @@ import sys
 
 TOP = os.path.dirname(os.path.dirname(os.path.abspath(__file__)))
 BASELINE = os.path.join(TOP, "tools", "columns.txt")
-# How wide lines may be, by the files in which they stand.
+# The maximum width of lines, by files.
 WIDTHS = (("crates/*/src/**/*.rt", 120), ("crates/*/specs/**/*.antt", 120), ("crates/*/proofs/**/*.antt", 160), ("**/*.md", 100))
-# Lines of a page that aren't prose, by how they begin: tables, and blocks of commands, of output or of texts.
+# The beginnings of lines in a page that aren't prose: tables, and blocks of commands, output or texts.
 NO_PROSE = ("|", "    ")
 
 
@@ -29,7 +29,7 @@ def is_long(path, line, width):
 
 
 def long_lines():
-    """The numbers of the lines that are too wide, for each file that has some."""
+    """The numbers of the lines that are too wide, for each file that has any."""
     found = {}
     for pattern, width in WIDTHS:
         for path in glob.glob(f"{TOP}/{pattern}", recursive=True):
@@ -56,7 +56,7 @@ def write(counts):
 
 
 def refused(found, limits):
-    """What is wrong, as texts: a line for each file with more long lines than it may have."""
+    """The faults: a line for each file with more long lines than allowed."""
     for path, numbers in sorted(found.items()):
         limit = limits.get(path, 0)
         if len(numbers) > limit:

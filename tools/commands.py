@@ -1,9 +1,9 @@
-"""The commands of the built program that the sweeps of this folder run."""
+"""The commands of the built program that the sweeps in this folder run."""
 import os
 
 
 def commands(cases, folder):
-    """The commands that are swept: a name, and the words with the standard input."""
+    """The commands to sweep: a name, the arguments and the standard input."""
     expected = dict(line.rstrip("\n").split("\t") for line in open(os.path.join(cases, "expected.txt")))
 
     def text(name):

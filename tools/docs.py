@@ -1,12 +1,12 @@
 #!/usr/bin/python3
 """Checks the pages of this repository.
 
-    tools/docs.py            each file, link, section and identifier that they name exists, and each command works and prints what the page
-                             shows
-    tools/docs.py --names    only the first of both, for which no program is needed
+    tools/docs.py            checks that each file, link, section and identifier in them exists, and that each command works and prints
+                             what the page shows
+    tools/docs.py --names    checks only the names; this needs no program
 
-The commands are run in a copy of the repository; docs_commands.py names those that aren't run, with the reason. Prints a line for each fault, with its page and
-line. The status is 1 if there is one.
+The commands run in a copy of the repository; docs_commands.py lists those that aren't run, with the reason. Prints a line for each
+fault, with its page and line. The status is 1 if there is one.
 """
 import argparse
 import glob
@@ -19,7 +19,7 @@ sys.path.insert(0, os.path.dirname(os.path.abspath(__file__)))
 import docs_commands  # noqa: E402
 
 TOP = os.path.dirname(os.path.dirname(os.path.abspath(__file__)))
-# The pages, by where they are. CHANGELOG.md names what there was.
+# Where the pages are. CHANGELOG.md is left out because it names things that no longer exist.
 PLACES = ("README.md", "CONTRIBUTING.md", "docs/**/*.md", "*/README.md", "stacks/*.md", "*/*/README.md")
 LINK = re.compile(r"\]\(([^)\s]+)\)")
 # A word in backticks that can be the name of a file of this repository.
@@ -29,14 +29,14 @@ SOURCE = re.compile(r"\.(md|py|c|h|go|rs|sbatch|scenario)$")
 SECTION = re.compile(r'(?:(?:\]\(([^)\s]+\.md)\)|`([\w./]+\.md)`),? )?(?:\bsection (\d+)|(?<=, )"([^"\n]+)")')
 # A name of code in backticks: it has an underscore, `::` or a capital inside.
 IDENTIFIER = re.compile(r"`(\w+(?:::\w+)*)(?:\(\))?`")
-# Names in pages that aren't of this repository: code of lwIP and gVisor, and functions that PERF.md measured and that are gone.
+# Names in pages that aren't in this repository: code of lwIP and gVisor, and functions that PERF.md measured but no longer exist.
 FOREIGN = frozenset("tcp_in.c tcp.c opt.h tcp_process tcp_receive tcp_abandon rcv.go endpoint.go header/tcp.go protocol.go connect.go "
                     "handleRcvdSegment count_below count_in_turn place_searched".split())
-# Where names of code are looked up: everything but pages.
+# Where names of code are looked up: everything except pages.
 CODE = re.compile(r"\.(rt|antt|txt|py|c|h|go|rs|scenario|edit|sbatch)$|/[\w-]+$")
-# What the examples get from their own server, which shows the folder where the command is called.
+# What the examples fetch from their own server, which serves the folder where the command is run.
 FETCHED = re.compile(r"http://10\.9\.0\.2/([\w./-]*)")
-# Where programs are left that are built: a clone doesn't have them.
+# Where built programs are; a clone doesn't have them.
 BUILT = re.compile(r"(^|/)(out|\.built)(/|$)")
 
 
@@ -47,13 +47,13 @@ def pages_of(top):
 
 
 def text_of(page):
-    """The text of a page, or of what its name leads to."""
+    """The text of a page, or of the file that its link points to."""
     with open(page, encoding="utf-8") as file:
         return file.read()
 
 
 def words_of(path):
-    """The names in a file of code; none if it's no text."""
+    """The names in a file of code; none if it isn't text."""
     try:
         return set(re.findall(r"\w+", text_of(path)))
     except (UnicodeDecodeError, OSError):
@@ -71,14 +71,14 @@ def headings(text):
 
 
 def has_section(text, number, title):
-    """Whether a page has a section with this number, or one that begins with this title."""
+    """Whether a page has a section with this number, or one whose title begins like this."""
     if number:
         return re.search(rf"^#+ {number}\b", text, re.M) is not None
     return any(re.sub(r"^[\d.]+ ", "", heading).startswith(title) for heading in headings(text))
 
 
 class Tree:
-    """A copy of the repository whose pages are checked."""
+    """A copy of the repository, to check its pages."""
 
     def __init__(self, top=TOP):
         self.top = top
@@ -89,7 +89,7 @@ class Tree:
         self.words |= {word for folder, name in paths for word in re.findall(r"\w+", f"{os.path.basename(folder)} {name}")}
 
     def places(self, page, name):
-        """Where a name in a page may lead."""
+        """The paths that a name in a page may mean."""
         here = os.path.dirname(os.path.join(self.top, page))
         return [os.path.normpath(os.path.join(folder, name)) for folder in (here, self.top, f"{self.top}/docs")]
 
@@ -98,14 +98,14 @@ class Tree:
         return next((place for place in self.places(page, name) if os.path.exists(place)), None)
 
     def is_of_ours(self, page, name):
-        """Whether a name is meant to be a file of the repository: by its end, or by the folder that it begins with."""
+        """Whether a name means a file of the repository, by its ending or by its first folder."""
         if re.match(r"/|\.\w+$", name) or BUILT.search(name):
             return False
         first, slash, _ = name.removeprefix("./").partition("/")
         return bool(SOURCE.search(name)) or bool(slash) and self.file(page, first) is not None
 
     def links(self, page, text):
-        """The faults of the links."""
+        """The faults in links."""
         for found in LINK.finditer(text):
             name, _, anchor = found[1].partition("#")
             if re.match(r"\w+:", name):
@@ -117,7 +117,7 @@ class Tree:
                 yield found.start(), f"{name or page} has no heading #{anchor}"
 
     def files(self, page, text):
-        """The faults of the names of files."""
+        """The faults in names of files."""
         for found in NAME.finditer(text):
             name = found[1]
             known = self.file(page, name) or ("/" not in name and name in self.names)
@@ -128,7 +128,7 @@ class Tree:
                 yield found.start(), f"the server of the example has no page {found[1]}"
 
     def identifiers(self, text):
-        """The faults of the names of code."""
+        """The faults in names of code."""
         for found in IDENTIFIER.finditer(text):
             if not re.search(r"[a-z0-9]_[a-z0-9]|::|[a-z][A-Z]", found[1]) or found[1] in FOREIGN:
                 continue
@@ -137,7 +137,7 @@ class Tree:
                 yield found.start(), f"no code has the name {missing[0]}"
 
     def sections(self, page, text):
-        """The faults of sections. One without a page is the page's own, or that of the page named before."""
+        """The faults in section numbers. A section without a page is in the same page, or in the page named before."""
         own = re.search(r"^## \d", text, re.M) is not None
         before = page
         for found in SECTION.finditer(re.sub(r"\n(?!\n)", " ", text)):
@@ -159,7 +159,7 @@ class Tree:
 
 def main():
     words = argparse.ArgumentParser(description=__doc__, formatter_class=argparse.RawDescriptionHelpFormatter)
-    words.add_argument("--names", action="store_true", help="check the names of files, links and sections, and run no command")
+    words.add_argument("--names", action="store_true", help="check the names of files, links and sections, but run no command")
     given = words.parse_args()
     tree = Tree()
     pages = pages_of(TOP)

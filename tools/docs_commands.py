@@ -1,4 +1,4 @@
-"""Runs the commands of pages in a copy of the repository, and compares what they print with what the pages show."""
+"""Runs the commands in pages in a copy of the repository, and compares their output with the pages."""
 import os
 import re
 import shutil
@@ -10,7 +10,7 @@ import tempfile
 from unproved import kept
 
 TOP = os.path.dirname(os.path.dirname(os.path.abspath(__file__)))
-# Commands that aren't run, by how they begin, and why.
+# The beginnings of commands that aren't run, and the reasons.
 LEFT_OUT = {
     "sudo ": "needs root, and namespaces, the network or a package",
     "(cd crates/": "proves",
@@ -33,12 +33,12 @@ LEFT_OUT = {
     "time crates/": "needs proved programs",
     "python3 tools/soak/": "takes minutes",
 }
-# Texts that are neither commands nor what the command before them prints, by how they begin.
+# The beginnings of texts that are neither commands nor the output of the command before them.
 SHOWN = ("//! Judges a case.",)
-# Statuses that aren't 0, of commands whose page shows no output. A busy machine lets `record` end with 1.
+# Statuses other than 0, of commands whose page shows no output. On a busy machine, `record` can end with 1.
 STATUSES = {"tcpwit record ": 1, "strace -f -o calls": 5}
 COMMAND = re.compile(r"(\./|sudo |importer/|stacks/|packaging/|bench/|tools/|python3 |\(cd |\{ |(tcpwit|tcpwit_lab|tcpdump|strace|for|parallel|read|mkfifo|cat|sed|grep) )")
-# A command in a sentence or a table. One with `..` is cut, and one with N has a number to be chosen.
+# A command in a sentence or a table. One with `..` is incomplete, and one with N has a number to be chosen.
 INLINE = re.compile(r"(?<!`)`((?:\./)?tcpwit(?:_lab)? [^`\s]+ (?:(?!\.\.|\bN\b)[^`\n])+)`")
 BLOCK = re.compile(r"^(?:    .*\n)+", re.M)
 VERDICT = re.compile(r"(yes|no|bad) ")
@@ -61,18 +61,18 @@ class Commands:
         return [start for line in self.lines for start in LEFT_OUT if line.startswith(start)]
 
     def script(self):
-        """What is run of them."""
+        """The commands among them that are run."""
         return "\n".join(line for line in self.lines if not line.startswith(tuple(LEFT_OUT)))
 
 
 def command_lines(block):
-    """The commands of a block, without what is said of them behind four spaces."""
+    """The commands of a block, without the remarks after four spaces."""
     joined = re.sub(r"\\\n *", "", re.sub(r"^    ", "", block, flags=re.M))
     return [re.split(r" {4,}", line)[0].rstrip() for line in joined.splitlines()]
 
 
 def commands_of(text):
-    """The commands of a page in their order, and the places of the blocks that belong to none."""
+    """The commands of a page, in order, and the places of blocks that belong to none."""
     found = [Commands(match.start(), [match[1]]) for match in INLINE.finditer(text)]
     last, strangers = None, []
     for match in BLOCK.finditer(text):
@@ -89,7 +89,7 @@ def commands_of(text):
 
 
 def fits(wanted, printed):
-    """Whether lines are printed as a page shows them; `..` there is any number of lines."""
+    """Whether the printed lines match those in a page, where `..` is any number of lines."""
     pattern = "".join("(?:.*\n)*" if line.strip() == ".." else re.escape(line.rstrip()) + " *\n" for line in wanted)
     return re.fullmatch(pattern, "".join(line + "\n" for line in printed)) is not None
 
@@ -103,7 +103,7 @@ def unexpected(failed):
 
 
 class Copy:
-    """A copy of the repository, with programs that are built, and a folder for each page with what its commands read."""
+    """A copy of the repository with built programs, and a folder for each page with the files that its commands read."""
 
     def __init__(self, folder, top=TOP):
         self.folder = folder
@@ -119,7 +119,7 @@ class Copy:
             os.symlink(f"{self.top}/packaging/lines/{name}", f"{folder}/bin/{name}")
 
     def page(self, page, text):
-        """A folder that looks like the top of the repository, with what the commands of a page read."""
+        """A folder like the top of the repository, with the files that a page's commands read."""
         at = f"{self.folder}/{page.replace('/', '-')}"
         os.mkdir(at)
         for name in os.listdir(self.top):
@@ -142,7 +142,7 @@ class Copy:
         return at
 
     def captures(self, at):
-        """The captures and logs of a recording, by the names of docs/how-to/captures.md."""
+        """The captures and logs of a recording, with the names in docs/how-to/captures.md."""
         with tarfile.open(f"{self.top}/importer/tests/data/recordings.tar.xz") as archive:
             for host in (0, 1):
                 for source, name in (("pcap", f"c{host}.pcap"), ("log", f"s{host}.log")):
@@ -150,7 +150,7 @@ class Copy:
                         file.write(archive.extractfile(f"./asyncio/host{host}.{source}").read())
 
     def run(self, script, folder):
-        """What a script prints, and the commands in it that failed."""
+        """A script's output, and the commands in it that failed."""
         environment = {"PATH": f"{self.folder}/bin:/usr/bin:/bin", "LC_ALL": "C", "PYTHONDONTWRITEBYTECODE": "1", "HOME": self.folder}
         with tempfile.TemporaryFile("w+") as printed, tempfile.TemporaryFile("w+") as failed:
             shell = subprocess.Popen(["bash", "-c", f"exec 9>&{failed.fileno()}\n{TRAP}{script}\nwait"], cwd=folder, env=environment,
@@ -169,7 +169,7 @@ class Copy:
 
 
 def faults_of(commands, copy, folder):
-    """What is wrong with some commands of a page."""
+    """The faults of some commands of a page."""
     script = commands.script()
     if not script:
         return []
@@ -182,7 +182,7 @@ def faults_of(commands, copy, folder):
 
 
 def faults(pages, top=TOP):
-    """The faults of the commands of all pages, from their names to their texts, each with its page and line; how many were run."""
+    """The faults of all pages' commands, each with its page and line, and how many commands were run. `pages` maps names to texts."""
     found, used, count = [], set(), 0
     with tempfile.TemporaryDirectory() as folder:
         copy = Copy(folder, top)

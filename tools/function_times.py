@@ -1,15 +1,15 @@
 #!/usr/bin/env python3
-"""Says on which functions a check from nothing spent its time: function_times.py FOLDER [N].
+"""Shows which functions took longest in a check from scratch: function_times.py FOLDER [N].
 
-FOLDER is where the check keeps its work: `out/` of the crate, where nothing was kept before, and one job was at work. A check writes a file for each
-module that it has proved, so the time between two files is that of the second. The N functions that took longest are printed, 20 where N is
-missing, each with its seconds of the clock; a name without a function stands for what serves them all.
+FOLDER is where the check saves its work: `out/` of a crate that was proved from scratch, with one job. A check writes a file for
+each module that it has proved, so the time between two files is that of the second. The script prints the N slowest functions
+(default: 20), each with its elapsed seconds. A name without a function belongs to code that all functions share.
 """
 import collections
 import os
 import sys
 
-# Modules that belong to a function, behind its name.
+# Modules that belong to a function, after its name.
 PARTS = ("Lts", "Tie", "Proof", "Layout", "Kinds", "Code", "Named", "Met", "Reads", "Statement", "Given", "Contract", "Mir", "decls", "TheReach", "TheLaws")
 
 

@@ -1,11 +1,12 @@
 #!/usr/bin/env python3
-"""Runs a command (rt ci, if none is named) and says what it cost, by crate: seconds of one processor for its proof, its tests' and its edits.
+"""Runs a command (default: rt ci) and prints its cost by crate: processor seconds for the proofs, the tests and the edits (mutants).
 
     python3 tools/gate_times.py [--out FILE] [COMMAND ..]
 
-Four times a second it reads what each process below the command has used. A process is named by its --crate-name; it belongs to the edits
-where it works on a copy in a folder rt-edit-.., to the tests where it has --test. What a process uses in its last quarter of a second is not seen.
-The first edit of a crate proves the whole crate anew, and each other one what it changes; the last column has the longest of the others.
+Four times a second, it reads the time that each process below the command has used. The process's --crate-name shows its crate. A
+process that works on a copy in a folder rt-edit-.. belongs to the edits; one with --test belongs to the tests. The last quarter of a
+second of each process is missed. The first edit of a crate proves the whole crate again, and each further one only what it changes;
+the last column shows the longest of the further ones.
 """
 
 import os
@@ -44,7 +45,7 @@ def below(root, found):
 
 
 def described(pid):
-    """The crate that a process works on and for what, or None where it can't be told."""
+    """The crate that a process works on and for what, or None if that's unknown."""
     try:
         with open(f"/proc/{pid}/cmdline", "rb") as it:
             words = it.read().decode(errors="replace").split("\0")

@@ -3,21 +3,20 @@
 
     python3 tools/half_cases.py crates/test_cases/data FOLDER
 
-Each case of the first folder that its expected.txt says yes of is a recording of both hosts. Its half of a host has that
-host's lines alone, as if the other one had not been recorded, and the steps of the witness that are this host's. Moments
-stay; lines and made segments are counted anew, and the host becomes host 0. What is written answers yes, with the counts
-that the new expected.txt has:
+Each case of the first folder with a yes in its expected.txt is a recording of both hosts. Its half for a host has only that
+host's lines, as if the other one had not been recorded, and that host's steps of the witness. Moments stay the same; lines and
+made segments are renumbered, and the host becomes host 0. Each half gets a yes, with the counts in the new expected.txt:
 
     FOLDER/half-H-of-NAME.case   the half of host H
     FOLDER/expected.txt          a line for each: its name, a tab, and the line that must be printed
     FOLDER/many.txt              all of them, as one input of tcpwit many
     FOLDER/wanted.txt            what tcpwit many must print for it
 
-So the check is: tcpwit many --workers 4 < FOLDER/many.txt | diff - FOLDER/wanted.txt
+To check this, run: tcpwit many --workers 4 < FOLDER/many.txt | diff - FOLDER/wanted.txt
 
-A line belongs to the host that it names; a call on a socket number to the host at which this number was given. A call on
-a number that never was given stands in both halves. A half is left out where its host has no line, and where a case of
-version 1 shows a SYN of this host that tells a shift: version 1 doesn't look at it, version 3 does.
+A line belongs to the host that it names; a call on a socket number belongs to the host that returned this number. A call on a
+number that was never returned is in both halves. A half is left out if its host has no line, or if a case of version 1 shows a SYN
+of this host with a shift: version 1 ignores it, version 3 doesn't.
 """
 
 import pathlib
@@ -79,7 +78,7 @@ class Case:
         self.follow_effects()
 
     def follow_effects(self):
-        """Finds the call of each effect, and the hosts of the socket numbers that are given."""
+        """Finds the call of each effect, and the hosts of the socket numbers that calls return."""
         open_calls = {}
         for place, (_, label, *rest) in enumerate(self.steps):
             if label == "L":
@@ -95,19 +94,19 @@ class Case:
                     self.sockets[answer[1]] = self.host_of_call(call)
 
     def host_of_call(self, call):
-        """The host of a call; None where its socket number was never given."""
+        """The host of a call; None if its socket number was never returned."""
         if call[0] in ("listen", "open"):
             return call[1]
         return self.sockets.get(call[1])
 
     def host_of_line(self, place):
-        """The host of an event line; None where both halves have it."""
+        """The host of an event line; None if both halves have it."""
         if place in self.calls:
             return self.host_of_call(self.calls[place])
         return self.events[place][3]
 
     def host_of_step(self, place):
-        """The host of a step; None where both halves have it."""
+        """The host of a step; None if both halves have it."""
         _, label, *rest = self.steps[place]
         if label == "L":
             return self.host_of_line(int(rest[0]) - self.first)
@@ -116,11 +115,11 @@ class Case:
         return rest[0]
 
     def kept_lines(self, host):
-        """The places of the event lines that the half of a host has."""
+        """The places of the event lines in a host's half."""
         return [place for place in range(len(self.events)) if self.host_of_line(place) in (host, None)]
 
     def kept_steps(self, host):
-        """The places of the steps that the half of a host has."""
+        """The places of the steps in a host's half."""
         return [place for place in range(len(self.steps)) if self.host_of_step(place) in (host, None)]
 
 
@@ -137,13 +136,13 @@ def tells_shift(segment):
 
 
 def shows_shift(case, host):
-    """Whether an O line of the host shows a SYN that tells a shift."""
+    """Whether an O line of the host shows a SYN with a shift."""
     sent = (fields for fields in case.events if fields[2:4] == ["O", host])
     return any(tells_shift(bytes.fromhex(fields[4])) for fields in sent)
 
 
 def half_line(fields):
-    """An event line of a half: the host that it names is host 0."""
+    """An event line of a half, which names host 0."""
     moment, thread, letter, *rest = fields
     if letter in "OIT":
         rest[0] = "0"
@@ -153,7 +152,7 @@ def half_line(fields):
 
 
 def half_step(case, fields, lines, made):
-    """A step of a half, by the new numbers of lines and of made segments."""
+    """A step of a half, with the new numbers of lines and made segments."""
     moment, label, *rest = fields
     if label == "L":
         letter = case.events[int(rest[0]) - case.first][2]
@@ -181,7 +180,7 @@ def number_made(case, steps):
 
 
 def write_half(case, header, host):
-    """The text of the half of a host, and the line that must be printed; None where it is left out."""
+    """The text of a host's half, and the expected line; None if it is left out."""
     places = case.kept_lines(host)
     if not any(case.host_of_line(place) == host for place in places):
         return None
@@ -200,7 +199,7 @@ def write_half(case, header, host):
 
 
 def halves_of(name, text):
-    """The name, the text and the wanted line of each half of a case."""
+    """The name, the text and the expected line of each half of a case."""
     parts = split_case(text)
     if parts is None:
         return

@@ -1,11 +1,11 @@
 #!/usr/bin/env python3
-"""Runs tcpwit_lab on the case files: pictures, its words, and which witnesses are found again.
+"""Tests tcpwit_lab on the case files: pictures, arguments, and which witnesses it finds again.
 
     lab_cases.py TCPWIT TCPWIT_LAB CASES
 
-CASES is crates/test_cases/data. Looks whether each picture is XML, lies within its frame and has one red mark exactly where the
-verdict is no; whether bad words are answered by `bad usage`; and looks for a witness of the trace of each case that is
-answered yes. Ends with status 1 where a picture or an answer is wrong; a witness that is not found is only counted.
+CASES is crates/test_cases/data. Checks that each picture is XML, is within its frame, and has one red mark if the verdict is no and
+none otherwise; and that bad arguments get `bad usage`. Looks for a witness of the trace of each case with a yes. The status is 1 if
+a picture or an answer is wrong; a witness that isn't found is only counted.
 """
 import pathlib
 import subprocess
@@ -34,13 +34,13 @@ def run(program, words, text):
 
 
 def points(element):
-    """The points of an element, those of a text too."""
+    """The points of an element, including a text."""
     names = [("x1", "y1"), ("x2", "y2"), ("cx", "cy"), ("x", "y")]
     return [(int(element.get(x)), int(element.get(y))) for x, y in names if element.get(x) and element.get(y)]
 
 
 def faults_of_picture(picture, answered):
-    """What is wrong with a picture of a case whose verdict begins with this word."""
+    """The faults of a picture of a case whose verdict begins with this word."""
     root = ElementTree.fromstring(picture)
     width, height = int(root.get("width")), int(root.get("height"))
     for element in root.iter():
@@ -53,7 +53,7 @@ def faults_of_picture(picture, answered):
 
 
 def lines_drawn(picture):
-    """The numbers of the trace lines that a picture has."""
+    """The numbers of the trace lines in a picture."""
     texts = [element for element in ElementTree.fromstring(picture).iter() if element.get("class") == "when"]
     return [int(element.text.split()[0]) for element in texts]
 
@@ -66,7 +66,7 @@ def wrong_words(lab, case):
     for words, first, last in RANGES:
         wanted = [n for n in numbers if (first or 0) <= n <= (last or n)]
         if lines_drawn(run(lab, ["draw", *words], case)[1]) != wanted:
-            yield f"{words}: other lines than {wanted}"
+            yield f"{words}: the lines differ from {wanted}"
 
 
 def main():

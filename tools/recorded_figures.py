@@ -1,10 +1,10 @@
 #!/usr/bin/env python3
-"""How strictly recordings of this machine's kernel may be judged for a yes, as a table of kernel settings, size and loss. Run as root.
+"""Shows how strictly recordings of this machine's kernel can be judged with a yes, by kernel settings, size and loss. Run as root.
 
     sudo python3 tools/recorded_figures.py --lab PATH --runs 6
 
-Each run is a transfer between two network namespaces, recorded by importer/tcpwit-record and judged by `tcpwit_lab judge`. It counts under
-the strictest word of the header with a yes, or under "no" if no word has one; then standard error has what was refused.
+Each run is a transfer between two network namespaces, recorded by importer/tcpwit-record and judged by `tcpwit_lab judge`. It counts for
+the strictest word of the header with a yes, or for "no" if no word has one; standard error then shows what was refused.
 """
 import argparse
 import collections

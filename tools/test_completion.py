@@ -1,12 +1,12 @@
 #!/usr/bin/python3
-"""What bash completes with packaging/completion/tcpwit."""
+"""Tests what bash completes with packaging/completion/tcpwit."""
 import os
 import subprocess
 import tempfile
 import unittest
 
 TOP = os.path.dirname(os.path.dirname(os.path.abspath(__file__)))
-# The words that are typed, in an array as bash hands them over, the last one being completed; prints what it may become.
+# The typed words, in an array as bash passes them, the last one being completed; prints its completions.
 SCRIPT = """source "$1" || exit
 file=$2 bound=$(complete -p "$3") || exit
 shift 2
@@ -37,7 +37,7 @@ class Completion(unittest.TestCase):
                 pass
 
     def completed(self, *words):
-        """What the last of these words may become."""
+        """The completions of the last of these words."""
         command = os.path.join(TOP, COMMANDS.get(words[0], words[0]))
         done = subprocess.run(["bash", "--norc", "-c", SCRIPT, "bash", f"{TOP}/packaging/completion/tcpwit", command, *words], cwd=self.folder,
                               capture_output=True, text=True, check=True)

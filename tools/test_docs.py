@@ -1,5 +1,5 @@
 #!/usr/bin/python3
-"""What tools/docs.py finds in pages."""
+"""Tests what tools/docs.py finds in pages."""
 import os
 import re
 import shutil
@@ -13,12 +13,12 @@ sys.path.insert(0, os.path.dirname(os.path.abspath(__file__)))
 import docs  # noqa: E402
 import docs_commands  # noqa: E402
 
-# In place of tcpwit and tcpwit_lab: prints its words, and ends with the status that the first of them is.
+# Replaces tcpwit and tcpwit_lab: prints its arguments, and ends with the first one as its status.
 PROGRAM = """#!/bin/sh
 echo "$@"
 exit $1
 """
-# What the commands read.
+# The files that the commands read.
 READ = ("examples/handshake.case", "crates/test_cases/data/kernel/lost-fin.trace", "importer/tests/data/recordings.tar.xz")
 
 

@@ -1,5 +1,5 @@
 #!/usr/bin/python3
-"""What both programs print if they are asked for help or for their version, and what tcpwit_lab says of files that it can't use."""
+"""Tests the help and version of both programs, and tcpwit_lab's messages about files that it can't use."""
 import os
 import re
 import shlex
@@ -29,7 +29,7 @@ def run(program, *words, **ends):
 
 class Help(unittest.TestCase):
     def help_of(self, program, *words):
-        """The text that the words ask for; nothing stands on standard error, and the status is 0."""
+        """The help text for these arguments; standard error must be empty and the status 0."""
         told, said, status = run(program, *words)
         self.assertEqual((said, status), ("", 0), words)
         return told
@@ -81,7 +81,7 @@ class Help(unittest.TestCase):
 
 
 class Files(unittest.TestCase):
-    """tcpwit_lab names what it can't use, with the system's reason; tcpwit says nothing on standard error."""
+    """tcpwit_lab names the file that it can't use, with the system's reason; tcpwit writes nothing to standard error."""
 
     def test_input_that_cannot_be_read(self):
         # The scripts at the top are Python, which refuses a folder as standard input.

@@ -1,5 +1,5 @@
 #!/usr/bin/python3
-"""What packaging/build runs, packs and refuses. No toolchain is needed: a script replaces it, and /bin/true replaces both programs."""
+"""Tests what packaging/build runs, packs and refuses. This needs no toolchain: a script replaces it, and /bin/true replaces both programs."""
 import gzip
 import os
 import re
@@ -9,12 +9,12 @@ import tempfile
 import unittest
 
 TOP = os.path.dirname(os.path.dirname(os.path.abspath(__file__)))
-# What the package has files of.
+# The folders whose files are in the package.
 FOLDERS = ("docs", "examples", "importer", "packaging", "stacks")
 FILES = (".gitignore", "CHANGELOG.md", "README.md", "tools/unproved.py", "crates/verdict/src/rule.rt")
 TOOLS = ("dpkg-deb", "git", "objdump", "strip", "xz")
-# Replaces the toolchain. It records each `rt run` with the first line that it reads. It builds the program once, and leaves it as it is after that, since
-# no source changes. Then it prints what the program should print.
+# Replaces the toolchain. It records each `rt run` with the first line that it reads. It builds the program once and then leaves it unchanged, since
+# no source changes. Then it prints the program's expected output.
 RT = """#!/bin/sh
 name=$(basename "$PWD")
 case $1 in
@@ -42,7 +42,7 @@ def lines_of(path):
     return read(f"{TOP}/{path}").decode().splitlines()
 
 
-# How `rt run` is called for each program, and what is recorded of that.
+# How `rt run` is called for each program, and what is recorded about it.
 CALLS = {name: f"run -- {' '.join(lines_of(f'crates/{name}/args'))}" for name in ("tcpwit", "tcpwit_lab")}
 RUNS = [f"{name} {call} {lines_of(f'crates/{name}/stdin')[0]}" for name, call in CALLS.items()]
 
@@ -67,7 +67,7 @@ class Build(unittest.TestCase):
 
     @staticmethod
     def crate_files():
-        """The files that say how a program is run."""
+        """The files with a program's arguments, input and output."""
         names = [f"crates/{crate}/{name}" for crate in ("tcpwit", "tcpwit_lab") for name in ("args", "stdin", "stdout", "status")]
         return [name for name in names if os.path.exists(f"{TOP}/{name}")]
 
@@ -80,11 +80,11 @@ class Build(unittest.TestCase):
         os.chmod(path, 0o755)
 
     def toolchain(self, instead=""):
-        """Puts a script in its place, which may do something else instead of building."""
+        """Writes the script that replaces the toolchain; it may do something else instead of building."""
         self.write("bin/rt", RT.format(folder=self.folder, instead=instead))
 
     def environment(self):
-        """The variables of each command: PATH leads to the script, and to no toolchain of this machine."""
+        """The environment of each command: PATH has the script, but not this machine's toolchain."""
         user = {f"GIT_{role}_{key}": value for role in ("AUTHOR", "COMMITTER") for key, value in (("NAME", "Someone"), ("EMAIL", "someone@example.org"))}
         return {"PATH": f"{self.folder}/bin:/usr/bin:/bin", "HOME": self.folder, "PYTHONDONTWRITEBYTECODE": "1", "LC_ALL": "C.UTF-8", **user}
 
@@ -104,7 +104,7 @@ class Build(unittest.TestCase):
         return done.returncode, done.stdout.splitlines(), done.stderr
 
     def runs(self):
-        """What the toolchain was called for since the last look."""
+        """The toolchain's calls since the last check."""
         path = f"{self.folder}/runs"
         if not os.path.exists(path):
             return []
@@ -113,7 +113,7 @@ class Build(unittest.TestCase):
         return lines
 
     def packages(self):
-        """The files that were left, by their names."""
+        """The names of the files that were created."""
         return {name: read(f"{self.out}/{name}") for name in sorted(os.listdir(self.out))} if os.path.exists(self.out) else {}
 
     def unpacked(self):
@@ -224,7 +224,7 @@ class Build(unittest.TestCase):
         status, lines, error = self.build("--unproved")
         self.assertEqual((status, self.runs()), (0, []), error)
         self.assertEqual([re.sub(r"_.*_amd64", "", name) for name in self.packages()], ["SHA256SUMS", "tcpwit-unproved.deb", "tcpwit-unproved.tar.xz"])
-        self.assertEqual(lines[3], f"commit    {self.git('rev-parse', 'HEAD')} and changes that have no commit")
+        self.assertEqual(lines[3], f"commit    {self.git('rev-parse', 'HEAD')} and uncommitted changes")
         self.assertIn("proofs    NOT PROVED", read(f"{self.unpacked()}/usr/share/doc/tcpwit-unproved/BUILT").decode())
 
 

@@ -1,5 +1,5 @@
 #!/usr/bin/python3
-"""Which programs the scripts of a clone run, and what they say if there is none. No toolchain is needed: scripts take its place."""
+"""Tests which programs the scripts of a clone run, and their messages if there is none. This needs no toolchain: scripts replace it."""
 import os
 import pwd
 import shutil
@@ -10,15 +10,15 @@ import unittest
 
 TOP = os.path.dirname(os.path.dirname(os.path.abspath(__file__)))
 NO_PROGRAM = 127
-# What the scripts need of a repository.
+# The files of a repository that the scripts need.
 FOLDERS = ("importer/tcpwit_import", "stacks/runner")
 FILES = ("tcpwit", "tcpwit_lab", "tools/unproved.py", "importer/tcpwit-import", "stacks/run", "stacks/scenarios/data-bulk.scenario")
-# A program that answers to `judge` of nothing, as tcpwit_lab does, and to everything else by its name.
+# A program that answers `judge` without input as tcpwit_lab does, and prints its name for everything else.
 PROGRAM = """#!/bin/sh
 [ "$*" = judge ] && exit 2
 echo "this is $(basename "$0")"
 """
-# In place of the toolchain: `rt doc` names its folder, and `rt try` hands a large module to the compiler beside it.
+# Replaces the toolchain: `rt doc` prints its folder, and `rt try` passes a large module to the compiler next to it.
 RT = """#!/bin/sh
 case $1 in
 doc) echo {kit}/doc ;;
@@ -58,12 +58,12 @@ class Clone(unittest.TestCase):
         os.chmod(path, 0o755)
 
     def built(self, *names):
-        """Puts programs where ./tcpwit and ./tcpwit_lab keep them."""
+        """Writes programs to where ./tcpwit and ./tcpwit_lab cache them."""
         for name in names:
             self.write(f"clone/.built/{name}", PROGRAM)
 
     def toolchain(self):
-        """Puts the scripts in its place."""
+        """Writes the scripts that replace the toolchain."""
         kit = f"{self.folder}/kit"
         for name in ("bin/rt", "bin/rtlib.py"):
             self.write(f"kit/{name}", RT.format(kit=kit, folder=self.folder))
@@ -72,13 +72,13 @@ class Clone(unittest.TestCase):
         os.symlink(f"{kit}/bin/rt", f"{self.folder}/bin/rt")
 
     def run_in_clone(self, *words, **variables):
-        """Status, output and errors of a command, whose PATH has no programs of this machine's toolchain."""
+        """Status, output and errors of a command whose PATH lacks this machine's toolchain."""
         environment = {"PATH": f"{self.folder}/bin:/usr/bin:/bin", "PYTHONDONTWRITEBYTECODE": "1", **variables}
         done = subprocess.run(words, cwd=self.top, env=environment, capture_output=True, text=True, timeout=60, check=False)
         return done.returncode, done.stdout, done.stderr
 
     def found(self, name):
-        """The program that the importer or the suite for stacks finds, with what is said on standard error."""
+        """The program that the importer or the suite for stacks finds, and its messages on standard error."""
         if name == "importer":
             code = "import sys; sys.path.insert(0, 'importer'); from tcpwit_import import judging; print(judging.lab(None))"
         else:
@@ -142,7 +142,7 @@ class Clone(unittest.TestCase):
         os.remove(f"{self.top}/tools/unproved.py")
         status, _, error = self.run_in_clone("stacks/run", "true", "data-bulk")
         self.assertEqual(status, 2)
-        self.assertIn("tcpwit and tcpwit_lab aren't found. The package tcpwit has both", error)
+        self.assertIn("tcpwit and tcpwit_lab aren't found. The package tcpwit contains both", error)
         for name in ("tcpwit", "tcpwit_lab"):
             self.write(f"bin/{name}", PROGRAM)
         self.assertEqual(self.found("importer"), ([f"{self.folder}/bin/tcpwit_lab"], ""))

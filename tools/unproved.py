@@ -1,15 +1,16 @@
 #!/usr/bin/env python3
-"""Builds a program of this repository without proving it, and keeps what it built.
+"""Builds a program of this repository without proving it, and keeps the result.
 
     python3 tools/unproved.py NAME OUT [-O1]
     python3 tools/unproved.py --keep NAME ..
 
-NAME is a crate with a `main`, OUT the file of the program. With --keep, the program of each crate is built as `./tcpwit` builds it, unless a current
-one stands, and its file is printed. The status is 127 if there is no program and none can be built.
+NAME is a crate with a `main`, OUT the file of the program. With --keep, the program of each crate is built as `./tcpwit` builds it,
+unless a current one exists, and its path is printed. The status is 127 if there is no program and none can be built.
 
-`rt try` makes a module of the whole program, compiles and runs it, and keeps nothing. This takes the module that `rt try` hands to its compiler, and compiles and links it with the kit's own tools. The module has a
-test in place of each proof: where one fails the program stops, in place of going on with a wrong value. It leans on how the kit of
-November 2026 lays out its folder.
+`rt try` builds a module of the whole program, compiles and runs it, and keeps nothing. This script takes the module that `rt try`
+passes to its compiler, and compiles and links it with the toolchain's own tools. The module has a run-time check instead of each
+proof: if one fails, the program stops instead of continuing with a wrong value. The script depends on the folder layout of the
+November 2026 toolchain.
 """
 import fcntl
 import glob
@@ -23,11 +24,11 @@ import tempfile
 TOP = os.path.dirname(os.path.dirname(os.path.abspath(__file__)))
 FLAGS = """--target=x86_64-unknown-linux-gnu -march=x86-64 -ffunction-sections -fdata-sections --no-default-config -no-canonical-prefixes
  -fintegrated-cc1 -c -x ir -fPIE""".split()
-# The status if there is no program. `tcpwit` itself never ends with it, so nobody takes it for a verdict.
+# The status if there is no program. `tcpwit` itself never ends with it, so it can't be mistaken for a verdict.
 NO_PROGRAM = 127
 INSTALL = """  Without the toolchain, install the Debian package, which contains the proved programs (packaging/README.md).
-  With it, put its folder `bin` into PATH; under sudo, PATH may be another, so run ./{name} once without sudo."""
-# Keeps the module of the whole program, and ends the try there. The first module that `rt try` compiles is a small one.
+  With it, add its folder `bin` to PATH. sudo may use another PATH, so run ./{name} once without sudo."""
+# Saves the module of the whole program, and stops `rt try` there. The first module that `rt try` compiles is a small one.
 KEEPER = """#!/bin/sh
 for word in "$@"; do
   case "$word" in *.bc) if [ "$(stat -c %s "$word")" -gt 100000 ]; then cp "$word" {kept}; exit 1; fi;; esac
@@ -49,12 +50,12 @@ def need_toolchain(name):
 
 
 def kit():
-    """The folder of the kit."""
+    """The folder of the toolchain."""
     return os.path.dirname(os.path.realpath(subprocess.check_output(["rt", "doc"], text=True).strip()))
 
 
 def kit_beside(folder, kept):
-    """A folder like the kit's, whose compiler keeps what it is handed."""
+    """A folder like the toolchain's, whose compiler saves the module that it gets."""
     whole = kit()
     for at in glob.glob(f"{whole}/*") + glob.glob(f"{whole}/bin/*") + glob.glob(f"{whole}/toolchain/*"):
         to = os.path.join(folder, os.path.relpath(at, whole))
@@ -77,7 +78,7 @@ def kit_beside(folder, kept):
 
 
 def module_of(name, folder):
-    """The module of a program, a file below the folder."""
+    """The module of a program, as a file in the folder."""
     kept = f"{folder}/kept.bc"
     kit_beside(f"{folder}/kit", kept)
     tried = subprocess.run(
@@ -89,7 +90,7 @@ def module_of(name, folder):
 
 
 def linked(objects, out):
-    """Links a program of these objects, with the kit's linker and libraries."""
+    """Links a program from these objects, with the toolchain's linker and libraries."""
     whole = kit()
     lib = f"{whole}/toolchain/lib"
     before = [f"{lib}/{name}" for name in ("Scrt1.o", "crti.o", "crtbeginS.o")]
@@ -114,7 +115,7 @@ def build(name, out, level="-O0"):
 
 
 def crates_of(name):
-    """The crate and those of the repository that it stands on."""
+    """The crate and the crates of the repository that it depends on."""
     with open(f"{TOP}/crates.txt", encoding="utf-8") as file:
         rows = [line.split(":") for line in file if ":" in line and not line.startswith("#")]
     below = {words.split()[0]: names.split() for words, names in rows}
@@ -128,18 +129,18 @@ def crates_of(name):
 
 
 def newest_source(name):
-    """When a source of the crate, or of one below it, was last written."""
+    """When a source of the crate, or of one that it depends on, was last written."""
     sources = [path for crate in crates_of(name) for path in glob.glob(f"{TOP}/crates/{crate}/src/**/*.rt", recursive=True)]
     return max(os.stat(path).st_mtime for path in sources)
 
 
 def is_current(program, name):
-    """Whether a program is there, and no source of its crate is newer."""
+    """Whether a program exists, and no source of its crate is newer."""
     return os.path.exists(program) and newest_source(name) < os.stat(program).st_mtime
 
 
 def kept(name):
-    """The program of a crate: the proved one where it stands, else an unproved one, which is built where none is kept."""
+    """The program of a crate: the proved one if it exists, else an unproved one, built if it isn't cached."""
     proved, unproved = f"{TOP}/crates/{name}/out/{name}", f"{TOP}/.built/{name}"
     for program in (proved, unproved):
         if is_current(program, name):
@@ -163,7 +164,7 @@ def build_once(name, program):
 
 
 def leave_sudo():
-    """Goes on as the user who called sudo, if the repository is theirs: otherwise they couldn't build the program again."""
+    """Continues as the user who called sudo, if they own the repository: otherwise, they couldn't build the program again."""
     owner = os.stat(TOP).st_uid
     if os.geteuid() == 0 and os.environ.get("SUDO_UID") == str(owner):
         entry = pwd.getpwuid(owner)

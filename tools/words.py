@@ -1,10 +1,10 @@
 #!/usr/bin/env python3
-"""Runs the built program with words that are no text, empty, very long or very many, and with names of files of all kinds.
+"""Runs the built program with arguments that aren't UTF-8, are empty, very long or very many, and with file names of all kinds.
 
     words.py PROGRAM
 
-Each run has the output and the status that are wanted, in `rows` and `named`. What differs is printed; the last line has the
-counts, and the exit status is 1 where anything differed.
+`rows` and `named` have the expected output and status of each run. Differences are printed; the last line has the counts, and the
+exit status is 1 if anything differed.
 """
 import os
 import subprocess
@@ -15,7 +15,7 @@ USAGE = b"bad usage\n", 3
 DEVICE = b"bad device\n", 5
 HEX = b"bad segment hex\n", 2
 YES = b"yes 0 0\n", 0
-# The longest word that Linux hands to a program, without its NUL.
+# The longest argument that Linux passes to a program, without its NUL.
 LONGEST_WORD = 131_071
 SYN = b"0fa00050ffffffff000000005002ffff00000000"
 SYN_LINE = b"src 4000 dst 80 seq 4294967295 ack 0 flags S wnd 65535 mss - len %d first 0\n"
@@ -24,7 +24,7 @@ WITNESS = b"witness 1\n"
 
 
 def rows():
-    """Words, and what is wanted."""
+    """Arguments, with the expected output and status."""
     odd = [b"\xff", b"\xc3", b"\xed\xa0\x80", b"\xc0\xaf", b"\xf4\x90\x80\x80", "é".encode(), "\u202e".encode(), b"\x01", b"\n", b" "]
     yield [], USAGE
     for word in [b"", *odd, b"c" * LONGEST_WORD, b"\xff" * LONGEST_WORD]:
@@ -56,20 +56,20 @@ def rows():
         yield [b"many", *[b"--workers=2"] * count], USAGE
 
 
-# Names of files that are there.
+# Names of files that exist.
 NAMES = [b"case", b"a b", "é".encode(), "日本".encode(), b"a=b", b"=", b"-", b"-dash", b"--trace", b"?", b"??", b"new\nline", b"n" * 240, b"./a b"]
 
 
 def option(name, value):
-    """Both spellings of an option; a value that begins with a dash has one."""
+    """Both spellings of an option; for a value that begins with a dash, there is only one."""
     return [[name + b"=" + value]] if value.startswith(b"-") else [[name + b"=" + value], [name, value]]
 
 
 def named():
-    """The names of a trace and of a witness, and what is wanted."""
+    """The names of a trace and a witness, with the expected output and status."""
     for name in NAMES:
         yield name, name, YES
-    # the files `?` and `??` are there: a name that is no text must not open them
+    # the files `?` and `??` exist: a name that isn't text must not open them
     for name in (b"\xff", b"\xc3\xa9\xff", b"\xc3"):
         yield name, b"case", USAGE
         yield b"case", name, USAGE

@@ -1,1 +1,1 @@
-"""From captures and logs of system calls to traces for tcpwit."""
+"""Converts captures and logs of system calls into traces for tcpwit."""

@@ -1,4 +1,4 @@
-"""From system calls to the calls of a trace."""
+"""Converts system calls into the calls of a trace."""
 from dataclasses import dataclass, field
 from ipaddress import ip_address
 from itertools import count
@@ -16,7 +16,7 @@ INTERRUPTED = ("EINTR", "ERESTARTSYS", "ERESTARTNOINTR", "ERESTARTNOHAND", "ERES
 
 
 class Data(NamedTuple):
-    """Bytes of a call: those that the log has, where all of them stand in the stream of the end that sent them, and whether the call sends."""
+    """Bytes of a call: those in the log, the place of all of them in the stream of the end that sent them, and whether the call sends."""
     known: bytes
     end: Any
     offset: int
@@ -25,8 +25,8 @@ class Data(NamedTuple):
 
 
 class Action(NamedTuple):
-    """A call of the trace. A word may be an endpoint, whose number is written, or data. Without an answer the call didn't end.
-    `order` is its place among the calls; `turn` that of its begin, which may be moved to just after another call's."""
+    """A call of the trace. A word may be data or an endpoint, whose number is written. A call without an answer didn't end.
+    `order` is its place among the calls; `turn` is that of its beginning, which may be moved to just after another call's."""
     begin: int
     end: int | None
     thread: Any
@@ -41,7 +41,7 @@ class Action(NamedTuple):
 
 @dataclass(eq=False)
 class Endpoint:
-    """What a socket number of the trace names: a listener, or an end of a connection that was opened or accepted."""
+    """What a socket number of the trace refers to: a listener, or an end of a connection that was opened or accepted."""
     role: str
     host: int
     local: tuple
@@ -65,13 +65,13 @@ class Endpoint:
 
     @property
     def last_end(self):
-        """The end of its last call that ended."""
+        """The moment when its last finished call ended."""
         return max((action.end for action in self.actions if action.end is not None), default=0)
 
 
 @dataclass(eq=False)
 class Socket:
-    """A TCP socket, whatever became of it."""
+    """A TCP socket in any state."""
     place: str
     bound: tuple = (b"", 0)
     endpoint: Endpoint | None = None
@@ -80,7 +80,7 @@ class Socket:
 
 
 def address_of(value):
-    """Address and port of a socket address that strace printed, mapped addresses as IPv4; None if it is of neither family."""
+    """Address and port of a socket address that strace printed, with mapped addresses as IPv4; None for other families."""
     if not isinstance(value, dict):
         return None
     port = next((value[key] for key in ("sin_port", "sin6_port") if key in value), None)
@@ -98,16 +98,16 @@ def address_of(value):
 
 
 def is_any(address):
-    """Whether an address is none, or the wildcard."""
+    """Whether an address is missing or the wildcard."""
     return not any(address)
 
 
 class HostCalls:
-    """Reads the events of one host's logs. `host` is 0, 1, or None if the log has the calls of both hosts."""
+    """Processes the events of one host's logs. `host` is 0, 1, or None if the log has the calls of both hosts."""
 
     def __init__(self, host, connections, captures, notes):
         self.host, self.captures, self.notes = host, captures, notes
-        # Connections that no call has claimed yet, by the server's port.
+        # Connections that no call has claimed yet, keyed by the server's port.
         self.unopened, self.unaccepted, self.completions = {}, {}, {}
         for connection in connections:
             self.unopened.setdefault(connection.server[1], []).append(connection)
@@ -130,16 +130,16 @@ class HostCalls:
 
     @staticmethod
     def handle(handler, event):
-        """Lets a handler read a call, whose words may be damaged."""
+        """Passes a call, whose arguments may be damaged, to a handler."""
         try:
             handler(event)
         except (AttributeError, LookupError, TypeError, ValueError) as error:
-            raise Problem(f"{event.place}: the words of {event.name} can't be read ({error})",
-                          "record again; if the line is whole, this is a fault of the importer: report it with the line") from error
+            raise Problem(f"{event.place}: the arguments of {event.name} can't be read ({error})",
+                          "record again; if the line is complete, this is a bug in the importer: report it with the line") from error
 
     def order_accepts(self, listener):
-        """Lets accepts of several threads at once begin in the order in which their connections were completed: the queue gave
-        them in that order, so none had its effect before an earlier one began."""
+        """Orders the beginnings of concurrent accepts by when their connections were completed: the queue returned the connections
+        in that order, so no accept had its effect before an earlier one began."""
         places = [place for place, action in enumerate(listener.actions)
                   if action.verb == "accept" and action.answer and action.answer[0] == "ok" and action.answer[1].connection]
         places.sort(key=lambda place: self.completed(listener.actions[place].answer[1].connection) or 0)
@@ -155,7 +155,7 @@ class HostCalls:
     # Descriptors.
 
     def socket_of(self, event):
-        """The TCP socket that a call's first argument names, and all arguments; None twice if it is none."""
+        """The TCP socket that a call's first argument names, and all arguments; None twice if it isn't a TCP socket."""
         number = whole_number(event.text)
         known = self.processes.knows(event.process, number)
         description = self.processes.get(event.process, number)
@@ -166,7 +166,7 @@ class HostCalls:
         return description.socket, arguments(event.text)
 
     def put(self, event, number, description, close_on_exec=False):
-        """Gives a descriptor to a socket; what it was before may be closed by that."""
+        """Assigns a descriptor to a socket; this may close the socket that had it before."""
         dropped = self.processes.put(event.process, number, description, close_on_exec)
         if dropped:
             self.close_socket(event, event.process, dropped)
@@ -217,13 +217,13 @@ class HostCalls:
 
     def on_io_uring_setup(self, event):
         if event.result is not None and event.result >= 0:
-            raise Problem(f"{event.place}: the program uses io_uring, whose operations strace doesn't see",
-                          "let the program use system calls (most have an option for it)")
+            raise Problem(f"{event.place}: the program uses io_uring, whose operations strace can't see",
+                          "make the program use system calls instead (most programs have an option for this)")
 
     # The trace's calls.
 
     def tell(self, event, endpoint, verb, words, answer, begin=None, end=None, thread=None):
-        """Adds a call of the trace. A thread's call begins no earlier than its last one ended."""
+        """Adds a call to the trace. A thread's call doesn't begin before its previous one ended."""
         thread = (self.host, thread or event.process)
         begin = max(event.begin if begin is None else begin, self.free_at.get(thread, 0))
         end = event.end if end is None else end
@@ -235,11 +235,11 @@ class HostCalls:
                                        order, (order, 0)))
 
     def host_of(self, role):
-        """The host of an endpoint: in a log of both hosts those that connect are host 0's."""
+        """The host of an endpoint. In a log of both hosts, sockets that connect belong to host 0."""
         return self.host if self.host is not None else 0 if role == "open" else 1
 
     def endpoint(self, event, socket):
-        """The socket's endpoint; None, and noted, if its calls can't be told."""
+        """The socket's endpoint. If a trace can't express its calls, notes that and returns None."""
         endpoint = socket.endpoint
         if endpoint is None or endpoint.gone:
             self.notes.leave_out(f"{event.name} on sockets that are not connected", event.place)
@@ -247,7 +247,7 @@ class HostCalls:
         return endpoint
 
     def failed(self, event, endpoint):
-        """The trace's answer for an error; None, and noted, if it has none."""
+        """The trace's answer for an error. If it has none, notes that and returns None."""
         if event.error in INTERRUPTED:
             self.notes.leave_out("interrupted calls", event.place)
         elif event.error in ("EAGAIN", "EWOULDBLOCK"):
@@ -260,7 +260,7 @@ class HostCalls:
         elif event.error == "EPIPE" and endpoint.shut:
             return ("closed",)
         elif event.error == "EPIPE":
-            # The system tells a fault once, and EPIPE from then on, or at once after the peer's FIN. The machine keeps the fault.
+            # The system reports a fault once and EPIPE afterwards, or EPIPE at once after the peer's FIN. The model keeps reporting the fault.
             endpoint.fault = endpoint.fault or "reset"
             return (endpoint.fault,)
         else:
@@ -290,14 +290,14 @@ class HostCalls:
         if not socket:
             return
         if socket.endpoint and not socket.endpoint.gone:
-            self.notes.leave_out("listen on a socket that listens already", event.place)
+            self.notes.leave_out("listen on a socket that is already listening", event.place)
             return
         if event.result != 0 and event.error != "EADDRINUSE":
             self.notes.leave_out(f"listen answered by {event.error}", event.place)
             return
         for other in self.endpoints:
             if other.role == "listener" and other.local == socket.bound and socket.bound[1] and not other.gone and event.result == 0:
-                self.notes.change("listeners that share a port, told as one", event.place)
+                self.notes.change("listeners that share a port, merged into one", event.place)
                 socket.endpoint = other
                 other.shared += 1
                 return
@@ -317,7 +317,7 @@ class HostCalls:
         if socket.endpoint and socket.endpoint.pending:
             self.awaited(event, socket.endpoint)
         elif event.error in NOTHING_SENT:
-            self.notes.leave_out("connects that failed before a segment", event.place)
+            self.notes.leave_out("connects that failed before sending a segment", event.place)
         else:
             self.opened(event, socket, remote)
 
@@ -332,7 +332,7 @@ class HostCalls:
             self.awaited(event, endpoint)
 
     def awaited(self, event, endpoint):
-        """What a connect that waits, or a later one, says of the connection."""
+        """The call for what a waiting or later connect reports about the connection."""
         if event.error == "EALREADY":
             self.tell(event, endpoint, "await", (), ("again",))
         elif event.result == 0 or event.error == "EISCONN":
@@ -427,7 +427,7 @@ class HostCalls:
             self.sent(event, target.socket, b"", whole_number(words[4]))
 
     def sent(self, event, socket, known, asked):
-        """A call that sends: `known` are the bytes that the log has of the `asked` ones."""
+        """A call that sends `asked` bytes: `known` are those that the log has."""
         endpoint = self.endpoint(event, socket)
         if not endpoint or asked == 0:
             return
@@ -449,9 +449,9 @@ class HostCalls:
         endpoint.sent += accepted
 
     def sent_in_parts(self, event, endpoint, known, accepted):
-        """More than a line may hold, or bytes that the log lacks: what was accepted, in parts, all but the last at the begin."""
+        """Sends more than a line may hold, or bytes that the log lacks: adds the accepted bytes in parts, all but the last at the beginning."""
         if accepted > LONGEST:
-            self.notes.change("calls of more than 65,535 bytes, told in parts", event.place)
+            self.notes.change("calls of more than 65,535 bytes, split into parts", event.place)
         for start in range(0, accepted, LONGEST):
             length = min(LONGEST, accepted - start)
             data = Data(known[start:start + length], endpoint.own_end, endpoint.sent + start, length, True)
@@ -515,10 +515,10 @@ class HostCalls:
                 self.tell(event, endpoint, "recv", (room,), answer)
 
     def received_data(self, event, endpoint, known, room):
-        """Bytes that came: in parts if they are more than a line may hold, all but the first at the end."""
+        """Adds received bytes: in parts if they are more than a line may hold, all but the first at the end."""
         came = event.result
         if came > LONGEST:
-            self.notes.change("calls of more than 65,535 bytes, told in parts", event.place)
+            self.notes.change("calls of more than 65,535 bytes, split into parts", event.place)
         for start in range(0, came, LONGEST):
             length = min(LONGEST, came - start)
             data = Data(known[start:start + length], endpoint.connection.other(endpoint.own_end), endpoint.received + start, length, False)
@@ -544,25 +544,25 @@ class HostCalls:
         if reads and endpoint.role != "listener":
             socket.reading_shut = True
             if not writes:
-                self.notes.leave_out("shutdowns of reading, which the machine doesn't have", event.place)
+                self.notes.leave_out("shutdowns of reading, which the model doesn't have", event.place)
 
     def shut_listener(self, event, endpoint, reads):
-        """Linux: a listener whose reading is shut listens no more, and one whose writing is shut stays as it is."""
+        """On Linux, shutting down a listener's reading stops it from listening; shutting down its writing changes nothing."""
         if reads and event.result == 0:
-            self.notes.change("shutdowns of a listener, told as its close", event.place)
+            self.notes.change("shutdowns of a listener, written as its close", event.place)
             self.tell(event, endpoint, "close", (), ("ok",))
             endpoint.gone = True
         else:
             self.notes.leave_out("shutdowns of a listener that change nothing", event.place)
 
     def close_at_once(self, event, sockets):
-        """An exit or a call closes several sockets. The log doesn't show when each is closed, so each has a thread of its own
+        """Closes the sockets of an exit or a call. The log doesn't show when each is closed, so each gets a thread of its own
         and may be closed at any moment of the event."""
         for number, socket in enumerate(sockets):
             self.close_socket(event, (event.process, "closes", number), socket)
 
     def close_socket(self, event, thread, socket):
-        """The last descriptor of a socket is closed."""
+        """Closes a socket whose last descriptor was closed."""
         endpoint = socket.endpoint
         if endpoint is None or endpoint.gone:
             return
@@ -577,12 +577,12 @@ class HostCalls:
     # Connections of the captures.
 
     def moments(self, connection):
-        """The packets of a connection as this host's captures show them, or any capture if this host has none."""
+        """The packets of a connection in this host's captures, or in any capture if this host has none."""
         own = [connection.seen[name] for name in self.captures if name in connection.seen]
         return own or list(connection.seen.values())
 
     def claim_open(self, local, remote, begin):
-        """The first connection to this address that begins after the call, and that no other call opened."""
+        """The first connection to this address that begins after the call and wasn't opened by another call."""
         for connection in self.unopened.get(remote[1], []):
             if ("open" in connection.claimed or not (is_any(remote[0]) or connection.server[0] == remote[0])
                     or (local[1] and connection.client[1] != local[1])
@@ -595,7 +595,7 @@ class HostCalls:
         return None
 
     def claim_child(self, listener, remote, end):
-        """The connection that an accept gave: that of the address it tells, or the first that was completed."""
+        """The connection that an accept returned: the one with the returned address, else the first that was completed."""
         found = None
         for connection in self.unaccepted.get(listener.local[1], []):
             if "child" in connection.claimed or (remote and connection.client != remote) or self.completed(connection) is None:
@@ -610,25 +610,25 @@ class HostCalls:
         return self.claim(found, "child") if found else None
 
     def completed(self, connection):
-        """When the handshake was completed, as this host's captures show it."""
+        """When the handshake was completed, according to this host's captures."""
         if connection not in self.completions:
             self.completions[connection] = connection.completed(self.captures)
         return self.completions[connection]
 
     def claim(self, connection, role):
-        """Notes that a call of this host gave an end of a connection."""
+        """Records that a call of this host returned an end of a connection."""
         connection.claimed.add(role)
         connection.hosts[connection.client if role == "open" else connection.server] = self.host_of(role)
         return connection
 
 
 def _gathered(buffers):
-    """The bytes of all buffers that a call names, and how many they have room for."""
+    """The bytes of all buffers that a call names, and how many bytes fit into them."""
     known, room = b"", 0
     for buffer in buffers if isinstance(buffers, list) else []:
         if isinstance(buffer, dict):
             base = buffer.get("iov_base")
-            # What follows a cut string stands elsewhere in the stream.
+            # Bytes after a truncated string have another place in the stream.
             if isinstance(base, Text) and len(known) == room:
                 known += base.data
             room += whole_number(buffer.get("iov_len", "")) or 0

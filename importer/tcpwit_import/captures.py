@@ -1,4 +1,4 @@
-"""Reading captures: pcap and pcapng files, of Ethernet, Linux cooked, raw and loopback links, with IPv4 and IPv6."""
+"""Reads captures: pcap and pcapng files of Ethernet, Linux cooked, raw and loopback links, with IPv4 and IPv6."""
 import os
 import struct
 from ipaddress import ip_address
@@ -19,14 +19,14 @@ LOOPBACKS = (0, 108)
 RAW = (12, 14, 101, 228, 229)
 VLANS = (0x8100, 0x88A8)
 OUTGOING = 4
-RECORD_AGAIN = "record the whole packets: tcpdump -s 0"
+RECORD_AGAIN = "record complete packets: tcpdump -s 0"
 BUFFER = "record again with a larger buffer: tcpdump -B 65536 --immediate-mode -U"
 
 
 class Packet:
-    """A captured segment: its moment in nanoseconds, where it came from and went to, and its bytes from the TCP header on.
+    """A captured segment: its moment in nanoseconds, its source and destination, and its bytes from the TCP header on.
 
-    `outgoing` says whether the capture marked it as sent by its host; None if the link's header doesn't say.
+    `outgoing` states whether the capture marked it as sent by its host; None if the link's header doesn't show it.
     """
     __slots__ = ("moment", "source", "target", "segment", "outgoing", "place")
 
@@ -71,7 +71,7 @@ def read_capture(name, notes, may_be_empty=False):
         raise Problem(f"{name}: {error.strerror}", "name a capture that can be read") from error
     if count == 0 and not may_be_empty:
         raise Problem(f"{name}: the capture is empty", "start the capture before the programs, at the interface that they use; "
-                      "if all segments were lost in transit, name that host's address by --zero or --one")
+                      "if all segments were lost in transit, name that host's address with --zero or --one")
     return packets
 
 
@@ -87,7 +87,7 @@ def _packets(name, file, notes):
             if packet:
                 packets.append(packet)
     except (struct.error, dpkt.Error, EOFError) as error:
-        raise Problem(f"{name}: ends within packet {count + 1}", "stop tcpdump by SIGINT or SIGTERM and wait until it has ended") from error
+        raise Problem(f"{name}: ends within packet {count + 1}", "stop tcpdump with SIGINT or SIGTERM and wait until it has ended") from error
     except ValueError as error:
         raise Problem(f"{name}: {error} after packet {count}", "copy the file again, or record again") from error
     finally:
@@ -107,7 +107,7 @@ def _frames(name, file):
 
 
 def _pcap(name, file):
-    """dpkt's reader doesn't say when a file ends within a packet, and gives moments as floats, so its headers are used one by one."""
+    """dpkt's reader doesn't report a file that ends within a packet, and returns moments as floats, so only its headers are used."""
     magic = struct.unpack(">I", file.read(4))[0]
     file.seek(0)
     swapped = magic in (dpkt.pcap.PMUDPCT_MAGIC, dpkt.pcap.PMUDPCT_MAGIC_NANO, dpkt.pcap.PACPDOM_MAGIC)
@@ -124,7 +124,7 @@ def _pcap(name, file):
 
 
 def _pcapng(name, file):
-    """dpkt's reader of pcapng knows one interface and keeps moments as floats, so the blocks are read here."""
+    """dpkt's pcapng reader supports one interface and stores moments as floats, so the blocks are read here."""
     order, links = "<", []
     while head := file.read(8):
         if head[:4] == b"\x0a\x0d\x0d\x0a":
@@ -142,7 +142,7 @@ def _pcapng(name, file):
         elif kind == dpkt.pcapng.PCAPNG_BT_EPB:
             number, high, low, captured, _ = struct.unpack(order + "5I", block[8:28])
             if number >= len(links):
-                raise Problem(f"{name}: a packet of an interface that the file doesn't describe", "record again")
+                raise Problem(f"{name}: a packet from an interface that the file doesn't describe", "record again")
             link, unit, offset = links[number]
             yield offset + (high << 32 | low) * 10**9 // unit, link, block[28:28 + captured]
         elif kind == 5:
@@ -171,7 +171,7 @@ def _interface(name, block, order):
 
 
 def _dropped(name, block, order):
-    """An interface's statistics say how many packets the capture lost."""
+    """Refuses a file if an interface's statistics show that the capture lost packets."""
     for code, value in _options(block, 20, order):
         if code in (5, 7) and (lost := struct.unpack(order + "Q", value)[0]):
             raise Problem(f"{name}: the capture lost {lost} packets", BUFFER)
@@ -179,7 +179,7 @@ def _dropped(name, block, order):
 
 def _known(link, name):
     if link not in (ETHERNET, COOKED, COOKED_2, *LOOPBACKS, *RAW):
-        raise Problem(f"{name}: the link type {link} is not known", "capture Ethernet, Linux cooked (-i any), raw IP or loopback")
+        raise Problem(f"{name}: the link type {link} is not supported", "capture Ethernet, Linux cooked (-i any), raw IP or loopback")
     return link
 
 
@@ -213,7 +213,7 @@ def _packet(moment, link, frame, name, count, notes):
 
 
 def _network_layer(link, frame):
-    """Whether the frame was sent by the capture's host, if that is known, and its IP packet or None."""
+    """Whether the capture's host sent the frame, if that is known, and the frame's IP packet or None."""
     try:
         if link == ETHERNET:
             packet = dpkt.ethernet.Ethernet(frame).data

@@ -1,4 +1,4 @@
-"""Which connections make one trace, and the lines of that trace."""
+"""A trace's connections, and its lines."""
 import heapq
 from typing import Any, NamedTuple
 
@@ -7,14 +7,14 @@ from .captures import shown
 from .large import Flow
 from .problem import Problem
 
-# Lines of segments have these threads, those of calls the ones from FIRST_THREAD on.
+# Lines of segments have these threads; lines of calls have threads from FIRST_THREAD on.
 THREADS = {("O", 0): 1, ("I", 0): 2, ("O", 1): 3, ("I", 1): 4}
 FIRST_THREAD = 11
 LONGEST_SEGMENT = 65515
 
 
 class Line(NamedTuple):
-    """A line of a trace: its moment in nanoseconds, its order among the calls of that moment, its thread and text."""
+    """A line of a trace: its moment in nanoseconds, its place among the calls of that moment, its thread and text."""
     moment: int
     order: tuple
     thread: Any
@@ -39,7 +39,7 @@ class Case:
 
 
 def listening_address(connection, listeners):
-    """The address of the listener that takes a connection: its own, the wildcard of its family, or another wildcard; None if there is none."""
+    """The address of the listener that accepts a connection: its own, its family's wildcard, or another wildcard; None if none listens."""
     address, port = connection.server
     found = {endpoint.local[0] for endpoint in listeners if endpoint.host == connection.hosts[connection.server] and endpoint.local[1] == port}
     wildcards = sorted((each for each in found if not any(each)), key=lambda each: len(each) != len(address))
@@ -47,7 +47,7 @@ def listening_address(connection, listeners):
 
 
 class Writer:
-    """Makes the lines of a case."""
+    """Writes the lines of a case."""
 
     def __init__(self, case, captures, clock, notes):
         self.case, self.captures, self.clock, self.notes = case, captures, clock, notes
@@ -55,7 +55,7 @@ class Writer:
         self.both = len(captures) == 2 or None in captures
 
     def lines(self):
-        """All lines in their order, with numbers and threads. A trace may be large: no second copy of it is made."""
+        """All lines in order, with numbers and threads. A trace may be large, so it isn't copied."""
         members = {id(endpoint) for endpoint in self.case.endpoints}
         for endpoint in self.case.endpoints:
             self.numbers[id(endpoint)] = len(self.numbers) + 1
@@ -84,7 +84,7 @@ class Writer:
     # Calls.
 
     def call(self, action: Action):
-        """The two lines of a call, or its beginning alone. At one moment calls stand in their order."""
+        """The two lines of a call, or only its beginning. Calls of one moment keep their order."""
         host = action.endpoint.host
         yield Line(self.moment(host, action.begin), (*action.turn, 0), action.thread, "B " + self.begin_text(action))
         if action.answer:
@@ -109,11 +109,11 @@ class Writer:
         return self.bytes_of(word, connection).hex() if isinstance(word, Data) else str(word)
 
     def bytes_of(self, data, connection):
-        """The bytes of a call: from the log, and what it lacks from the captures; zeros where neither has them."""
+        """The bytes of a call: from the log, else from the captures; zeros for bytes that neither has."""
         if len(data.known) >= data.length:
             return data.known[:data.length]
         at, end = data.offset + len(data.known), data.offset + data.length
-        self.notes.change("calls whose bytes the log lacks, taken from the capture", f"byte {at + 1} of {shown(data.end)}")
+        self.notes.change("calls whose bytes the log lacks, completed from the capture", f"byte {at + 1} of {shown(data.end)}")
         found, holes, reached = bytearray(end - at), [], at
         for start, piece in [*connection.pieces(data.end, at, end - at), (end, b"")]:
             if start > reached:
@@ -125,22 +125,22 @@ class Writer:
         return data.known + bytes(found)
 
     def note_zeros(self, data, connection, holes):
-        """Bytes that no capture has. They may stand in a call that sends on a connection which was reset: some may never have been sent."""
+        """Handles bytes that no capture has. A call that sends on a connection that was reset may have some: they may never have been sent."""
         place = "byte {} of " + shown(data.end)
         if not data.sends or not connection.was_reset():
             raise Problem(f"{place.format(holes[0][0] + 1)} is neither in the log nor in the capture",
                           "record until the connection has ended, and with strace -s 1048576 -xx; no log has the bytes of sendfile and splice")
         sent = connection.was_sent(data.end)
         if holes[0][0] < sent:
-            self.notes.change("calls with bytes that were sent and that the capture lost, written as zeros", place.format(holes[0][0] + 1))
+            self.notes.change("calls with bytes that were sent but lost by the capture, written as zeros", place.format(holes[0][0] + 1))
         if sent < holes[-1][1]:
             first = max(sent, holes[-1][0]) + 1
-            self.notes.change("calls with bytes that a reset left unsent as far as the captures show, written as zeros", place.format(first))
+            self.notes.change("calls with bytes that a reset left unsent according to the captures, written as zeros", place.format(first))
 
     # Segments.
 
     def segments(self):
-        """The lines of all captured segments, those of one capture in its order."""
+        """The lines of all captured segments, in the order of each capture."""
         flows = {id(connection): Flow(connection, self.notes, self.both) for connection in self.case.connections}
         for line, connection, packet in self.ordered():
             letter, host, moment = line
@@ -148,18 +148,18 @@ class Writer:
             pieces = flow.went_out(packet) if letter == "O" else flow.came_in(packet)
             for piece in pieces:
                 if len(piece) > LONGEST_SEGMENT:
-                    raise Problem(f"{packet.place}: a segment of {len(piece)} bytes", "switch the offloads off: ethtool -K IF tso off gso off gro off")
+                    raise Problem(f"{packet.place}: a segment of {len(piece)} bytes", "turn the offloads off: ethtool -K IF tso off gso off gro off")
                 yield Line(moment, (), THREADS[letter, host], f"{letter} {host} {piece.hex()}")
 
     def ordered(self):
-        """Segments with letter, host and moment. What went out stands before what came in of the other host at that moment."""
+        """Segments with letter, host and moment. Segments sent precede those that the other host received at the same moment."""
         streams = [self.captured(host, name) for host, name in self.captures.items()]
         if len(streams) == 1:
             return streams[0]
         return _interleaved(*streams)
 
     def captured(self, host, name):
-        """What one capture shows, in its order."""
+        """The segments of one capture, in its order."""
         packets = [(packet, connection) for connection in self.case.connections
                    for packet in seen_once(connection.seen.get(name, []), {end for end, owner in connection.hosts.items() if owner == host})]
         packets.sort(key=lambda pair: pair[0].moment)
@@ -175,15 +175,15 @@ class Writer:
 
 
 def seen_once(packets, own):
-    """A capture of all interfaces has a packet at each that it passes. What the host sent counts where it was marked as sent, if
-    anywhere, and what it got where it was not."""
+    """A capture of all interfaces has a packet once for each interface that it passes. A packet that the host sent counts once,
+    where it was marked as sent, if anywhere; a packet that it received counts where it was not marked."""
     marked = {packet.source in own for packet in packets if packet.outgoing == (packet.source in own)}
     return [packet for packet in packets
             if packet.outgoing is None or (packet.source in own) not in marked or packet.outgoing == (packet.source in own)]
 
 
 def _interleaved(one, two):
-    """Two captures in the order of moments. Of equal moments a segment that comes in waits until the other capture shows it as sent."""
+    """Merges two captures by their moments. At equal moments, a received segment waits until the other capture shows it as sent."""
     sent = set()
     heads = [next(one, None), next(two, None)]
     sources = (one, two)

@@ -1,7 +1,7 @@
-"""Clocks of two hosts: by how much one is shifted so that no segment comes in before it went out.
+"""Clocks of two hosts: how far one has to be shifted so that no segment is received before it was sent.
 
-Each segment that both captures have bounds the difference of the clocks: it came in no earlier than it went out. One way this bounds
-the difference from above, the other way from below.
+Each segment in both captures bounds the difference of the clocks, because it can't be received before it was sent. Segments of one
+direction bound the difference from above, those of the other direction from below.
 """
 from typing import NamedTuple
 
@@ -9,14 +9,14 @@ from .problem import Problem
 
 
 class Clock(NamedTuple):
-    """How host 1's moments become host 0's: `shift` at the moment `start`, and `rate` for each nanosecond since; the skew that is left."""
+    """Converts host 1's moments to host 0's: by `shift` at the moment `start`, and by `rate` for each nanosecond since; `skew` remains."""
     shift: int
     rate: float
     start: int
     skew: int
 
     def at(self, moment):
-        """A moment of host 1 by host 0's clock."""
+        """A moment of host 1 on host 0's clock."""
         return moment - self.shift - round(self.rate * (moment - self.start))
 
 
@@ -24,7 +24,7 @@ SAME = Clock(0, 0.0, 0, 0)
 
 
 def bounds_of(connections, hosts):
-    """Bounds of the difference: (moment at host 1, greatest) and (moment at host 1, least)."""
+    """Bounds of the difference: pairs (moment at host 1, maximum) and (moment at host 1, minimum)."""
     above, below = [], []
     for connection in connections:
         sent, came = {0: {}, 1: {}}, {0: [], 1: []}
@@ -41,7 +41,7 @@ def bounds_of(connections, hosts):
 
 
 def clock_of(above, below):
-    """The clock that fits all bounds: none if they fit, else a shift, else a shift and a rate, else a shift and a skew."""
+    """The simplest clock that fits all bounds: no change, a shift, a shift and a rate, or a shift with a skew."""
     if not above or not below:
         return SAME
     least, greatest = max(bound for _, bound in below), min(bound for _, bound in above)
@@ -55,12 +55,12 @@ def clock_of(above, below):
     greatest = min(bound - rate * (moment - start) for moment, bound in above)
     if least <= greatest:
         return Clock(round((least + greatest) / 2), rate, start, 0)
-    # True moments lie up to `skew` after what the lines then say.
+    # The true moments are then up to `skew` later than those in the lines.
     return Clock(round(least), rate, start, round(least - greatest))
 
 
 def _rate(above, below, start):
-    """The rate by which the bounds fit best: the room between them is concave in it. Clocks differ by less than a thousandth."""
+    """The rate that fits the bounds best: the room between them is concave in it. Clock rates differ by less than a thousandth."""
     def room(rate):
         return (min(bound - rate * (moment - start) for moment, bound in above)
                 - max(bound - rate * (moment - start) for moment, bound in below))
@@ -82,7 +82,7 @@ def said(clock):
 
 
 def refuse_distant(clock):
-    """A skew above a second is no clock's drift."""
+    """Refuses a skew above a second, which is too large to be drift."""
     if clock.skew > 10**9:
         raise Problem(f"the clocks of the two captures differ by {clock.skew / 1e9:.1f} seconds more at one time than at another",
                       "synchronize both clocks before the recording, and don't set them during it")

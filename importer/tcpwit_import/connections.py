@@ -1,4 +1,4 @@
-"""Connections of captures: which segments belong together, and which bytes each end sent."""
+"""Connections in captures: which segments belong together, and which bytes each end sent."""
 from .captures import BUFFER, shown
 from .problem import Problem
 
@@ -7,9 +7,9 @@ FIN, SYN, RST, ACK = 1, 2, 4, 16
 
 
 class Connection:
-    """Both ways of one pair of addresses and ports, from a SYN on. An end is an address and a port.
+    """Both directions between one pair of addresses and ports, from a SYN on. An end is an address and a port.
 
-    `seen` has the packets of each capture. `initial` has each end's initial sequence number once a SYN of it was seen.
+    `seen` has the packets of each capture. `initial` has each end's initial sequence number once its SYN was seen.
     """
 
     def __init__(self, client, server, begun):
@@ -24,11 +24,11 @@ class Connection:
         return f"{shown(self.client)} -> {shown(self.server)}"
 
     def other(self, end):
-        """The end that is not this one."""
+        """The other end."""
         return self.server if end == self.client else self.client
 
     def add(self, capture, packet):
-        """Takes the next packet of a capture."""
+        """Adds the next packet of a capture."""
         self.seen.setdefault(capture, []).append(packet)
         if packet.flags & SYN:
             self.initial.setdefault(packet.source, packet.number)
@@ -40,47 +40,47 @@ class Connection:
             yield from packets
 
     def piece_size(self, segment):
-        """How many bytes a segment with these options holds on the wire: the lesser size option, less its own options."""
+        """The most bytes that a segment with these options has on the wire: the smaller MSS option minus the length of its options."""
         sizes = [self.sizes.get(end) or 536 for end in (self.client, self.server)]
         return max(1, min(sizes) - ((segment[12] >> 4) * 4 - 20))
 
     def completed(self, captures=()):
-        """The moment of the client's first segment after its SYN, as these captures show it, or all; None if there is none."""
+        """The moment of the client's first segment after its SYN in these captures, or in all; None if no capture has one."""
         own = [packet for name in captures for packet in self.seen.get(name, [])]
         moments = [packet.moment for packet in own or self.packets()
                    if packet.source == self.client and packet.flags & (SYN | RST | ACK) == ACK]
         return min(moments, default=None)
 
     def answered(self):
-        """The moment at which the server's SYN was first seen; None if there is none."""
+        """The moment at which the server's SYN was first seen; None if it wasn't seen."""
         moments = [packet.moment for packet in self.packets() if packet.source == self.server and packet.flags & SYN]
         return min(moments, default=None)
 
     def was_reset(self):
-        """Whether an end reset the connection: what the program had given to the system by then may never have been sent."""
+        """Whether an end reset the connection: bytes that the program had written by then may never have been sent."""
         return any(packet.flags & RST for packet in self.packets())
 
     def bytes_of(self, end, offset, length):
-        """What this end sent from an offset of its stream on, as far as captures have it without a gap."""
+        """The bytes that this end sent from an offset of its stream on, up to the first gap in the captures."""
         start, stream = next(self.spans(end), (0, b""))
         return bytes(stream[offset:offset + length]) if start == 0 else b""
 
     def pieces(self, end, offset, length):
-        """What captures have of these bytes: the pieces with their offsets, in their order."""
+        """The parts of these bytes that captures have, with their offsets, in order."""
         for start, stream in self.spans(end):
             piece = bytes(stream[max(0, offset - start):max(0, offset + length - start)])
             if piece:
                 yield max(start, offset), piece
 
     def was_sent(self, end):
-        """Up to where the bytes of an end were sent: the other end acknowledged them, or captures have later ones."""
+        """The offset up to which an end certainly sent its bytes: the other end acknowledged them, or captures have later ones."""
         first = self.initial.get(end)
         seen = max((start + len(stream) for start, stream in self.spans(end)), default=0)
         acknowledged = 0 if first is None else self._acknowledged(end, first, self.packets())
         return max(seen, acknowledged if acknowledged < WRAP // 2 else 0)
 
     def spans(self, end):
-        """All bytes that an end sent, as far as captures have them: the offset and the bytes of each span without a gap."""
+        """All bytes of an end that captures have: the offset and the bytes of each span without a gap."""
         if end not in self._streams:
             self._streams[end] = self._spans(end)
         return iter(self._streams[end])
@@ -92,7 +92,7 @@ class Connection:
         pieces = {}
         for packet in self.packets():
             offset = (packet.number + bool(packet.flags & SYN) - first - 1) % WRAP
-            # What begins before the first byte is a keep-alive, or an old duplicate.
+            # A segment that begins before the first byte is a keep-alive or an old duplicate.
             if packet.source == end and packet.payload and offset < WRAP // 2:
                 pieces[offset] = max(pieces.get(offset, b""), packet.payload, key=len)
         spans = []
@@ -104,12 +104,12 @@ class Connection:
         return spans
 
     def _acknowledged(self, end, first, packets):
-        """Up to where these packets of the other end acknowledge the bytes, and the FIN, of an end. Those of a reset don't count."""
+        """The offset up to which these packets of the other end acknowledge an end's bytes and FIN. Resets don't count."""
         return max(((packet.acknowledgment - first - 1) % WRAP for packet in packets
                     if packet.source == self.other(end) and packet.flags & (ACK | RST) == ACK), default=0)
 
     def gap(self, capture):
-        """Which acknowledged bytes a capture doesn't have: the end that sent them, and the first of them; None if it has all."""
+        """The first acknowledged byte that a capture lacks, with the end that sent it; None if the capture has all."""
         for end in (self.client, self.server):
             first = self.initial.get(end)
             if first is None:
@@ -121,7 +121,7 @@ class Connection:
         return None
 
     def _reached(self, capture, end, first):
-        """Up to where a capture has the bytes, and the FIN, of an end without a gap."""
+        """The offset up to which a capture has an end's bytes and FIN without a gap."""
         spans = []
         for packet in self.seen[capture]:
             if packet.source == end and not packet.flags & RST:
@@ -138,7 +138,7 @@ class Connection:
 
 
 def _size_option(segment):
-    """The maximum segment size that a SYN names; None if it names none."""
+    """The maximum segment size in a SYN's options; None if it has none."""
     options, at = segment[20:(segment[12] >> 4) * 4], 0
     while at < len(options) and options[at] != 0:
         if options[at] == 1:
@@ -154,7 +154,7 @@ def _size_option(segment):
 
 
 def connections_of(captures):
-    """The connections of all captures, in the order in which they begin. `captures` has lists of packets by name."""
+    """The connections of all captures, in the order in which they begin. `captures` maps names to lists of packets."""
     found = {}
     for name, packets in captures.items():
         current = {}
@@ -175,21 +175,21 @@ def connections_of(captures):
 
 
 def _ends(packet):
-    """Client and server of a connection whose SYN is missing: the server has the lesser port."""
+    """Client and server of a connection whose SYN is missing: the server is assumed to have the lower port."""
     return (packet.source, packet.target) if packet.source[1] > packet.target[1] else (packet.target, packet.source)
 
 
 def _is_new(connection, packet):
-    """Whether a SYN begins another connection of the same ports; the one of a simultaneous open doesn't."""
+    """Whether a SYN begins another connection with the same ports; the second SYN of a simultaneous open doesn't."""
     known = connection.initial.get(packet.source)
     return known != packet.number and not (known is None and packet.source == connection.server and len(connection.initial) == 1)
 
 
 def refuse_gaps(connections):
-    """A capture that lost packets is an error: what it lacks looks as if the stack broke a rule."""
+    """Refuses a capture that lost packets: the gaps would look as if the stack broke a rule."""
     for connection in connections:
         for name in connection.seen:
             if connection.whole and (gap := connection.gap(name)):
                 end, offset = gap
                 raise Problem(f"{name}: the capture lost packets of {connection}: byte {offset + 1} that {shown(end)} sent was "
-                              "acknowledged and is not in the capture", f"{BUFFER}; or take it as it is with --keep-gaps")
+                              "acknowledged and is not in the capture", f"{BUFFER}; or accept it as it is with --keep-gaps")

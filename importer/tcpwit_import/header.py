@@ -1,7 +1,7 @@
-"""The header of a trace. Here alone stands which version is chosen, and which settings of a kernel go with it."""
+"""The header of a trace. Only this module chooses the version and the kernel settings that go with it."""
 from .problem import Problem
 
-# The version for two recorded hosts and for one, and the one that says how much of congestion control is judged.
+# The version for two recorded hosts and for one, and the version that states how much of congestion control is judged.
 WHOLE, HALF, BY_WORD = 2, 3, 4
 KERNEL = "plain"
 
@@ -11,7 +11,15 @@ WORDS_OF_CONGESTION = (FULL, "recovery", "none")
 VALUES = {"skew": 0, "msl": 60_000_000, "grain": 4000, "minrto": 200_000, "extra": 1, "initial": 6928, "congestion": FULL}
 LIMITS = {"skew": (0, 10**9), "msl": (1, 3_600_000_000), "grain": (0, 60_000_000), "minrto": (0, 60_000_000), "extra": (0, 65535)}
 WORDS = {"initial": ("5681", "6928"), "congestion": WORDS_OF_CONGESTION}
-HELP = {"congestion": "how much of congestion control is judged; writes version 4"}
+HELP = {
+    "skew": "largest remaining clock error, in microseconds",
+    "msl": "maximum segment lifetime, in microseconds",
+    "grain": "granularity of the retransmission timer, in microseconds",
+    "minrto": "minimum retransmission timeout, in microseconds",
+    "extra": "children that a listen queue holds beyond its backlog",
+    "initial": "RFC of the initial congestion window",
+    "congestion": "how much of congestion control is judged; selects format version 4",
+}
 LINES = {
     1: ("skew", "msl", "grain", "minrto", "extra"),
     2: ("skew", "msl", "grain", "minrto", "extra", "initial"),
@@ -21,14 +29,14 @@ LINES = {
 
 
 def header(hosts, skew, chosen, version=None):
-    """The lines of a header for this many recorded hosts. `chosen` has values that replace those found or usual."""
+    """The lines of a header for this many recorded hosts. The values of `chosen` replace detected and default ones."""
     version = version or (BY_WORD if "congestion" in chosen else WHOLE if hosts == 2 else HALF)
     if hosts == 1 and version < 3:
-        raise Problem(f"version {version} of the texts is for two recorded hosts", "leave out --version, or give the capture and calls of host 1")
+        raise Problem(f"format version {version} is for two recorded hosts", "leave out --version, or give the capture and calls of host 1")
     if hosts == 2 and version == 3:
-        raise Problem("version 3 of the texts is for one recorded host", "leave out --version, or give the files of host 0 alone")
+        raise Problem("format version 3 is for one recorded host", "leave out --version, or give only files of host 0")
     values = VALUES | {"skew": skew, "half": 0, "hosts": hosts} | chosen
     unknown = [name for name in chosen if name not in LINES[version]]
     if unknown:
-        raise Problem(f"version {version} of the texts has no line {unknown[0]}", f"leave out --{unknown[0]}, or --version")
+        raise Problem(f"format version {version} has no line {unknown[0]}", f"leave out --{unknown[0]}, or --version")
     return [f"trace {version}"] + [f"{name} {values[name]}" for name in LINES[version]]

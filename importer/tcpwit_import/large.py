@@ -1,8 +1,8 @@
-"""Large segments: what offloads joined is cut as the wire had it.
+"""Large segments: cuts segments that offloads joined into those on the wire.
 
-With segmentation offload a capture shows segments of up to 64 kB where the wire has several, and receive offload joins what came
-in. A segment that went out is cut into pieces of the size that both hosts agreed on. A segment that came in is one that went out, or
-the join of several consecutive pieces. Checksums become 0, since offloads leave them unfinished.
+With segmentation offload, a capture shows one segment of up to 64 kB for several on the wire; receive offload joins received
+segments. A sent segment is cut into pieces of the size that both hosts agreed on. A received segment equals a sent one, or joins
+several consecutive pieces. Checksums become 0, since offloads leave them unfinished.
 """
 from typing import Any, NamedTuple
 
@@ -12,7 +12,7 @@ MOVED = FIN | PSH | CWR
 
 
 class Sent(NamedTuple):
-    """A segment, or a piece of one, that went out."""
+    """A sent segment or a piece of one."""
     moment: int
     segment: bytes
     arrived: list
@@ -24,7 +24,7 @@ def without_checksum(segment):
 
 
 def cut(segment, size):
-    """The pieces of at most `size` bytes: FIN and PSH on the last alone, CWR on the first."""
+    """The pieces of at most `size` bytes: only the last has FIN and PSH, only the first CWR."""
     head = (segment[12] >> 4) * 4
     payload = segment[head:]
     if len(payload) <= size:
@@ -40,19 +40,19 @@ def cut(segment, size):
 
 
 class Outgoing:
-    """What one end of a connection sent, to find what a segment that came in at the other is made of."""
+    """The segments that one end of a connection sent, to find those that a received segment consists of."""
 
     def __init__(self):
         self.equal, self.at = {}, {}
 
     def add(self, moment, segment):
-        """Takes a segment or a piece, in the order in which they went out."""
+        """Adds a segment or a piece, in the order in which they were sent."""
         sent = Sent(moment, segment, [])
         self.equal.setdefault(segment, []).append(sent)
         self.at.setdefault(_number(segment), []).append(sent)
 
     def parts(self, segment):
-        """The segments that went out of which this one consists; none if there are none."""
+        """The sent segments of which this one consists; an empty list if none match."""
         found = self.equal.get(segment)
         if found:
             best = _best(found)
@@ -64,7 +64,7 @@ class Outgoing:
         return [sent.segment for sent in chain or []]
 
     def _chain(self, whole, number, payload, first):
-        """Consecutive pieces whose payloads make up the payload. It is looked for without recursion: a join has many pieces."""
+        """Consecutive pieces whose payloads form the payload. The search isn't recursive, since a joined segment has many pieces."""
         stack = [(number, 0, None)]
         while stack:
             number, done, chain = stack.pop()
@@ -88,7 +88,7 @@ def _listed(chain):
 
 
 def _preferred(candidates):
-    """Candidates in the order of preference: the oldest that has not arrived first, else the newest."""
+    """Candidates in the order of preference: those that have not arrived, oldest first, then the others, newest first."""
     return sorted(candidates, key=lambda sent: (bool(sent.arrived), sent.moment if not sent.arrived else -sent.moment))
 
 
@@ -105,14 +105,15 @@ def _payload(segment):
 
 
 def _alike(piece, whole, first):
-    """Whether a piece may belong to a join: acknowledgment, options and flags but FIN, PSH, CWR; of the first the window too."""
+    """Whether a piece may be part of a joined segment: it has the same acknowledgment, options, and flags except FIN, PSH and CWR. The first piece
+    also has the same window."""
     head = (piece[12] >> 4) * 4
     return (piece[8:13] == whole[8:13] and (piece[13] ^ whole[13]) & ~MOVED & 0xFF == 0
             and piece[20:head] == whole[20:head] and (not first or piece[14:16] == whole[14:16]))
 
 
 class Flow:
-    """The segments of one connection as lines of a trace: cut where they went out, cut alike where they came in."""
+    """The segments of one connection as lines of a trace: sent segments are cut, and received ones are cut the same way."""
 
     def __init__(self, connection, notes, both):
         self.connection, self.notes, self.both = connection, notes, both
@@ -123,13 +124,13 @@ class Flow:
         segment = without_checksum(packet.segment)
         pieces = cut(segment, self.connection.piece_size(segment))
         if len(pieces) > 1:
-            self.notes.change("segments that an offload enlarged, cut into those of the wire", packet.place)
+            self.notes.change("segments that an offload enlarged, cut into those on the wire", packet.place)
         for piece in pieces:
             self.sent[packet.source].add(packet.moment, piece)
         return pieces
 
     def came_in(self, packet):
-        """The segments of an incoming packet. What matches nothing stays as it is."""
+        """The segments of an incoming packet. A segment that matches nothing is left unchanged."""
         segment = without_checksum(packet.segment)
         if not self.both:
             return [segment]
@@ -137,5 +138,5 @@ class Flow:
         if len(parts) > 1:
             self.notes.change("segments that an offload joined, cut into those that were sent", packet.place)
         elif not parts:
-            self.notes.change("segments that came in and that the other host's capture doesn't show as sent", packet.place)
+            self.notes.change("segments that were received but that the other host's capture doesn't show as sent", packet.place)
         return parts or [segment]

@@ -1,4 +1,4 @@
-"""What ends a run with an error, what is left out of a trace, and how both are printed."""
+"""Errors that end a run, notes on what a trace leaves out, and how both are printed."""
 import argparse
 import errno
 import os
@@ -20,77 +20,77 @@ class Problem(Exception):
 
 
 def decoded(data):
-    """What a program printed, as text; `plain` escapes what is no UTF-8."""
+    """A program's output as text; `plain` escapes bytes that aren't UTF-8."""
     return data.decode(errors="surrogateescape")
 
 
 def one_line(data):
-    """What a program printed, as one line."""
+    """A program's output as one line."""
     return "; ".join(line.strip() for line in decoded(data).splitlines() if line.strip())
 
 
 def plain(text):
-    """A text with everything escaped that a terminal may obey: control characters as `\\x1b`, bytes that are no UTF-8 as `\\xff`."""
+    """A text with everything escaped that could control a terminal: control characters as `\\x1b`, bytes that aren't UTF-8 as `\\xff`."""
     return "".join(letter if letter.isprintable() else escaped(ord(letter)) for letter in text)
 
 
 def escaped(code):
-    """The escape of a character. Python reads a byte that is no UTF-8 as a character from U+DC80 to U+DCFF."""
+    """The escape of a character. Python reads a byte that isn't UTF-8 as a character from U+DC80 to U+DCFF."""
     code -= 0xDC00 if 0xDC80 <= code <= 0xDCFF else 0
     return f"\\x{code:02x}" if code < 0x100 else f"\\u{code:04x}" if code < 0x10000 else f"\\U{code:08x}"
 
 
 def say(command, *lines):
-    """Prints on standard error what a command says: a line, and those that belong to it with an indent."""
+    """Prints a command's message on standard error: a line, and indented lines that belong to it."""
     print(f"{command}: " + "\n  ".join(map(plain, lines)), file=sys.stderr)
 
 
 class Parser(argparse.ArgumentParser):
-    """The words of a command; errors quote them escaped."""
+    """The options of a command; errors quote arguments escaped."""
 
     def error(self, message):
         super().error(plain(message))
 
 
 def named_file(text):
-    """A type of argparse: a file, a folder or a program."""
+    """An argparse type: a file, a folder or a program."""
     if not text:
         raise argparse.ArgumentTypeError("the name is empty")
     return text
 
 
 def not_run(name):
-    """Why the system runs no program of this path; None if it does."""
+    """Why the system can't run the program at this path; None if it can."""
     if os.path.isfile(name) and os.access(name, os.X_OK):
         return None
     return os.strerror(errno.EISDIR if os.path.isdir(name) else errno.EACCES if os.path.exists(name) else errno.ENOENT)
 
 
 def status_of(command, act):
-    """What `act` returns, the status of a command of this name, or that of its failure; standard error then has the cause and a remedy."""
+    """The status that `act` returns. If `act` fails, prints the cause and a remedy on standard error and returns the status of the failure."""
     try:
         if sys.stdout is None:
-            raise Problem("standard output is closed", "leave it open, or send it to a file")
+            raise Problem("standard output is closed", "leave it open, or redirect it to a file")
         return act()
     except Problem as problem:
         say(command, problem.cause, problem.remedy)
     except BrokenPipeError:
-        # The reader of a pipe has gone. Python writes what is left at its end, and would fail again.
+        # The reader of the pipe is gone. At exit, Python flushes what is left and would fail again.
         os.dup2(os.open(os.devnull, os.O_WRONLY), 1)
     except OSError as error:
         say(command, f"{error.filename or 'standard output'}: {error.strerror}", "choose a place that can be read and written")
     except subprocess.SubprocessError as error:
-        say(command, str(error), "see whether the programs can be run")
+        say(command, str(error), "check whether the programs can be run")
     except KeyboardInterrupt:
         return 130
     except Exception as error:
-        # Python's own status for it would be that of a no.
-        say(command, f"{type(error).__name__}: {error} ({place_of(error)})", f"this is a fault of {command}: report it with the command and its files")
+        # Python's own status would be 1, the status of a no.
+        say(command, f"{type(error).__name__}: {error} ({place_of(error)})", f"this is a bug in {command}: report it with the command and its files")
     return 2
 
 
 def write_file(name, parts):
-    """Writes a file of these parts, which are bytes. An error of writing or closing has no name by itself."""
+    """Writes these parts, which are bytes, to a file. An error while writing or closing doesn't name the file, so it is added."""
     try:
         with open(name, "wb") as file:
             file.writelines(parts)
@@ -99,7 +99,7 @@ def write_file(name, parts):
 
 
 def place_of(error):
-    """The line of the program at which an error arose."""
+    """The line of the program that raised an error."""
     last = traceback.extract_tb(error.__traceback__)[-1]
     return f"{os.path.basename(last.filename)}, line {last.lineno}"
 
@@ -113,11 +113,11 @@ class Notes:
         self.said = []
 
     def leave_out(self, kind, place):
-        """Counts something that the trace doesn't have."""
+        """Counts something that is missing from the trace."""
         self._count(self.left_out, kind, place)
 
     def change(self, kind, place):
-        """Counts something that stands in the trace in another form."""
+        """Counts something that the trace has in another form."""
         self._count(self.changed, kind, place)
 
     def say(self, text):
@@ -130,7 +130,7 @@ class Notes:
         kinds[kind] = (count + 1, first)
 
     def merge(self, other):
-        """Takes over what another has counted."""
+        """Adds the counts of other notes."""
         for mine, theirs in ((self.left_out, other.left_out), (self.changed, other.changed)):
             for kind, (count, first) in theirs.items():
                 before, place = mine.get(kind, (0, first))
@@ -138,7 +138,7 @@ class Notes:
         self.said += other.said
 
     def lines(self):
-        """What is to be printed on standard error."""
+        """The lines to print on standard error."""
         yield from self.said
         for title, kinds in (("changed", self.changed), ("left out", self.left_out)):
             for kind, (count, first) in kinds.items():
@@ -146,7 +146,7 @@ class Notes:
 
 
 class Progress:
-    """A line on standard error, where it is a terminal, that shows how far a file was read."""
+    """A line on standard error, if that is a terminal, that shows how much of a file was read."""
 
     def __init__(self, name, size):
         self.name, self.size, self.shown = plain(name), max(size, 1), -1

@@ -1,8 +1,8 @@
-"""Reading logs of strace: which process called what, when, and what was answered.
+"""Reads logs of strace: which process called what and when, and what the call returned.
 
-A call begins no earlier than its line's moment. strace takes the moment of a line before it decodes the call, and the duration
-(-T) after, so that the begin plus the duration may lie before what the call did. A call has ended when the log says that it was
-resumed, or else by the moment of the next line: strace handled the call's end before.
+A call doesn't begin before its line's moment. strace reads the clock for a line before it decodes the call, and for the duration
+(-T) afterwards, so the beginning plus the duration may be earlier than the call's effect. A call has ended when the log shows that
+it was resumed, or else by the moment of the next line, since strace handled the call's end before that line.
 """
 import os
 import re
@@ -20,7 +20,7 @@ HOW = "strace -f --absolute-timestamps=format:unix,precision:ns -xx -s 1048576 -
 
 
 class SystemCall(NamedTuple):
-    """A call of a process: its begin and end in nanoseconds, or None if it didn't end; its result, or None if it had none."""
+    """A call of a process: its beginning and end in nanoseconds, or None if it didn't end; its result, or None if it had none."""
     process: int
     begin: int
     end: int | None
@@ -33,14 +33,14 @@ class SystemCall(NamedTuple):
 
     @property
     def when(self):
-        """When the call counts: what gives descriptors at its end, all else at its begin. A message that passes descriptors may
-        be received before the log has the end of its sending, but not before the begin."""
+        """When the call counts: a call that returns descriptors at its end, any other at its beginning. A message that passes descriptors
+        may be received before the log shows that its send ended, but not before the send began."""
         gives = self.name in GIVING or "F_DUPFD" in self.text or (self.name == "recvmsg" and "SCM_RIGHTS" in self.text)
         return self.end if gives and self.end is not None else self.begin
 
 
 class Exit(NamedTuple):
-    """A process has ended by the moment `end`, and not before `begin`."""
+    """A process that has ended by the moment `end`, but not before `begin`."""
     process: int
     begin: int
     end: int
@@ -48,7 +48,7 @@ class Exit(NamedTuple):
 
     @property
     def when(self):
-        """When its descriptors count as closed."""
+        """The moment at which its descriptors count as closed."""
         return self.end
 
 
@@ -61,7 +61,7 @@ class _Line(NamedTuple):
 
     @property
     def latest(self):
-        """The latest moment that reads so: moments are cut to microseconds, or not at all."""
+        """The latest moment that is printed like this: moments are truncated to microseconds, or exact."""
         return self.moment + self.unit - 1
 
 
@@ -77,7 +77,7 @@ def read_log(names):
 
 
 def _lines(name, number):
-    """The lines with a moment. Without a column of processes the name's end is the process, as strace -ff writes it."""
+    """The lines, with their moments. Without a column of processes, the process is the end of the file name, as with strace -ff."""
     end = name.rsplit(".", 1)[-1]
     alone = int(end) if end.isdigit() else -1 - number
     try:
@@ -94,14 +94,14 @@ def _lines(name, number):
                     moment = int(found[3]) * 10**9 + int(found[4].ljust(9, "0")[:9])
                     yield _Line(process, moment, found[5].rstrip("\n"), f"{name}, line {count}", 1 if len(found[4]) > 6 else 1000)
                 elif NO_UNIX_TIME.match(raw):
-                    raise Problem(f"{name}, line {count}: no moment in seconds since 1970", f"record it so: {HOW}")
+                    raise Problem(f"{name}, line {count}: no moment in seconds since 1970", f"record it with: {HOW}")
             progress.done()
     except OSError as error:
         raise Problem(f"{name}: {error.strerror}", "name a log that can be read") from error
 
 
 def _with_next(lines):
-    """Each line with the one after it."""
+    """Each line with the next one."""
     line = next(lines, None)
     while line:
         following = next(lines, None)
@@ -110,7 +110,7 @@ def _with_next(lines):
 
 
 def _events(lines):
-    """Calls and ends of processes. `open_calls` has what began and did not end yet, `seen` each process's last moment."""
+    """Calls and ends of processes. `open_calls` has the calls that have begun but not ended, `seen` each process's last moment."""
     open_calls, seen, events = {}, {}, []
     for line, following in _with_next(lines):
         after, text = (following or line).latest, line.text

@@ -1,6 +1,6 @@
-"""The arguments of a system call as strace prints them.
+"""Parses the arguments of a system call as strace prints them.
 
-Strings become `Text`, structures dicts, arrays lists, `name(..)` a `Call`, all else the text itself.
+Strings become `Text`, structures dicts, arrays lists, `name(..)` a `Call`; anything else stays text.
 """
 import ast
 import re
@@ -12,7 +12,7 @@ KEY = re.compile(r"(\w+)=(?!=)")
 
 
 class Text(NamedTuple):
-    """The bytes of a string, and whether strace cut it."""
+    """The bytes of a string, and whether strace truncated it."""
     data: bytes
     cut: bool
 
@@ -29,7 +29,7 @@ def arguments(text):
 
 
 def text_of(body):
-    """The bytes of a string's body: hex digits alone, or the escapes of C."""
+    """The bytes of a string's body, which has hex escapes only or C escapes."""
     if body.startswith("\\x") and len(body) % 4 == 0:
         try:
             return bytes.fromhex(body.replace("\\x", ""))
@@ -46,7 +46,7 @@ class _Reader:
         self.text, self.at = text, 0
 
     def items(self, close):
-        """Items up to the closing bracket, which is passed, or to the end."""
+        """Items up to the closing bracket, which is skipped, or to the end."""
         found = []
         while self.at < len(self.text):
             letter = self.text[self.at]
@@ -61,7 +61,7 @@ class _Reader:
         return found
 
     def item(self):
-        """One item, perhaps with a name before it; what follows up to the next comma is skipped."""
+        """One item, possibly named; anything after it up to the next comma is skipped."""
         key = KEY.match(self.text, self.at)
         if key:
             self.at = key.end()
@@ -72,7 +72,7 @@ class _Reader:
         """One value."""
         found = self.plain_value()
         while self.at < len(self.text) and self.text[self.at] not in ",)]}":
-            # What strace adds to a value, as in [16 => 28] or NULL /* .. */.
+            # Text that strace adds to a value, such as [16 => 28] or NULL /* .. */.
             before = self.at
             self.plain_value()
             self.at += self.at == before
@@ -100,7 +100,7 @@ class _Reader:
         return word[0].partition("/*")[0].strip()
 
     def string(self):
-        """A string, to its closing quote: the first with an even count of backslashes before it."""
+        """A string up to its closing quote, the first one after an even number of backslashes."""
         end = self.at
         while True:
             end = self.text.find('"', end + 1)
@@ -117,6 +117,6 @@ class _Reader:
 
 
 def whole_number(value):
-    """The number that a word begins with; None if it has none."""
+    """The number at the beginning of a word; None if it has none."""
     found = re.match(r"-?(0x[0-9a-f]+|\d+)", value) if isinstance(value, str) else None
     return int(found[0], 0) if found else None

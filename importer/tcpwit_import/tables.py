@@ -1,4 +1,4 @@
-"""Processes and their tables of descriptors: what refers to a socket, and when the last reference goes."""
+"""Processes and their descriptor tables: what refers to a socket, and when the last reference is dropped."""
 
 
 class Description:
@@ -9,26 +9,26 @@ class Description:
 
 
 class Table:
-    """Descriptors of one process, or of several threads that share them."""
+    """The descriptors of one process, or of several threads that share them."""
 
     def __init__(self):
         self.entries, self.close_on_exec, self.users = {}, set(), 1
 
 
 class Processes:
-    """All tables of a host. What is dropped for the last time is returned, so that it can be closed in the trace."""
+    """All tables of a host. Methods return sockets whose last reference was dropped, so that the trace can close them."""
 
     def __init__(self):
         self.tables = {}
 
     def table(self, process):
-        """The table of a process; a process that no call began starts with an empty one."""
+        """The table of a process; a process whose creation wasn't logged starts with an empty one."""
         if process not in self.tables:
             self.tables[process] = Table()
         return self.tables[process]
 
     def get(self, process, descriptor):
-        """What a descriptor refers to; None if it is no socket that was seen."""
+        """What a descriptor refers to; None if it isn't a known socket."""
         return self.table(process).entries.get(descriptor)
 
     def knows(self, process, descriptor):
@@ -36,7 +36,7 @@ class Processes:
         return descriptor in self.table(process).entries
 
     def put(self, process, descriptor, description, close_on_exec):
-        """Lets a descriptor refer to a socket; what it referred to before is dropped."""
+        """Makes a descriptor refer to a socket, and drops its old reference."""
         dropped = self.drop(process, descriptor)
         table = self.table(process)
         table.entries[descriptor] = description
@@ -46,12 +46,12 @@ class Processes:
         return dropped
 
     def mark(self, process, descriptor, close_on_exec):
-        """Sets or clears the mark by which exec closes a descriptor."""
+        """Sets or clears a descriptor's close-on-exec mark."""
         table = self.table(process)
         (table.close_on_exec.add if close_on_exec else table.close_on_exec.discard)(descriptor)
 
     def drop(self, process, descriptor):
-        """Closes a descriptor: the socket if this was its last one, else None."""
+        """Closes a descriptor. Returns the socket if this was its last descriptor, else None."""
         return self._release(self.table(process).entries.pop(descriptor, None))
 
     @staticmethod
@@ -62,7 +62,7 @@ class Processes:
         return description.socket if description.references == 0 else None
 
     def begin(self, parent, child, shares):
-        """A process or thread begins with its parent's table, or a copy of it."""
+        """Starts a process or thread with its parent's table, or with a copy of it."""
         before = self.table(parent)
         if shares:
             before.users += 1
@@ -75,7 +75,7 @@ class Processes:
                 description.references += 1
 
     def execute(self, process):
-        """A process becomes another program: its table is its own, and marked descriptors close."""
+        """Executes another program in a process: it gets a table of its own, and marked descriptors are closed."""
         if self.table(process).users > 1:
             shared = self.table(process)
             shared.users -= 1
@@ -84,7 +84,7 @@ class Processes:
         return [socket for descriptor in sorted(table.close_on_exec) if (socket := self.drop(process, descriptor))]
 
     def end(self, process):
-        """A process ends: what it alone referred to."""
+        """Ends a process. Returns the sockets that only it referred to."""
         table = self.tables.pop(process, None)
         if table is None:
             return []

@@ -1,1 +1,1 @@
-"""Tests of the importer. They need no root and no network."""
+"""Tests of the importer. They need neither root nor a network."""

@@ -1,4 +1,4 @@
-"""Recordings of this machine's kernel, which need root and the programs of the recorder; elsewhere they are skipped."""
+"""Tests recordings of this machine's kernel. Skipped without root or the recorder's programs."""
 import os
 import shutil
 import subprocess
@@ -24,7 +24,7 @@ class AsRoot(unittest.TestCase):
         self.folder = folder.name
 
     def record(self, *words):
-        """Records without judging: status, and standard error as bytes."""
+        """Records without judging. Returns the status, and standard error as bytes."""
         done = subprocess.run([RECORD, "--no-check", "--out", f"{self.folder}/out", *words], cwd=self.folder, capture_output=True, timeout=100, check=False)
         self.assertEqual(done.stdout, b"")
         self.assertNotIn(b"Traceback", done.stderr)
@@ -40,13 +40,13 @@ class AsRoot(unittest.TestCase):
     def test_an_interface_that_does_not_exist(self):
         status, error = self.record("--interface", "none\x1b[2J", "--", "true")
         self.assertEqual(status, 2)
-        self.assertRegex(error, rb"^tcpwit-record: tcpdump says: none\\x1b\[2J: No such device[^\n]*\n  tcpdump -D lists the interfaces[^\n]*\n$")
+        self.assertRegex(error, rb"^tcpwit-record: tcpdump printed: none\\x1b\[2J: No such device[^\n]*\n  tcpdump -D lists the interfaces[^\n]*\n$")
 
     def test_a_capture_that_cannot_be_written(self):
         os.makedirs(f"{self.folder}/out/run.pcap")
         status, error = self.record("--namespace", "--", "true")
         self.assertEqual(status, 2)
-        self.assertRegex(error, rb"/out/run.pcap: Is a directory\n  name a folder that can be written by --out\n$")
+        self.assertRegex(error, rb"/out/run.pcap: Is a directory\n  name a writable folder with --out\n$")
 
     def test_programs_that_the_system_refuses(self):
         name = self.script(b"text", "no program\n").decode()
@@ -72,13 +72,13 @@ class AsRoot(unittest.TestCase):
         self.assertEqual(command_of(daemon), b"")
 
     def daemon(self):
-        """The process that a program has named; an empty text if it hasn't yet."""
+        """The process number that a program has written; an empty text if it hasn't yet."""
         with open(f"{self.folder}/pid", encoding="ascii") as file:
             return file.read().strip()
 
 
 def command_of(process):
-    """The words of a process; none once it has ended."""
+    """The arguments of a process; none once it has ended."""
     try:
         with open(f"/proc/{process}/cmdline", "rb") as file:
             return file.read()

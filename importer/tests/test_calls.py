@@ -1,4 +1,4 @@
-"""System calls become the calls of a trace."""
+"""Tests how system calls become the calls of a trace."""
 import tempfile
 import unittest
 
@@ -24,7 +24,7 @@ def both_of(one, two):
 
 class Calls(unittest.TestCase):
     def told(self, lines, host=0, talk=None, step=2 * 10**7):
-        """The texts of the calls that a log's lines make: the connection's SYN comes at the moment AT."""
+        """The texts of the calls for a log's lines. The connection's SYN arrives at the moment AT."""
         talk = talk or Talk(at=AT + step)
         rows = []
         for number, line in enumerate(lines):
@@ -85,7 +85,7 @@ class Calls(unittest.TestCase):
         self.assertEqual(self.client("sendfile(3, 5, [0] => [2], 2) = 2", "splice(6, NULL, 3, NULL, 3, 0) = 3",
                                      "splice(3, NULL, 6, NULL, 6, 0) = 4", 'read(3, "!!"..., 9) = 2', talk=talk)[:8],
                          ["B send 1 6865", "E ok 2", "B send 1 6c6c6f", "E ok 3", "B recv 1 6", "E data 776f726c", "B recv 1 9", "E data 2121"])
-        self.assertTrue(any("taken from the capture" in line for line in self.notes.lines()))
+        self.assertTrue(any("completed from the capture" in line for line in self.notes.lines()))
         with self.assertRaises(Problem):
             self.client("sendfile(3, 5, NULL, 9) = 9", talk=talk)
 
@@ -97,15 +97,15 @@ class Calls(unittest.TestCase):
         talk.send(1, flags=RST)
         self.assertEqual(self.client("sendfile(3, 5, NULL, 7) = 7", "splice(6, NULL, 3, NULL, 2, 0) = 2", talk=talk),
                          ["B send 1 68656c6c6f0000", "E ok 7", "B send 1 0000", "E ok 2"])
-        self.assertIn("changed: 2 calls with bytes that a reset left unsent as far as the captures show, written as zeros (first: byte 6 of 10.9.0.1:4000)",
+        self.assertIn("changed: 2 calls with bytes that a reset left unsent according to the captures, written as zeros (first: byte 6 of 10.9.0.1:4000)",
                       self.notes.lines())
-        # What was received came in a segment: if none has it, the capture lost it.
+        # Received bytes arrived in a segment; if no segment has them, the capture lost it.
         with self.assertRaisesRegex(Problem, "byte 1 of 10.9.0.2:80 is neither"):
             self.client("splice(3, NULL, 6, NULL, 6, 0) = 4", talk=talk)
 
     def test_zeros_of_bytes_that_the_capture_lost_are_told_apart(self):
-        lost = "sent and that the capture lost, written as zeros (first: byte 3 of"
-        left = "left unsent as far as the captures show, written as zeros (first: byte {} of"
+        lost = "sent but lost by the capture, written as zeros (first: byte 3 of"
+        left = "left unsent according to the captures, written as zeros (first: byte {} of"
         for later, answered, told in ((b"", True, [lost, left.format(6)]), (b"", False, [left.format(3)]), (b"rest", False, [lost, left.format(10)])):
             talk = Talk(at=AT + 2 * 10**7)
             talk.send(0, payload=b"he")

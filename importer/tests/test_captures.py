@@ -1,4 +1,4 @@
-"""Reading captures of all links and both formats."""
+"""Tests reading captures of all link types and both formats."""
 import os
 import struct
 import tempfile
@@ -92,7 +92,7 @@ class Captures(unittest.TestCase):
         rows = [Packet(number, source, other if source == own else own, b"", outgoing, "")
                 for number, (source, outgoing) in enumerate([(own, True), (own, False), (other, False), (other, True)])]
         self.assertEqual([packet.moment for packet in seen_once(rows, {own})], [0, 2])
-        # A loopback marks nothing as sent, and other links say nothing.
+        # A loopback marks nothing as sent, and other links don't show the direction.
         self.assertEqual(len(seen_once([row for row in rows if not row.outgoing], {own})), 2)
         for row in rows:
             row.outgoing = None

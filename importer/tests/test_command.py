@@ -1,4 +1,4 @@
-"""The commands: what they print, and how they fail."""
+"""Tests what the commands print, and how they fail."""
 import contextlib
 import fnmatch
 import io
@@ -34,7 +34,7 @@ SERVER = [(8, AT - SECOND, "socket(AF_INET, SOCK_STREAM, IPPROTO_TCP) = 3"),
 
 
 def talk(**options):
-    """A connection on which five bytes go, and both ends close."""
+    """A connection that carries five bytes, then both ends close."""
     found = Talk(at=AT, **options)
     found.at = AT + 7 * 10**6
     found.send(0, ACK | PSH, b"hello")
@@ -47,7 +47,7 @@ def talk(**options):
 
 
 def run(*words, command=importing):
-    """Runs a command in this process: status, standard output, standard error."""
+    """Runs a command in this process. Returns status, standard output and standard error."""
     out, error = io.StringIO(), io.StringIO()
     with contextlib.redirect_stdout(out), contextlib.redirect_stderr(error):
         try:
@@ -107,7 +107,7 @@ class Command(WithFiles):
         _, out, _ = run(*self.captures[:3], *self.logs[:3], "--congestion", "none")
         self.assertEqual(out.splitlines()[7:9], ["hosts 1", "congestion none"])
         self.assertEqual(run(*self.captures, *self.logs, "--version", "4")[1].splitlines()[8], "congestion full")
-        self.refused([*self.captures, *self.logs, "--congestion", "none", "--version", "2"], "version 2 of the texts has no line congestion")
+        self.refused([*self.captures, *self.logs, "--congestion", "none", "--version", "2"], "format version 2 has no line congestion")
 
     def test_a_half_trace(self):
         status, out, _ = run(*self.captures[:3], *self.logs[:3])
@@ -181,8 +181,8 @@ class Command(WithFiles):
         self.refused(["--capture", "0", self.folder, *self.logs[:3]], "Is a directory")
         self.refused([*self.captures, "--calls", "0", self.captures[2]], "no system call")
         self.refused([*self.captures, *self.logs, "--out", "/nowhere/at/all", "--no-check"], "No such file")
-        self.refused([*self.captures[:3], *self.logs], "a host has a log and no capture")
-        self.refused([*self.captures, *self.logs[3:]], "name the host that was recorded 0")
+        self.refused([*self.captures[:3], *self.logs], "a host has a log but no capture")
+        self.refused([*self.captures, *self.logs[3:]], "call the recorded host 0")
         with open(self.captures[2], "rb") as file:
             whole = file.read()
         for size in (20, 30, 60, len(whole) - 1):
@@ -200,7 +200,7 @@ class Command(WithFiles):
         self.assertEqual(status, 0, error)
         self.assertEqual([line.split(" ", 2)[2][:9] for line in out.splitlines()[7:]],
                          ["B listen ", "E ok 2", "B open 0 ", "E ok 1", "B await 1", "O 0 0fa00", "E timeout", "B close 1", "E ok"])
-        self.refused([*words, "--one", "host"], "host is no address")
+        self.refused([*words, "--one", "host"], "host isn't an address")
 
     def test_a_capture_without_segments(self):
         udp = bytearray(ip_packet(ZERO, ONE, segment(ZERO, ONE, 1, 2, ACK)))
@@ -214,7 +214,7 @@ class Command(WithFiles):
         words = [*gap.write(self.folder), *self.logs]
         self.refused(words, "byte 1 that 10.9.0.1:4000 sent was acknowledged and is not in the capture")
         self.assertEqual(run(*words, "--keep-gaps")[0], 0)
-        # A segment that was lost on the way is no gap.
+        # A segment lost in transit isn't a gap.
         lost = talk()
         lost.frames[1] = lost.frames[1][:3]
         lost.frames[0] = lost.frames[0][:4]
@@ -222,9 +222,9 @@ class Command(WithFiles):
 
     def test_calls_that_the_log_lacks(self):
         words = [*self.captures, *self.write_logs([line for line in CLIENT if "write" not in line[2]], SERVER)]
-        self.refused(words, "5 bytes that 10.9.0.1:4000 sent stand in no call")
+        self.refused(words, "5 bytes that 10.9.0.1:4000 sent are in no call")
         self.assertEqual(run(*words, "--keep-gaps")[0], 0)
-        # A call that did not end may have sent anything.
+        # A call that didn't end may have sent any bytes.
         begun = [(7, AT + 6 * 10**6, 'write(3, "hello", 5 <unfinished ...>') if "write" in line[2] else line for line in CLIENT if "close" not in line[2]]
         self.assertEqual(run(*self.captures, *self.write_logs(begun, SERVER))[0], 0)
 
@@ -286,8 +286,8 @@ class Command(WithFiles):
         with mock.patch("os.geteuid", return_value=0):
             self.refused(["--lab", "/nowhere", "--transfer", "5"], "/nowhere: No such file or directory", recording)
             self.refused(["--as", "n\x1bo", "--transfer", "5"], r"--as n\x1bo: no such user", recording)
-            self.refused(["--congestion", "none", "--version", "2", "--transfer", "5"], "version 2 of the texts has no line congestion", recording)
-            self.refused(["--version", "3", "--transfer", "5"], "version 3 of the texts is for one recorded host", recording)
+            self.refused(["--congestion", "none", "--version", "2", "--transfer", "5"], "format version 2 has no line congestion", recording)
+            self.refused(["--version", "3", "--transfer", "5"], "format version 3 is for one recorded host", recording)
 
     def test_all_that_is_missing_is_named_at_once(self):
         install = "install them: apt-get install strace tcpdump iproute2 python3-dpkt"
@@ -298,9 +298,9 @@ class Command(WithFiles):
             self.refused(["--no-check", "--", "c", "d"], "not installed: strace, tcpdump, the Python library dpkt, c\n", recording)
             with mock.patch("tcpwit_import.judging.TOP", self.folder), mock.patch.dict(os.environ):
                 os.environ.pop("TCPWIT_LAB", None)
-                cause = "not installed: strace, tcpdump, the Python library dpkt, c; tcpwit_lab is not in the PATH, and not built in this repository\n"
+                cause = "not installed: strace, tcpdump, the Python library dpkt, c; tcpwit_lab is not in PATH, and not built in this repository\n"
                 self.refused(["--", "c"], cause, recording)
-                self.refused(["--", "c"], "or name the program as in a shell; install the package tcpwit, which has tcpwit and tcpwit_lab", recording)
+                self.refused(["--", "c"], "or name the program as you would in a shell; install the package tcpwit, which contains tcpwit and tcpwit_lab", recording)
         self.assertEqual([name for name in os.listdir(self.folder) if name.startswith("tcpwit-")], [])
 
     def test_programs_that_cannot_be_run(self):
@@ -317,7 +317,7 @@ class Command(WithFiles):
         self.refused(["--capture", "0", f"/no{bad}", *self.logs[:3]], f"/no{shown}: No such file")
         self.refused([*self.captures[:3], "--calls", "0", f"/no{bad}"], f"/no{shown}: No such file")
         self.refused([*self.captures, *self.logs, "--out", f"/no{bad}/x", "--no-check"], f"/no{shown}/x: No such file")
-        self.refused([*self.captures, *self.logs, "--zero", bad], f"{shown} is no address")
+        self.refused([*self.captures, *self.logs, "--zero", bad], f"{shown} isn't an address")
         other = talk()
         for host in (0, 1):
             other.frames[host] += Talk(zero=("10.9.0.1", 5000), one=("10.9.0.9", 22), at=AT).frames[host]
@@ -337,7 +337,7 @@ class Command(WithFiles):
 
     def test_a_call_that_cannot_be_read(self):
         damaged = [(process, moment, text.replace(ONE[0], "10.9\x1b")) for process, moment, text in CLIENT]
-        self.refused([*self.captures, *self.write_logs(damaged, SERVER)], r"s0.log, line 2: the words of connect can't be read ('10.9\x1b' does not")
+        self.refused([*self.captures, *self.write_logs(damaged, SERVER)], r"s0.log, line 2: the arguments of connect can't be read ('10.9\x1b' does not")
 
     def test_the_programs_themselves(self):
         done = subprocess.run([os.path.join(TOP, "tcpwit-import")], capture_output=True, text=True, timeout=100, check=False)
@@ -350,7 +350,7 @@ class Command(WithFiles):
             done = subprocess.run(["sh", "-c", f'exec "$@" {output}', "sh", *words], stderr=subprocess.PIPE, text=True, timeout=100, check=False)
             self.assertEqual(done.returncode, 2, output)
             self.assertRegex(done.stderr, rf"^tcpwit-import: {cause}\n  .+\n$")
-        # The reader of a pipe has gone: nothing is to be said.
+        # The reader of the pipe is gone: nothing must be printed.
         reader, writer = os.pipe()
         os.close(reader)
         with os.fdopen(writer, "wb") as pipe:

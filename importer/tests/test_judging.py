@@ -1,4 +1,4 @@
-"""What both commands do with `tcpwit_lab judge`: a script that answers as told takes its part."""
+"""Tests how both commands use `tcpwit_lab judge`, which a script with chosen answers replaces."""
 import errno
 import os
 import subprocess
@@ -13,8 +13,8 @@ from tcpwit_import.recording.running import Traced
 from . import test_command
 from .test_command import run
 
-# Keeps the words and the trace that it was given, and a case and a picture if they are wanted; answers to `judge` what the test chose.
-# Before that it is asked whether it knows `judge`, by no other word and an empty trace.
+# Saves its arguments and the trace, and a case and a picture if requested; `judge` prints the answer that the test chose.
+# Before that, the commands check that it has `judge`, without other arguments and with an empty trace.
 SCRIPT = """#!/bin/sh
 [ "$*" = judge ] && {known}
 echo "$@" >> {folder}/words
@@ -29,7 +29,7 @@ LINES = "full      no 57 88 congestion\nnone      yes 101 85\nThe run keeps RFC 
 
 class Judging(test_command.WithFiles):
     def lab(self, answer, end="exit 0", known="exit 2"):
-        """A program that answers so; the words that name it."""
+        """Writes a program with this answer. Returns the options that name it."""
         with open(f"{self.folder}/answer", "w", encoding="ascii") as file:
             file.write(answer)
         with open(f"{self.folder}/lab", "w", encoding="ascii") as file:
@@ -38,7 +38,7 @@ class Judging(test_command.WithFiles):
         return ["--lab", f"{self.folder}/lab"]
 
     def text(self, name):
-        """What is in a file."""
+        """The text of a file."""
         with open(f"{self.folder}/{name}", encoding="ascii") as file:
             return file.read()
 
@@ -68,7 +68,7 @@ class Judging(test_command.WithFiles):
             self.refused(words, "tcpwit-import: ValueError: some fault (")
             status, out, error = self.recorded(*self.lab(LINES, "exit 1"))
         self.assertEqual((status, out), (2, ""))
-        self.assertRegex(error, r"tcpwit-record: ValueError: some fault \(mock.py, line \d+\)\n  this is a fault of tcpwit-record: report it")
+        self.assertRegex(error, r"tcpwit-record: ValueError: some fault \(mock.py, line \d+\)\n  this is a bug in tcpwit-record: report it")
 
     def test_several_traces_are_named(self):
         two = [test_command.talk(zero=("10.9.0.1", port)) for port in (4000, 4001)]
@@ -95,9 +95,9 @@ class Judging(test_command.WithFiles):
                                    ("", "exit 9", "ended with status 9"), ("", "kill -KILL $$", "ended by signal 9")):
             with self.subTest(end):
                 self.refused([*words, "--quiet", *self.lab(answer, end)], cause)
-        self.refused([*self.captures, *self.logs, "--quiet", "--out", "/dev/null", *self.lab(LINES)], "/dev/null is no file")
+        self.refused([*self.captures, *self.logs, "--quiet", "--out", "/dev/null", *self.lab(LINES)], "/dev/null isn't a file")
         for known in ("exit 0", "exit 1", "exit 3"):
-            self.refused([*words, "--quiet", *self.lab(LINES, known=known)], "doesn't know the word judge")
+            self.refused([*words, "--quiet", *self.lab(LINES, known=known)], "has no command judge")
 
     def test_a_program_that_is_none(self):
         words = [*self.captures, *self.logs, "--quiet", "--out", f"{self.folder}/run.trace"]
@@ -110,8 +110,8 @@ class Judging(test_command.WithFiles):
         self.refused([*words, "--lab", f"{self.folder}/text"], "text: Exec format error")
         with mock.patch.dict(os.environ, {"PATH": self.folder}), mock.patch.object(judging, "TOP", self.folder):
             os.environ.pop(judging.VARIABLE, None)
-            self.refused(words, "tcpwit_lab is not in the PATH")
-            self.refused(words, "install the package tcpwit, which has tcpwit and tcpwit_lab")
+            self.refused(words, "tcpwit_lab is not in PATH")
+            self.refused(words, "install the package tcpwit, which contains tcpwit and tcpwit_lab")
             os.symlink(self.lab(LINES)[1], f"{self.folder}/tcpwit_lab")
             self.assertEqual(judging.lab(None), f"{self.folder}/tcpwit_lab")
         with mock.patch.dict(os.environ, {judging.VARIABLE: f"{self.folder}/lab"}):
@@ -121,7 +121,7 @@ class Judging(test_command.WithFiles):
         self.assertEqual([judging.case_of(name) for name in ("a/run.trace", "run", "a.case")], ["a/run.case", "run.case", "a.case.case"])
 
     def recorded(self, *words):
-        """A recording of the same files."""
+        """Records the same files."""
         with mock.patch("os.geteuid", return_value=0), mock.patch("tcpwit_import.recording.cli.refuse_missing"), \
                 mock.patch("tcpwit_import.recording.cli.recorded", return_value=self.captures + self.logs):
             return run("--transfer", "5", "--out", f"{self.folder}/kept", *words, command=recording)
@@ -160,9 +160,9 @@ class Judging(test_command.WithFiles):
     def test_a_recording_that_fails(self):
         status, out, error = self.recorded(*self.lab("bad trace 9 12 13 number\n", "exit 2"))
         self.assertEqual((status, out), (2, ""))
-        self.assertIn("run.trace: bad trace 9 12 13 number\n  read what tcpwit_lab explain says", error)
+        self.assertIn("run.trace: bad trace 9 12 13 number\n  read what tcpwit_lab explain prints", error)
         with mock.patch("os.geteuid", return_value=0):
-            self.refused(["--transfer", "5", *self.lab(LINES, known="exit 3")], "doesn't know the word judge", recording)
+            self.refused(["--transfer", "5", *self.lab(LINES, known="exit 3")], "has no command judge", recording)
         self.logs = self.logs[:2] + [f"{self.folder}/nothing"]
         self.assertEqual(self.recorded(*self.lab(LINES))[:2], (2, ""))
 

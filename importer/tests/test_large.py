@@ -1,4 +1,4 @@
-"""Large segments are cut and joined as the wire had them; clocks; headers."""
+"""Tests cutting and matching large segments, clocks and headers."""
 import unittest
 
 from tcpwit_import.clocks import SAME, clock_of
@@ -64,7 +64,7 @@ class Joining(unittest.TestCase):
             self.assertEqual(self.outgoing.parts(other), [])
 
     def test_pieces_of_two_sendings(self):
-        # The first piece went out twice, the second time with another cut.
+        # The first piece was sent twice, the second time cut differently.
         again = [sent(1, b"a", acknowledgment=9), sent(2, b"bcd", acknowledgment=9)]
         self.add(sent(1, b"ab"), sent(3, b"cd"), *again)
         self.assertEqual(self.outgoing.parts(sent(1, b"abcd", acknowledgment=9)), again)
@@ -91,7 +91,7 @@ class Joining(unittest.TestCase):
 
 
 class Clocks(unittest.TestCase):
-    """Bounds are of the difference, in nanoseconds: above by what came in at host 1, below by what it sent."""
+    """Bounds of the clock difference, in nanoseconds: from above by segments that host 1 received, from below by those it sent."""
 
     def test_bounds_that_fit_change_nothing(self):
         self.assertEqual(clock_of([(10, 5)], [(20, -3)]), SAME)

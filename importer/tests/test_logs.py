@@ -1,4 +1,4 @@
-"""Reading logs of strace, and the arguments of calls."""
+"""Tests reading logs of strace and the arguments of calls."""
 import os
 import tempfile
 import unittest

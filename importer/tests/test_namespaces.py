@@ -1,4 +1,4 @@
-"""The hosts of a pair, without root: what the commands of the system are asked for."""
+"""Tests the hosts of a pair without root: which system commands are run."""
 import unittest
 from unittest import mock
 

@@ -1,4 +1,4 @@
-"""Recordings of programs that nobody changed: data/recordings.tar.xz has captures and logs, expected.txt what becomes of them.
+"""Tests recordings of unmodified programs: data/recordings.tar.xz has captures and logs, expected.txt the results.
 
 A line of expected.txt has the name, the number of lines of the trace, and the strictest word of the header with a yes: full, recovery or
 none. The word is compared if TCPWIT_LAB names the program that judges.
@@ -17,7 +17,7 @@ DATA = os.path.join(os.path.dirname(os.path.realpath(__file__)), "data")
 
 
 def files_of(folder):
-    """The importer's words for a recording."""
+    """The importer's arguments for a recording."""
     names = set(os.listdir(folder))
     if "host0.pcap" in names:
         return [word for host in "01" for word in ("--capture", host, f"{folder}/host{host}.pcap", "--calls", host, f"{folder}/host{host}.log")]
@@ -60,7 +60,7 @@ class Recordings(unittest.TestCase):
                     self.assertEqual(status, 0 if options or strictest == "full" else 1)
 
     def is_sound(self, text):
-        """Moments don't fall, calls of a thread stand in turn, numbers are given once, and what comes in went out before."""
+        """Checks that moments don't fall, a thread's calls alternate with their ends, numbers are assigned once, and received segments were sent before."""
         half = "half 0" in text
         moment, open_calls, given, out = 0, set(), set(), {"0": set(), "1": set()}
         for line in text.splitlines()[8 if half else 7:]:

@@ -1,4 +1,4 @@
-"""What the recorder knows of the programs that it runs."""
+"""Tests what the recorder knows about the programs that it runs."""
 import contextlib
 import os
 import tempfile
@@ -48,7 +48,7 @@ class Running(unittest.TestCase):
         server = self.server({}, b"")
         server.process.pid = 5
         server.namespace.processes = lambda: [5, 6, 7, 8]
-        # The recorder began strace (5), whose program is 6, and tcpdump (7). The parent of 8 has ended.
+        # The recorder started strace (5), whose program is 6, and tcpdump (7). The parent of 8 has ended.
         with mock.patch.object(running, "children", side_effect={os.getpid(): [5, 7], 5: [6], 6: []}.get):
             self.assertEqual(server.running(), {6, 8})
             server.namespace = None

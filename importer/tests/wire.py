@@ -50,7 +50,7 @@ SIZE = b"\x02\x04\x05\xb4"
 
 
 class Talk:
-    """A connection as both captures see it: each segment takes 1 ms. `at` is the moment."""
+    """A connection as both captures show it: each segment is in transit for 1 ms. `at` is the moment."""
 
     def __init__(self, zero=ZERO, one=ONE, at=100 * SECOND, options=SIZE):
         self.zero, self.one, self.at = zero, one, at
@@ -59,13 +59,13 @@ class Talk:
         self.syn(options)
 
     def syn(self, options):
-        """The three segments that begin it."""
+        """Adds the three segments of the handshake."""
         self.send(0, SYN, options=options)
         self.send(1, SYN | ACK, options=options)
         self.send(0, ACK)
 
     def send(self, host, flags=ACK, payload=b"", options=b"", lost=False, take=None):
-        """A segment of a host; `take` is what the other host's capture shows in its place."""
+        """Adds a segment of a host; `take` is what the other host's capture shows instead."""
         ends = (self.zero, self.one) if host == 0 else (self.one, self.zero)
         acknowledgment = self.next[1 - host] if flags & ACK else 0
         made = segment(*ends, self.next[host], acknowledgment, flags, payload, options)
@@ -77,7 +77,7 @@ class Talk:
         self.at += 2 * 10**6
 
     def write(self, folder):
-        """Both captures; the words for the importer."""
+        """Writes both captures. Returns the importer's arguments."""
         for host in (0, 1):
             pcap(f"{folder}/c{host}.pcap", self.frames[host])
         return ["--capture", "0", f"{folder}/c0.pcap", "--capture", "1", f"{folder}/c1.pcap"]

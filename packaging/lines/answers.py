@@ -1,4 +1,4 @@
-"""The lines that `tcpwit check` and `tcpwit many` print, and the statuses with which they end."""
+"""The lines that `tcpwit check` and `tcpwit many` print, and their exit statuses."""
 import re
 
 # The statuses of tcpwit.
@@ -15,27 +15,27 @@ FORMS = [
 
 
 class NoAnswer(Exception):
-    """A line that no case is answered by, or too few or too many lines."""
+    """A line that isn't an answer to a case, or too few or too many lines."""
 
 
 def status_of(line):
-    """The status that `tcpwit check` has where it prints this line."""
+    """The exit status of `tcpwit check` if it prints this line."""
     for status, form in FORMS:
         if form.fullmatch(line):
             return status
-    raise NoAnswer(f"this is no answer of tcpwit: {line[:200]!r}")
+    raise NoAnswer(f"not an answer of tcpwit: {line[:200]!r}")
 
 
 def split(text, wanted=None):
-    """The lines of a text, without their ends; there have to be as many as wanted, if a count is given."""
+    """The lines of a text, without their ends. If `wanted` is given, there must be that many."""
     found = text.split("\n")
     if found.pop():
-        raise NoAnswer("the last line is cut")
+        raise NoAnswer("the last line is incomplete")
     if wanted is not None and len(found) != wanted:
-        raise NoAnswer(f"there are {len(found)} answers to {wanted} cases")
+        raise NoAnswer(f"expected {wanted} answers, got {len(found)}")
     return found
 
 
 def greatest_status(lines):
-    """The status of `tcpwit many` where it prints these lines."""
+    """The exit status of `tcpwit many` if it prints these lines."""
     return max(map(status_of, lines), default=YES)

@@ -1,5 +1,5 @@
 #!/usr/bin/env python3
-"""Tests of tcpwit-junit and tcpwit-status, on the lines that docs/reference/formats.md and examples/README.md name."""
+"""Tests tcpwit-junit, tcpwit-status and tcpwit-parts on the lines in docs/reference/formats.md and examples/README.md."""
 import os
 import subprocess
 import tempfile
@@ -9,7 +9,7 @@ import xml.etree.ElementTree as tree
 HERE = os.path.dirname(os.path.abspath(__file__))
 EXAMPLES = os.path.join(os.path.dirname(os.path.dirname(HERE)), "examples")
 YES, NO, BAD = "yes 18 13\n", "no 31 0 call-answer\n", "bad witness 7 0 7 cut\n"
-# Each kind of line, with its status by section 9 of docs/reference/formats.md.
+# Each kind of line, with its status from section 9 of docs/reference/formats.md.
 STATUSES = {YES: 0, NO: 1, BAD: 2, "bad trace 7 9 13 segment too-long\n": 2, "bad usage\n": 3, "bad memory\n": 4, "bad device\n": 5}
 
 
@@ -30,7 +30,7 @@ class Status(unittest.TestCase):
     def test_lost_lines_are_seen(self):
         self.assertEqual(run("tcpwit-status", "--cases", "2", text=YES + NO).returncode, 1)
         ran = run("tcpwit-status", "--cases", "3", text=YES + NO)
-        self.assertEqual((ran.returncode, ran.stderr), (5, b"tcpwit-status: there are 2 answers to 3 cases\n"))
+        self.assertEqual((ran.returncode, ran.stderr), (5, b"tcpwit-status: expected 3 answers, got 2\n"))
 
     def test_other_lines_are_no_answers(self):
         for text in ("yes 18\n", "yes 018 13\n", "yes 18 13", "no 1 2\n", "\n", "ssh: lost\n", YES + "\n"):
@@ -52,7 +52,7 @@ class Report(unittest.TestCase):
 
     def test_lost_lines_make_no_report(self):
         ran = run("tcpwit-junit", "a", "b", text=YES)
-        self.assertEqual((ran.returncode, ran.stdout, ran.stderr), (5, b"", b"tcpwit-junit: there are 1 answers to 2 cases\n"))
+        self.assertEqual((ran.returncode, ran.stdout, ran.stderr), (5, b"", b"tcpwit-junit: expected 2 answers, got 1\n"))
         self.assertEqual(run("tcpwit-junit", "a", text="ssh: lost\n").returncode, 5)
 
     def test_names_that_xml_has_no_character_for(self):
@@ -88,7 +88,7 @@ class Parts(unittest.TestCase):
         self.assertEqual(run("tcpwit-parts", HERE, text="a\n").returncode, 5)
 
 
-@unittest.skipUnless(os.access(os.environ.get("TCPWIT", ""), os.X_OK), "no program is named by TCPWIT")
+@unittest.skipUnless(os.access(os.environ.get("TCPWIT", ""), os.X_OK), "TCPWIT names no program")
 class Program(unittest.TestCase):
     def test_many(self):
         names = ["handshake", "queue_full", "cut_text"]

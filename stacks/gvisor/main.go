@@ -1,7 +1,7 @@
-// gVisor's netstack behind the runner: the commands of driver.c, answered in Go.
+// The adapter of gVisor's netstack for the runner: it handles the commands of driver.c in Go.
 //
-// The stack's goroutines run on one processor, and each command lets them all run until none is left, so a run is the same each time. The clock
-// is the runner's.
+// The stack's goroutines run on one processor, and each command runs them until all wait, so that runs are repeatable. The clock is the
+// runner's.
 package main
 
 import (
@@ -32,7 +32,7 @@ import (
 const (
 	nic      = 1
 	ipHeader = 20
-	yields   = 100 // more than goroutines ever wait in a row
+	yields   = 100 // more than the number of goroutines that ever wait in a row
 )
 
 // ---- The clock ----
@@ -66,13 +66,13 @@ func (t *timers) Pop() any {
 	return last
 }
 
-// clock counts nanoseconds, and stands still while a command is done.
+// clock counts nanoseconds, and doesn't advance while a command runs.
 type clock struct {
 	mu    sync.Mutex
 	now   int64
 	order int64
 	due   timers
-	// around runs what is due, and sees what became of it.
+	// around runs the timers that are due, and observes the results.
 	around func(call func())
 }
 
@@ -119,7 +119,7 @@ func (t *timer) Reset(d time.Duration) {
 	heap.Push(&c.due, t)
 }
 
-// pass goes on to a moment, and runs what is due on the way.
+// pass advances to a moment, and runs the timers that are due until then.
 func (c *clock) pass(moment int64) {
 	for {
 		c.mu.Lock()
@@ -139,7 +139,7 @@ func (c *clock) pass(moment int64) {
 	}
 }
 
-// next is the microsecond at which something is due.
+// next is the microsecond at which the next timer is due.
 func (c *clock) next() string {
 	c.mu.Lock()
 	defer c.mu.Unlock()
@@ -177,8 +177,8 @@ type host struct {
 	closed  map[uint32]bool // local and remote port: the peer's last window was 0
 }
 
-// around runs what is due, and says which timers expired. The stack counts timeouts and calls a probe of a window of 0 one too; of a SYN it
-// counts none, nor of connections that were not accepted.
+// around runs the timers that are due, and reports which expired. The stack counts timeouts, including probes of a window of 0, but not those of
+// SYNs or of connections that weren't accepted.
 func (h *host) around(call func()) {
 	h.tell()
 	for _, s := range h.sockets {
@@ -199,7 +199,7 @@ func (h *host) around(call func()) {
 	h.tell()
 }
 
-// timer is which timer a timeout was of.
+// timer is the timer of a timeout.
 func (h *host) timer(s *socket, local, remote uint16) string {
 	if s.state() == "CLOSED" {
 		return "giveup"
@@ -239,7 +239,7 @@ func start(number int, seed int64, mss, window int, options string) *host {
 	return h
 }
 
-// set turns off what versions 1 to 3 of the texts don't permit, unless the profile's options say otherwise.
+// set turns off what format versions 1 to 3 don't permit, unless the profile's options turn it on.
 func (h *host) set(window int, options string) {
 	sack := tcpip.TCPSACKEnabled(strings.Contains(options, "sack"))
 	check(h.stack.SetTransportProtocolOption(tcp.ProtocolNumber, &sack))
@@ -257,7 +257,7 @@ func (h *host) set(window int, options string) {
 	check(h.stack.SetTransportProtocolOption(tcp.ProtocolNumber, &room))
 }
 
-// input brings a segment in, in a packet whose checksums are right.
+// input delivers a segment, in a packet with correct checksums.
 func (h *host) input(segment []byte) {
 	packet := make([]byte, ipHeader+len(segment))
 	ip := header.IPv4(packet)
@@ -278,7 +278,7 @@ func (h *host) input(segment []byte) {
 	buffer.DecRef()
 }
 
-// tell says what went out.
+// tell prints the segments that were sent.
 func (h *host) tell() {
 	settle()
 	for {
@@ -315,7 +315,7 @@ func word(err tcpip.Error) string {
 	case *tcpip.ErrPortInUse, *tcpip.ErrAlreadyConnected:
 		return "inuse"
 	}
-	fmt.Fprintf(os.Stderr, "an error without a word: %v\n", err)
+	fmt.Fprintf(os.Stderr, "an error with no known answer: %v\n", err)
 	return "cannot"
 }
 
@@ -360,7 +360,7 @@ func (h *host) open(local, remote int) string {
 	return h.given(s)
 }
 
-// names of the states, as RFC 9293 has them.
+// names of the states in RFC 9293.
 var names = map[tcp.EndpointState]string{
 	tcp.StateEstablished: "ESTABLISHED", tcp.StateSynSent: "SYN-SENT", tcp.StateSynRecv: "SYN-RECEIVED", tcp.StateFinWait1: "FIN-WAIT-1",
 	tcp.StateFinWait2: "FIN-WAIT-2", tcp.StateTimeWait: "TIME-WAIT", tcp.StateCloseWait: "CLOSE-WAIT", tcp.StateLastAck: "LAST-ACK",

@@ -1,8 +1,8 @@
-/* lwIP behind the runner: its raw interface, with a clock of our own in place of the machine's.
+/* The adapter of lwIP for the runner: it uses lwIP's raw API, with the runner's clock instead of the machine's.
  *
- * Debian's liblwip is linked as it is. It reads the time by sys_now, which stands here, and its TCP timers run where tcp_tmr is
- * called, which is every 250 ms. Its functions are called by one thread, so nothing is locked. Backlogs are not compiled in, so
- * the header of a trace says `extra 65535`.
+ * It links Debian's unmodified liblwip. lwIP reads the time with sys_now, which is defined here, and runs its TCP timers in tcp_tmr,
+ * which this file calls every 250 ms. Only one thread calls lwIP, so nothing is locked. Debian compiles lwIP without backlogs, so the
+ * profile has `extra 65535`.
  */
 #include "../tcpwit_stack.h"
 #include <lwip/inet_chksum.h>
@@ -20,13 +20,13 @@ struct socket {
     struct tcp_pcb *pcb;
     long fault;                       /* 0, or STACK_REFUSED .. */
     int listens, connected, eof, shut;
-    struct socket *queue[QUEUE];      /* of a listener: children that wait */
+    struct socket *queue[QUEUE];      /* of a listener: waiting children */
     int waiting;
-    unsigned char *unread;            /* bytes that came and were not read */
+    unsigned char *unread;            /* bytes received but not read */
     size_t count;
 };
 
-/* What a connection's counters were before a tick, to see which timer expired. */
+/* A connection's counters before a tick, to detect which timer expired. */
 struct tracked {
     u16_t local, remote;
     u8_t resent, probes;
@@ -71,7 +71,7 @@ static void remember(struct tcp_pcb *pcb, int waits)
     }
 }
 
-/* Says which timer of a connection expired since the tick began. */
+/* Reports which timer of a connection expired since the tick began. */
 static void tell_expiry(u16_t local, u16_t remote)
 {
     struct tracked *before = seen_at(local, remote);
@@ -102,8 +102,8 @@ static void tell_the_rest(void)
 
 /* ---- The wire ---- */
 
-/* lwIP's receive window is fixed when it is compiled. A scenario's smaller one is written into the SYN that goes out, and set in
- * the connection once lwIP has read the peer's SYN. */
+/* lwIP's receive window is fixed at compile time. If a scenario needs a smaller one, it is written into the outgoing SYN, and set in
+ * the connection once lwIP has processed the peer's SYN. */
 static void limit(struct tcp_pcb *pcb)
 {
     if (config.window && pcb && pcb->rcv_wnd > config.window) pcb->rcv_wnd = pcb->rcv_ann_wnd = (tcpwnd_size_t)config.window;
@@ -118,8 +118,8 @@ static void narrow(unsigned char *segment)
     if (segment[13] & TCP_ACK) limit(active_at(local, remote));
 }
 
-/* A reset that answers an acknowledgment acknowledges nothing in RFC 9293, 3.10.7.1; lwIP's does. So that more of a run can be
- * judged it is made as the RFC has it. */
+/* In RFC 9293, 3.10.7.1, a reset that answers an acknowledgment acknowledges nothing; lwIP's does. It is changed to the RFC's form, so
+ * that more of a run can be judged. */
 static void make_plain(unsigned char *segment)
 {
     static const unsigned char none[4];
@@ -156,7 +156,7 @@ static ip4_addr_t address(int host)
     return ip;
 }
 
-/* An IPv4 packet round a segment. A scripted peer makes no checksums, so they are made here. */
+/* Wraps a segment in an IPv4 packet. A scripted peer sends no checksums, so they are computed here. */
 static struct pbuf *packet_of(const unsigned char *segment, size_t count)
 {
     static unsigned char bytes[LONGEST];
@@ -186,7 +186,7 @@ static struct pbuf *packet_of(const unsigned char *segment, size_t count)
     return packet;
 }
 
-/* ---- What lwIP calls ---- */
+/* ---- Callbacks from lwIP ---- */
 
 static void failed(void *at, err_t cause)
 {
@@ -240,13 +240,13 @@ static err_t joined(void *at, struct tcp_pcb *pcb, err_t cause)
     return ERR_OK;
 }
 
-/* ---- What the driver calls ---- */
+/* ---- Functions that the driver calls ---- */
 
 long stack_start(const struct stack_config *wanted)
 {
     ip4_addr_t own, mask, none;
     config = *wanted;
-    /* An update of the window goes out for this much; a smaller window would never be updated. */
+    /* lwIP sends a window update only for this much; a smaller window would never be updated. */
     if (config.window && config.window < TCP_WND_UPDATE_THRESHOLD) return STACK_CANNOT;
     prompt = strstr(config.options, "prompt") != NULL;
     plain_resets = strstr(config.options, "plain-resets") != NULL;
@@ -262,8 +262,8 @@ long stack_start(const struct stack_config *wanted)
     return STACK_OK;
 }
 
-/* What waits to be acknowledged is acknowledged now. lwIP grows its window by two segments for an acknowledgment of two
- * (RFC 3465), which versions 1 to 3 of the texts don't permit; of one segment it grows by one. */
+/* Sends delayed acknowledgments at once. lwIP grows its window by two segments for an acknowledgment of two (RFC 3465), which format
+ * versions 1 to 3 don't permit; for an acknowledgment of one segment, it grows by one. */
 static void acknowledge(void)
 {
     for (struct tcp_pcb *pcb = tcp_active_pcbs; pcb; pcb = pcb->next)
@@ -400,7 +400,7 @@ long stack_shut(long number)
     return answer_of(error);
 }
 
-/* A closed connection has no socket any more that could be called. */
+/* A closed connection no longer has a socket to call. */
 static void forget(struct socket *socket)
 {
     tcp_arg(socket->pcb, NULL);
@@ -415,7 +415,7 @@ long stack_close(long number)
     struct socket *socket = &sockets[number];
     if (!socket->pcb) return STACK_OK;
     forget(socket);
-    /* lwIP takes a window that isn't whole for bytes that were not read, and resets. */
+    /* lwIP treats a window that isn't fully open as unread data, and resets. */
     if (!socket->listens && config.window && !socket->count) socket->pcb->rcv_wnd = TCP_WND_MAX(socket->pcb);
     while (tcp_close(socket->pcb) != ERR_OK) tcp_tmr();
     socket->pcb = NULL;

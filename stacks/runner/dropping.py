@@ -1,8 +1,8 @@
-"""Arrivals that a stack dropped.
+"""Finds arrivals that a stack dropped.
 
-`tcpwit_lab find` takes what may be taken, and never tries what happens where an arrival is dropped instead. Dropping is always permitted.
-So where its witness is refused, some arrivals are left out of the trace, a witness for the rest is sought, and they are put in
-again, each with its step K. The case is one of the whole trace, and `tcpwit check` judges it as any other.
+`tcpwit_lab find` processes every arrival that may be processed, and never tries to drop it instead, though dropping is always
+permitted. If its witness is refused, this module leaves some arrivals out of the trace, finds a witness for the rest, and inserts
+the arrivals again, each with its step K. The result is a case of the whole trace, and `tcpwit check` judges it like any other.
 """
 import re
 
@@ -10,7 +10,7 @@ MOST_TRIES = 12
 
 
 def not_acknowledged(verdict, told, case, lines):
-    """Arrivals that the stack can't have kept: a line shows an acknowledgment of less than they carry. Their places in `lines`."""
+    """The places in `lines` of arrivals that the stack can't have kept: a later line acknowledges less than they carry."""
     found = re.search(r"acknowledgment number: made (\d+), the line shows (\d+)", told)
     if not verdict.endswith("bytes-differ") or not found:
         return set()
@@ -32,7 +32,7 @@ def not_acknowledged(verdict, told, case, lines):
 
 
 def choices(lines, odd):
-    """Sets of lines to leave out, each by their places: all that are odd, then single ones."""
+    """Sets of lines to leave out, each as places in the trace: all odd segments, then single ones."""
     fins = [at for at, line in enumerate(lines) if is_arrival(line) and flags_of(line) & 7]
     singles = sorted(odd) + [at for at in fins if at not in odd]
     found = [set(odd)] if len(odd) > 1 else []
@@ -48,7 +48,7 @@ def flags_of(line):
 
 
 def put_in_again(case, header, lines, left, half=False):
-    """The case of a trace that lacks the lines `left`, with them and their steps K in their places. `half`: host 0 alone is recorded."""
+    """Inserts the lines `left`, with their steps K, into the case of a trace that lacks them. `half`: only host 0 is recorded."""
     text = case.split("\n")
     cut = next(at for at, line in enumerate(text) if line.startswith("witness "))
     head, found, steps = text[:header], text[header:cut], [step for step in text[cut:] if step]
@@ -86,7 +86,7 @@ def renumbered(step, number, arrivals):
 
 
 def add(steps, place, whole, header, half):
-    """Puts the two steps of the line at `place` behind those of the line before it."""
+    """Inserts the two steps of the line at `place` after those of the line before it."""
     moment, _, _, host, text = whole[place - header - 1].split(" ")
     at = 1
     for index, step in enumerate(steps[1:], 1):

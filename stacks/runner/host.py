@@ -1,4 +1,4 @@
-"""A stack in a process of its own, and the lines that it may say (the head of ../driver.c)."""
+"""A stack in a process of its own, and the lines that it may print (see the top of ../driver.c)."""
 import os
 import re
 import selectors
@@ -9,22 +9,22 @@ from limits import Broken
 from texts import shown
 
 SHORTEST = 20   # bytes of a TCP header without options
-# What a call may be answered, besides by the words below.
+# The answers that a call may have, besides the words below.
 GIVEN = {"listen": r"ok \d+", "open": r"ok \d+", "accept": r"ok \d+", "send": r"ok [1-9]\d*", "recv": r"data ([0-9a-f]{2})+",
          "status": r"state [A-Z0-9-]+"}
 WORDS = ("again", "eof", "closed", "notconn", "refused", "reset", "timeout", "inuse")
 NEXT = r"-|\d+"
 EXPIRED = r"\d+ \d+ (rto|persist|2msl|giveup)"
-# Bytes of one line, lines of one command, and bytes that are read at once.
+# The most bytes of a line, lines of a command, and bytes to read at once.
 LONGEST_LINE, MOST_LINES, AT_ONCE = 1 << 20, 20_000, 1 << 16
-# How much of standard error is shown: bytes, lines, and letters of a line.
+# How much of standard error is shown: bytes, lines, and characters of a line.
 TAIL, TAIL_LINES, TAIL_WIDTH = 4000, 8, 180
-# Seconds in which a process that ends ends.
+# How many seconds a process may take to end.
 GRACE = 1
 
 
 class Cannot(Exception):
-    """The adapter can't do what the scenario wants."""
+    """The adapter can't do what the scenario requires."""
 
 
 class Host:
@@ -43,7 +43,7 @@ class Host:
         self.selector.register(self.process.stderr, selectors.EVENT_READ, self.read_errors)
 
     def hello(self, seed, options):
-        """Sets the stack up."""
+        """Starts the stack."""
         number, settings = self.number, self.settings
         mss, window = settings.get((number, "mss"), 536), settings.get((number, "window"), 0)
         self.ask("start", f"start {number} {seed} {mss} {window} {options}")
@@ -51,7 +51,7 @@ class Host:
     # ---- the pipes ----
 
     def move(self, seconds):
-        """Reads and writes what can be at once; waits for that so long at most. Whether anything was."""
+        """Reads and writes as much as possible, after waiting at most this long. Returns whether it read or wrote anything."""
         found = self.selector.select(max(0, seconds))
         for key, _ in found:
             key.data()
@@ -94,7 +94,7 @@ class Host:
     # ---- commands ----
 
     def ask(self, word, command):
-        """Sends a command, whose call is `word`; the answer, and what happened: ('out', hex) and ('expired', ports and timer)."""
+        """Sends a command, whose call is `word`. Returns the answer and the events: ('out', hex) and ('expired', ports and timer)."""
         seconds = min(self.watch.limits.command, self.watch.left(f"before: {command[:60]}"))
         until = time.monotonic() + seconds
         self.pending = (command + "\n").encode()
@@ -109,37 +109,37 @@ class Host:
             if fault:
                 raise self.broken(f"{fault}: '{line[:60]}'", command)
             happened.append((first, rest))
-        raise self.broken(f"said {MOST_LINES} lines without an answer", command)
+        raise self.broken(f"printed {MOST_LINES} lines without an answer", command)
 
     def line(self, until, command):
-        """The next line that the process says, until this moment."""
+        """The next line that the process prints, until this moment."""
         while b"\n" not in self.said:
             if len(self.said) > LONGEST_LINE:
-                raise self.broken(f"said a line of more than {LONGEST_LINE} bytes", command)
+                raise self.broken(f"printed a line of more than {LONGEST_LINE} bytes", command)
             if self.closed:
                 cause = processes.status_within(self.process, GRACE) or "closed its output"
                 raise self.broken(f"{cause} after '{shown(self.said[-60:])}'" if self.said else cause, command)
             if time.monotonic() >= until or not self.move(until - time.monotonic()):
-                self.watch.left(f"while host {self.number} was asked: {command[:60].rstrip()}")
-                raise self.broken(processes.status(self.process) or f"said nothing for {self.watch.limits.command:g} s", command)
+                self.watch.left(f"during host {self.number}'s command: {command[:60].rstrip()}")
+                raise self.broken(processes.status(self.process) or f"printed nothing for {self.watch.limits.command:g} s", command)
         line, _, self.said = self.said.partition(b"\n")
         return shown(line.decode("ascii", "backslashreplace"))
 
     def answer(self, word, command, line):
-        """What the line `= NEXT ANSWER` answers; notes when a tick is wanted."""
+        """The answer in the line `= NEXT ANSWER`; records when the next tick is due."""
         _, wanted, answer = (line + "  ").split(" ", 2)
         answer = answer.rstrip(" ")
         if answer == "cannot":
             raise Cannot(f"{word} at host {self.number}")
         if not re.fullmatch(NEXT, wanted) or not is_answer(word, answer):
-            raise self.broken(f"answered what is no answer: '{line[:60]}'", command)
+            raise self.broken(f"gave an invalid answer: '{line[:60]}'", command)
         if self.pending:
             raise self.broken(f"answered before it read the command: '{line[:60]}'", command)
         self.next = None if wanted == "-" else int(wanted)
         return answer
 
     def end(self):
-        """Closes the input, and ends what has not ended soon after; at once after a fault."""
+        """Closes the input, and ends the process if it doesn't end soon; after a fault, ends it at once."""
         if self.process.stdin in [key.fileobj for key in self.selector.get_map().values()]:
             self.selector.unregister(self.process.stdin)
         self.process.stdin.close()
@@ -154,7 +154,7 @@ class Host:
 
 
 def is_answer(word, answer):
-    """Whether a call may be answered so."""
+    """Whether a call may have this answer."""
     if word in ("start", "in", "tick"):
         return answer == "ok"
     return answer in WORDS or bool(re.fullmatch(GIVEN.get(word, "ok"), answer))
@@ -163,12 +163,12 @@ def is_answer(word, answer):
 def fault_of(word, rest):
     """What is wrong with a line that isn't an answer; empty if nothing is."""
     if word == "expired":
-        return "" if re.fullmatch(EXPIRED, rest) else "said a timer that isn't LOCAL REMOTE TIMER"
+        return "" if re.fullmatch(EXPIRED, rest) else "printed a timer that isn't LOCAL REMOTE TIMER"
     if word != "out":
-        return "said what isn't understood"
+        return "printed an unknown line"
     if not re.fullmatch("[0-9a-f]*", rest) or len(rest) % 2:
-        return "sent what isn't bytes in small hex digits, two for each"
+        return "sent bytes that aren't two lowercase hex digits each"
     size, header = len(rest) // 2, int(rest[24:25] or "0", 16) * 4
     if size < SHORTEST:
         return f"sent {size} bytes, fewer than a TCP header has"
-    return "" if SHORTEST <= header <= size else f"sent {size} bytes whose header says {header}"
+    return "" if SHORTEST <= header <= size else f"sent {size} bytes with a header length of {header}"

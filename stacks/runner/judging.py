@@ -1,4 +1,4 @@
-"""From a run to a verdict: the header of the trace, a witness by `tcpwit_lab find`, the answer of `tcpwit check`."""
+"""Turns a run into a verdict: the header of the trace, a witness from `tcpwit_lab find`, the answer of `tcpwit check`."""
 import os
 import re
 from dataclasses import dataclass, field
@@ -11,20 +11,20 @@ from texts import shown
 # How much of congestion control is judged, the strictest first.
 WORDS = ("full", "recovery", "none")
 FULL = WORDS[0]
-# The versions of the texts: the one place where they are chosen. What is judged in full is written as before version 4.
+# The format versions; only this module chooses them. A case that is judged in full uses a version below 4.
 BOTH_HOSTS, ONE_HOST, BY_WORD = 2, 3, 4
 HEADER = ("msl", "grain", "minrto", "extra", "initial")
-# What a stack is taken for where its profile says nothing.
+# The values of a stack if its profile has none.
 USUAL = {"name": "a stack", "msl": "120000000", "grain": "1000", "minrto": "0", "extra": "65535", "initial": "5681", "options": ""}
-# What explains a no. The segments came over a simulated wire, so no capture can have changed them.
+# The command that explains a no. The segments came over a simulated wire, so no capture can have changed them.
 EXPLAIN = ["explain", "--simulated"]
-# Seconds for a program that is tried before the first scenario.
+# How many seconds a program may take in a trial before the first scenario.
 LIMIT = 60
 
 
 @dataclass
 class Outcome:
-    """What is said of one scenario."""
+    """The outcome of one scenario."""
     scenario: object
     verdict: str = ""           # yes .., no .., bad .., skipped .., recorded, or broken ..: of all of congestion control
     strictest: str = ""         # the strictest word with a yes; empty if no word has one
@@ -44,40 +44,40 @@ class Outcome:
         return self.verdict.startswith("yes") or self.strictest in WORDS[:WORDS.index(least) + 1]
 
     def is_good(self, least=FULL):
-        """Whether it is a yes, and all came out as the scenario says."""
+        """Whether it is a yes, and everything happened as the scenario expects."""
         lost = self.missing and self.scenario.keeps
         return self.is_yes(least) and not (self.unexpected or self.waiting or lost)
 
     def is_unjudged(self):
-        """Whether there is no verdict, and no fault either: the adapter can't run the scenario, or nothing is to be judged."""
+        """Whether there is neither a verdict nor a fault: the adapter can't run the scenario, or nothing is judged."""
         return self.word() in ("skipped", "recorded")
 
     def word(self):
-        """One word for tables: what is wrong first."""
+        """One word for tables: the most important thing that is wrong."""
         first = self.verdict.split()[0] if self.verdict else "broken"
         return first if first != "yes" or self.is_good() else "yes, but"
 
     def shown(self):
-        """The verdict, as tables and reports have it."""
+        """The verdict, as tables and reports show it."""
         return f"{self.verdict}, but" if self.word() == "yes, but" else self.verdict
 
 
 def profile(text):
-    """The header's values and the name, by lines of a word and a value."""
+    """The header's values and the name, from lines of a word and a value."""
     values = dict(USUAL)
     for line in text.split("\n"):
         word, _, value = line.split("#")[0].strip().partition(" ")
         if word:
             if word not in values:
-                raise ValueError(f"{word} is no word of a profile")
+                raise ValueError(f"{word} isn't a word of a profile")
             values[word] = value.strip()
             if word in HEADER and not re.fullmatch("[0-9]+", values[word]):
-                raise ValueError(f"{word} {values[word]!r} is no number")
+                raise ValueError(f"{word} {values[word]!r} isn't a number")
     return values
 
 
 def header_of(values, half, word=FULL):
-    """The lines of a trace's header. `half`: host 0 alone is recorded; `word`: how much of congestion control is judged."""
+    """The lines of a trace's header. `half`: only host 0 is recorded; `word`: how much of congestion control is judged."""
     lines = ["skew 0", *(f"{name} {values[name]}" for name in HEADER)]
     if word != FULL:
         return [f"trace {BY_WORD}", *lines, f"hosts {1 if half else 2}", f"congestion {word}"]
@@ -94,11 +94,11 @@ class Judge:
         self.check, self.lab, self.watch = check, lab, watch
 
     def call(self, program, words, text):
-        """A program's output and status, with these words after its name."""
+        """A program's output and status, with these arguments."""
         where = shown(f"in {' '.join([*map(os.path.basename, program), *words])}")
         told, status = processes.call([*program, *words], text, self.watch.left(where) if self.watch else LIMIT)
         if told is None:
-            raise Broken(f"{self.watch.cause if self.watch else f'more than {LIMIT} s went by'}, {where}")
+            raise Broken(f"{self.watch.cause if self.watch else f'it took more than {LIMIT} s'}, {where}")
         return told, status
 
     def answer(self, case):
@@ -108,18 +108,18 @@ class Judge:
         return shown(told.strip())
 
     def unfit(self):
-        """The program that is older than the suite, which needs version 4 of the texts and `explain --simulated`; empty if none is."""
+        """The program that is older than the suite, which needs format version 4 and `explain --simulated`; empty if none is."""
         case, _ = self.call(self.lab, ["find"], trace_of(USUAL, False, [], WORDS[-1]))
         if not case.startswith(f"trace {BY_WORD}\n") or self.call(self.lab, EXPLAIN, case)[0].startswith("bad usage"):
             return " ".join(self.lab)
         return "" if self.answer(case).startswith("yes") else " ".join(self.check)
 
     def empty(self, values):
-        """The verdict on a trace that is only a header, with these values of a profile."""
+        """The verdict on an empty trace with these values of a profile."""
         return self.answer(self.call(self.lab, ["find"], trace_of(values, False, [], WORDS[-1]))[0])
 
     def found(self, run, values, word):
-        """A case and its verdict: the first that is a yes, or that of the whole trace."""
+        """A case and its verdict: the first yes, else that of the whole trace."""
         first, _ = self.call(self.lab, ["find"], trace_of(values, run.peer, run.lines, word))
         verdict = self.answer(first)
         if not verdict.startswith("no"):
@@ -132,7 +132,7 @@ class Judge:
         return (case, answer) if answer.startswith("yes") else (first, verdict)
 
     def without(self, run, values, word, left):
-        """A case in which the arrivals in these places are dropped, and its verdict; the witness is of the rest alone where that is no yes."""
+        """A case in which the arrivals at these places are dropped, and its verdict. If that isn't a yes, the witness covers only the rest."""
         rest = [line for at, line in enumerate(run.lines) if at not in left]
         case, _ = self.call(self.lab, ["find"], trace_of(values, run.peer, rest, word))
         answer = self.answer(case)
@@ -142,7 +142,7 @@ class Judge:
         return case, self.answer(case)
 
     def without_unkept(self, run, values, word, case, verdict):
-        """Drops, again and again, what acknowledgments show that the stack didn't keep."""
+        """Repeatedly drops arrivals that the stack's acknowledgments show it didn't keep."""
         left = set()
         for _ in range(dropping.MOST_TRIES):
             told, _ = self.call(self.lab, EXPLAIN, case)
@@ -154,7 +154,7 @@ class Judge:
         return case, verdict
 
     def judge(self, outcome, run, values):
-        """Finds witnesses and fills in the outcome. The case that is judged in full, and one at the strictest word with a yes, each by its word."""
+        """Finds witnesses and fills in the outcome. Returns the case judged in full and one for the strictest word with a yes, keyed by word."""
         case, outcome.verdict = self.found(run, values, FULL)
         cases = {FULL: case}
         if outcome.verdict.startswith("yes"):
@@ -167,12 +167,12 @@ class Judge:
         return cases
 
     def judge_less(self, outcome, run, values, cases):
-        """Looks for a yes where less of congestion control is judged."""
+        """Looks for a yes that judges less of congestion control."""
         for word in WORDS[1:]:
             try:
                 case, verdict = self.found(run, values, word)
             except Broken as cause:
-                outcome.unexpected.append(f"run: {cause}; no yes was looked for at {word} and below")
+                outcome.unexpected.append(f"run: {cause}; {word} and less strict words weren't tried")
                 return
             if verdict.startswith("yes"):
                 outcome.strictest, cases[word] = word, case

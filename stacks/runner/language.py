@@ -1,4 +1,4 @@
-"""Scenarios: what the files of scenarios/ say. LANGUAGE.md describes the words."""
+"""Parses the scenarios in scenarios/. LANGUAGE.md describes their language."""
 import re
 from dataclasses import dataclass, field
 
@@ -7,20 +7,20 @@ CALLS = {"listen": 2, "open": 3, "await": 1, "accept": 1, "send": 2, "recv": 2, 
 
 
 class Fault(Exception):
-    """A scenario that can't be read: the file, the line and what is wrong there."""
+    """A scenario that can't be read, with the file, the line and the fault."""
 
 
 @dataclass
 class Rule:
-    """What the wire does with some segments of a host."""
+    """What the wire does with certain segments of a host."""
     deed: str            # lose, double, hold
     host: int
     kind: str            # one of KINDS, or "byte"
     byte: int = 0        # of kind "byte": segments that carry this byte of the stream, from 1
-    picks: tuple = ()    # which of them, counted from 1; empty: by chance or all
+    picks: tuple = ()    # which of them, counted from 1; empty: at random or all
     first: int = 0       # all from this one on
-    share: float = 0.0   # by chance
-    time: int = 0        # microseconds: how much later the copy or the segment comes
+    share: float = 0.0   # at random
+    time: int = 0        # microseconds by which the copy or the segment is delayed
 
 
 @dataclass
@@ -62,38 +62,38 @@ class Scenario:
 def seconds(text):
     """A time in seconds, as microseconds."""
     if not re.fullmatch(r"\d+(\.\d{1,6})?", text):
-        raise ValueError(f"{text} is no time in seconds")
+        raise ValueError(f"{text} isn't a time in seconds")
     whole, _, part = text.partition(".")
     return int(whole) * 1_000_000 + int((part + "000000")[:6])
 
 
 def number(text, most=2**32 - 1):
-    """A number, at most the greatest that has room where it is used."""
+    """A number up to the greatest that fits where it is used."""
     if not re.fullmatch(r"[0-9]+", text):
-        raise ValueError(f"{text} is no number")
+        raise ValueError(f"{text} isn't a number")
     if int(text) > most:
         raise ValueError(f"{text} is above {most}")
     return int(text)
 
 
 def half(text):
-    """A number of 16 bits: a port, a window, an MSS, how many bytes."""
+    """A 16-bit number: a port, a window, an MSS or a count of bytes."""
     return number(text, 2**16 - 1)
 
 
 def place(text):
-    """A sequence number of a script: a name or a number, perhaps with more or less."""
+    """A sequence number in a script: a name or a number, optionally with + N or - N."""
     if not re.fullmatch(r"(nxt|iss|una|rcv|irs|edge|[0-9]+)([+-][0-9]+)?", text):
-        raise ValueError(f"{text} is no sequence number")
+        raise ValueError(f"{text} isn't a sequence number")
 
 
 def tcp_options(text):
     """The options of a segment as hex."""
     if not re.fullmatch(r"([0-9a-f]{8}){1,10}", text):
-        raise ValueError(f"{text} is not 4 to 40 bytes of options in small hex digits, a multiple of 4")
+        raise ValueError(f"{text} is not 4 to 40 bytes of options in lowercase hex digits, a multiple of 4")
 
 
-# What the words of a script's steps may have as values.
+# The values that words of a script's steps may have.
 PUT = {"seq": place, "ack": place, "len": half, "win": half, "mss": half, "fill": lambda text: number(text, 255), "times": number, "each": seconds,
        "raw": tcp_options}
 EXPECT = {"within": seconds, "seq": place, "ack": place, "len": half}
@@ -101,7 +101,7 @@ EXPECT = {"within": seconds, "seq": place, "ack": place, "len": half}
 
 def host(text):
     if text not in ("0", "1"):
-        raise ValueError(f"{text} is no host: 0 or 1")
+        raise ValueError(f"{text} isn't a host: 0 or 1")
     return int(text)
 
 
@@ -113,7 +113,7 @@ def rule(words):
     if made.kind == "byte":
         made.byte, words = number(words[0]), words[1:]
     elif made.kind not in KINDS:
-        raise ValueError(f"{made.kind} is no kind of segment")
+        raise ValueError(f"{made.kind} isn't a kind of segment")
     if deed != "lose":
         if len(words) < 2 or words[-2] != {"double": "after", "hold": "for"}[deed]:
             raise ValueError("the time is missing")
@@ -127,12 +127,12 @@ def rule(words):
     else:
         made.picks = tuple(number(word) for word in words)
     if not (made.picks or made.first or made.share):
-        raise ValueError("which of them is missing")
+        raise ValueError("the segment numbers are missing")
     return made
 
 
 def options(words, known):
-    """Pairs of a word and its value. `known`: the words, perhaps with what tries their values."""
+    """Pairs of a word and its value. `known`: the words, optionally with a function that checks their values."""
     found = {}
     while words:
         if words[0] not in known or len(words) < 2:
@@ -155,7 +155,7 @@ def call(line, words):
     if word == "after":
         return Do(line, word, [host(args[0]), args[1], number(args[2])])
     if word not in CALLS:
-        raise ValueError(f"{word} is no call")
+        raise ValueError(f"{word} isn't a call")
     count = CALLS[word]
     need, rest = args[:count], args[count:]
     if word == "listen":
@@ -186,21 +186,21 @@ def act(line, words):
         return Do(line, word, [seconds(args[0])])
     if word == "put":
         if not re.fullmatch(r"[SFRPAU]+|-", args[0]):
-            raise ValueError(f"{args[0]} are no flags")
+            raise ValueError(f"{args[0]} aren't flags")
         return Do(line, word, [args[0]], options(args[1:], PUT))
     if word in ("expect", "never"):
         if args[0] not in KINDS:
-            raise ValueError(f"{args[0]} is no kind of segment")
+            raise ValueError(f"{args[0]} isn't a kind of segment")
         return Do(line, word, [args[0]], options(args[1:], EXPECT))
     if word == "window":
         return Do(line, word, [half(args[0])])
     if word == "acks" and args[0] in ("on", "off"):
         return Do(line, word, [args[0]])
-    raise ValueError(f"{word} is no word of a script")
+    raise ValueError(f"{word} isn't a word of a script")
 
 
 def read(name, text):
-    """The scenario that a text says."""
+    """The scenario described by a text."""
     scenario = Scenario(name)
     inside = None
     for at, line in enumerate(text.split("\n"), 1):
@@ -210,7 +210,7 @@ def read(name, text):
         try:
             if line[0] == " ":
                 if inside is None:
-                    raise ValueError("a step stands outside of a thread")
+                    raise ValueError("a step is outside of a thread")
                 inside(at, words)
             else:
                 inside = top(scenario, words, line.split("#")[0])
@@ -222,7 +222,7 @@ def read(name, text):
 
 
 def top(scenario, words, line):
-    """A line at the left edge; what it answers takes the steps below it."""
+    """Parses a line without indentation; returns the function for the steps below it."""
     word, args = words[0], words[1:]
     if word in ("show", "by"):
         setattr(scenario, word, line.split(None, 1)[1].strip())

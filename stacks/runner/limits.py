@@ -1,10 +1,10 @@
-"""How much of the machine's time a run may take."""
+"""How much time a run may take."""
 import time
 from dataclasses import dataclass
 
 
 class Broken(Exception):
-    """A scenario that can't be judged, by the fault of the stack's process or of its time."""
+    """A scenario that can't be judged, because the stack's process failed or took too long."""
 
 
 @dataclass
@@ -17,7 +17,7 @@ class Limits:
 
 
 class Watch:
-    """The time that is left for a scenario: its own, or that of the run, which ends at `run_end`."""
+    """The time left for a scenario: its own, or that of the run, which ends at `run_end`."""
 
     def __init__(self, limits, run_end):
         self.limits = limits
@@ -25,7 +25,7 @@ class Watch:
         self.cause = f"the run took more than {limits.run:g} s" if self.until == run_end else f"the scenario took more than {limits.scenario:g} s"
 
     def left(self, where):
-        """How many seconds are left; none is Broken. `where`: what is being done."""
+        """How many seconds are left; raises Broken if none are. `where`: what is being done."""
         left = self.until - time.monotonic()
         if left <= 0:
             raise Broken(f"{self.cause}, {where}")

@@ -1,4 +1,4 @@
-"""A scripted peer: host 1 of a half case. It sends what a script says, and sees what host 0 sends."""
+"""A scripted peer: host 1 of a half case. It sends the segments of a script and sees those of host 0."""
 import re
 
 import segments
@@ -16,12 +16,12 @@ class Peer:
         self.iss = 4_000_000_000
         self.nxt = self.iss
         self.irs = self.rcv = None
-        self.una = None            # the greatest acknowledgment that came
+        self.una = None            # the greatest acknowledgment received
         self.edge = None           # the end of the window that the stack offers
         self.shift = 0
         self.window = 65535
         self.acks = False
-        self.arrived = []          # what no `expect` has looked at
+        self.arrived = []          # segments that no `expect` has examined
         self.ready = 0
         self.deadline = None
         self.times = 0
@@ -33,7 +33,7 @@ class Peer:
     def is_over(self):
         return self.at == len(self.script)
 
-    # ---- what comes ----
+    # ---- receiving ----
 
     def take(self, segment):
         if segment.dst != self.port:
@@ -50,10 +50,10 @@ class Peer:
         if self.acks and segment.length() and not segment.has(RST):
             self.send("A", {})
 
-    # ---- what goes ----
+    # ---- sending ----
 
     def number(self, text, default):
-        """nxt, iss, una, rcv, irs, edge or a number, and perhaps + N or - N."""
+        """nxt, iss, una, rcv, irs, edge or a number, optionally with + N or - N."""
         if text is None:
             return default
         base, sign, more = re.fullmatch(r"([a-z]+|\d+)(?:([+-])(\d+))?", text).groups()
@@ -86,7 +86,7 @@ class Peer:
     # ---- the script ----
 
     def go_on(self):
-        """Does steps of the script that can be done now. Whether any was."""
+        """Does the steps of the script that are due. Returns whether there were any."""
         moved = False
         while self.at < len(self.script) and self.ready <= self.run.now:
             step = self.script[self.at]
@@ -147,13 +147,13 @@ class Peer:
         if self.found(step):
             return True
         if self.is_late(step):
-            self.run.blame(None, step, f"no {step.args[0]} came")
+            self.run.blame(None, step, f"no {step.args[0]} arrived")
             return True
         return False
 
     def do_never(self, step):
         if self.found(step):
-            self.run.blame(None, step, f"a segment of kind {step.args[0]} came")
+            self.run.blame(None, step, f"a segment of kind {step.args[0]} arrived")
             return True
         return self.is_late(step)
 

@@ -1,6 +1,7 @@
-"""Processes that a run starts, each with a group of its own, so that none is left over.
+"""The processes that a run starts, each in a group of its own so that none is left over.
 
-A process that left its group is found too: once its parent has ended, it becomes a child of the runner, and it has a mark in its environment.
+Processes that leave their group are found too: once their parent has ended, they become children of the runner, and their
+environment has a mark.
 """
 import contextlib
 import ctypes
@@ -12,18 +13,18 @@ import subprocess
 import threading
 import time
 
-PAUSE = 0.002   # seconds between two looks at whether a process has ended
+PAUSE = 0.002   # seconds between two checks whether a process has ended
 # The variable that marks a process and what it starts: NUMBER:COUNT: with the runner's number and a count.
 MARK = "TCPWIT_RUN_PROCESS"
 COUNTS = itertools.count()
 # From <linux/prctl.h>.
 PR_SET_CHILD_SUBREAPER = 36
-# How often what is left is ended, if it starts more in the meantime.
+# How often leftover processes are ended, in case they start more in the meantime.
 MOST_ROUNDS = 1000
 
 
 class Stopped(Exception):
-    """The run is ending: nothing is started any more."""
+    """The run is ending, so no more processes are started."""
 
 
 LOCK = threading.Lock()
@@ -32,7 +33,7 @@ STOPPED = threading.Event()
 
 
 def adopt():
-    """From now on the system makes each orphan of the run a child of this process. Answers which children it has already."""
+    """Makes each orphan of the run a child of this process from now on. Returns the children it already has."""
     ctypes.CDLL(None).prctl(PR_SET_CHILD_SUBREAPER, 1, 0, 0, 0)
     return children()
 
@@ -51,7 +52,7 @@ def start(command):
 
 
 def parent(number):
-    """The number of a process's parent; None if it is gone."""
+    """The number of a process's parent; None if the process is gone."""
     with contextlib.suppress(OSError), open(f"/proc/{number}/stat", "rb") as file:
         return int(file.read().rpartition(b")")[2].split()[1])
 
@@ -63,7 +64,7 @@ def children():
 
 
 def listed_children():
-    """The same by the system's own list. That is quick, but the list can lack one while another ends."""
+    """The same from the system's own list. This is fast, but the list can lack one while another ends."""
     found = set()
     for path in glob.glob("/proc/self/task/*/children"):
         with contextlib.suppress(OSError), open(path) as file:
@@ -72,14 +73,14 @@ def listed_children():
 
 
 def has_mark(number, mark):
-    """Whether a process has a mark that begins so."""
+    """Whether a process has a mark with this beginning."""
     with contextlib.suppress(OSError), open(f"/proc/{number}/environ", "rb") as file:
         return any(each.startswith(f"{MARK}={mark}".encode()) for each in file.read().split(b"\0"))
     return False
 
 
 def end_left(find, is_left):
-    """Ends those of the children that `find` answers which are left over, until there are none, except those of other users."""
+    """Ends leftover processes among the children that `find` returns, until none are left, except those of other users."""
     spared = set()
     for _ in range(MOST_ROUNDS):
         found = {number for number in find() - spared if is_left(number)}
@@ -94,7 +95,7 @@ def end_left(find, is_left):
 
 
 def status(process):
-    """With what a process ended, which keeps its number until `end`; empty as long as it runs."""
+    """How a process ended; empty while it runs. The process keeps its number until `end`."""
     found = os.waitid(os.P_PID, process.pid, os.WEXITED | os.WNOWAIT | os.WNOHANG)
     if found is None:
         return ""
@@ -105,7 +106,7 @@ def status(process):
 
 
 def status_within(process, seconds):
-    """The same, after waiting so long at most."""
+    """The same, after waiting at most this long."""
     until = time.monotonic() + seconds
     while not status(process) and time.monotonic() < until:
         time.sleep(PAUSE)
@@ -113,7 +114,7 @@ def status_within(process, seconds):
 
 
 def kill(process):
-    """Ends a process and all of its group, unless its number is free already."""
+    """Ends a process and its group, unless its number is already free."""
     if process.returncode is not None:
         return
     try:
@@ -123,7 +124,7 @@ def kill(process):
 
 
 def end(process):
-    """Ends a process and what it started, and frees its number and its pipes. What has lost its mark is left to `end_orphans`."""
+    """Ends a process and those it started, and frees its number and pipes. Processes without the mark are left to `end_orphans`."""
     with LOCK:
         RUNNING.discard(process)
         kill(process)
@@ -134,12 +135,12 @@ def end(process):
 
 
 def end_orphans(before):
-    """Ends what the run left. `before`: children that this process had already; if it had some, only what has a mark is the run's."""
+    """Ends what the run left. `before`: children that this process already had; if it had any, only marked processes belong to the run."""
     end_left(children, lambda number: not before or has_mark(number, f"{os.getpid()}:"))
 
 
 def end_all():
-    """Ends what runs; nothing is started from now on."""
+    """Ends all running processes; none are started from now on."""
     with LOCK:
         STOPPED.set()
         for process in RUNNING:
@@ -147,7 +148,7 @@ def end_all():
 
 
 def call(command, text, seconds):
-    """A program's output and status; None for both if it took longer."""
+    """A program's output and status; None for both if it took too long."""
     process = start(command)
     try:
         told, _ = process.communicate(text.encode(), max(0, seconds))

@@ -1,4 +1,4 @@
-"""Segments as bytes: what the wire and a scripted peer read and write of them (docs/reference/formats.md, section 10)."""
+"""Segments as bytes: the parts that the wire and a scripted peer read and write (docs/reference/formats.md, section 10)."""
 from dataclasses import dataclass
 
 FIN, SYN, RST, PSH, ACK, URG = 1, 2, 4, 8, 16, 32
@@ -20,11 +20,11 @@ class Segment:
         return bool(self.flags & flag)
 
     def length(self):
-        """How many numbers it takes."""
+        """How many sequence numbers it occupies."""
         return len(self.payload) + self.has(SYN) + self.has(FIN)
 
     def kind(self):
-        """The one kind of segment that it is for the wire and for a script."""
+        """Its kind, for the wire and for scripts."""
         if self.has(RST):
             return "rst"
         if self.has(SYN):
@@ -34,7 +34,7 @@ class Segment:
         return "data" if self.payload else "ack"
 
     def shift(self):
-        """The shift of a SYN's windows, or None."""
+        """The window shift of a SYN, or None."""
         at, found = 0, None
         while at < len(self.options) and self.options[at]:
             if self.options[at] == 1:
@@ -49,7 +49,7 @@ class Segment:
 
 
 def read(raw):
-    """The segment that bytes stand for."""
+    """The segment with these bytes."""
     offset = (raw[12] >> 4) * 4
     word = lambda at, count: int.from_bytes(raw[at:at + count], "big")
     return Segment(word(0, 2), word(2, 2), word(4, 4), word(8, 4), raw[13] & 63, word(14, 2), raw[20:offset], raw[offset:])
@@ -65,5 +65,5 @@ def write(segment):
 
 
 def stream(at, count, host):
-    """Bytes at .. at + count - 1, from 0, of all that a host sends on a connection. Neighbors differ, and so do the hosts."""
+    """Bytes at .. at + count - 1, from 0, of a host's stream on a connection. Neighboring bytes differ, and so do the hosts."""
     return bytes((3 * n + n // 251 + 101 * host) % 256 for n in range(at, at + count))

@@ -1,7 +1,7 @@
 """A run of one scenario: a clock, a wire, threads of calls, and the lines of the trace.
 
-Time is simulated: an event is taken, the stack of its host does what it does at once, and the clock goes on to the next event. So a
-run depends on the scenario, its seed and the stack alone.
+Time is simulated: the stack handles each event instantly, and the clock then moves to the next event. So a run depends only on
+the scenario, its seed and the stack.
 """
 import heapq
 import random
@@ -14,12 +14,12 @@ FAULTS = ("refused", "reset", "timeout")
 # Threads of the lines that no call writes, for host 0 and host 1.
 OUT_THREAD, IN_THREAD, TIMER_THREAD = 90, 92, 94
 LONGEST_CALL = 60000
-# A storm: how many acknowledgments weigh as much as one other segment, and how many of its lines are judged.
+# A storm: how many acknowledgments count as much as one other segment, and how many of its lines are judged.
 WEIGHT, KEPT = 20, 100
 
 
 class Wire:
-    """Which copies of a segment come, and when."""
+    """Decides which copies of a segment arrive, and when."""
 
     def __init__(self, scenario):
         self.scenario = scenario
@@ -50,7 +50,7 @@ class Wire:
         return self.counts[at] in rule.picks or bool(rule.first) and self.counts[at] >= rule.first
 
     def delays(self, host, segment, moment):
-        """How much later each copy of a segment comes."""
+        """The delay of each copy of a segment."""
         kind = segment.kind()
         if kind in ("syn", "syn-ack"):
             self.bases[host, segment.src, segment.dst] = segment.seq
@@ -78,7 +78,7 @@ class Sent:
         self.after = {}      # (host, ports): the number after the last one that was sent
 
     def is_again(self, host, segment):
-        """Whether all of a segment was sent before. It counts as sent from now on."""
+        """Whether all of a segment was sent before. Marks it as sent."""
         key, count = (host, segment.src, segment.dst), segment.length()
         if not count or segment.has(RST):
             return False
@@ -92,7 +92,7 @@ class Sent:
 
 
 def is_acknowledgment(line):
-    """Whether a line of the trace shows a segment that does nothing but acknowledge."""
+    """Whether a line of the trace shows a segment that only acknowledges."""
     words = line.split(" ")
     if words[2] not in ("O", "I"):
         return False
@@ -100,7 +100,7 @@ def is_acknowledgment(line):
 
 
 def storm(lines):
-    """The place from which on almost all lines to the end are acknowledgments; None if they are only a few."""
+    """The place after which almost all lines up to the end are acknowledgments; None if there are only a few."""
     most, weight, began = KEPT, 0, None
     for at in range(len(lines) - 1, -1, -1):
         weight += 1 if is_acknowledgment(lines[at]) else -WEIGHT
@@ -110,7 +110,7 @@ def storm(lines):
 
 
 class Runner:
-    """A thread of the scenario, and where it stands."""
+    """A thread of the scenario and its state."""
 
     def __init__(self, thread):
         self.number, self.host, self.steps = thread.number, thread.host, thread.steps
@@ -151,9 +151,9 @@ class Run:
         self.peer = Peer(self) if scenario.peer else None
         self.count = 0
         self.sent_so_far = Sent()
-        self.resent = False      # a tick had something sent again
+        self.resent = False      # the stack retransmitted at a tick
         self.expired = False     # the stack reported that a timer expired
-        self.early = False       # ended for too many events
+        self.early = False       # ended after too many events
         self.storm = None        # the place in `lines` where a storm of acknowledgments began
 
     # ---- the trace ----
@@ -168,7 +168,7 @@ class Run:
     # ---- the stacks ----
 
     def ask(self, host, command):
-        """Has a stack do something, and sees to what came of it."""
+        """Sends a stack a command, and handles the results."""
         call = command.split(" ", 1)[0]
         answer, happened = self.hosts[host].ask(call, f"{self.now} {command}")
         for word, rest in happened:
@@ -181,7 +181,7 @@ class Run:
         return answer
 
     def leave(self, host, text, call):
-        """A segment went out at a host, which was asked for `call`."""
+        """Handles a segment that a host sent during `call`."""
         self.say(OUT_THREAD + host, f"O {host} {text}")
         segment = read(bytes.fromhex(text))
         self.resent |= self.sent_so_far.is_again(host, segment) and call == "tick"
@@ -200,7 +200,7 @@ class Run:
     # ---- threads ----
 
     def begin(self, thread):
-        """Goes on with a thread's steps until one of them waits."""
+        """Runs a thread's steps until one of them waits."""
         while not thread.ended and not thread.open and thread.ready <= self.now:
             if thread.at == len(thread.steps):
                 thread.ended = True
@@ -218,7 +218,7 @@ class Run:
                 return
 
     def call(self, thread, step):
-        """Begins the call of a step. Whether it was answered."""
+        """Begins the call of a step. Returns whether it was answered."""
         asked = self.asked(thread, step)
         if asked is None:
             return False
@@ -229,7 +229,7 @@ class Run:
         return self.attempt(thread)
 
     def asked(self, thread, step):
-        """A call as the trace has it, its host, and as the driver has it."""
+        """A call in the trace's form, its host, and the call in the driver's form."""
         word, args = step.word, step.args
         if word == "listen":
             backlog = step.options.get("backlog", "8")
@@ -253,7 +253,7 @@ class Run:
         return f"{word} {number}{more}", host, f"{word} {handle}{more}"
 
     def attempt(self, thread):
-        """Tries an open call. Whether it was answered."""
+        """Tries an open call. Returns whether it was answered."""
         step, host, command = thread.open
         answer = self.ask(host, command) if command else "badsocket"
         number = self.names.get(step.args[0]) if step.word not in ("listen", "open") else None
@@ -268,7 +268,7 @@ class Run:
         return True
 
     def told_again(self, number, word, answer):
-        """A fault that a stack tells once is told again."""
+        """Repeats a fault that the stack reports only once."""
         if answer in FAULTS:
             self.faults.setdefault(number, answer)
         elif number in self.faults and word in ("await", "send", "recv", "shut") and not answer.startswith(("data", "eof")):
@@ -276,7 +276,7 @@ class Run:
         return answer
 
     def count_and_name(self, thread, step, number, answer):
-        """The answer with the trace's socket numbers; bytes are counted, names given."""
+        """The answer with the trace's socket numbers. Counts bytes and assigns names."""
         word = step.word
         if word in ("listen", "open", "accept") and answer.startswith("ok "):
             host = thread.host if word != "accept" else self.handles[number][0]
@@ -297,7 +297,7 @@ class Run:
         return answer
 
     def go_on(self, thread, step, answer):
-        """Where a thread stands after an answer."""
+        """Advances a thread after an answer."""
         done = True
         word = answer.split()[0]
         if step.word == "send" and word == "ok":
@@ -315,10 +315,10 @@ class Run:
         expected = step.expected or (usual,)
         found = answer.split()[1] if word == "state" and step.expected else word
         if "any" not in expected and found not in expected:
-            self.blame(thread, step, f"{step.word} is answered {found}, not {' or '.join(expected)}")
+            self.blame(thread, step, f"{step.word} returned {found}, not {' or '.join(expected)}")
 
         elif self.now - thread.began < step.options.get("lasted", 0):
-            self.blame(thread, step, f"{step.word} is answered {found} too early")
+            self.blame(thread, step, f"{step.word} returned {found} too early")
 
     def blame(self, thread, step, text):
         where = "peer" if thread is None else f"thread {thread.number}"
@@ -327,7 +327,7 @@ class Run:
             thread.ended = True
 
     def serve(self):
-        """Tries open calls and goes on with threads, until nothing moves."""
+        """Tries open calls and runs threads until nothing changes."""
         moved = True
         while moved:
             moved = False
@@ -347,7 +347,7 @@ class Run:
         return threads and (not self.peer or self.peer.is_over())
 
     def next_event(self):
-        """The moment of what comes next, and the host whose tick it is, or None."""
+        """The moment of the next event, and the host if it is a tick, else None."""
         found = (self.events[0][0], None) if self.events else (None, None)
         for host in self.hosts:
             if host.next is not None and (found[0] is None or host.next < found[0]):
@@ -374,7 +374,7 @@ class Run:
         return False
 
     def end_early(self):
-        """After too many events: keeps of a storm of acknowledgments only its first lines."""
+        """After too many events, keeps only the first lines of a storm of acknowledgments."""
         self.early = True
         self.storm = storm(self.lines)
         if self.storm is not None:
@@ -393,7 +393,7 @@ class Run:
             self.peer.start()
 
     def run(self):
-        """Runs to the end. The event lines are in `lines` then."""
+        """Runs to the end. The event lines are then in `lines`."""
         try:
             self.start()
             over = None
@@ -406,13 +406,13 @@ class Run:
         if self.peer:
             self.peer.finish()
 
-    # ---- what the trace alone doesn't say ----
+    # ---- results that aren't in the trace ----
 
     def waiting(self):
         """Calls that never ended."""
         return [f"thread {thread.number}: {thread.open[0].word} {' '.join(thread.open[0].args)}" for thread in self.threads if thread.open]
 
     def stuck(self):
-        """Threads that wait for what never came."""
+        """Threads that wait for something that never arrived."""
         return [f"thread {thread.number} waits, line {thread.steps[thread.at].line}" for thread in self.threads
                 if not thread.open and not thread.ended and thread.at < len(thread.steps)]

@@ -1,8 +1,8 @@
-"""Text from outside, made safe for a terminal and for XML: what a stack, a program, a file or a name says."""
+"""Makes text from outside safe for a terminal and for XML: from a stack, a program, a file or a name."""
 
 
 def shown(text, kept=""):
-    """Text or bytes in which each character that can't be printed is escaped, such as `\\x1b`, unless `kept` has it."""
+    """Text or bytes with each unprintable character escaped, such as `\\x1b`, unless `kept` has it."""
     if isinstance(text, bytes):
         text = text.decode("utf-8", "surrogateescape")
     if text.isprintable():
@@ -11,7 +11,7 @@ def shown(text, kept=""):
 
 
 def escaped(number):
-    """A character by its number, as Python escapes it. A byte that isn't UTF-8 is shown as the byte."""
+    """A character as its escaped number, as Python writes it. A byte that isn't UTF-8 is shown as the byte."""
     if 0xdc80 <= number <= 0xdcff:
         number -= 0xdc00
     if number < 0x100:

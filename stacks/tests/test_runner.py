@@ -1,4 +1,4 @@
-"""The language of scenarios, the wire, the scripted peer, and arrivals that are dropped."""
+"""Tests of the scenario language, the wire, the scripted peer, dropped arrivals, and the command."""
 import contextlib
 import importlib.machinery
 import importlib.util
@@ -60,28 +60,28 @@ class Language(unittest.TestCase):
         self.assertEqual((steps[2].options, steps[2].expected), ({"lasted": 180000000}, ("timeout", "refused")))
 
     def test_faults_name_the_line(self):
-        self.fault("lose 2 syn 1\n", "x, line 3: 2 is no host")
-        self.fault("lose 0 sin 1\n", "sin is no kind")
-        self.fault("lose 0 syn\n", "which of them is missing")
+        self.fault("lose 2 syn 1\n", "x, line 3: 2 isn't a host")
+        self.fault("lose 0 sin 1\n", "sin isn't a kind")
+        self.fault("lose 0 syn\n", "the segment numbers are missing")
         self.fault("double 0 syn 1\n", "the time is missing")
-        self.fault("delay fast\n", "fast is no time")
-        self.fault("thread 1 host 0\n  halt c\n", "line 4: halt is no call")
+        self.fault("delay fast\n", "fast isn't a time")
+        self.fault("thread 1 host 0\n  halt c\n", "line 4: halt isn't a call")
         self.fault("thread 1 host 0\n  open 1 2\n", "a name is missing")
         self.fault("thread 1 host 0\n  send c\n", "a word is missing")
-        self.fault("  send c 5\n", "a step stands outside")
-        self.fault("peer 80 to 4000\n  put XY\n", "XY are no flags")
-        self.fault("peer 80 to 4000\n  expect pong\n", "pong is no kind")
+        self.fault("  send c 5\n", "a step is outside")
+        self.fault("peer 80 to 4000\n  put XY\n", "XY aren't flags")
+        self.fault("peer 80 to 4000\n  expect pong\n", "pong isn't a kind")
         self.fault("whatever\n", "whatever is not understood")
 
     def test_values_that_have_no_room_are_faults(self):
-        for step, told in (("put A seq 5x", "5x is no sequence"), ("put A ack foo", "foo is no sequence"), ("put A win 65536", "65536 is above 65535"),
-                           ("put S mss 99999", "99999 is above 65535"), ("put A fill 256", "256 is above 255"), ("put A len x", "x is no number"),
-                           ("put A times -1", "-1 is no number"), ("put A raw 0101", "0101 is not 4 to 40 bytes"), ("put A raw " + "01" * 44, "is not 4 to 40"),
-                           ("put A each x", "x is no time"), ("expect ack seq 1+", "1+ is no sequence"), ("never ack within soon", "soon is no time"),
+        for step, told in (("put A seq 5x", "5x isn't a sequence"), ("put A ack foo", "foo isn't a sequence"), ("put A win 65536", "65536 is above 65535"),
+                           ("put S mss 99999", "99999 is above 65535"), ("put A fill 256", "256 is above 255"), ("put A len x", "x isn't a number"),
+                           ("put A times -1", "-1 isn't a number"), ("put A raw 0101", "0101 is not 4 to 40 bytes"), ("put A raw " + "01" * 44, "is not 4 to 40"),
+                           ("put A each x", "x isn't a time"), ("expect ack seq 1+", "1+ isn't a sequence"), ("never ack within soon", "soon isn't a time"),
                            ("window 65536", "65536 is above")):
             self.fault(f"peer 80 to 4000\n  {step}\n", told)
-        for step, told in (("send c many", "many is no number"), ("recv c all", "all is no number"), ("open 4000 70000 as c", "70000 is above 65535"),
-                           ("listen \u0663 as d", "\u0663 is no number")):
+        for step, told in (("send c many", "many isn't a number"), ("recv c all", "all isn't a number"), ("open 4000 70000 as c", "70000 is above 65535"),
+                           ("listen \u0663 as d", "\u0663 isn't a number")):
             self.fault(f"thread 1 host 0\n  {step}\n", told)
         self.fault("peer 80 to 65536\n", "65536 is above 65535")
         self.fault("mss 0 65536\n", "65536 is above 65535")
@@ -225,7 +225,7 @@ class Profiles(unittest.TestCase):
 
 
 class StandIn(judging.Judge):
-    """Programs that have a yes from one word on: what `find` makes of a trace is the trace, and `check` reads the word in it."""
+    """Programs that answer yes from one word on: `find` prints the trace unchanged, and `check` reads the word in it."""
 
     def __init__(self, strictest, fault="no 9 0 congestion"):
         super().__init__(["the", "check"], ["the", "lab"])
@@ -236,12 +236,12 @@ class StandIn(judging.Judge):
         return "yes 5 3" if (word[1] if word else "full") in self.yes else self.fault
 
     def outcome(self):
-        """What is said of an empty run, and the cases."""
+        """The outcome and cases of an empty run."""
         outcome = judging.Outcome(SimpleNamespace(keeps=True, name="x"))
         return outcome, self.judge(outcome, SimpleNamespace(peer=False, lines=[], odd=[]), judging.USUAL)
 
     def call(self, program, words, text):
-        """What `tcpwit` or `tcpwit_lab` is asked: nothing else."""
+        """Reads the arguments of `tcpwit` or `tcpwit_lab`, and fails for any others."""
         if words not in (["check"], ["find"], ["explain", "--simulated"]):
             raise AssertionError(words)
         return text, 0
@@ -282,10 +282,10 @@ class Answers(unittest.TestCase):
         syn = "0fa00050000000000000000050020000" + "00000000"
         for word, rest in (("out", syn), ("expired", "80 4000 rto")):
             self.assertEqual(host.fault_of(word, rest), "")
-        for word, rest, cause in (("out", syn[:-1], "two for each"), ("out", syn[:-2], "19 bytes, fewer"), ("out", "", "0 bytes, fewer"),
-                                  ("out", syn.upper().replace("F", "G"), "hex"), ("out", syn[:24] + "6" + syn[25:], "header says 24"),
-                                  ("out", syn[:24] + "4" + syn[25:], "header says 16"), ("expired", "80 4000", "timer"), ("expired", "80 4000 RTO", "timer"),
-                                  ("\x00\xff", "", "isn't understood"), ("", "", "isn't understood")):
+        for word, rest, cause in (("out", syn[:-1], "hex digits each"), ("out", syn[:-2], "19 bytes, fewer"), ("out", "", "0 bytes, fewer"),
+                                  ("out", syn.upper().replace("F", "G"), "hex"), ("out", syn[:24] + "6" + syn[25:], "header length of 24"),
+                                  ("out", syn[:24] + "4" + syn[25:], "header length of 16"), ("expired", "80 4000", "timer"), ("expired", "80 4000 RTO", "timer"),
+                                  ("\x00\xff", "", "unknown line"), ("", "", "unknown line")):
             self.assertIn(cause, host.fault_of(word, rest), rest)
 
 
@@ -297,7 +297,7 @@ class Texts(unittest.TestCase):
         self.assertEqual(texts.shown("a\n\t\r", "\n\t"), "a\n\t\\x0d")
 
 
-# An adapter that says the same to everything.
+# An adapter that answers every command the same way.
 ADAPTER = """#!{python}
 import sys
 for line in sys.stdin:
@@ -321,7 +321,7 @@ class TheCommand(unittest.TestCase):
         return done.returncode, done.stdout, done.stderr
 
     def adapter(self, text=ADAPTER, **values):
-        """A program that stands for a stack."""
+        """A program that acts as a stack."""
         path = f"{self.folder}/adapter"
         with open(path, "w") as file:
             file.write(text.format(python=sys.executable, **values))
@@ -329,7 +329,7 @@ class TheCommand(unittest.TestCase):
         return path
 
     def programs(self):
-        """Options for programs that judge: a `tcpwit` that has a yes for all, and a `tcpwit_lab` that finds a trace in a trace."""
+        """Options for programs that judge: a `tcpwit` that always answers yes, and a `tcpwit_lab` that prints the trace unchanged."""
         path = f"{self.folder}/judge"
         with open(path, "w") as file:
             file.write("#!/bin/sh\n[ $1 = check ] && echo yes 1 1 || exec cat\n")
@@ -365,8 +365,8 @@ class TheCommand(unittest.TestCase):
         self.assertEqual(len(names()), len(os.listdir(folder)))
 
     def test_a_profile_that_cannot_be_used(self):
-        for text, cause in (("mls 5", "profile: mls is no word of a profile"), ("msl fast", "profile: msl 'fast' is no number"),
-                            ("msl", "profile: msl '' is no number"), ("msl 5", "even a trace without lines is answered 'bad trace 3'")):
+        for text, cause in (("mls 5", "profile: mls isn't a word of a profile"), ("msl fast", "profile: msl 'fast' isn't a number"),
+                            ("msl", "profile: msl '' isn't a number"), ("msl 5", "even an empty trace gets the answer 'bad trace 3'")):
             with open(f"{self.folder}/profile", "w") as file:
                 file.write(text)
             judge = f"{self.folder}/judge"
@@ -440,7 +440,7 @@ class TheCommand(unittest.TestCase):
 
     def test_what_failed_runs_again(self):
         stack = self.adapter(answer="banana")
-        self.assertIn("no run of", self.run_it(stack, "--failed", *self.programs())[2])
+        self.assertIn("no earlier run of", self.run_it(stack, "--failed", *self.programs())[2])
         self.assertEqual(self.run_it(stack, "open-plain", "hostile-closed-ack", *self.programs())[0], 1)
         self.adapter(answer="= - ok")
         status, out, _ = self.run_it(stack, "--failed", *self.programs())
@@ -478,17 +478,17 @@ class TheCommand(unittest.TestCase):
         self.assertEqual(sorted(os.listdir(self.folder)), ["x.case", "x.none.case"])
 
     def shell(self, text):
-        """A shell script that stands for a stack, and a file for the numbers of its processes."""
+        """A shell script that acts as a stack, and a file for the numbers of its processes."""
         return self.adapter("#!/bin/sh\n{script}\n", script=text.replace("PIDS", f"{self.folder}/pids"))
 
     def broken(self, text, *words):
-        """What the table says of a scenario if this script is the stack."""
+        """The table of a scenario with this script as the stack."""
         status, out, error = self.run_it(self.shell(text), "hostile-closed-ack", *words, *self.programs())
         self.assertEqual((status, error, out.strip().split("\n")[-1]), (1, "", "1 broken"))
         return out
 
     def assert_none_is_left(self):
-        """Whether the processes of the file end; one that nobody has waited for yet has ended."""
+        """Whether the processes listed in the file end; a zombie counts as ended."""
         numbers = []
         if os.path.exists(f"{self.folder}/pids"):
             with open(f"{self.folder}/pids") as file:
@@ -508,7 +508,7 @@ class TheCommand(unittest.TestCase):
     HANGS = "read x; sleep 1000 & echo $$ $! > PIDS; echo '= - ok'; wait"
 
     def test_a_stack_that_hangs(self):
-        self.assertRegex(self.broken(self.HANGS, "--command-limit", "2"), "host 0 said nothing for 2 s, to: (20500 in|start) ")
+        self.assertRegex(self.broken(self.HANGS, "--command-limit", "2"), "host 0 printed nothing for 2 s, to: (20500 in|start) ")
         self.assert_none_is_left()
 
     def test_a_stack_that_dies(self):
@@ -522,13 +522,13 @@ class TheCommand(unittest.TestCase):
         self.assert_none_is_left()
 
     def test_a_stack_that_says_rubbish(self):
-        self.assertIn("said what isn't understood: '\\xff\\x01'", self.broken("read x; printf '\\377\\001\\n'; read x"))
-        self.assertIn("two for each: 'out 0fa'", self.broken("read x; echo out 0fa; read x"))
-        self.assertIn("said 20000 lines without an answer", self.broken("while echo expired 80 4000 rto; do :; done"))
-        self.assertIn("said a line of more than 1048576 bytes", self.broken("exec tr '\\000' a < /dev/zero"))
+        self.assertIn("printed an unknown line: '\\xff\\x01'", self.broken("read x; printf '\\377\\001\\n'; read x"))
+        self.assertIn("hex digits each: 'out 0fa'", self.broken("read x; echo out 0fa; read x"))
+        self.assertIn("printed 20000 lines without an answer", self.broken("while echo expired 80 4000 rto; do :; done"))
+        self.assertIn("printed a line of more than 1048576 bytes", self.broken("exec tr '\\000' a < /dev/zero"))
 
     def assert_clean(self, *words, status):
-        """Runs stacks/run: neither output has a control byte, and each shows what stands for one."""
+        """Runs stacks/run: neither output has a control byte, and each shows its escape."""
         done = subprocess.run([sys.executable, os.path.join(TOP, "run"), *words], capture_output=True, timeout=60)
         said = (done.stdout + done.stderr).decode()
         self.assertEqual((done.returncode, re.findall("[\x00-\x09\x0b-\x1f\x7f-\x9f]|Traceback", said)), (status, []), said)
@@ -588,7 +588,7 @@ class TheCommand(unittest.TestCase):
             file.write(f"{HEAD}{whole}thread 1 host 0\n{steps}")
         return path
 
-    # Sends a SYN, and again at the word {again}; says {expired} before.
+    # Sends a SYN, and sends it again at the command {again}, after printing {expired}.
     RESENDS = """#!{python}
 import sys
 syn = "0fa00050" + "00000001" + "00000000" + "5002ffff00000000"
@@ -602,7 +602,7 @@ for line in sys.stdin:
 """
 
     def warned(self, again, expired):
-        """How often it is warned of missing expiries on standard error, and in the report."""
+        """How often standard error and the report warn about missing expiries."""
         scenario, report = self.scenario("  open 4000 80 as c\n  wait 10\n"), f"{self.folder}/report.xml"
         stack = self.adapter(self.RESENDS, again=again, expired=expired)
         status, out, error = self.run_it(stack, scenario, "hostile-closed-ack", "--junit", report, *self.programs())
@@ -613,7 +613,7 @@ for line in sys.stdin:
 
     def test_missing_expiries_are_told_once(self):
         error = self.warned("tick", "")
-        self.assertEqual(error.count("warning: the stack sent something again at a tick in 1 of 2 scenarios, and the adapter reported no timer"), 1)
+        self.assertEqual(error.count("warning: the stack retransmitted at a tick in 1 of 2 scenarios, but the adapter reported no expired timer"), 1)
         self.assertTrue(error.endswith("stacks/README.md, \"The adapter's protocol\".\n"))
         self.assertEqual((self.warned("tick", "expired 4000 80 rto\n"), self.warned("in", "")), ("", ""))
 
@@ -691,7 +691,7 @@ for line in sys.stdin:
         with open(path, "wb") as file:
             file.write(b"\xff\xfe")
         for words in ([path], ["open-plain", "--profile", path], ["open-plain", "--against", path]):
-            self.assertEqual(self.run_it("true", *words), (2, "", f"{path} is no text\n"))
+            self.assertEqual(self.run_it("true", *words), (2, "", f"{path} isn't text\n"))
 
     def test_a_file_that_fails_is_named(self):
         stack, there, full = self.adapter(answer="= - ok"), f"{self.folder}/adapter/report.xml", f"{self.folder}/full"
@@ -708,7 +708,7 @@ for line in sys.stdin:
         self.assertRegex(self.run_it(stack, memory)[2], "^/proc/[0-9]+/mem: Input/output error\n$")
         os.mkfifo(f"{self.folder}/pipe")
         for words, cause in (([stack, "/nowhere/x"], "/nowhere/x: No such file or directory"), ([stack, self.folder], f"{self.folder}: Is a directory"),
-                             ([stack, f"{self.folder}/pipe"], f"{self.folder}/pipe: no ordinary file")):
+                             ([stack, f"{self.folder}/pipe"], f"{self.folder}/pipe: not a regular file")):
             self.assertEqual(self.run_it(*words), (2, "", f"{cause}\n"))
         for words, name in ((["--junit", full], full), (["--write-against", full], full), (["--out", self.folder], f"{self.folder}/hostile-closed-ack.trace")):
             status, _, error = self.run_it(stack, "hostile-closed-ack", *words, *self.programs())
@@ -723,7 +723,7 @@ for line in sys.stdin:
     def test_a_program_that_is_missing_is_named(self):
         os.chmod(self.adapter(answer="= - ok"), 0o644)
         file = f"{self.folder}/adapter"
-        nor = f"is neither a folder beside {TOP}/run nor a program: "
+        nor = f"is neither a folder next to {TOP}/run nor a program: "
         for words, cause in ((["/nowhere/x", "open-plain"], f"/nowhere/x {nor}No such file or directory"), ([file, "open-plain"], f"{file} {nor}Permission denied"),
                              (["no-such-stack", "open-plain"], f"no-such-stack {nor}PATH has no such program"),
                              (["true", "open-plain", "--check", file], f"tcpwit isn't found: --check {file}: Permission denied"),
@@ -735,17 +735,17 @@ for line in sys.stdin:
 
     def test_the_two_programs_are_named_apart(self):
         with mock.patch.dict(os.environ, {"PATH": self.folder, "TCPWIT": "", "TCPWIT_LAB": ""}), mock.patch.object(command, "kept", lambda name: None):
-            self.assertEqual(self.told_of_programs(), "tcpwit and tcpwit_lab aren't found. The package tcpwit has both (packaging/README.md). "
+            self.assertEqual(self.told_of_programs(), "tcpwit and tcpwit_lab aren't found. The package tcpwit contains both (packaging/README.md). "
                                                       "Otherwise give --check and --lab, or set TCPWIT and TCPWIT_LAB.\n")
             for there, lacking, option, variable in (("tcpwit", "tcpwit_lab", "--lab", "TCPWIT_LAB"), ("tcpwit_lab", "tcpwit", "--check", "TCPWIT")):
                 path = f"{self.folder}/{there}"
                 os.symlink("/bin/true", path)
-                self.assertEqual(self.told_of_programs(), f"{lacking} isn't found, but {there} is: {path}. The package tcpwit has both (packaging/README.md). "
+                self.assertEqual(self.told_of_programs(), f"{lacking} isn't found, but {there} is: {path}. The package tcpwit contains both (packaging/README.md). "
                                                           f"Otherwise give {option}, or set {variable}.\n")
                 os.remove(path)
 
     def told_of_programs(self):
-        """What is printed if a program is missing."""
+        """The output if a program is missing."""
         with contextlib.redirect_stderr(io.StringIO()) as error, self.assertRaises(SystemExit) as ended:
             command.programs(SimpleNamespace(check=None, lab=None))
         self.assertEqual(ended.exception.code, 2)
@@ -770,7 +770,7 @@ for line in sys.stdin:
         for words, cause in ((["/nowhere"], "neither a folder"), (["true", "--profile", "/nowhere", "data-bulk"], "/nowhere: No such file"),
                              (["true", "data-bluk"], "'data-bluk' is neither a file"), (["true", "data-bulk", ""], "'' is neither"),
                              (["runner"], "runner/build"), (["scenarios/../scenarios"], "build"),
-                             (["true", "--jobs", "0"], "'0' is no number"), (["true", "--jobs", "x"], "'x' is no number"),
+                             (["true", "--jobs", "0"], "'0' isn't a number"), (["true", "--jobs", "x"], "'x' isn't a number"),
                              (["true", "data-bulk", "--check", "true", "--lab", "true"], "true is older than this suite"),
                              (["true", "data-bulk", "--check", "true", *self.programs()[2:]], "true check printed nothing and ended with status 0"),
                              (["true", "data-bulk", "--junit", ""], "--junit: the name is empty")):

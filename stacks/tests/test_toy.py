@@ -1,4 +1,4 @@
-"""The suite finds each defect of the toy stack by the scenario that toy/defects names. Needs TCPWIT and TCPWIT_LAB, and a C compiler."""
+"""Checks that the suite finds each defect of the toy stack with the scenario in toy/defects. Needs TCPWIT, TCPWIT_LAB and a C compiler."""
 import concurrent.futures
 import os
 import re
@@ -32,7 +32,7 @@ class Toy(unittest.TestCase):
         subprocess.run([os.path.join(TOY, "build"), cls.folder.name], check=True)
 
     def run_one(self, defect, scenario, outcome):
-        """Runs a scenario with a defect; what is printed if the outcome is another, else nothing."""
+        """Runs a scenario with a defect. Returns the output if the outcome differs, else nothing."""
         against = os.path.join(self.folder.name, defect)
         with open(against, "w") as file:
             file.write(outcome + "\n")

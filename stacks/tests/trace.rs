@@ -1,4 +1,4 @@
-//! Writes the five bytes of `hello` over a handshake, as examples/handshake_and_five_bytes.case has them, by tcpwit_trace.rs.
+//! Writes crates/test_cases/data/examples/handshake_and_five_bytes.case, a handshake and the five bytes of `hello`, with tcpwit_trace.rs.
 #![allow(dead_code)]
 
 #[path = "../tcpwit_trace.rs"]

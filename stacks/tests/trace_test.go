@@ -1,4 +1,4 @@
-// Writes the five bytes of `hello` over a handshake, as examples/handshake_and_five_bytes.case has them, by tcpwit_trace.go.
+// Writes crates/test_cases/data/examples/handshake_and_five_bytes.case, a handshake and the five bytes of `hello`, with tcpwit_trace.go.
 package tcpwit
 
 import (
@@ -88,6 +88,6 @@ func TestHandshake(t *testing.T) {
 	writeTrace(New(&text, 1))
 	writeWitness(New(&text, 1))
 	if !bytes.Equal(text.Bytes(), wanted) {
-		t.Fatalf("the case is another one:\n%s", text.String())
+		t.Fatalf("the case differs:\n%s", text.String())
 	}
 }

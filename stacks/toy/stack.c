@@ -1,8 +1,8 @@
-/* A small TCP by RFC 9293, 6298 and 5681, with window scaling (RFC 7323, 2). It acknowledges each segment at once, and it has room
- * for 64 connections, which it never frees.
+/* A small TCP that follows RFC 9293, 6298 and 5681, with window scaling (RFC 7323, 2). It acknowledges each segment at once. It has
+ * room for 64 connections and never frees one.
  *
- * The variable TOY_DEFECT gives it one of the defects below; the file `defects` lists each with the scenario that finds it. Without
- * the variable the stack is correct.
+ * The variable TOY_DEFECT turns on one of the defects below; the file `defects` lists each with the scenario that finds it. Without
+ * the variable, the stack is correct.
  */
 #define _POSIX_C_SOURCE 200809L
 #include "../tcpwit_stack.h"
@@ -34,20 +34,20 @@ struct connection {
     enum state state;
     unsigned local, remote;
     long fault;                            /* 0, or STACK_REFUSED .. */
-    struct connection *listener;           /* of a child: where it waits until it is accepted */
+    struct connection *listener;           /* of a child: the listener at which it waits until it is accepted */
     unsigned backlog;                      /* of a listener */
     int passive, dropped;                  /* opened by a listener; its socket was closed */
-    /* Sending: `out` has what was not acknowledged, from `out_seq` on. A FIN follows once `shut`. */
-    uint32_t iss, una, nxt, max;           /* `max`: the greatest number that was sent, and one more */
-    uint32_t window, wl1, wl2, widest;     /* the peer's window, and the greatest it offered */
+    /* Sending: `out` has the unacknowledged bytes, from `out_seq` on. A FIN follows once `shut` is set. */
+    uint32_t iss, una, nxt, max;           /* `max`: one more than the greatest sequence number sent */
+    uint32_t window, wl1, wl2, widest;     /* the peer's window, and the largest it offered */
     uint32_t mss, cwnd, ssthresh, recover; /* no fast recovery before `recover` is acknowledged */
     unsigned char *out;
     uint32_t out_seq, queued;
     int shut, duplicates, fast, send_shift, overridden;
-    /* Receiving: `in` begins with the `unread` bytes; `have` marks which bytes behind them came. */
+    /* Receiving: `in` begins with the `unread` bytes; `have` marks the received bytes after them. */
     uint32_t irs, rcv_nxt, edge, room;     /* `edge`: the end of the window that was offered */
     unsigned char *in, *have;
-    uint32_t unread, fin_at, farthest;     /* `farthest`: the end of the bytes that came, whatever is missing before */
+    uint32_t unread, fin_at, farthest;     /* `farthest`: the end of the bytes received, whatever is missing before it */
     int fin_seen, fin_taken, rcv_shift, ack_due;
     /* Timers: the moments when they expire. */
     uint64_t rto_at, persist_at, override_at, end_at;
@@ -117,7 +117,7 @@ static void leave(unsigned local, unsigned remote, uint32_t seq, uint32_t ack, u
     stack_out(segment, HEADER + option_bytes + count);
 }
 
-/* RFC 9293, 3.10.7.1: a segment that finds no connection is answered by a reset. */
+/* RFC 9293, 3.10.7.1: a segment without a connection is answered with a reset. */
 static void refuse(const struct segment *s)
 {
     if (s->flags & RST) return;
@@ -125,9 +125,9 @@ static void refuse(const struct segment *s)
     else leave(s->to, s->from, 0, s->seq + length_of(s), RST | ACK, 0, NULL, 0, NULL, 0);
 }
 
-/* ---- The window that is offered ---- */
+/* ---- The offered window ---- */
 
-/* The field of a segment. The edge moves by a segment or half of the room at least (RFC 9293, 3.8.6.2.2), and never back. */
+/* The window field of a segment. The edge moves by at least a segment or half of the buffer (RFC 9293, 3.8.6.2.2), and never back. */
 static unsigned offer(struct connection *c, int in_syn)
 {
     uint32_t edge = c->rcv_nxt + c->room - c->unread;
@@ -191,7 +191,7 @@ static void send_piece(struct connection *c, uint32_t seq, uint32_t count)
     reply(c, (fin ? FIN : 0) | (count ? PSH : 0), seq, count);
 }
 
-/* How many bytes may go now from `nxt` on; RFC 9293, 3.8.6.2.1: a small segment only if it is the last, or half of the window. */
+/* How many bytes may be sent now from `nxt` on. RFC 9293, 3.8.6.2.1: a small segment only if it is the last, or half of the window. */
 static uint32_t sendable(struct connection *c)
 {
     uint32_t window = defect == WINDOW_IGNORED ? SEND_ROOM : c->window;
@@ -240,7 +240,7 @@ static void back_off(struct connection *c)
 
 static uint32_t half_of_flight(const struct connection *c) { return most_of((c->max - c->una) / 2, 2 * c->mss); }
 
-/* The first window: RFC 5681, 3.1; one segment if a SYN was lost. */
+/* The initial window: RFC 5681, 3.1; one segment if a SYN was lost. */
 static void begin_congestion(struct connection *c)
 {
     c->cwnd = c->mss * (c->expiries ? 1 : c->mss > 2190 ? 2 : c->mss > 1095 ? 3 : 4);
@@ -258,7 +258,7 @@ static void grow(struct connection *c, uint32_t acked)
     c->fast = c->duplicates = 0;
 }
 
-/* The earliest segment goes again, with the FIN if it went with it. */
+/* Retransmits the earliest segment, with the FIN if it was sent with it. */
 static void resend(struct connection *c) { send_piece(c, c->una, least(least(c->mss, end_of(c) - c->una), c->max - c->una)); }
 
 static void duplicate(struct connection *c)
@@ -302,7 +302,7 @@ static void wait_out(struct connection *c)
     c->end_at = stack_now() + TIME_WAIT_LASTS;
 }
 
-/* ---- What comes in ---- */
+/* ---- Receiving ---- */
 
 static struct connection *find(unsigned local, unsigned remote)
 {
@@ -438,7 +438,7 @@ static int is_acceptable(const struct connection *c, const struct segment *s)
     return window && length && s->seq + length - 1 - c->rcv_nxt < window;
 }
 
-/* A reset, or a SYN, of a connection that stands: RFC 9293, 3.10.7.4, second and fourth. */
+/* A reset or a SYN on an existing connection: RFC 9293, 3.10.7.4, second and fourth. */
 static void come_reset(struct connection *c, const struct segment *s)
 {
     if (s->seq != c->rcv_nxt && defect != ANY_RESET) acknowledge(c);
@@ -452,7 +452,7 @@ static void come_syn(struct connection *c)
     else acknowledge(c);
 }
 
-/* The fifth check. Whether the segment is to be looked at further. */
+/* The fifth check. Returns whether to process the segment further. */
 static int come_acknowledgment(struct connection *c, const struct segment *s)
 {
     if (!(s->flags & ACK)) return 0;
@@ -516,7 +516,7 @@ static void come_fin(struct connection *c)
     else if (c->state == FIN_WAIT_2) { wait_out(c); if (c->state == CLOSED) acknowledge(c); }
 }
 
-/* The seventh and eighth check. A host that closed for good answers bytes by a reset (RFC 9293, 3.6.1). */
+/* The seventh and eighth checks. A host that closed its socket answers data with a reset (RFC 9293, 3.6.1). */
 static void come_text(struct connection *c, const struct segment *s)
 {
     if (!s->count && !(s->flags & FIN)) return;
@@ -593,7 +593,7 @@ static void expire_rto(struct connection *c)
     output(c);
 }
 
-/* A window of 0 is probed by a byte (RFC 9293, 3.8.6.1). It stays unsent as far as the rest is concerned. */
+/* Probes a window of 0 with one byte (RFC 9293, 3.8.6.1). The rest of the code treats that byte as unsent. */
 static void expire_persist(struct connection *c)
 {
     stack_expired(c->local, c->remote, "persist");
@@ -746,7 +746,7 @@ long stack_abort(long socket)
     return STACK_OK;
 }
 
-/* RFC 9293, 3.6.1: who closes with bytes unread resets. */
+/* RFC 9293, 3.6.1: closing with unread bytes resets the connection. */
 long stack_close(long socket)
 {
     struct connection *c = &connections[socket];

@@ -1,4 +1,4 @@
-"""Ends that the system has: closed, full, directories, files that are not there, a reader that goes away."""
+"""Inputs and outputs that fail: closed or full ones, directories, missing files, a reader that ends early."""
 import os
 import subprocess
 
@@ -6,14 +6,14 @@ BAD_DEVICE = "bad device\n"
 
 
 def shell(program, words, redirections, folder):
-    """Runs the program behind redirections of the shell. Answers its output, its error output and its status."""
+    """Runs the program with redirections of the shell. Returns its output, its error output and its status."""
     script = f'exec "$0" "$@" {redirections}'
     done = subprocess.run(["sh", "-c", script, program, *words], capture_output=True, cwd=folder, timeout=60, stdin=subprocess.DEVNULL)
     return done.stdout.decode(), done.stderr.decode(), done.returncode
 
 
 def gone(program, words, text, taken):
-    """Runs the program while the reader of its output takes so many bytes and goes away. Answers what it took, and the rest."""
+    """Runs the program while the reader of its output reads this many bytes and ends. Returns the bytes read, and the rest."""
     child = subprocess.Popen([program, *words], stdin=subprocess.PIPE, stdout=subprocess.PIPE, stderr=subprocess.PIPE)
     if taken == 0:
         child.stdout.close()
@@ -30,7 +30,7 @@ def gone(program, words, text, taken):
 
 
 def ends(has_record):
-    """What is tried: a name, the words, the redirections, and the output and status that are wanted."""
+    """The trials: a name, the arguments, the redirections, and the expected output and status."""
     files = ["check", "--trace", "case.trace", "--witness", "case.witness"]
     segment = ["segment", "0fa00050ffffffff000000005002ffff00000000"]
     many = ["many", "--workers", "2"]
@@ -58,7 +58,7 @@ def ends(has_record):
 
 
 def tried_devices(program, cases, folder):
-    """How many runs were made, and those that were wrong, as texts."""
+    """The number of runs, and the wrong ones, as texts."""
     with open(os.path.join(cases, "examples", "handshake_and_five_bytes.case"), "rb") as file:
         text = file.read()
     trace, witness = text.split(b"witness 1\n", 1)
@@ -72,7 +72,7 @@ def tried_devices(program, cases, folder):
         found = shell(program, words, redirections, folder)
         runs += 1
         if found != (output, "", status):
-            wrong.append(f"{words} {redirections}: {found}, and not {(output, '', status)}")
+            wrong.append(f"{words} {redirections}: {found} instead of {(output, '', status)}")
     for name in ("case", "case.trace", "case.witness"):
         with open(os.path.join(folder, name), "rb") as file:
             if file.read() != {"case": text, "case.trace": trace, "case.witness": b"witness 1\n" + witness}[name]:
@@ -82,5 +82,5 @@ def tried_devices(program, cases, folder):
         took, error, status = gone(program, words, given, taken)
         runs += 1
         if (error, status) != ("", 5) or took != "yes 18 13\nyes 18 13\n"[:taken]:
-            wrong.append(f"{words}, of whose output {taken} bytes are read: {took!r} {error!r} {status}")
+            wrong.append(f"{words}, after {taken} bytes of the output were read: {took!r} {error!r} {status}")
     return runs, wrong

@@ -1,14 +1,14 @@
-// Lets reads and writes of a program fail: put before it by LD_PRELOAD. Which ones is said in the environment:
+// Makes reads and writes of a program fail; loaded with LD_PRELOAD. The environment selects which ones:
 //   FAIL_READ=N, FAIL_WRITE=N   the Nth, counted from 1
 //   FAIL_HOW=error              it fails with EIO
 //            interrupted        it fails with EINTR
 //            short              it moves one byte
-//            nothing            it moves none: a read tells the end
-//   FAIL_FROM=1                 all later ones, too
+//            nothing            it moves none: a read reports the end
+//   FAIL_FROM=1                 all later ones too
 //   FAIL_PIECE=N                each moves at most N bytes
-//   FAIL_COUNT=F                writes to the file F at the end: how many reads and writes there were, how many writes came behind
-//                               one that failed, which file the Nth read was of, how many bytes of it were read before, and how
-//                               many were read of the files 3 and 4
+//   FAIL_COUNT=F                writes to the file F at the end: the numbers of reads and writes, the number of writes after one
+//                               that failed, the descriptor of the Nth read, how many bytes of it were read before, and how many
+//                               were read from the descriptors 3 and 4
 #define _GNU_SOURCE
 #include <errno.h>
 #include <fcntl.h>
@@ -44,7 +44,7 @@ __attribute__((constructor)) static void begin(void) {
 
 static int is_meant(unsigned long n, unsigned long at) { return at && (n == at || (is_from && n > at)); }
 
-// How many bytes are to be moved, or -1 with errno where the call fails.
+// How many bytes to move, or -1 with errno if the call fails.
 static ssize_t altered(size_t size, int is_hit) {
     if (piece && size > piece) size = piece;
     if (!is_hit) return size;
@@ -75,7 +75,7 @@ ssize_t write(int file, const void *bytes, size_t size) {
     return done;
 }
 
-// The program ends by `_exit`, which runs no destructor.
+// The program ends with `_exit`, which runs no destructors.
 void _exit(int status) {
     if (count_file) {
         char text[200];

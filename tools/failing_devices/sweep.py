@@ -1,18 +1,18 @@
 #!/usr/bin/env python3
-"""Runs the built program while its reads and writes fail, and says of each run whether its answer is one that may be given.
+"""Runs the built program while its reads and writes fail, and checks that each answer is a permitted one.
 
     sweep.py PROGRAM CASES [--jobs N]
 
-PROGRAM is the built `tcpwit`, CASES the folder of the case files with its `expected.txt`. `fail.c` beside this script is built
-with `cc` and put before the program by LD_PRELOAD. Each command runs with whole reads and writes, and with pieces of 7 bytes or
-1, so that it makes many of them. Then the Nth read, and the Nth write, fails, is interrupted, moves one byte or moves none, for
-every N up to the last, alone and with all later ones.
+PROGRAM is the built `tcpwit`, CASES the folder of the case files with its `expected.txt`. The script builds `fail.c`, next to it,
+with `cc`, and loads it with LD_PRELOAD. Each command runs with unlimited reads and writes, and with pieces of 7 bytes or 1, which
+need many of them. Then the Nth read, and the Nth write, fails, is interrupted, moves one byte or moves none. This is done for every
+N up to the last, for the Nth alone and together with all later ones.
 
-A read that fails is `bad device` with status 5. A write that fails, or moves nothing, leaves what was written before it, status
-5, and no write behind it. A read that moves nothing is the end of its text, so the answer is that of the text so far. After an
-interruption the answer is the right one, or as of a failure; after one byte it is the right one. `devices` tries the ends that
-the system has, with no library before the program. Anything else, a signal or a word on standard error is wrong and is printed.
-The last line has the counts; the exit status is 1 where any run was wrong.
+A failed read must result in `bad device` and status 5. A write that fails or moves nothing must result in status 5, with the output
+before it and no write after it. A read that moves nothing is the end of its text, so the answer must be that for the text so far.
+After an interruption, the answer must be the right one or that for a failure; after one byte, it must be the right one. `devices`
+tries failing inputs and outputs of the system, without the library. Anything else, a signal, or output on standard error is wrong
+and is printed. The last line has the counts; the exit status is 1 if any run was wrong.
 """
 import argparse
 import concurrent.futures
@@ -50,11 +50,11 @@ class Run:
 
 
 def cut_answer(program, library, command, run, is_from):
-    """The answer where each file of which a read moved nothing ends behind what was read of it, with nothing failing."""
+    """The answer without failures if each file of which a read moved nothing ends after the bytes read so far."""
     words, text = command
     if "--trace" not in words:
         return Run(program, library, (words, text[: run.read_before]), {}).answer
-    # the trace was opened first, so its number is the lesser one, 3
+    # the trace was opened first, so its descriptor is the lower one, 3
     ends = dict(zip((3, 4), run.read_of)) if is_from else {run.file: run.read_before}
     words = list(words)
     with contextlib.ExitStack() as files:
@@ -69,7 +69,7 @@ def cut_answer(program, library, command, run, is_from):
 
 
 def is_right(program, library, command, plain, environment):
-    """Whether the run of a command may end as it does, where `plain` is the one in which nothing fails."""
+    """Whether the run of a command may end like this; `plain` is the run in which nothing fails."""
     run = Run(program, library, command, environment)
     how = environment["FAIL_HOW"]
     if run.answer is None or run.error or run.writes_behind:
@@ -91,7 +91,7 @@ def is_right(program, library, command, plain, environment):
 
 
 def failures(plain, piece):
-    """What fails in turn, as environments."""
+    """The failures to try, as environments."""
     for place, count in (("FAIL_READ", plain.reads), ("FAIL_WRITE", plain.writes)):
         for n in range(1, count + 2):
             for how in WAYS:
@@ -101,12 +101,12 @@ def failures(plain, piece):
 
 
 def swept(program, library, name, command, line, pool):
-    """The runs of one command and those that were wrong, as texts."""
+    """The number of runs of one command, and the wrong ones, as texts."""
     runs, wrong = 0, []
     for piece in ("", "7", "1"):
         plain = Run(program, library, command, {"FAIL_PIECE": piece})
         if plain.answer is None or plain.error or plain.answer[0].decode() != line + "\n":
-            return runs + 1, [*wrong, f"{name}: with nothing failing {plain.answer} {plain.error}"]
+            return runs + 1, [*wrong, f"{name}: without failures {plain.answer} {plain.error}"]
         if piece == "1" and plain.reads > 200:
             continue
         asked = list(failures(plain, piece))
@@ -139,7 +139,7 @@ def main():
         library = built_library(folder)
         for name, (command, line) in commands(words.cases, folder).items():
             if line is None:
-                # what is recorded differs from run to run, so it is tried with the ends of the system alone
+                # recordings differ from run to run, so `record` is only tried with failing inputs and outputs of the system
                 continue
             done, failed = swept(program, library, name, command, line, pool)
             runs, wrong = runs + done, wrong + failed

@@ -1,13 +1,13 @@
 #!/usr/bin/env python3
-"""Changes case files and compares what several ways of checking answer.
+"""Mutates case files and compares the answers of several ways of checking.
 
     fuzz.py PROGRAM CASES [--changes N] [--seed S] [--other CHECKER] [--jobs N]
 
-PROGRAM is the built `tcpwit`, CASES the folder of the case files. Each change takes a case file and alters bytes, fields, lines or
-numbers (near limits), once to four times. The changed cases are answered by `many` in batches, each by `check`, and each cut into
-two files by `check --trace --witness` where it can be cut; with --other also by a second checker, which reads a case on standard
-input and prints the same line. All lines have to be equal. What differs is printed with the seed of the change, and the case is
-written beside it to `differing/`. The last line has the counts; the exit status is 1 where anything differed.
+PROGRAM is the built `tcpwit`, CASES the folder of the case files. Each mutation changes bytes, fields, lines or numbers (near limits)
+of a case, one to four times. The mutated cases are checked by `many` in batches, by `check`, and, if they can be split into two
+files, by `check --trace --witness`; with --other also by a second checker, which reads a case from standard input and prints the same
+line. All answers must be equal. Differences are printed with the seed of the mutation, and the case is saved in `differing/`. The
+last line has the counts; the exit status is 1 if anything differed.
 """
 import argparse
 import concurrent.futures
@@ -19,7 +19,7 @@ import tempfile
 
 LIMITS = [0, 1, 2, 7, 14, 15, 536, 1095, 1096, 2190, 2191, 65515, 65516, 65535, 65536, 2**31 - 1, 2**31, 2**32 - 1, 2**32,
           10**12, 10**12 + 1, 10**18, 10**18 + 1, 2**63, 2**64 - 1, 2**64]
-# What stands in the place of an answer where a program is ended by a signal.
+# Replaces an answer if a signal ended the program.
 ENDED = b"ended by signal"
 
 
@@ -91,7 +91,7 @@ def answer(words, text):
 
 
 def cut(text):
-    """The trace and the witness of a case, where a line begins the witness."""
+    """The trace and the witness of a case, split where a line begins the witness."""
     lines = text.split(b"\n")
     first = lines[0].removesuffix(b"\r") if len(lines) > 1 else b""
     version = first[6:] if first in (b"trace 2", b"trace 3", b"trace 4") else b"1"
@@ -115,7 +115,7 @@ def by_files(program, text, folder, name):
 
 
 def compared(words, seed, text, many_line, folder):
-    """The answers to one changed case, where they differ."""
+    """The answers to one mutated case, if they differ."""
     found = {"many": many_line, "check": answer([words.program, "check"], text)}
     two = by_files(words.program, text, folder, str(seed))
     if two is not None:
@@ -127,7 +127,7 @@ def compared(words, seed, text, many_line, folder):
 
 
 def batch(words, cases, first, count, folder):
-    """Compares `count` changes, the seeds from `first` on: those that differ, and how many were yes or no."""
+    """Compares `count` mutations with the seeds from `first` on. Returns those that differ, and how many were yes or no."""
     texts = []
     for seed in range(first, first + count):
         random_ = random.Random(seed)
@@ -140,7 +140,7 @@ def batch(words, cases, first, count, folder):
         differing.append((first, joined, {"many": b"%d lines for %d cases" % (len(lines), count)}))
         lines = [None] * count
     for seed, text, line in zip(range(first, first + count), texts, lines):
-        # a text without an end of its last line gets one in the joined input, so `many` answers another text
+        # in the joined input, a text whose last line has no end gets one, so `many` answers a different text
         alone = line if line is not None and (text.endswith(b"\n") or not text) else answer([words.program, "check"], text)
         judged += alone[:3] in (b"yes", b"no ")
         found = compared(words, seed, text, alone, folder)

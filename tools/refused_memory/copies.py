@@ -1,13 +1,13 @@
 #!/usr/bin/env python3
-"""Refuses memory to a recording whose segments are sent twice, at each request in turn.
+"""Refuses memory to a recording whose segments are sent twice, at each allocation in turn.
 
     copies.py TESTS [--most N] [--jobs N]
 
-TESTS is the program of the tests of `test_recording`, which `rt test` in that crate leaves in `out/`. A segment that is sent twice is
-copied, and where memory is refused for the copy the segment goes once: so the test passes all the same. Where another request is
-refused there is no recording, or memory runs out, and the test says so. Anything else (a case that is not answered yes, another signal than
-that of a test that fails, a run of more than 60 seconds) is wrong and is printed. The last line has the counts; the exit status is 1 where a run was wrong, or where
-no refusal met a copy.
+TESTS is the test program of `test_recording`, which `rt test` in that crate leaves in `out/`. A segment that is sent twice is copied.
+If the memory for the copy is refused, the segment is sent once, and the test still passes. If another allocation is refused, there is
+no recording, or memory runs out, and the test reports it. Anything else (a case without a yes, a signal other than that of a failed
+test, a run of more than 60 seconds) is wrong and is printed. The last line has the counts; the exit status is 1 if a run was wrong, or
+if no refusal affected a copy.
 """
 import argparse
 import concurrent.futures
@@ -24,12 +24,12 @@ from sweep import built_library
 
 TEST = "tests::turns::segments_sent_twice_are_explained"
 
-# What the test says where memory ran out elsewhere.
+# What the test prints if memory ran out elsewhere.
 ENDED = ("no books", "out of memory", "another answer")
 
 
 def run(program, library, environment):
-    """The status and what was printed, or None where it took too long."""
+    """The status and the output, or None if it took too long."""
     surroundings = {"PATH": os.environ.get("PATH", ""), "LD_PRELOAD": library, **environment}
     try:
         done = subprocess.run([program, TEST], stdout=subprocess.PIPE, stderr=subprocess.STDOUT, env=surroundings, timeout=60)
@@ -39,13 +39,13 @@ def run(program, library, environment):
 
 
 def told(answer):
-    """What a run says: `copy` where the test passed, `ended` where memory ran out elsewhere, None where it is wrong."""
+    """The result of a run: `copy` if the test passed, `ended` if memory ran out elsewhere, None if it is wrong."""
     if answer is None:
         return None
     status, text = answer
     if status == 0:
         return "copy"
-    # What is asserted and false aborts the test.
+    # A false assertion aborts the test.
     is_told = any(f'left: "{word}"' in text for word in ENDED)
     return "ended" if status == -signal.SIGABRT and is_told else None
 

@@ -1,10 +1,10 @@
-// Refuses allocations of a program: put before it by LD_PRELOAD. Which ones are refused is said in the environment:
+// Refuses allocations of a program; loaded with LD_PRELOAD. The environment selects which ones:
 //   REFUSE_AT=N      the Nth alone, counted from 1
 //   REFUSE_FROM=N    the Nth and all later ones
-//   REFUSE_EVERY=N   each Nth
-//   REFUSE_SIZE=N    all of N bytes and more
+//   REFUSE_EVERY=N   every Nth
+//   REFUSE_SIZE=N    all of at least N bytes
 //   REFUSE_COUNT=F   refuses nothing, and writes the number of allocations to the file F at the end
-// An allocation is a call of malloc, calloc, realloc of more than there is, aligned_alloc or posix_memalign.
+// An allocation is a call of malloc, calloc, realloc to a larger size, aligned_alloc or posix_memalign.
 #define _GNU_SOURCE
 #include <errno.h>
 #include <fcntl.h>
@@ -52,7 +52,7 @@ static void tell_count(void) {
     }
 }
 
-// The program ends by `_exit`, which runs no destructor.
+// The program ends with `_exit`, which runs no destructors.
 void _exit(int status) {
     tell_count();
     for (;;) syscall(SYS_exit_group, status);

@@ -1,16 +1,16 @@
 #!/usr/bin/env python3
-"""Runs the built program while memory is refused, and says of each run whether its answer is one that may be given.
+"""Runs the built program while memory is refused, and checks that each answer is a permitted one.
 
     sweep.py PROGRAM CASES [--most N] [--jobs N]
 
-PROGRAM is the built `tcpwit`, CASES the folder of the case files with its `expected.txt`. `refuse.c` beside this script is
-built with `cc` and put before the program by LD_PRELOAD. Each command runs once with nothing refused, which tells how often
-it asks for memory (at most N times are then refused one by one, the default being 4000, evenly spread). Then memory is
-refused at the n-th call alone, at the n-th and all later ones, at every 2nd, 3rd and 7th, and at all of 2^k bytes and more.
+PROGRAM is the built `tcpwit`, CASES the folder of the case files with its `expected.txt`. The script builds `refuse.c`, next to it,
+with `cc`, and loads it with LD_PRELOAD. Each command first runs without refusals, to count its allocations. Then memory is refused
+for the n-th allocation alone, for the n-th and all later ones, for every 2nd, 3rd and 7th, and for all of at least 2^k bytes. At most
+N values of n are tried (default: 4000), evenly spread.
 
-An answer is right where it is the answer without refusal, or the line `bad memory` with status 4. Of many cases each line may
-also be `bad memory` by itself, with status 4. What `record` writes has to be answered yes by `check`. Anything else (another line,
-a signal, a word on standard error, a run of more than 60 seconds) is wrong and is printed. The last line has the counts; the exit status is 1 where any run was wrong.
+The right answers are the one without refusals, and the line `bad memory` with status 4. With many cases, single lines may also be
+`bad memory`, with status 4. `check` must answer yes to the output of `record`. Anything else (another line, a signal, output on standard
+error, a run of more than 60 seconds) is wrong and is printed. The last line has the counts; the exit status is 1 if any run was wrong.
 """
 import argparse
 import concurrent.futures
@@ -34,7 +34,7 @@ def built_library(folder):
 
 
 def run(program, library, command, environment):
-    """The answer of one run: (output, error output, status), or None where it took too long."""
+    """The answer of one run: (output, error output, status), or None if it took too long."""
     words, text = command
     surroundings = {"PATH": os.environ.get("PATH", ""), "LD_PRELOAD": library, **environment}
     try:
@@ -45,7 +45,7 @@ def run(program, library, command, environment):
 
 
 def is_right(answer, wanted):
-    """Whether an answer may be given where `wanted` is the one without refusal."""
+    """Whether an answer is permitted; `wanted` is the answer without refusals."""
     if answer is None:
         return False
     output, error, status = answer
@@ -64,7 +64,7 @@ def is_right(answer, wanted):
 
 
 def is_recorded(program, answer):
-    """Whether what was recorded explains itself, or memory ran out: a recording differs from run to run."""
+    """Whether the recording gets a yes, or memory ran out: recordings differ from run to run."""
     if answer is None or answer[1]:
         return False
     if (answer[0], answer[2]) == (BAD_MEMORY, 4):
@@ -74,7 +74,7 @@ def is_recorded(program, answer):
 
 
 def refusals(count, most):
-    """What is refused in turn, as environments."""
+    """The refusals to try, as environments."""
     step = max(1, (count + most) // most)
     for n in range(1, count + 3, step):
         yield {"REFUSE_AT": str(n)}
@@ -86,7 +86,7 @@ def refusals(count, most):
 
 
 def swept(program, library, name, command, line, most, folder, pool):
-    """The runs of one command and those that were wrong, as texts."""
+    """The number of runs of one command, and the wrong ones, as texts."""
     counts = os.path.join(folder, "count")
     plain = run(program, library, command, {"REFUSE_COUNT": counts})
     if plain is None or plain[1] or (line is not None and plain[0].decode() != line + "\n"):

@@ -1,10 +1,10 @@
 #!/usr/bin/env python3
-"""Records with many words, checks each case, and counts what happened in them.
+"""Records with many settings, checks each case, and counts what happened in them.
 
     soak.py PROGRAM [--minutes M] [--seed S]
 
-Each run takes a count of rounds from 1 to 1000, a K of 0 or 2 to 50, and a version, all by chance. It fails where `record` ends with another
-status than 0 or 1, where the status is not the one that the trace tells, and where `check` of what it printed does not say yes.
+Each run has a random number of rounds (1 to 1000), K (0 or 2 to 50) and version. It fails if `record` ends with a status other than 0
+or 1, or with one that doesn't match the trace, or if `check` doesn't answer yes to its output.
 """
 import argparse
 import random
@@ -15,7 +15,7 @@ from collections import Counter
 
 
 def segment_of(words):
-    """Host, ports, sequence number, flags, window and payload's length of an O line's words."""
+    """Host, ports, sequence number, flags, window and payload length of an O line."""
     data = bytes.fromhex(words[4])
     offset = (data[12] >> 4) * 4
     return (
@@ -30,7 +30,7 @@ def segment_of(words):
 
 
 def features_of(text):
-    """What a case shows."""
+    """The events in a case."""
     found = Counter()
     trace, _, witness = text.partition("\nwitness ")
     made = set()
@@ -75,7 +75,7 @@ def features_of(text):
 
 
 def has_ended(text, rounds):
-    """Whether the trace tells that host 1 received the bytes of all rounds and both hosts closed, which status 0 has to say."""
+    """Whether the trace shows that host 1 received the bytes of all rounds and both hosts closed. If so, the status must be 0."""
     bytes_told, oks = 0, Counter()
     for line in text.partition("\nwitness ")[0].split("\n"):
         words = line.split(" ")

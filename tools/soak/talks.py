@@ -1,11 +1,11 @@
 #!/usr/bin/env python3
-"""Lets two recorded hosts talk by chance, many times, and checks each recording.
+"""Simulates random connections between two recorded hosts, and checks each recording.
 
     talks.py [--first SEED] [--count N]
 
-Copies the repository's last commit into a folder of its own, adds the program below as a crate beside the talks of `test_recording`, and
-runs it by `rt try`, which proves nothing. Each seed draws what becomes of the segments of one talk. Where `check` does not say yes of a
-recording, or a host is told other bytes than it should be, the seed is printed, and the exit status is 1.
+Copies the repository's last commit into a folder of its own, adds the program below as a crate with the talks of `test_recording`, and
+runs it with `rt try`, which proves nothing. The seed decides what happens to the segments of one talk. If `check` doesn't answer yes to
+a recording, or a host receives wrong bytes, the script prints the seed, and the exit status is 1.
 """
 import argparse
 import pathlib
@@ -13,11 +13,11 @@ import subprocess
 import sys
 import tempfile
 
-# Talks that one run of the program makes: its memory and its time are limited.
+# How many talks one run of the program simulates, since its memory and time are limited.
 TALKS = 500
 
 PROGRAM = '''
-//! Talks by chance, each of which the checker has to explain.
+//! Random talks; the checker must answer yes to each.
 #![tactic(auto)]
 
 mod tests;
@@ -42,7 +42,7 @@ fn main(rt: HostRuntime) -> std::io::Result<()> {
 
 
 def talked(folder, first, count):
-    """What the program printed of these seeds: its lines."""
+    """The lines that the program printed for these seeds."""
     crate = pathlib.Path(folder, "crates", "talks")
     program = PROGRAM.lstrip().replace("FIRST", str(first)).replace("COUNT", str(count))
     (crate / "src" / "main.rt").write_text(program)
@@ -51,7 +51,7 @@ def talked(folder, first, count):
 
 
 def prepare(folder):
-    """The last commit, with a crate that has the modules of the tests, where nothing else names them."""
+    """The last commit, with a crate that has the modules of the tests."""
     top = pathlib.Path(__file__).resolve().parent.parent.parent
     commit = subprocess.run(["git", "-C", top, "archive", "HEAD"], stdout=subprocess.PIPE, check=True).stdout
     subprocess.run(["tar", "x", "-C", folder], input=commit, check=True)

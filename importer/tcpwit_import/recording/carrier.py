@@ -1,4 +1,4 @@
-"""Carries frames between two hosts, with what goes wrong on the way: delays, losses, doubles, another order."""
+"""Carries frames between two hosts, with delays, losses, duplicates and reordering."""
 import heapq
 import os
 import random
@@ -17,7 +17,7 @@ except ImportError:
 ALL = 3
 OUTGOING = 4
 SOL_PACKET, PACKET_VNET_HDR = 263, 15
-# Before each frame the kernel says how it is to be cut and summed; a frame that an offload enlarged is passed on whole.
+# The kernel puts a header with offload data before each frame; a frame that an offload enlarged is passed on whole.
 VNET_HEADER = 10
 LARGEST = 1 << 17
 
@@ -30,12 +30,12 @@ def raw_socket(name):
         end.setsockopt(socket.SOL_SOCKET, socket.SO_RCVBUF, 1 << 24)
         end.bind((name, ALL))
     except OSError as error:
-        raise Problem(f"a raw socket at {name}: {error.strerror}", "this needs root, and in a container the capability NET_RAW") from error
+        raise Problem(f"a raw socket at {name}: {error.strerror}", "this needs root, and the capability NET_RAW in a container") from error
     return end
 
 
 class Carrier:
-    """A thread that carries frames. Its losses are by chance, or name the client's segments with data, counted from 1."""
+    """A thread that carries frames. It loses segments at random, or the listed data segments of the client, counted from 1."""
 
     def __init__(self, between, chances):
         self.chances, self.dice = chances, random.Random(chances.seed)
@@ -48,7 +48,7 @@ class Carrier:
         self.thread.start()
 
     def stop(self):
-        """Ends the thread; frames that are in transit are lost."""
+        """Ends the thread; frames in transit are lost."""
         self.stopped = True
         self.thread.join()
         for end in self.ends:
@@ -90,7 +90,7 @@ class Carrier:
                     heapq.heappush(waiting, (time.monotonic() + late, count, side, frame))
 
     def send(self, side, frame):
-        """Passes a frame on."""
+        """Forwards a frame."""
         try:
             self.ends[1 - side].send(frame)
         except OSError as error:

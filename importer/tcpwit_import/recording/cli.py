@@ -18,35 +18,35 @@ from .carrier import Carrier, dpkt
 from .namespaces import ADDRESSES, ADDRESSES_6, Namespace, congestion_control, joined_pair
 from .running import Capture, Traced
 
-DESCRIPTION = f"""Records a program's TCP, makes a trace of it, and judges it.
+DESCRIPTION = f"""Records a program's TCP, converts it into a trace, and judges it.
 
-  tcpwit-record -- curl -o page http://example.org/     this host alone: a half case
-  tcpwit-record --serve -- nginx -g 'daemon off;'       the same of a server, until it is interrupted
+  tcpwit-record -- curl -o page http://example.org/     only this host: a half case
+  tcpwit-record --serve -- nginx -g 'daemon off;'       the same for a server, until you interrupt it
   tcpwit-record --namespace -- ./run-my-tests           a network of its own, with a loopback: a whole case of a program that is both hosts
   tcpwit-record --pair 'python3 -m http.server 80' -- curl -o page http://{ADDRESSES[1]}/
                                                         two hosts of its own: a whole case. The server has {ADDRESSES[1]}, the client {ADDRESSES[0]}
-  tcpwit-record --transfer 20000 --lose 3               a pair with a client and a server of its own
+  tcpwit-record --transfer 20000 --lose 3               a pair with a built-in client and server
 
 Capturing and network namespaces need root; the programs run as the user who called sudo. Nothing outside the namespaces is changed.
-tcpwit-record prints the lines of tcpwit_lab judge: how much of congestion control may be judged for a yes. What the programs print
-goes to standard error, unchanged. Captures, logs, trace, case and picture stay in the folder --out.
+tcpwit-record prints the lines of tcpwit_lab judge: how strictly congestion control can be judged with a yes. The programs' own
+output goes to standard error, unchanged. Captures, logs, trace, case and picture are saved in the folder --out.
 
-The status is 0 for a yes at the word of --congestion (else full) or a stricter one, 1 if no such word has a yes, 2 for an error."""
+The status is 0 if the word of --congestion (default: full) or a stricter one has a yes, 1 if none has, 2 for an error."""
 
 
 NAME = "tcpwit-record"
-# The name of a new folder, which .gitignore knows.
+# The name of a new folder; .gitignore lists it.
 FOLDER = "tcpwit-%Y%m%d-%H%M%S"
 # Programs that the recorder runs, with their packages.
 PACKAGES = {"strace": "strace", "tcpdump": "tcpdump", "ip": "iproute2"}
-# What only a pair has, or only --transfer, or only a program whose peer is elsewhere, with the defaults.
+# Options with defaults, only for a pair, only for --transfer, and only for a program whose peer is elsewhere.
 OF_A_PAIR = {"kernel": headers.KERNEL, "wait": 10, "linger": 1, "delay": 2, "loss": 0, "lose": frozenset(), "double": 0, "reorder": 0, "seed": 1}
 OF_A_TRANSFER = {"chunk": 60000, "echo": False}
 OF_ONE_HOST = {"interface": "any"}
 
 
 class Chances(NamedTuple):
-    """What goes wrong on the way."""
+    """Delays and faults between the hosts of a pair."""
     delay: float
     loss: float
     lose: frozenset
@@ -56,64 +56,64 @@ class Chances(NamedTuple):
 
 
 def within(least, greatest):
-    """A type of argparse: a number within limits."""
+    """An argparse type: a number within limits."""
     def number(text):
         try:
             value = float(text)
         except ValueError:
             value = None
         if value is None or not least <= value <= greatest:
-            raise argparse.ArgumentTypeError(f"{text!r} is no number from {least} to {greatest}")
+            raise argparse.ArgumentTypeError(f"{text!r} isn't a number from {least} to {greatest}")
         return value
     return number
 
 
 def numbers(text):
-    """A type of argparse: numbers from 1 on, with commas between them."""
+    """An argparse type: numbers of at least 1, separated by commas."""
     parts = text.split(",")
     if not all(part.isascii() and part.isdigit() and int(part) > 0 for part in parts):
-        raise argparse.ArgumentTypeError(f"{text!r} is no list such as 3,7")
+        raise argparse.ArgumentTypeError(f"{text!r} isn't a list such as 3,7")
     return frozenset(map(int, parts))
 
 
 def parser():
-    """The command's words."""
+    """The command's options."""
     words = Parser(prog=NAME, description=DESCRIPTION, formatter_class=argparse.RawDescriptionHelpFormatter,
                                     usage="tcpwit-record [options] -- PROGRAM WORDS ..")
     form = words.add_mutually_exclusive_group()
-    form.add_argument("--pair", metavar="SERVER", help="a server, with its words, in one argument; PROGRAM is the client")
-    form.add_argument("--transfer", type=importing.number_within(1, 10**8), metavar="BYTES", help="a client that sends this many bytes, and a server")
+    form.add_argument("--pair", metavar="SERVER", help="a server and its arguments, as one argument; PROGRAM is the client")
+    form.add_argument("--transfer", type=importing.number_within(1, 10**8), metavar="BYTES", help="a built-in client that sends this many bytes, and a built-in server")
     form.add_argument("--namespace", action="store_true", help="PROGRAM is both hosts, on a loopback of its own")
     words.add_argument("--serve", action="store_true", help="PROGRAM is a server: it runs until it is interrupted, or for --seconds")
     words.add_argument("--seconds", type=within(0.1, 86400), metavar="N", help="end the program after this time")
-    words.add_argument("--interface", metavar="IF", help="where a half case is captured (default: any)")
-    words.add_argument("--out", type=named_file, metavar="DIR", help="the folder of all files (default: a new one, tcpwit-TIME)")
-    words.add_argument("--no-check", action="store_true", help="record and import only")
-    words.add_argument("--lab", type=named_file, metavar="PATH", help="the program tcpwit_lab, which judges")
+    words.add_argument("--interface", metavar="IF", help="the interface for capturing a half case (default: any)")
+    words.add_argument("--out", type=named_file, metavar="DIR", help="the folder for all files (default: a new one, tcpwit-TIME)")
+    words.add_argument("--no-check", action="store_true", help="record and import, but don't judge")
+    words.add_argument("--lab", type=named_file, metavar="PATH", help="the program tcpwit_lab, which judges traces")
     words.add_argument("--kernel", choices=("plain", "shipped"),
-                       help=f"a pair's kernel settings: without what other RFCs add (plain), or as they are (default: {headers.KERNEL})")
+                       help=f"a pair's kernel settings: without the additions of other RFCs (plain), or unchanged (shipped); default: {headers.KERNEL}")
     words.add_argument("--congestion", choices=headers.WORDS["congestion"], help=headers.HELP["congestion"])
     words.add_argument("--version", type=int, choices=sorted(headers.LINES),
-                       help="of the texts (default: 2 for two hosts, 3 for one; 4 with --congestion)")
-    words.add_argument("--as", dest="user", metavar="USER", help="whose the programs are (default: who called sudo)")
-    words.add_argument("--wait", type=within(0.1, 600), metavar="N", help="seconds until a pair's server has to listen (default: 10)")
-    words.add_argument("--linger", type=within(0, 600), metavar="N", help="seconds that a pair's server lasts after the client (default: 1)")
-    way = words.add_argument_group("the way between a pair")
-    way.add_argument("--delay", type=within(0, 10000), metavar="MS", help="of each frame (default: 2)")
-    way.add_argument("--loss", type=within(0, 1), metavar="SHARE", help="of segments that are lost, by chance")
-    way.add_argument("--lose", type=numbers, metavar="LIST", help="the client's segments with data that are lost, from 1, as 3,7")
-    way.add_argument("--double", type=within(0, 1), metavar="SHARE", help="of segments that come twice")
-    way.add_argument("--reorder", type=within(0, 1), metavar="SHARE", help="of segments that take twice the time")
-    way.add_argument("--seed", type=importing.number_within(0, 2**63), metavar="N", help="of the chances")
+                       help="format version (default: 2 for two hosts, 3 for one; 4 with --congestion)")
+    words.add_argument("--as", dest="user", metavar="USER", help="run the programs as this user (default: the user who called sudo)")
+    words.add_argument("--wait", type=within(0.1, 600), metavar="N", help="seconds within which a pair's server must listen (default: 10)")
+    words.add_argument("--linger", type=within(0, 600), metavar="N", help="seconds that a pair's server keeps running after the client (default: 1)")
+    way = words.add_argument_group("the wire between a pair")
+    way.add_argument("--delay", type=within(0, 10000), metavar="MS", help="delay of each frame, in milliseconds (default: 2)")
+    way.add_argument("--loss", type=within(0, 1), metavar="SHARE", help="share of segments to lose at random, 0 to 1")
+    way.add_argument("--lose", type=numbers, metavar="LIST", help="the client's data segments to lose, counted from 1, such as 3,7")
+    way.add_argument("--double", type=within(0, 1), metavar="SHARE", help="share of segments to deliver twice, 0 to 1")
+    way.add_argument("--reorder", type=within(0, 1), metavar="SHARE", help="share of segments to delay twice as long, 0 to 1")
+    way.add_argument("--seed", type=importing.number_within(0, 2**63), metavar="N", help="seed of the random choices")
     own = words.add_argument_group("--transfer")
-    own.add_argument("--chunk", type=importing.number_within(1, 10**8), metavar="N", help="how many bytes are sent at once (default: 60000)")
-    own.add_argument("--echo", action="store_true", default=None, help="the server sends back what it gets")
+    own.add_argument("--chunk", type=importing.number_within(1, 10**8), metavar="N", help="bytes to send at once (default: 60000)")
+    own.add_argument("--echo", action="store_true", default=None, help="the server sends the bytes back")
     words.add_argument("program", nargs="*", help=argparse.SUPPRESS)
     return words
 
 
 def check_words(words, options):
-    """What argparse can't say of the words; then the defaults of what only some forms have."""
+    """Checks the options that argparse can't check, then sets the defaults of those that only some forms have."""
     if bool(options.program) == bool(options.transfer):
         words.error("give --transfer, or a program after --")
     if options.serve and (options.pair or options.transfer or options.namespace):
@@ -130,7 +130,7 @@ def check_words(words, options):
 
 
 def complete(words, options, defaults, are_used, cause):
-    """Gives options their defaults; those that aren't used may not be given."""
+    """Sets the defaults of options; refuses options that this form doesn't use."""
     for name, default in defaults.items():
         if getattr(options, name) is None:
             setattr(options, name, default)
@@ -139,7 +139,7 @@ def complete(words, options, defaults, are_used, cause):
 
 
 class Recording:
-    """A folder with the files of a recording, and what still runs."""
+    """A folder with the files of a recording, and the processes that still run."""
 
     def __init__(self, options):
         self.options = options
@@ -147,7 +147,7 @@ class Recording:
         try:
             os.makedirs(self.folder, exist_ok=True)
         except OSError as error:
-            raise Problem(f"{self.folder}: {error.strerror}", "name another folder by --out") from error
+            raise Problem(f"{self.folder}: {error.strerror}", "name another folder with --out") from error
         self.captures, self.programs, self.remarks = [], [], []
 
     def file(self, name):
@@ -155,18 +155,18 @@ class Recording:
         return os.path.join(self.folder, name)
 
     def capture(self, interface, name, namespace=None):
-        """Begins a capture."""
+        """Starts a capture."""
         self.captures.append(Capture(interface, self.file(name), namespace))
 
     def program(self, words, name, namespace=None):
-        """Begins a program, as the user who called sudo."""
+        """Starts a program, as the user who called sudo."""
         user = self.options.user or os.environ.get("SUDO_USER", "root")
         other = user if os.geteuid() == 0 and user != "root" else None
         self.programs.append(Traced(words, self.file(name), namespace, other, sys.stderr))
         return self.programs[-1]
 
     def finish(self, program):
-        """Waits for a program's end, or for --seconds; a program that failed is remarked on."""
+        """Waits until a program ends, or for --seconds, and reports a program that failed."""
         ended = program.wait(self.options.seconds)
         program.refuse_failed_start()
         if ended and (failure := program.failure()):
@@ -178,7 +178,7 @@ class Recording:
             self.remarks.append(f"the kernel's congestion control is {name}")
 
     def end(self, seconds=0.0, carrier=None):
-        """Ends the programs, then the carrier, then the captures: one that ended earlier would lack what the other shows as received."""
+        """Ends the programs, then the carrier, then the captures: a capture that ended earlier would lack segments that the other shows as received."""
         for program in self.programs:
             program.stop(seconds)
         for capture in self.captures:
@@ -191,7 +191,7 @@ class Recording:
             capture.stop()
 
     def abandon(self):
-        """Ends what still runs, after an error."""
+        """Ends everything that still runs, after an error."""
         for program in self.programs:
             program.stop(0)
         for capture in self.captures:
@@ -199,7 +199,7 @@ class Recording:
             capture.process.wait()
 
     def pair(self):
-        """Client and server in two namespaces; the importer's words."""
+        """Records client and server in two namespaces. Returns the importer's arguments."""
         options = self.options
         between, hosts = joined_pair(options.kernel, options.version)
         carrier = Carrier(between, Chances(options.delay, options.loss, options.lose, options.double, options.reorder, options.seed))
@@ -224,7 +224,7 @@ class Recording:
                              option, ADDRESSES[number], option, ADDRESSES_6[number])]
 
     def alone(self):
-        """One program, with both hosts in a namespace, or its peer elsewhere; the importer's words."""
+        """Records one program: both hosts in a namespace, or one host with its peer elsewhere. Returns the importer's arguments."""
         options = self.options
         namespace = Namespace() if options.namespace else None
         with namespace.inside() if namespace else contextlib.nullcontext():
@@ -243,24 +243,24 @@ class Recording:
 
 
 def pair_words(options):
-    """The words of server and client."""
+    """The command lines of server and client."""
     if not options.transfer:
         return shlex.split(options.pair), options.program
-    # Without the user's modules Python begins faster, and its log is shorter.
+    # Without the user's modules, Python starts faster and its log is shorter.
     talk = [sys.executable, "-I", "-S", os.path.join(os.path.dirname(os.path.realpath(__file__)), "talk.py")]
     echo = ["echo"] if options.echo else []
     return talk + ["receive", "80", *echo], talk + ["send", ADDRESSES[1], "80", str(options.transfer), str(options.chunk)]
 
 
 def header_words(options):
-    """The importer's words for the header, refused before anything is recorded if they don't fit the recorded hosts."""
+    """The importer's arguments for the header. Refuses ones that don't fit the recorded hosts, before anything is recorded."""
     hosts = 2 if options.pair or options.transfer or options.namespace else 1
     headers.header(hosts, 0, {"congestion": options.congestion} if options.congestion else {}, options.version)
     return [word for name in ("version", "congestion") if (value := getattr(options, name)) for word in ("--" + name, str(value))]
 
 
 def refuse_missing(options):
-    """All packages and programs that the recording needs and that aren't installed are named at once."""
+    """Names all packages and programs at once that the recording needs and that aren't installed."""
     has_namespaces = options.pair or options.transfer or options.namespace
     missing = {name: package for name, package in PACKAGES.items() if shutil.which(name) is None and (has_namespaces or name != "ip")}
     if dpkt is None:
@@ -271,14 +271,14 @@ def refuse_missing(options):
     unknown = [name for name in unknown if "/" not in name]
     causes = [f"not installed: {', '.join([*missing, *unknown])}"] if missing or unknown else []
     remedies = [f"install them: apt-get install {' '.join(missing.values())}"] if missing else []
-    remedies += [f"install {', '.join(unknown)}, or name the program as in a shell"] if unknown else []
+    remedies += [f"install {', '.join(unknown)}, or name the program as you would in a shell"] if unknown else []
     remedies += ["name a program that can be run"] if named else []
     if remedies:
         raise Problem("; ".join(causes + named), "; ".join(remedies))
 
 
 def refuse_unknown_user(options):
-    """A user whom the system doesn't know can't run the programs."""
+    """Refuses a user that the system doesn't know."""
     try:
         pwd.getpwnam(options.user or "root")
     except KeyError as error:
@@ -286,7 +286,7 @@ def refuse_unknown_user(options):
 
 
 def program_that_judges(options):
-    """The program tcpwit_lab, or None if nothing is judged. What else is missing is named with it, apart."""
+    """The program tcpwit_lab, or None if nothing is judged. Other missing programs are named with it, separately."""
     problems, program = [], None
     for check in (lambda: refuse_missing(options), lambda: None if options.no_check else judging.lab(options.lab)):
         try:
@@ -299,7 +299,7 @@ def program_that_judges(options):
 
 
 def recorded(options, recording):
-    """Records; the importer's words for the files."""
+    """Records, and returns the importer's arguments for the files."""
     try:
         return recording.pair() if options.pair or options.transfer else recording.alone()
     except BaseException:
@@ -308,7 +308,7 @@ def recorded(options, recording):
 
 
 def written(recording, traces):
-    """Writes the traces, each to a folder of its own if there are several; their files."""
+    """Writes the traces, each to a folder of its own if there are several, and returns their files."""
     files = {}
     for name, lines in traces.items():
         folder = recording.folder if len(traces) == 1 else recording.file(importing.file_name(name))
@@ -319,7 +319,7 @@ def written(recording, traces):
 
 
 def record(options):
-    """Records, imports and judges; the exit status."""
+    """Records, imports and judges, and returns the exit status."""
     if os.geteuid() != 0:
         raise Problem("captures and network namespaces need root", "sudo tcpwit-record ..: the program itself runs as you")
     words = header_words(options)
@@ -328,7 +328,7 @@ def record(options):
     recording = Recording(options)
     notes = Notes()
     files = recorded(options, recording)
-    # A program that failed may be why the import fails.
+    # The import may have failed because a program failed.
     for remark in recording.remarks:
         say(NAME, remark)
     traces = importing.run(importing.parser().parse_args(files + words), notes)
@@ -343,10 +343,10 @@ def record(options):
 
 
 def main(given=None):
-    """Runs the command; its exit status."""
+    """Runs the command and returns its exit status."""
     words = parser()
     options = words.parse_args(given)
     check_words(words, options)
-    # Whoever ends this program ends what it started too.
+    # When this program is ended, it ends what it started.
     signal.signal(signal.SIGTERM, lambda *_: sys.exit(143))
     return status_of(NAME, lambda: record(options))

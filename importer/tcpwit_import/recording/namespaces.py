@@ -1,4 +1,4 @@
-"""Network namespaces, joined by a pair of interfaces each, and the settings of the kernel in them."""
+"""Network namespaces, the interface pairs that connect them, and their kernel settings."""
 import contextlib
 import ctypes
 import fcntl
@@ -11,12 +11,12 @@ from ..problem import Problem, one_line
 
 NEW_NETWORK = 0x40000000
 SIOCETHTOOL = 0x8946
-# Transmit checksums, segmentation in the card, segmentation in the stack, joining of what comes in.
+# Transmit checksums, segmentation in the card, segmentation in the stack, joining of received segments.
 OFFLOADS = (0x17, 0x1F, 0x24, 0x2C)
 ADDRESSES = ("10.9.0.1", "10.9.0.2")
 ADDRESSES_6 = ("fd09::1", "fd09::2")
 LINK_ADDRESSES = ("02:00:00:00:00:01", "02:00:00:00:00:02")
-# What RFC 9293, 6298 and 5681 alone describe: no recovery by SACK or RACK, no probes, no undo, acknowledgments at once.
+# Only what RFC 9293, 6298 and 5681 describe: no recovery by SACK or RACK, no probes, no undo, immediate acknowledgments.
 PLAIN = {
     "tcp_sack": 0, "tcp_timestamps": 0, "tcp_ecn": 0, "tcp_congestion_control": "reno", "tcp_early_retrans": 0, "tcp_recovery": 0,
     "tcp_frto": 0, "tcp_no_metrics_save": 1, "tcp_slow_start_after_idle": 0, "tcp_window_scaling": 1,
@@ -31,12 +31,12 @@ def _checked(result, what):
 
 
 class Namespace:
-    """A network namespace, which lives as long as this object or a process in it."""
+    """A network namespace, which exists as long as this object or a process in it."""
 
     def __init__(self):
         before = os.open("/proc/self/ns/net", os.O_RDONLY)
         try:
-            _checked(LIBC.unshare(NEW_NETWORK), "no network namespace")
+            _checked(LIBC.unshare(NEW_NETWORK), "can't create a network namespace")
             self.file = os.open("/proc/self/ns/net", os.O_RDONLY)
         finally:
             LIBC.setns(before, NEW_NETWORK)
@@ -47,7 +47,7 @@ class Namespace:
 
     def enter(self):
         """Moves this thread into the namespace."""
-        _checked(LIBC.setns(self.file, NEW_NETWORK), "no entry into a network namespace")
+        _checked(LIBC.setns(self.file, NEW_NETWORK), "can't enter a network namespace")
 
     def processes(self):
         """All processes in the namespace."""
@@ -62,7 +62,7 @@ class Namespace:
 
     @contextlib.contextmanager
     def inside(self):
-        """Does something in the namespace, and comes back."""
+        """Runs a function in the namespace, and returns to the old one."""
         before = os.open("/proc/self/ns/net", os.O_RDONLY)
         self.enter()
         try:
@@ -73,13 +73,13 @@ class Namespace:
 
 
 def run(*words, files=()):
-    """Runs a command of the system; what it says is the cause if it fails."""
+    """Runs a system command. If it fails, its output is the cause."""
     try:
         done = subprocess.run(words, capture_output=True, check=False, pass_fds=files)
     except FileNotFoundError as error:
         raise Problem(f"{words[0]} is not installed", "install it: apt-get install iproute2") from error
     if done.returncode:
-        raise Problem(f"{' '.join(words)}: {one_line(done.stderr) or done.returncode}", "see whether this kernel has veth interfaces (modprobe veth)")
+        raise Problem(f"{' '.join(words)}: {one_line(done.stderr) or done.returncode}", "check whether this kernel has veth interfaces (modprobe veth)")
 
 
 def setting(name, value):
@@ -92,7 +92,7 @@ def setting(name, value):
 
 
 def congestion_control():
-    """The kernel's congestion control in the namespace of this thread; None if the system doesn't say."""
+    """The kernel's congestion control in the namespace of this thread; None if it can't be read."""
     try:
         with open("/proc/sys/net/ipv4/tcp_congestion_control", encoding="ascii") as file:
             return file.read().strip()
@@ -101,7 +101,7 @@ def congestion_control():
 
 
 def offloads_off(name):
-    """Switches off what enlarges segments or leaves checksums unfinished."""
+    """Turns off offloads that enlarge segments or leave checksums unfinished."""
     with socket.socket(socket.AF_INET, socket.SOCK_DGRAM) as probe:
         for command in OFFLOADS:
             value = (ctypes.c_uint32 * 2)(command, 0)
@@ -111,7 +111,7 @@ def offloads_off(name):
 
 
 def joined_pair(kernel, version):
-    """Two hosts and the namespace between them, with interfaces w0 and w1 at the hosts, c0 and c1 between them."""
+    """Two hosts and the namespace between them, with interfaces w0 and w1 at the hosts, and c0 and c1 in between."""
     between, hosts = Namespace(), (Namespace(), Namespace())
     for number, host in enumerate(hosts):
         with between.inside():
@@ -131,7 +131,7 @@ def interface(number, kernel, version):
     run("ip", "address", "add", ADDRESSES[number] + "/24", "dev", name)
     run("ip", "-6", "address", "add", ADDRESSES_6[number] + "/64", "dev", name, "nodad")
     run("ip", "link", "set", name, "up")
-    # A question for the neighbour would delay the first segment, and not the one that repeats it.
+    # Neighbor discovery would delay the first segment, but not its retransmission.
     for addresses in (ADDRESSES, ADDRESSES_6):
         run("ip", "neighbor", "replace", addresses[1 - number], "lladdr", LINK_ADDRESSES[1 - number], "dev", name, "nud", "permanent")
     if kernel != "plain":
@@ -139,7 +139,7 @@ def interface(number, kernel, version):
     for key, value in (PLAIN | ({"tcp_window_scaling": 0} if version == 1 else {})).items():
         setting(key, value)
     offloads_off(name)
-    # Each segment is acknowledged at once: a delayed acknowledgment covers several, and the kernel's window then grows by several.
+    # Acknowledge each segment at once: a delayed acknowledgment covers several, and the kernel's window then grows by several.
     words = ["quickack", "1"] + (["initcwnd", "3"] if version == 1 else [])
     run("ip", "route", "change", "10.9.0.0/24", "dev", name, "src", ADDRESSES[number], *words)
     run("ip", "-6", "route", "replace", "fd09::/64", "dev", name, "proto", "kernel", "metric", "256", *words)

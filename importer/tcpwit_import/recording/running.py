@@ -1,4 +1,4 @@
-"""Runs programs under strace and tcpdump, and ends both in the right order: the programs, then the captures."""
+"""Runs programs under strace, captures with tcpdump, and ends both in the right order: programs first, then captures."""
 import contextlib
 import os
 import re
@@ -13,23 +13,23 @@ from ..problem import Problem, one_line
 CALLS = ("%network,read,write,readv,writev,?preadv2,?pwritev2,close,?close_range,dup,?dup2,dup3,fcntl,sendfile,splice,"
          "clone,?clone3,?fork,?vfork,execve,?execveat,exit,exit_group,?io_uring_setup")
 STRACE = ["strace", "-f", "--seccomp-bpf", "--absolute-timestamps=format:unix,precision:ns", "-xx", "-s", "1048576", "-e", "trace=" + CALLS]
-# All three flags of the buffer together: with fewer packets are lost, or are still in a buffer at the end.
+# All three buffer flags are needed: with fewer, packets are lost or are still buffered at the end.
 TCPDUMP = ["tcpdump", "-n", "-s", "0", "-B", "65536", "--immediate-mode", "-U", "--time-stamp-precision=nano"]
-# Seconds that tcpdump has to begin in.
+# Seconds within which tcpdump has to start.
 START = 10
-# What helps, by what tcpdump says.
-REMEDIES = (("permission to ", "capturing needs root, and in a container the capability NET_RAW"),
-            ("No space left", "free some space, or name another folder by --out"),
-            ("No such device", "tcpdump -D lists the interfaces; name one by --interface, or leave it out"))
-OTHER_REMEDY = "see whether tcpdump can capture there by itself: tcpdump -i INTERFACE -w FILE"
-# The first line of the log of a program that the system refuses, and why it does.
+# Remedies, by tcpdump's message.
+REMEDIES = (("permission to ", "capturing needs root, and the capability NET_RAW in a container"),
+            ("No space left", "free some space, or name another folder with --out"),
+            ("No such device", "tcpdump -D lists the interfaces; name one with --interface, or leave that out"))
+OTHER_REMEDY = "check whether tcpdump alone can capture there: tcpdump -i INTERFACE -w FILE"
+# The first line of the log of a program that the system refuses to run, and the reason.
 FAILED_START = re.compile(rb"\d+ +[\d.]+ execve\(.*= -1 \w+ \((.*)\)\n")
-# The columns of /proc/net/tcp, and the state of a socket that listens.
+# The columns of /proc/net/tcp, and the state of a listening socket.
 STATE, LISTENS = 3, "0A"
 
 
 def started(words, install, **options):
-    """A process in a session of its own, so that signals reach it and its children alone."""
+    """A process in a session of its own, so that signals reach only it and its children."""
     try:
         return subprocess.Popen(words, start_new_session=True, **options)
     except FileNotFoundError as error:
@@ -37,12 +37,12 @@ def started(words, install, **options):
 
 
 class Capture:
-    """tcpdump at an interface."""
+    """tcpdump on an interface."""
 
     def __init__(self, interface, file, namespace=None):
         self.errors = tempfile.TemporaryFile()
         self.file = file
-        # tcpdump would become another user, who may not write the file.
+        # tcpdump would switch to another user, who may not be allowed to write the file.
         own = ["-Z", "root"] if os.geteuid() == 0 else []
         words = [*TCPDUMP, *own, "-i", interface, "-w", file, "tcp"]
         self.process = started(words, "tcpdump", stdin=subprocess.DEVNULL, stdout=subprocess.DEVNULL, stderr=self.errors,
@@ -55,23 +55,23 @@ class Capture:
             time.sleep(0.01)
 
     def problem(self):
-        """Why tcpdump doesn't capture, in its own words; those with which it begins to capture are left out."""
+        """Why tcpdump doesn't capture, in its own words, without its usual first lines."""
         said = one_line(re.sub(rb".*(listening on|data link type) .*", b"", self.said())).removeprefix("tcpdump: ")
-        signs = ((self.file, "name a folder that can be written by --out"), *REMEDIES)
-        return Problem(f"tcpdump says: {said or 'nothing'}", next((remedy for sign, remedy in signs if sign in said), OTHER_REMEDY))
+        signs = ((self.file, "name a writable folder with --out"), *REMEDIES)
+        return Problem(f"tcpdump printed: {said or 'nothing'}", next((remedy for sign, remedy in signs if sign in said), OTHER_REMEDY))
 
     def said(self):
-        """What tcpdump has printed. It shares this file's offset: if that moved, tcpdump would overwrite its own output."""
+        """What tcpdump has printed. tcpdump shares this file's offset; if it moved, tcpdump would overwrite its own output."""
         return os.pread(self.errors.fileno(), 1 << 20, 0)
 
     def wait(self):
-        """Waits until nothing more comes."""
+        """Waits until no more packets arrive."""
         size = -1
         while size != (size := os.path.getsize(self.file)):
             time.sleep(0.2)
 
     def stop(self):
-        """Ends tcpdump, and refuses what it lost."""
+        """Ends tcpdump, and fails if it lost packets."""
         if self.process.poll() is not None:
             raise self.problem()
         self.process.send_signal(signal.SIGINT)
@@ -86,7 +86,7 @@ class Traced:
 
     def __init__(self, words, log, namespace=None, user=None, output=None):
         self.words, self.log, self.namespace = words, log, namespace
-        # The log of an earlier recording in this folder says nothing about this program.
+        # Remove the log of an earlier recording in this folder.
         with contextlib.suppress(FileNotFoundError):
             os.remove(log)
         as_user = ["-u", user] if user else []
@@ -102,7 +102,7 @@ class Traced:
                 raise Problem(f"{self.words[0]} ended with status {self.process.returncode} before it listened for TCP",
                               f"see {self.log}, and try the program alone")
             if time.monotonic() > until:
-                raise Problem(f"{self.words[0]} did not listen for TCP within {seconds:g} seconds", f"see {self.log}; --wait gives it more time")
+                raise Problem(f"{self.words[0]} did not listen for TCP within {seconds:g} seconds", f"see {self.log}; --wait allows more time")
             time.sleep(0.02)
 
     def listens(self):
@@ -119,7 +119,7 @@ class Traced:
             return b""
 
     def wait(self, seconds=None):
-        """Waits until the program and its children have ended; whether they have."""
+        """Waits until the program and its children have ended. Returns whether they have."""
         try:
             self.process.wait(seconds)
         except subprocess.TimeoutExpired:
@@ -127,27 +127,27 @@ class Traced:
         return True
 
     def failure(self):
-        """How the program, which has ended, failed, in words; None if it didn't. strace ends as the program did."""
+        """How the program, which has ended, failed, in words; None if it didn't. strace ends with the program's status."""
         status = self.process.returncode
         if status == 0:
             return None
         return f"{self.words[0]} was ended by {signal.Signals(-status).name}" if status < 0 else f"{self.words[0]} ended with status {status}"
 
     def refuse_failed_start(self):
-        """A program that strace could not begin left no log, or one that begins with a failed execve."""
+        """Fails if strace couldn't start the program: there is then no log, or it begins with a failed execve."""
         log = self.logged()
         if not log:
-            raise Problem(f"{self.log}: no call of {self.words[0]} was logged", "strace has said why, on the lines before this one")
+            raise Problem(f"{self.log}: no call of {self.words[0]} was logged", "the lines before this one have strace's reason")
         if failed := FAILED_START.match(log):
             raise Problem(f"{self.words[0]}: {one_line(failed[1])}", "name a program that the recorded user may run, as in a shell")
 
     def running(self):
-        """The program's processes, with the daemons that it left: all of its namespace but what the recorder itself began."""
+        """The program's processes and the daemons that it left: all processes in its namespace except the recorder's own."""
         in_namespace = self.namespace.processes() if self.namespace else []
         return set(descendants(self.process.pid)) | set(in_namespace) - set(children(os.getpid()))
 
     def stop(self, seconds):
-        """Ends what still runs: by SIGTERM, and by SIGKILL if that is not enough."""
+        """Ends processes that still run: with SIGTERM, then with SIGKILL if necessary."""
         for number in (signal.SIGTERM, signal.SIGKILL):
             if self.wait(seconds if number == signal.SIGTERM else 0):
                 return
@@ -163,7 +163,7 @@ class Traced:
 
 
 def table_of_sockets(name):
-    """The kernel's table of the sockets in the namespace of this thread; an empty one if the kernel lacks the protocol."""
+    """The kernel's socket table in the namespace of this thread; empty if the kernel lacks the protocol."""
     try:
         with open("/proc/thread-self/net/" + name, encoding="ascii") as file:
             return file.read()
@@ -186,6 +186,6 @@ def children(process):
 
 
 def descendants(process):
-    """All children of a process, and theirs."""
+    """All descendants of a process."""
     found = children(process)
     return found + [each for child in found for each in descendants(child)]

@@ -6,7 +6,7 @@ import sys
 
 
 def receive(port, echo):
-    """Takes one connection and reads all that comes."""
+    """Accepts one connection and reads until it ends."""
     with socket.create_server(("", port), backlog=4) as listener:
         end, _ = listener.accept()
         with end:
@@ -17,7 +17,7 @@ def receive(port, echo):
 
 
 def send(address, port, size, chunk):
-    """Sends this many bytes, ends sending, and reads until the other end has ended too."""
+    """Sends this many bytes, shuts down sending, and reads until the other end has ended too."""
     with socket.create_connection((address, port)) as end:
         end.setsockopt(socket.IPPROTO_TCP, socket.TCP_NODELAY, 1)
         while size:
