@@ -92,6 +92,14 @@ class Files(unittest.TestCase):
             self.assertEqual((told, said, status), ("bad device\n", "standard input: Is a directory (os error 21)\n", DEVICE))
         self.assertEqual(run([kept("tcpwit")], "check", stdin=folder), ("bad device\n", "", DEVICE))
 
+    def test_values_after_an_equals_sign(self):
+        with tempfile.TemporaryDirectory() as folder:
+            path = f"{TOP}/crates/test_cases/data/judged/half.trace"
+            for words in (["--least", "none", "--case", f"{folder}/a"], ["--least=none", f"--case={folder}/b"]):
+                with open(path, encoding="ascii") as file:
+                    self.assertEqual(run(LAB, "judge", *words, stdin=file)[1:], ("", 0), words)
+            self.assertEqual(sorted(os.listdir(folder)), ["a", "b"])
+
     def test_a_case_that_cannot_be_kept(self):
         with open(f"{TOP}/examples/handshake.case", encoding="ascii") as file:
             trace = file.read().split("witness")[0]

@@ -24,7 +24,7 @@ echo a case > "$5"
 cat {folder}/answer
 {end}
 """
-LINES = "full      no 57 88 congestion\nnone      yes 101 85\nThe run keeps RFC 9293.\n"
+LINES = "full      no 57 88 congestion\nnone      yes 101 85\nThe run follows RFC 9293.\n"
 
 
 class Judging(test_command.WithFiles):

@@ -112,7 +112,7 @@ fn judge<'a>(alloc: Global) -> Result<Command<'a>, AllocError> {
     let least = Arg::new(alloc, "least")
         .long("least")
         .value_name("WORD")
-        .help("The weakest word whose yes gives status 0: full, recovery, none [default: full]");
+        .help("The weakest word that gives status 0: full, recovery, none [default: full]");
     let case = Arg::new(alloc, "case")
         .long("case")
         .value_name("FILE")
