@@ -11,7 +11,7 @@ MOST_TRIES = 12
 
 def not_acknowledged(verdict, told, case, lines):
     """The places in `lines` of arrivals that the stack can't have kept: a later line acknowledges less than they carry."""
-    found = re.search(r"acknowledgment number: made (\d+), the line shows (\d+)", told)
+    found = re.search(r"acknowledgment number: built (\d+), the line shows (\d+)", told)
     if not verdict.endswith("bytes-differ") or not found:
         return set()
     shown = case.split("\n")[int(verdict.split()[2]) - 1]
