@@ -16,7 +16,7 @@ const REACH: usize = 1_000;
 const MOST: usize = 500;
 
 // How many arrivals are chosen at once, at most.
-const TOGETHER: usize = 64;
+const TOGETHER: usize = 256;
 
 // How many lines earlier a segment may have been made, and how many lines later an arrival taken, of which each is
 // tried.
@@ -264,8 +264,8 @@ impl Known<'_> {
             Event::CallEnd(_) | Event::Expired(_, _, _, _) => {}
         }
         match self.failure.key.or(key) {
-            Some(key) if !is_far => self.unseen_after(out, place, key),
-            _ => Ok(()),
+            Some(key) => self.unseen_after(out, place, key, is_far),
+            None => Ok(()),
         }
     }
 
@@ -379,25 +379,31 @@ impl Known<'_> {
         out: &mut Candidates,
         after: usize,
         key: ConnectionKey,
+        is_far: bool,
     ) -> Result<(), OutOfMemory> {
         if after >= self.failure.place {
             return Ok(());
         }
         match self.failure.rule {
-            Rule::TimerOff | Rule::TimerEarly | Rule::Growth => {
-                let Some(at) = self.timer_at() else {
-                    return Ok(());
-                };
-                for unseen in [Unseen::All, Unseen::One] {
-                    out.push(Choice::Unseen { after, at, unseen })?;
-                }
-                Ok(())
+            Rule::TimerOff | Rule::TimerEarly | Rule::Growth if !is_far => {
+                self.unseen_before_timer(out, after)
             }
-            Rule::CallAnswer | Rule::State | Rule::NoEndpoint | Rule::Iss => {
+            Rule::CallAnswer | Rule::State | Rule::NoEndpoint | Rule::Iss if is_far => {
                 self.unseen_at_both(out, after, key)
             }
             _ => Ok(()),
         }
+    }
+
+    // The endpoint whose timer expires with the failing line made something that no line shows.
+    fn unseen_before_timer(&self, out: &mut Candidates, after: usize) -> Result<(), OutOfMemory> {
+        let Some(at) = self.timer_at() else {
+            return Ok(());
+        };
+        for unseen in [Unseen::All, Unseen::One] {
+            out.push(Choice::Unseen { after, at, unseen })?;
+        }
+        Ok(())
     }
 
     // An endpoint or its peer made something that no line shows.
