@@ -4,7 +4,8 @@
 //! the same case. First single candidates are tried, the nearest to the line first, and those that explain a further
 //! line are kept. If none does, two candidates are tried at once.
 
-use crate::candidates::{Candidates, Failure, push_candidates};
+use crate::alternatives::{Failure, push_candidates};
+use crate::candidates::Candidates;
 use crate::choices::Choices;
 use crate::search::{Added, MeantCall, Search, Sought};
 use case_forms::{OutOfMemory, Steps};
@@ -18,6 +19,9 @@ const LISTS: u32 = 3;
 
 // How many candidates of a line are tried in pairs.
 const PAIRED: usize = 60;
+
+// How many looks at a line count as one step.
+const LOOKS: u64 = 4;
 
 /// What one pass over the lines came to.
 #[derive(Drop)]
@@ -199,7 +203,8 @@ impl<'t> Retries<'t> {
         };
         self.pairs.truncate(0);
         let lines = self.sought.lines;
-        push_candidates(&mut self.pairs, lines, self.best.meant.as_slice(), failure)?;
+        let looks = push_candidates(&mut self.pairs, lines, self.best.meant.as_slice(), failure)?;
+        self.cost = self.cost.saturating_add(looks / LOOKS);
         for second in 1..self.pairs.len().min(PAIRED) {
             if self.try_pairs_with(failure.place, second)? {
                 return Ok(true);
@@ -272,13 +277,13 @@ impl<'t> Retries<'t> {
         self.listed.insert(failure.place, count.saturating_add(1))?;
         let next = self.candidates.len();
         let lines = self.sought.lines;
-        let looked = push_candidates(
+        let looks = push_candidates(
             &mut self.candidates,
             lines,
             self.last.meant.as_slice(),
             failure,
         )?;
-        self.cost = self.cost.saturating_add(looked / 4);
+        self.cost = self.cost.saturating_add(looks / LOOKS);
         self.path.push(Level {
             chosen: self.choices.len(),
             place: failure.place,

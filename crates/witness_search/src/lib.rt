@@ -6,7 +6,8 @@
 //!
 //! - `finding`: the text of a trace becomes the text of a case
 //! - `going_back`: if a line can't be explained, something before it is chosen otherwise, within a budget
-//! - `candidates`: what else could have been chosen before a line
+//! - `alternatives`: what else could have been chosen before a line
+//! - `candidates`: a list of it, each with one choice or several
 //! - `choices`: what is chosen at lines where more than one step is possible
 //! - `search`: one pass over the lines, each with the steps that belong to it
 //! - `later`: what is done because it was chosen: before a line, and once a line was taken
@@ -22,6 +23,7 @@
 #![tactic(auto)]
 
 mod ahead;
+mod alternatives;
 mod arriving;
 mod calls;
 mod candidates;
