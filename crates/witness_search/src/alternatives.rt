@@ -356,7 +356,8 @@ impl Known<'_> {
         key: ConnectionKey,
     ) -> Result<(), OutOfMemory> {
         let (host, lport, rport) = key;
-        for at in [place_of(key), place_of((1 - host.min(1), rport, lport))] {
+        let peer = if host == 0 { 1 } else { 0 };
+        for at in [place_of(key), place_of((peer, rport, lport))] {
             for unseen in [Unseen::Reset, Unseen::All] {
                 out.push(Choice::Unseen { after, at, unseen })?;
             }
