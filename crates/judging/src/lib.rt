@@ -3,8 +3,8 @@
 //! Few stacks keep RFC 5681 to the letter. So a trace is rewritten in version 4 of the texts, once for each word that a
 //! header has for congestion control, from `full` on, until `checker` accepts the witness that `witness_search` finds.
 //! The answer is the strictest word with a yes, and the first thing that `full` refused, which `why` reads from the
-//! case. The time is linear in the size of the trace, and a budget bounds what the search spends on going back. Of each function it is proved that it is safe and returns, and no
-//! more.
+//! case. The time is linear in the size of the trace, and a budget bounds what the search spends on going back. Of each
+//! function it is proved that it is safe and returns, and no more.
 //!
 //! - `judge`, `Judgement`: the answer for a trace, the word with a yes, and the case of the last word
 //! - `options_of`, `Options`: the command line's words

@@ -81,6 +81,16 @@ pub(crate) enum Choice {
     },
 }
 
+// The first line on which a choice bears.
+fn place_of(choice: Choice) -> usize {
+    match choice {
+        Choice::Fate { place, .. } | Choice::Before { place, .. } | Choice::Waits { place, .. } => {
+            place
+        }
+        Choice::Early { after, .. } | Choice::Unseen { after, .. } => after,
+    }
+}
+
 /// What was chosen for an arrival.
 #[derive(Clone, Copy)]
 pub(crate) struct Arrival {
@@ -155,10 +165,12 @@ impl Choices {
         self.place_choice(choice)
     }
 
-    /// Some choices more.
+    /// Some choices more, without those that are the last of their lines already.
     pub(crate) fn push_all(&mut self, choices: &[Choice]) -> Result<(), OutOfMemory> {
         for choice in choices {
-            self.push(*choice)?;
+            if self.at(place_of(*choice)).last().copied() != Some(*choice) {
+                self.push(*choice)?;
+            }
         }
         Ok(())
     }
