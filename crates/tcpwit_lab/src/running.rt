@@ -65,7 +65,7 @@ fn tell_found<H: Eprint, W: Write>(rt: &H, found: &Found, w: &mut Counted<W>) ->
             "line {line} of the trace can't be explained, whatever find chooses before it; other choices tried: {tried}"
         ),
         Ending::BudgetSpent { line } => eprintln!(rt;
-            "line {line} of the trace isn't explained, and the budget is spent (see --budget); other choices tried: {tried}"
+            "line {line} of the trace isn't explained, and the budget is spent; other choices tried: {tried}"
         ),
     };
     say(rt, w, found.case.as_slice(), DONE)
