@@ -25,6 +25,9 @@ const TOGETHER: usize = 256;
 // tried.
 const NEAR: usize = 12;
 
+// Half of all sequence numbers: so far ahead a number may be.
+const HALF: u32 = 0x8000_0000;
+
 /// Where a search failed.
 #[derive(Clone, Copy)]
 pub(crate) struct Failure {
@@ -98,7 +101,7 @@ fn covers(wire: &Wire, number: u32) -> bool {
 fn ends_beyond(wire: &Wire, number: u32) -> bool {
     let len = length_of(wire);
     let ahead = wire.seg.seq.0.wrapping_add(len).wrapping_sub(number);
-    len > 0 && ahead > 0 && ahead < 1 << 31
+    len > 0 && ahead > 0 && ahead < HALF
 }
 
 impl Known<'_> {
