@@ -66,7 +66,7 @@ fn find<'a>(alloc: Global) -> Result<Command<'a>, AllocError> {
     let budget = Arg::new(alloc, "budget")
         .long("budget")
         .value_name("N")
-        .help("How many steps are spent on going back [default: 300000]");
+        .help("How many steps are spent on going back [default: 50000]");
     Ok(
         Command::new(alloc, "find")
             .about("Looks for a witness of a trace, and prints the case")

@@ -18,7 +18,7 @@ use std::mem::swap;
 const LISTS: u32 = 3;
 
 // How many candidates of a line are tried in pairs.
-const PAIRED: usize = 60;
+const PAIRED: usize = 40;
 
 // How many looks at a line count as one step.
 const LOOKS: u64 = 4;
