@@ -63,8 +63,9 @@ class Completion(unittest.TestCase):
         self.assertEqual(self.completed("tcpwit", "record", "--rounds", "20", "--l"), ["--lose"])
 
     def test_options_of_tcpwit_lab(self):
-        for word in ("find", "show"):
-            self.assertEqual(self.completed("tcpwit_lab", word, ""), ["--help"])
+        self.assertEqual(self.completed("tcpwit_lab", "show", ""), ["--help"])
+        self.assertEqual(self.completed("tcpwit_lab", "find", ""), ["--budget", "--help"])
+        self.assertEqual(self.completed("tcpwit_lab", "find", "--budget", ""), [])
         self.assertEqual(self.completed("tcpwit_lab", "explain", ""), ["--simulated", "--help"])
         self.assertEqual(self.completed("tcpwit_lab", "explain", "--simulated", ""), [])
         self.assertEqual(self.completed("tcpwit_lab", "draw", ""), ["--from", "--to", "--help"])

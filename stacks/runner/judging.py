@@ -18,6 +18,8 @@ HEADER = ("msl", "grain", "minrto", "extra", "initial")
 USUAL = {"name": "a stack", "msl": "120000000", "grain": "1000", "minrto": "0", "extra": "65535", "initial": "5681", "options": ""}
 # The command that explains a no. The segments came over a simulated wire, so no capture can have changed them.
 EXPLAIN = ["explain", "--simulated"]
+# A search that doesn't go back: the first one did, and going back for each set of dropped arrivals would take long.
+ONCE = ["find", "--budget", "0"]
 # How many seconds a program may take in a trial before the first scenario.
 LIMIT = 60
 
@@ -134,7 +136,7 @@ class Judge:
     def without(self, run, values, word, left):
         """A case in which the arrivals at these places are dropped, and its verdict. If that isn't a yes, the witness covers only the rest."""
         rest = [line for at, line in enumerate(run.lines) if at not in left]
-        case, _ = self.call(self.lab, ["find"], trace_of(values, run.peer, rest, word))
+        case, _ = self.call(self.lab, ONCE, trace_of(values, run.peer, rest, word))
         answer = self.answer(case)
         if not answer.startswith("yes"):
             return case, answer

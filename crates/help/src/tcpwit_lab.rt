@@ -25,8 +25,9 @@ Examples:
 The answers of `tcpwit` don't depend on this program.";
 
 const FIND: &str = "\
-Input: a trace. Output: a case. If no permitted step is found, the case ends with a step that
-`tcpwit check` refuses.";
+Input: a trace. Output: a case. If a line can't be explained, find goes back: it chooses otherwise
+before that line, and tries again. If no choice helps, or the budget is spent, the case ends with a
+step that `tcpwit check` refuses. Standard error then has the line, and which of the two it was.";
 
 const EXPLAIN: &str = "\
 Input: a case. Output: the answer of `tcpwit check`. After a no: the refused step, the endpoint
@@ -53,7 +54,7 @@ pub(crate) fn tcpwit_lab<'a>(alloc: Global) -> Result<Command<'a>, AllocError> {
         .version(VERSION)
         .about("Finds witnesses, judges traces, explains and draws cases")
         .subcommand_required(true)
-        .subcommand(find(alloc))?
+        .subcommand(find(alloc)?)?
         .subcommand(explain(alloc)?)?
         .subcommand(show(alloc))?
         .subcommand(draw(alloc)?)?
@@ -61,11 +62,18 @@ pub(crate) fn tcpwit_lab<'a>(alloc: Global) -> Result<Command<'a>, AllocError> {
     Ok(command.after_help(AFTER))
 }
 
-fn find<'a>(alloc: Global) -> Command<'a> {
-    Command::new(alloc, "find")
-        .about("Looks for a witness of a trace, and prints the case")
-        .override_usage("tcpwit_lab find < TRACE > CASE")
-        .after_help(FIND)
+fn find<'a>(alloc: Global) -> Result<Command<'a>, AllocError> {
+    let budget = Arg::new(alloc, "budget")
+        .long("budget")
+        .value_name("N")
+        .help("How many steps are spent on going back [default: 50000]");
+    Ok(
+        Command::new(alloc, "find")
+            .about("Looks for a witness of a trace, and prints the case")
+            .override_usage("tcpwit_lab find [--budget N] < TRACE > CASE")
+            .after_help(FIND)
+            .arg(budget)?,
+    )
 }
 
 fn explain<'a>(alloc: Global) -> Result<Command<'a>, AllocError> {

@@ -1,6 +1,6 @@
 //! The words of the header, one after the other until one has a yes.
 
-use crate::sentences::{push_half, push_none, push_under, push_yes};
+use crate::sentences::{push_ending, push_half, push_none, push_under, push_yes};
 use crate::trying::{Tried, try_word};
 use case_forms::{Header, Judged, OutOfMemory};
 use checker::CaseFault;
@@ -107,6 +107,7 @@ fn not_found(
 ) -> Result<Judgement, CaseFault> {
     let mut text = rows;
     push_none(&mut text)?;
+    push_ending(&mut text, tried.ending)?;
     push_half(&mut text, header)?;
     let last = tried.refusal(alloc)?;
     push_under(&mut text, tried.word, last.as_slice())?;

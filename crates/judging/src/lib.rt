@@ -3,7 +3,8 @@
 //! Few stacks follow RFC 5681 to the letter. So a trace is rewritten in version 4 of the texts, once for each word of
 //! the header line `congestion`, from `full` on, until `checker` accepts the witness that `witness_search` finds. The
 //! answer is the strictest word with a yes, and the first thing that `full` refused, which `why` reads from the case.
-//! The time is linear in the size of the trace. Each function is proved only to be safe and to return.
+//! The time is linear in the size of the trace, and a budget bounds what the search spends on going back. Each function
+//! is proved only to be safe and to return.
 //!
 //! - `judge`, `Judgement`: the answer for a trace, the word with a yes, and the case of the last word
 //! - `options_of`, `Options`: the command line's words; `values_of`: the values of two options

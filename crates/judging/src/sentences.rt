@@ -6,6 +6,7 @@ use case_forms::{Header, Judged, OutOfMemory};
 use line_fields::{push_end, push_word};
 use why::text::{Piece, add};
 use why::{Reason, Refused};
+use witness_search::Ending;
 
 /// Writes a word of the header, and spaces up to column 10.
 pub(crate) fn push_padded(out: &mut Vec<u8>, word: Judged) -> Result<(), OutOfMemory> {
@@ -40,6 +41,19 @@ pub(crate) fn push_none(out: &mut Vec<u8>) -> Result<(), OutOfMemory> {
     push_word(
         out,
         "No witness was found, even without judging congestion control.\n",
+    )
+}
+
+/// Writes why the search for a witness ended without one.
+pub(crate) fn push_ending(out: &mut Vec<u8>, ending: Ending) -> Result<(), OutOfMemory> {
+    push_word(
+        out,
+        match ending {
+            Ending::Whole => "",
+            Ending::Exhausted { .. } => "The search tried all other choices that it knows.\n",
+            Ending::BudgetSpent { .. } =>
+                "The search spent its budget before it had tried all other choices.\n",
+        },
     )
 }
 

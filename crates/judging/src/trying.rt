@@ -9,7 +9,7 @@ use line_fields::push_end;
 use std::alloc::Global;
 use verdict::{Verdict, print_verdict};
 use why::refused_by;
-use witness_search::find;
+use witness_search::{Ending, USUAL_BUDGET, find_within};
 
 /// A word that was tried.
 #[derive(Drop)]
@@ -17,6 +17,8 @@ pub(crate) struct Tried {
     pub word: Judged,
     /// The trace in version 4, and the witness that was found.
     pub case: Vec<u8>,
+    /// How the search ended.
+    pub ending: Ending,
     verdict: Verdict,
 }
 
@@ -28,14 +30,15 @@ pub(crate) fn try_word(
     word: Judged,
 ) -> Result<Tried, CaseFault> {
     let trace = rewritten(alloc, text, header, word)?;
-    let case = match find(alloc, trace.as_slice()) {
-        Ok(case) => case,
+    let found = match find_within(alloc, trace.as_slice(), USUAL_BUDGET) {
+        Ok(found) => found,
         Err(fault) => return Err(trace_fault(fault)),
     };
-    let verdict = check_case(alloc, case.as_slice())?;
+    let verdict = check_case(alloc, found.case.as_slice())?;
     Ok(Tried {
         word,
-        case,
+        case: found.case,
+        ending: found.ending,
         verdict,
     })
 }

@@ -10,7 +10,7 @@ use std::alloc::Global;
 use std::io::{Eprint, ErrorKind, Input, Read, Write};
 use std::rt::Files;
 use why::explain;
-use witness_search::find;
+use witness_search::{Ending, Found, find_within};
 
 /// Does what the words after the program's name ask for, and answers the status: 0 if it is done, 1 if the answer is
 /// no, 2 if the text is refused, 3 for bad usage, 4 if memory ran out, and 5 if a read or a
@@ -41,7 +41,10 @@ fn write_answer<H: Files + Eprint, W: Write>(
     w: &mut Counted<W>,
 ) -> u8 {
     match asked {
-        Asked::Find => tell(rt, alloc, find(alloc, text), w),
+        Asked::Find(budget) => match find_within(alloc, text, budget) {
+            Ok(found) => tell_found(rt, &found, w),
+            Err(fault) => say_fault(rt, alloc, "bad trace ", &fault, w),
+        },
         Asked::Show => tell(rt, alloc, show(alloc, text), w),
         Asked::Draw(range) => tell(rt, alloc, draw(alloc, text, range), w),
         Asked::Explain(origin) => match explain(alloc, text, origin) {
@@ -50,6 +53,22 @@ fn write_answer<H: Files + Eprint, W: Write>(
         },
         Asked::Judge(options) => write_judgement(rt, alloc, options, text, w),
     }
+}
+
+// Writes a case. If lines were left or the search went back, standard error has how far it came.
+fn tell_found<H: Eprint, W: Write>(rt: &H, found: &Found, w: &mut Counted<W>) -> u8 {
+    let tried = found.tried;
+    let _ = match found.ending {
+        Ending::Whole if tried == 0 => Ok(()),
+        Ending::Whole => eprintln!(rt; "every line is explained; other choices tried: {tried}"),
+        Ending::Exhausted { line } => eprintln!(rt;
+            "line {line} of the trace can't be explained, whatever find chooses before it; other choices tried: {tried}"
+        ),
+        Ending::BudgetSpent { line } => eprintln!(rt;
+            "line {line} of the trace isn't explained, and the budget is spent; other choices tried: {tried}"
+        ),
+    };
+    say(rt, w, found.case.as_slice(), DONE)
 }
 
 // Writes a case, or the fault of its trace.

@@ -3,11 +3,13 @@
 use drawing::Range;
 use judging::{Options, options_of, values_of};
 use why::Origin;
+use witness_search::USUAL_BUDGET;
 
 /// What the words ask for.
 #[derive(Clone, Copy)]
 pub(crate) enum Asked<'w> {
-    Find,
+    /// How many steps are spent on going back.
+    Find(u64),
     /// Where the segments of the case come from.
     Explain(Origin),
     Show,
@@ -18,18 +20,37 @@ pub(crate) enum Asked<'w> {
 /// What the words ask for. None: nothing that the program does.
 pub(crate) fn asked_by<'w>(words: &[&'w str]) -> Option<Asked<'w>> {
     match words {
+        [word, options @ ..] if *word == "find" => Some(Asked::Find(budget_of(options)?)),
         [word, options @ ..] if *word == "judge" => Some(Asked::Judge(options_of(options)?)),
         [word, options @ ..] if *word == "draw" => Some(Asked::Draw(range_of(options)?)),
         [word, option] if *word == "explain" && *option == "--simulated" => {
             Some(Asked::Explain(Origin::Simulated))
         }
         [word] => match *word {
-            "find" => Some(Asked::Find),
             "explain" => Some(Asked::Explain(Origin::Captured)),
             "show" => Some(Asked::Show),
             _ => None,
         },
         _ => None,
+    }
+}
+
+// The budget that `--budget N` gives, or the usual one. None: other words, or a number that is badly written.
+fn budget_of(options: &[&str]) -> Option<u64> {
+    match options {
+        [] => Some(USUAL_BUDGET),
+        [option] => number(option.strip_prefix("--budget=")?),
+        [name, value] if *name == "--budget" => number(value),
+        _ => None,
+    }
+}
+
+// A number in digits alone, without a leading zero unless it is 0.
+fn number(value: &str) -> Option<u64> {
+    if value == "0" {
+        Some(0)
+    } else {
+        line_number(value)
     }
 }
 

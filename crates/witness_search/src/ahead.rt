@@ -1,6 +1,6 @@
 //! What later lines of a trace show of earlier ones. Lines are named by their places among the event lines, from 0.
 
-use crate::chains::{Chains, ConnectionKey};
+use crate::chains::{Chains, ConnectionKey, Left};
 use case_forms::{Event, Host, Line, OutOfMemory, Wire};
 use segment::Flag;
 use std::alloc::Global;
@@ -21,7 +21,7 @@ pub(crate) struct LaterLines {
     ends: BTreeMap<usize, usize>,
     /// For each thread, the place of the first end after what was read, if no beginning was met before it.
     ended: BTreeMap<u32, usize>,
-    /// For each endpoint, the places of what goes out there and was not made yet.
+    /// For each endpoint, the places of what goes out there.
     outgoing: Chains,
     /// The same of resets alone.
     resets: Chains,
@@ -76,6 +76,25 @@ impl LaterLines {
     pub(crate) fn end_of(&self, begin: usize) -> Option<usize> {
         self.ends.get(&begin).copied()
     }
+}
+
+/// Lines that go out and whose segments were not made yet.
+#[derive(Drop)]
+pub(crate) struct Unmade<'t> {
+    /// What goes out at each endpoint.
+    outgoing: Left<'t>,
+    /// The same of resets alone.
+    resets: Left<'t>,
+}
+
+impl<'t> Unmade<'t> {
+    /// All lines that go out.
+    pub(crate) fn all(alloc: Global, later: &'t LaterLines) -> Unmade<'t> {
+        Unmade {
+            outgoing: Left::new(alloc, &later.outgoing),
+            resets: Left::new(alloc, &later.resets),
+        }
+    }
 
     /// The place of the next segment that goes out at an endpoint and was not made yet.
     pub(crate) fn next_out(&self, key: ConnectionKey) -> Option<usize> {
@@ -88,13 +107,17 @@ impl LaterLines {
     }
 
     /// What goes out at that place is made; so are the places before it at this endpoint.
-    pub(crate) fn pass(&mut self, key: ConnectionKey, place: usize) {
-        self.outgoing.pass(key, place);
-        self.resets.pass(key, place);
+    pub(crate) fn pass(&mut self, key: ConnectionKey, place: usize) -> Result<(), OutOfMemory> {
+        self.outgoing.pass(key, place)?;
+        self.resets.pass(key, place)
     }
 
     /// The reset that goes out at that place is made.
-    pub(crate) fn pass_reset(&mut self, key: ConnectionKey, place: usize) {
-        self.resets.pass(key, place);
+    pub(crate) fn pass_reset(
+        &mut self,
+        key: ConnectionKey,
+        place: usize,
+    ) -> Result<(), OutOfMemory> {
+        self.resets.pass(key, place)
     }
 }

@@ -1,8 +1,9 @@
-//! A received segment is processed at once, or answered by a reset if one follows, or dropped.
+//! A line that comes in is taken at once, or answered by a reset where one follows, or dropped.
 
 use crate::ahead::connection_key;
-use crate::calls::{endpoint_at, listener_at};
+use crate::calls::listener_at;
 use crate::chains::ConnectionKey;
+use crate::choices::Arrival;
 use crate::expiring::saturated;
 use crate::search::Search;
 use crate::sending::{place_of, plan_of};
@@ -13,9 +14,6 @@ use segment::Flag;
 use seqno::number;
 use spec_tcp::{Arrived, Emission};
 use verdict::Rule;
-
-// How many lines with the same bytes are tried for a copy, where those before are too old.
-const SENDINGS: usize = 16;
 
 // The endpoint that a segment finds, if it is not CLOSED.
 fn endpoint_found<'w>(world: &'w World, host: Host, m: &Emission) -> Option<&'w Endpoint> {
@@ -41,6 +39,14 @@ fn greatest(world: &World, host: Host, m: &Emission, moment: u64) -> u32 {
         return 0;
     };
     saturated(greatest_taking(endpoint, &m, moment))
+}
+
+// The congestion window of the endpoint that a segment finds; 0 at a listener.
+fn window_before(world: &World, host: Host, m: &Emission) -> u32 {
+    match endpoint_found(world, host, m) {
+        Some(endpoint) => endpoint.control.values.cwnd,
+        None => 0,
+    }
 }
 
 // What taking a segment changes that later lines of its taker may still show as it was.
@@ -106,58 +112,73 @@ struct Earlier<'t> {
 }
 
 impl<'t> Search<'t> {
-    /// A line shows a received segment.
+    /// A line shows a segment that comes in.
     pub(crate) fn come_in(&mut self, host: Host, wire: &'t Wire) -> Result<(), StepFault> {
-        let line = self.number;
+        let place = self.place;
+        let how = self.choices.arrival(place);
+        let line = self.bring_in(host, wire, how)?;
+        if how.waits {
+            self.waiting.insert(place, line)?;
+            return Ok(());
+        }
+        self.resolve_arrival(host, line, how)
+    }
+
+    // What comes in with a line waits at its host. The answer is the line's number.
+    fn bring_in(&mut self, host: Host, wire: &'t Wire, how: Arrival) -> Result<u64, StepFault> {
         if self.world.header().version.is_half() {
-            self.push_line_step(Extras::Bare)?;
-            self.hear_in_world(host, wire)?;
-            return self.resolve_arrival(host, line);
+            let line = self.push_line_step(Extras::Bare)?;
+            self.hear_in_world(host, line, wire)?;
+            return Ok(line);
         }
         let place = self.copies.place(host.other(), wire.bytes.as_slice());
-        let copied = self.copied(host, wire, place)?;
-        self.push_line_step(Extras::One(saturated(copied)))?;
-        self.arrive_in_world(host, copied, wire)?;
+        let copied = self.copied(host, wire, place, how);
+        let line = self.push_line_step(Extras::One(saturated(copied)))?;
+        self.arrive_in_world(host, line, copied, wire)?;
         if let Some(place) = place {
-            self.copies.pass(host.other(), place);
+            self.copies.arrive(host.other(), place, copied, self.moment);
         }
-        self.resolve_arrival(host, line)
+        Ok(line)
     }
 
     // The line that an arrival copies: of those with its bytes, which stand at this place, the first that has no copy
-    // yet, and is not too old.
-    fn copied(
-        &mut self,
-        host: Host,
-        wire: &'t Wire,
-        place: Option<usize>,
-    ) -> Result<u64, StepFault> {
+    // yet, unless others show that it is too old; else the last.
+    fn copied(&mut self, host: Host, wire: &'t Wire, place: Option<usize>, how: Arrival) -> u64 {
         let Some(place) = place else {
-            return Ok(0);
+            return 0;
         };
-        for _ in 0..SENDINGS {
-            let Some(line) = self.copies.first(host.other(), place) else {
-                return Ok(0);
+        let sender = host.other();
+        if how.is_of_last {
+            return self.copies.last(sender, place).unwrap_or(0);
+        }
+        for _ in 0..self.lines.len() {
+            let Some(line) = self.copies.first(sender, place, self.moment) else {
+                break;
             };
             match self.world.admits_arrival(host, self.moment, line, wire) {
-                Err(Rule::Lifetime) => {
-                    if !self.copies.pass(host.other(), place) {
-                        return Ok(line);
-                    }
-                }
-                _ => return Ok(line),
+                Err(Rule::Lifetime) => self.copies.pass(sender, place),
+                _ => return line,
             }
         }
-        Ok(self.copies.first(host.other(), place).unwrap_or(0))
+        self.copies.last(sender, place).unwrap_or(0)
     }
 
-    // A received segment is processed, answered or dropped.
-    fn resolve_arrival(&mut self, host: Host, line: u64) -> Result<(), StepFault> {
-        let keep = self.make_earlier(host, line)?;
-        if self.try_taking(host, line, keep)? {
+    /// What came in is taken, answered or dropped.
+    pub(crate) fn resolve_arrival(
+        &mut self,
+        host: Host,
+        line: u64,
+        how: Arrival,
+    ) -> Result<(), StepFault> {
+        if how.is_dropped {
+            return self.drop_arrival(host, line);
+        }
+        let is_kept = self.make_earlier(host, line)? && how.is_kept;
+        let how = Arrival { is_kept, ..how };
+        if self.try_taking(host, line, how)? {
             return Ok(());
         }
-        if self.leaves_time_wait(host, line)? && self.try_taking(host, line, keep)? {
+        if self.leaves_time_wait(host, line)? && self.try_taking(host, line, how)? {
             return Ok(());
         }
         if self.try_answer(host, line)? {
@@ -166,9 +187,9 @@ impl<'t> Search<'t> {
         self.drop_arrival(host, line)
     }
 
-    // Processes a received segment, if that is permitted.
-    fn try_taking(&mut self, host: Host, line: u64, keep: bool) -> Result<bool, StepFault> {
-        let Some(choice) = self.choice(host, line, keep) else {
+    // Takes what came in, if that may be.
+    fn try_taking(&mut self, host: Host, line: u64, how: Arrival) -> Result<bool, StepFault> {
+        let Some(choice) = self.choice(host, line, how) else {
             return Ok(false);
         };
         let Some(m) = self.world.waiting(host, line) else {
@@ -184,12 +205,17 @@ impl<'t> Search<'t> {
     }
 
     // The greatest choice with which a segment may be taken.
-    fn choice(&self, host: Host, line: u64, keep: bool) -> Option<TakeChoice> {
+    fn choice(&self, host: Host, line: u64, how: Arrival) -> Option<TakeChoice> {
         let m = self.world.waiting(host, line)?;
+        let greatest = greatest(&self.world, host, m, self.moment);
         let mut choice = TakeChoice {
-            cwnd: greatest(&self.world, host, m, self.moment),
-            keep,
-            sample: true,
+            cwnd: if how.grows {
+                greatest
+            } else {
+                greatest.min(window_before(&self.world, host, m))
+            },
+            keep: how.is_kept,
+            sample: how.is_measured,
         };
         match self.world.admits_taking(host, self.moment, line, choice) {
             Ok(()) => return Some(choice),
@@ -212,7 +238,7 @@ impl<'t> Search<'t> {
             Some(endpoint) => endpoint.listener,
             None => None,
         };
-        self.wake(endpoint_at(host, place))?;
+        self.wake_ends(host, ports)?;
         match listener {
             Some(listener) => self.wake(listener_at(host, listener)),
             None => Ok(()),
@@ -234,10 +260,10 @@ impl<'t> Search<'t> {
         if !(m.flags.syn && endpoint.state.is_time_wait()) {
             return Ok(false);
         }
-        self.add_expiry_after(host, ports, Timer::Msl2)
+        self.add_expiry(host, ports, Timer::Msl2)
     }
 
-    // Answers a received segment by a reset, if the next reset sent at its ports is that one.
+    // Answers what came in by a reset, where the next reset that goes out at its ports is that one.
     fn try_answer(&mut self, host: Host, line: u64) -> Result<bool, StepFault> {
         let Some((key, place)) = self.reset_of(host, line) else {
             return Ok(false);
@@ -245,7 +271,7 @@ impl<'t> Search<'t> {
         match self.reply_with_reset(host, line) {
             Ok(made) => {
                 self.made.insert(place, made)?;
-                self.ahead.pass_reset(key, place);
+                self.ahead.pass_reset(key, place)?;
                 Ok(true)
             }
             Err(StepFault::Broken(_)) => Ok(false),
@@ -253,8 +279,8 @@ impl<'t> Search<'t> {
         }
     }
 
-    // The segment that goes out with the line at a place.
-    fn sent_at(&self, place: usize) -> Option<&'t Wire> {
+    /// The segment that goes out with the line at a place.
+    pub(crate) fn sent_at(&self, place: usize) -> Option<&'t Wire> {
         match &self.lines.get(place)?.event {
             Event::Sent(_, wire) => Some(wire),
             _ => None,
@@ -309,11 +335,32 @@ impl<'t> Search<'t> {
         match self.make(host, plan) {
             Ok(made) => {
                 self.made.insert(earlier.place, made)?;
-                self.ahead.pass(earlier.key, earlier.place);
+                self.ahead.pass(earlier.key, earlier.place)?;
                 Ok(true)
             }
             Err(StepFault::Broken(_)) => Ok(false),
             Err(StepFault::OutOfMemory) => Err(StepFault::OutOfMemory),
         }
+    }
+    /// What goes out with the line at a place is made now, if it may be and wasn't.
+    pub(crate) fn make_early(&mut self, place: usize) -> Result<(), StepFault> {
+        let lines = self.lines;
+        let Some(line) = lines.get(place) else {
+            return Ok(());
+        };
+        let Event::Sent(host, wire) = &line.event else {
+            return Ok(());
+        };
+        if place < self.next || self.made.contains_key(&place) {
+            return Ok(());
+        }
+        let earlier = Earlier {
+            key: connection_key(*host, wire.seg.src, wire.seg.dst),
+            place,
+            wire,
+            needed: false,
+        };
+        self.try_making(*host, earlier)?;
+        Ok(())
     }
 }

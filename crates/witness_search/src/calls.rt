@@ -1,6 +1,8 @@
 //! Calls: each takes effect as soon as the model permits the answer that its end shows.
 
-use crate::search::Search;
+use crate::ahead::connection_key;
+use crate::chains::ConnectionKey;
+use crate::search::{MeantCall, Search};
 use case_forms::{Answer, Call, Event, Extras, Host, Label, OutOfMemory, Ports, State, Timer};
 use endpoint_state::{StepFault, World};
 use spec_tcp::SocketTarget;
@@ -89,6 +91,8 @@ pub(crate) struct Calls {
     ended: Waiting,
     /// The calls that are open at the end of the trace.
     unended: Waiting,
+    /// For an endpoint, the call that would open it.
+    opens: BTreeMap<ConnectionKey, Pending>,
 }
 
 impl Calls {
@@ -97,6 +101,7 @@ impl Calls {
             open: BTreeMap::new(alloc),
             ended: Waiting::new(alloc),
             unended: Waiting::new(alloc),
+            opens: BTreeMap::new(alloc),
         }
     }
 
@@ -194,20 +199,86 @@ impl Search<'_> {
     ) -> Result<(), StepFault> {
         self.push_line_step(Extras::Bare)?;
         self.begin_in_world(thread, call)?;
+        self.calls.open.insert(thread, place)?;
+        if let Some(key) = self.key_of_call(thread) {
+            self.meant.push(MeantCall { place, key })?;
+        }
+        if self.choices.waits(place) {
+            return Ok(());
+        }
+        self.try_first(place, thread, call)
+    }
+
+    // A call has its effect if that may be; else it waits.
+    fn try_first(&mut self, place: usize, thread: u32, call: &Call) -> Result<(), StepFault> {
         let pending = Pending {
             thread,
             begin: place,
-            end: self.ahead.end_of(place),
+            end: self.later.end_of(place),
         };
-        self.calls.open.insert(thread, place)?;
         let meant = meant_by(&self.world, call);
         if self.has_effect(pending)? {
             return self.wake_after(meant, call);
+        }
+        if let Call::Connect(host, lport, rport) = call {
+            let ports = Ports {
+                lport: *lport,
+                rport: *rport,
+            };
+            return self.wait_for_ports(pending, *host, ports);
         }
         if let Some(meant) = meant {
             self.calls.put(meant, pending)?;
         }
         Ok(())
+    }
+
+    /// A call that waited for another line is tried, if it had no effect yet.
+    pub(crate) fn try_late(
+        &mut self,
+        place: usize,
+        thread: u32,
+        call: &Call,
+    ) -> Result<(), StepFault> {
+        match self.calls.open.get(&thread) {
+            Some(begin) if *begin == place => self.try_first(place, thread, call),
+            _ => Ok(()),
+        }
+    }
+
+    /// The endpoint that a thread's open call means. None: it means none.
+    pub(crate) fn key_of_call(&self, thread: u32) -> Option<ConnectionKey> {
+        let (host, ports) = ports_of(&self.world, thread)?;
+        Some(connection_key(host, ports.lport, ports.rport))
+    }
+
+    // A call opens an endpoint whose ports are in use: the wait of the old one is over, or the call waits.
+    fn wait_for_ports(
+        &mut self,
+        pending: Pending,
+        host: Host,
+        ports: Ports,
+    ) -> Result<(), StepFault> {
+        self.calls
+            .opens
+            .insert(connection_key(host, ports.lport, ports.rport), pending)?;
+        if self.add_expiry(host, ports, Timer::Msl2)? {
+            self.open_again(host, ports)?;
+        }
+        Ok(())
+    }
+
+    /// A call that waits for the ports of an endpoint is tried. The answer is whether it had its effect.
+    pub(crate) fn open_again(&mut self, host: Host, ports: Ports) -> Result<bool, StepFault> {
+        let key = connection_key(host, ports.lport, ports.rport);
+        let Some(pending) = self.calls.opens.get(&key).copied() else {
+            return Ok(false);
+        };
+        if !self.calls.is_open(pending) || !self.has_effect(pending)? {
+            return Ok(false);
+        }
+        self.calls.opens.remove(&key);
+        Ok(true)
     }
 
     // What ends or closes something lets others go on that wait for it.

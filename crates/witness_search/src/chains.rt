@@ -37,21 +37,59 @@ impl Chains {
         Ok(())
     }
 
-    /// The first place of an endpoint.
+    // The places of an endpoint, the first one last.
+    fn of(&self, key: ConnectionKey) -> &[usize] {
+        match self.places.get(&key) {
+            Some(places) => places.as_slice(),
+            None => &[],
+        }
+    }
+}
+
+/// The places that are left of chains.
+#[derive(Drop)]
+pub(crate) struct Left<'t> {
+    chains: &'t Chains,
+    /// For each endpoint of which places were passed, how many are left.
+    counts: BTreeMap<ConnectionKey, usize>,
+}
+
+impl<'t> Left<'t> {
+    /// All places of the chains.
+    pub(crate) fn new(alloc: Global, chains: &'t Chains) -> Left<'t> {
+        Left {
+            chains,
+            counts: BTreeMap::new(alloc),
+        }
+    }
+
+    // The places of an endpoint that are left, the first one last.
+    fn of(&self, key: ConnectionKey) -> &'t [usize] {
+        let places = self.chains.of(key);
+        match self.counts.get(&key) {
+            Some(count) => places.get(..*count).unwrap_or(&[]),
+            None => places,
+        }
+    }
+
+    /// The first place of an endpoint that is left.
     pub(crate) fn first(&self, key: ConnectionKey) -> Option<usize> {
-        self.places.get(&key)?.last().copied()
+        self.of(key).last().copied()
     }
 
     /// Removes the places of an endpoint up to and including this one.
-    pub(crate) fn pass(&mut self, key: ConnectionKey, place: usize) {
-        let Some(places) = self.places.get_mut(&key) else {
-            return;
-        };
+    pub(crate) fn pass(&mut self, key: ConnectionKey, place: usize) -> Result<(), OutOfMemory> {
+        let places = self.of(key);
+        let mut left = places;
         for _ in 0..places.len() {
-            match places.last() {
-                Some(first) if *first <= place => places.pop(),
-                _ => return,
-            };
+            match left {
+                [more @ .., first] if *first <= place => left = more,
+                _ => break,
+            }
         }
+        if left.len() < places.len() {
+            self.counts.insert(key, left.len())?;
+        }
+        Ok(())
     }
 }

@@ -1,9 +1,15 @@
-//! The lines of sent segments that have no copy yet.
+//! The lines that went out and have no copy yet.
 
 use case_forms::{Host, OutOfMemory};
 use std::alloc::Global;
 use std::collections::BTreeMap;
 use std::collections::btree_map::Entry;
+
+// Of equal sendings one is taken to have been lost if it would have been in flight for longer than so many times the
+// fastest one, and so many microseconds.
+const FEW: u64 = 2;
+
+const SLACK: u64 = 200;
 
 // By what a digest is multiplied with each word.
 const MULTIPLIER: u64 = 0x517c_c1b7_2722_0a95;
@@ -46,23 +52,35 @@ impl<'t> Key<'t> {
     }
 }
 
-// The lines with the same bytes, by their numbers in the trace that is written.
-#[derive(Clone, Copy)]
-struct Sendings {
-    /// The first of those that have no copy yet.
-    open: Option<u64>,
-    /// The last of all.
-    last: u64,
+/// A line that went out, by its number in the trace that is written.
+#[derive(Clone, Copy, PartialEq, Eq)]
+pub(crate) struct Sending {
+    pub line: u64,
+    /// When it went out, in microseconds.
+    pub moment: u64,
 }
 
-// What a host sent.
+// The lines with the same bytes.
+#[derive(Clone, Copy)]
+struct Sendings {
+    /// The first of those that have no copy yet and may get one.
+    open: Option<Sending>,
+    /// The last of all.
+    last: Sending,
+    /// Whether there is only one.
+    is_only: bool,
+}
+
+// What went out at a host.
 #[derive(Drop)]
 pub(crate) struct Sent<K: Ord> {
     all: Vec<Sendings>,
     /// For the bytes of a segment, their place among all.
     places: BTreeMap<K, usize>,
     /// For a line, the next one with the same bytes.
-    next: BTreeMap<u64, u64>,
+    next: BTreeMap<u64, Sending>,
+    /// How long the fastest segment was in flight that went out once, in microseconds.
+    fastest: u64,
 }
 
 impl<K: Ord + Drop> Sent<K> {
@@ -71,6 +89,7 @@ impl<K: Ord + Drop> Sent<K> {
             all: Vec::new(alloc),
             places: BTreeMap::new(alloc),
             next: BTreeMap::new(alloc),
+            fastest: u64::MAX,
         }
     }
 
@@ -78,47 +97,78 @@ impl<K: Ord + Drop> Sent<K> {
         self.places.get(key).copied()
     }
 
-    // A line sent these bytes.
-    pub(crate) fn add(&mut self, key: K, line: u64) -> Result<(), OutOfMemory> {
+    // These bytes went out with a line.
+    pub(crate) fn add(&mut self, key: K, sending: Sending) -> Result<(), OutOfMemory> {
         let place = self.all.len();
         match self.places.entry(key)? {
             Entry::Occupied(known) => {
                 let place = *known.get();
-                return self.add_again(place, line);
+                return self.add_again(place, sending);
             }
             Entry::Vacant(free) => {
-                let open = Some(line);
-                self.all.push(Sendings { open, last: line })?;
+                self.all.push(Sendings {
+                    open: Some(sending),
+                    last: sending,
+                    is_only: true,
+                })?;
                 free.insert(place);
             }
         }
         Ok(())
     }
 
-    // A line sent the bytes of this place once more.
-    fn add_again(&mut self, place: usize, line: u64) -> Result<(), OutOfMemory> {
+    // The bytes of this place went out once more, with a line.
+    fn add_again(&mut self, place: usize, sending: Sending) -> Result<(), OutOfMemory> {
         if let Some(known) = self.all.get_mut(place) {
-            self.next.insert(known.last, line)?;
-            known.open = known.open.or(Some(line));
-            known.last = line;
+            self.next.insert(known.last.line, sending)?;
+            known.open = known.open.or(Some(sending));
+            known.last = sending;
+            known.is_only = false;
         }
         Ok(())
     }
 
-    // The first line of this place that has no copy has one now. The answer is whether there was one.
-    fn pass(&mut self, place: usize) -> bool {
-        let Some(known) = self.all.get_mut(place) else {
-            return false;
+    // The first line of this place that has no copy will get none.
+    fn pass(&mut self, place: usize) {
+        if let Some(known) = self.all.get_mut(place) {
+            if let Some(first) = known.open {
+                known.open = self.next.remove(&first.line);
+            }
+        }
+    }
+
+    // The first line of this place that has no copy yet. Of several, those are passed that would have been in flight
+    // for much longer than the fastest segment.
+    fn first(&mut self, place: usize, moment: u64) -> Option<u64> {
+        let longest = self.fastest.saturating_mul(FEW).saturating_add(SLACK);
+        for _ in 0..=self.next.len() {
+            let known = self.all.get(place).copied()?;
+            let open = known.open?;
+            if known.is_only || moment.saturating_sub(open.moment) <= longest {
+                return Some(open.line);
+            }
+            self.pass(place);
+        }
+        None
+    }
+
+    // A copy of a line of this place arrived.
+    fn arrive(&mut self, place: usize, line: u64, moment: u64) {
+        let Some(known) = self.all.get(place).copied() else {
+            return;
         };
-        let Some(first) = known.open else {
-            return false;
-        };
-        known.open = self.next.remove(&first);
-        true
+        if known.is_only {
+            let flight = moment.saturating_sub(known.last.moment);
+            self.fastest = self.fastest.min(flight);
+        }
+        match known.open {
+            Some(open) if open.line == line => self.pass(place),
+            _ => {}
+        }
     }
 }
 
-/// What was sent, by host and bytes.
+/// What went out, by host and bytes.
 #[derive(Drop)]
 pub(crate) struct Copies<'t> {
     zero: Sent<Key<'t>>,
@@ -126,7 +176,7 @@ pub(crate) struct Copies<'t> {
 }
 
 impl<'t> Copies<'t> {
-    /// Nothing was sent.
+    /// Nothing went out.
     pub(crate) fn new(alloc: Global) -> Copies<'t> {
         Copies {
             zero: Sent::new(alloc),
@@ -148,14 +198,14 @@ impl<'t> Copies<'t> {
         }
     }
 
-    /// A line sent these bytes of a host.
+    /// These bytes of a host went out with a line.
     pub(crate) fn send(
         &mut self,
         host: Host,
         bytes: &'t [u8],
-        line: u64,
+        sending: Sending,
     ) -> Result<(), OutOfMemory> {
-        self.of_mut(host).add(Key::of(bytes), line)
+        self.of_mut(host).add(Key::of(bytes), sending)
     }
 
     /// The place of the lines with these bytes of a host. None: no such line.
@@ -163,14 +213,24 @@ impl<'t> Copies<'t> {
         self.of(host).place(&Key::of(bytes))
     }
 
-    /// The first line of this place that has no copy yet; if each has one, the last.
-    pub(crate) fn first(&self, host: Host, place: usize) -> Option<u64> {
-        let sendings = self.of(host).all.get(place)?;
-        Some(sendings.open.unwrap_or(sendings.last))
+    /// The first line of this place that has no copy yet. Of several, those are passed that would have been in flight
+    /// for much longer than others were.
+    pub(crate) fn first(&mut self, host: Host, place: usize, moment: u64) -> Option<u64> {
+        self.of_mut(host).first(place, moment)
     }
 
-    /// The first line of this place that has no copy yet has one now. The answer is whether there was one.
-    pub(crate) fn pass(&mut self, host: Host, place: usize) -> bool {
+    /// The last line of this place.
+    pub(crate) fn last(&self, host: Host, place: usize) -> Option<u64> {
+        Some(self.of(host).all.get(place)?.last.line)
+    }
+
+    /// The first line of this place that has no copy will get none.
+    pub(crate) fn pass(&mut self, host: Host, place: usize) {
         self.of_mut(host).pass(place)
+    }
+
+    /// A copy of a line of this place arrived.
+    pub(crate) fn arrive(&mut self, host: Host, place: usize, line: u64, moment: u64) {
+        self.of_mut(host).arrive(place, line, moment)
     }
 }

@@ -37,10 +37,19 @@ impl Search<'_> {
         Ok(())
     }
 
-    /// Writes down that the next line of the trace is taken, with these extra numbers.
-    pub(crate) fn push_line_step(&mut self, extras: Extras) -> Result<(), StepFault> {
+    /// Writes down that the line that is looked at is taken, with these extra numbers. The answer is its number.
+    pub(crate) fn push_line_step(&mut self, extras: Extras) -> Result<u64, StepFault> {
+        let number = self.push_next_line(extras)?;
+        self.next = self.place.saturating_add(1);
+        Ok(number)
+    }
+
+    // Writes down that the line of the next number is taken, with these extra numbers. The answer is its number.
+    fn push_next_line(&mut self, extras: Extras) -> Result<u64, StepFault> {
         let number = self.number;
-        self.push_step(Label::L(NamedLine { number, extras }))
+        self.push_step(Label::L(NamedLine { number, extras }))?;
+        self.number = number.saturating_add(1);
+        Ok(number)
     }
 
     /// A thread's open call has its effect, with this answer.
@@ -96,7 +105,7 @@ impl Search<'_> {
         self.push_step(Label::F { host, recovery })
     }
 
-    /// A timer expires with the next line of the trace.
+    /// A timer expires with the line of the next number.
     pub(crate) fn expire(
         &mut self,
         host: Host,
@@ -105,7 +114,8 @@ impl Search<'_> {
     ) -> Result<(), StepFault> {
         has_room(&self.world)?;
         self.world.expire(host, ports, expired, self.moment)?;
-        self.push_line_step(extras_of(expired))
+        self.push_next_line(extras_of(expired))?;
+        Ok(())
     }
 }
 

@@ -1,4 +1,4 @@
-//! Expiries: those that the trace shows, and lines that are added for those that it lacks.
+//! Expiries: those that the trace tells, and lines that are added for those that it doesn't.
 
 use crate::calls::endpoint_at;
 use crate::deeds::extras_of;
@@ -29,7 +29,7 @@ fn expired_at(endpoint: &Endpoint, timer: Timer, moment: u64) -> Expired {
 }
 
 impl Search<'_> {
-    /// A line shows that a timer expired.
+    /// A line tells that a timer expired.
     pub(crate) fn expire_told(
         &mut self,
         host: Host,
@@ -43,7 +43,10 @@ impl Search<'_> {
                 Err(StepFault::Broken(rule))
             }
             Err(StepFault::OutOfMemory) => Err(StepFault::OutOfMemory),
-            Ok(()) => self.wake_ends(host, ports),
+            Ok(()) => {
+                self.next = self.place.saturating_add(1);
+                self.wake_ends(host, ports)
+            }
         }
     }
 
@@ -62,49 +65,19 @@ impl Search<'_> {
         }
     }
 
-    /// Calls on the endpoint of these ports are tried.
+    /// Calls on the endpoint of these ports are tried, and one that waits for the ports.
     pub(crate) fn wake_ends(&mut self, host: Host, ports: Ports) -> Result<(), StepFault> {
-        match self.world.body(host).place_of(ports.lport, ports.rport) {
-            Some(place) => self.wake(endpoint_at(host, place)),
-            None => Ok(()),
+        if let Some(place) = self.world.body(host).place_of(ports.lport, ports.rport) {
+            self.wake(endpoint_at(host, place))?;
         }
+        self.open_again(host, ports)?;
+        Ok(())
     }
 
-    /// Adds a line that shows an expiry before the line that is looked at, of which no step was written yet, if the
-    /// timer may expire now. The answer is whether the line was added.
+    /// Adds a line that tells of an expiry, if the timer may expire now: before the line that is looked at, or after it
+    /// if its step was written. The answer is whether the line was added.
     pub(crate) fn add_expiry(
         &mut self,
-        host: Host,
-        ports: Ports,
-        timer: Timer,
-    ) -> Result<bool, StepFault> {
-        let is_added = self.add_expiry_before(self.place, host, ports, timer)?;
-        if is_added {
-            self.number = self.number.saturating_add(1);
-        }
-        Ok(is_added)
-    }
-
-    /// The same after the line that is looked at, whose step was written with its number.
-    pub(crate) fn add_expiry_after(
-        &mut self,
-        host: Host,
-        ports: Ports,
-        timer: Timer,
-    ) -> Result<bool, StepFault> {
-        let written = self.number;
-        self.number = written.saturating_add(1);
-        let is_added = self.add_expiry_before(self.place.saturating_add(1), host, ports, timer)?;
-        if !is_added {
-            self.number = written;
-        }
-        Ok(is_added)
-    }
-
-    // Adds a line of this number, before the event line at a place.
-    fn add_expiry_before(
-        &mut self,
-        before: usize,
         host: Host,
         ports: Ports,
         timer: Timer,
@@ -116,7 +89,7 @@ impl Search<'_> {
             Err(StepFault::OutOfMemory) => return Err(StepFault::OutOfMemory),
         }
         self.added.push(Added {
-            before,
+            before: self.next,
             moment: self.moment,
             host,
             ports,
@@ -125,7 +98,7 @@ impl Search<'_> {
         Ok(true)
     }
 
-    /// Adds a line that shows an expiry at these ports, if it may be now, and tries calls there.
+    /// Adds a line that tells of an expiry at these ports, if it may be now, and tries calls there.
     pub(crate) fn try_expiry(
         &mut self,
         host: Host,

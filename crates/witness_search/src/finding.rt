@@ -1,29 +1,104 @@
 //! The text of a trace becomes the text of a case.
 
-use crate::search::{Added, Search};
+use crate::ahead::LaterLines;
+use crate::going_back::Retries;
+use crate::search::{Added, Sought};
 use bstr::ByteSlice;
-use case_forms::{Answer, Label, Line, OutOfMemory, Trace, Witness};
-use endpoint_state::StepFault;
+use case_forms::{Answer, Label, Line, OutOfMemory, Steps, Trace, Witness};
 use line_fields::{TextFault, push_end, push_host, push_number, push_space, push_word, timer_name};
-use std::alloc::{AllocError, Global};
+use std::alloc::Global;
+use std::mem::replace;
 use trace_reader::read_trace;
 use witness::push_witness;
 
 // About how many bytes the line of a step has, without bytes in hex.
 const USUAL_STEP: usize = 40;
 
-/// The text of a case: the trace, with lines added for expiries that it lacks and that were needed, and a witness. If a
-/// line's step is not permitted in the world that was reached, the witness ends with that step, so that `check` names
-/// the rule. An error is the trace's first fault; its kind is `OutOfMemory` if memory ran out, or if more than
-/// 40,000,000 steps would be needed.
+/// How many steps are spent on going back, unless another budget is given.
+pub const USUAL_BUDGET: u64 = 50_000;
+
+/// How a search ended.
+#[derive(Clone, Copy, Debug, PartialEq, Eq)]
+pub enum Ending {
+    /// All lines are explained.
+    Whole,
+    /// No other choice explains this line of the trace.
+    Exhausted { line: u64 },
+    /// This line of the trace isn't explained, and the budget is spent.
+    BudgetSpent { line: u64 },
+}
+
+/// A case that was found, and how far it explains its trace.
+#[derive(Drop)]
+pub struct Found {
+    /// The text of the case.
+    pub case: Vec<u8>,
+    pub ending: Ending,
+    /// How many times the search went back.
+    pub tried: u64,
+}
+
+/// The text of a case: the trace, in which lines are added for expiries that it doesn't tell and that were needed, and
+/// a witness. If a line can't be explained, the witness ends with a step that is refused there, so that `check` names
+/// the rule. An error is the trace's first fault; its kind is `OutOfMemory` if memory ran out, or more than 40,000,000
+/// steps would be needed.
 pub fn find(alloc: Global, text: &[u8]) -> Result<Vec<u8>, TextFault> {
+    let found = find_within(alloc, text, USUAL_BUDGET)?;
+    Ok(found.case)
+}
+
+/// As `find`, with so many steps that are spent on going back, and with how the search ended. With 0 the search goes
+/// over the lines once.
+pub fn find_within(alloc: Global, text: &[u8], budget: u64) -> Result<Found, TextFault> {
     let trace = read_trace(alloc, text)?;
-    let (added, witness) = search(alloc, &trace)?;
+    let later = LaterLines::of(alloc, trace.lines.as_slice())?;
+    let sought = Sought {
+        alloc,
+        header: &trace.header,
+        lines: trace.lines.as_slice(),
+        later: &later,
+    };
+    let mut retries = Retries::new(sought, budget);
+    let found = found_by(alloc, &mut retries, text, &trace);
+    drop(retries);
+    drop(later);
+    Ok(found?)
+}
+
+// Runs a search, and gives out what it found.
+fn found_by(
+    alloc: Global,
+    retries: &mut Retries<'_>,
+    text: &[u8],
+    trace: &Trace,
+) -> Result<Found, OutOfMemory> {
+    retries.run()?;
+    let witness = Witness {
+        version: trace.header.version,
+        steps: replace(&mut retries.best.steps, Steps::new(alloc)),
+    };
     let len = text.len().saturating_add(usual_len(&witness));
     let mut case = Vec::with_capacity(alloc, len)?;
-    push_trace(&mut case, text, &trace, added.as_slice())?;
+    push_trace(&mut case, text, trace, retries.best.added.as_slice())?;
     push_witness(&mut case, &witness)?;
-    Ok(case)
+    Ok(Found {
+        case,
+        ending: ending_of(retries, trace),
+        tried: retries.tried,
+    })
+}
+
+fn ending_of(retries: &Retries<'_>, trace: &Trace) -> Ending {
+    let Some(failure) = retries.best.failure else {
+        return Ending::Whole;
+    };
+    let first = trace.header.first_event_line();
+    let line = first.saturating_add(failure.place as u64);
+    if retries.is_spent() {
+        Ending::BudgetSpent { line }
+    } else {
+        Ending::Exhausted { line }
+    }
 }
 
 // About how many bytes the text of a witness has: room for them is made at once.
@@ -42,23 +117,6 @@ fn usual_len(witness: &Witness) -> usize {
     len
 }
 
-// The lines that are added, and the witness.
-fn search(alloc: Global, trace: &Trace) -> Result<(Vec<Added>, Witness), OutOfMemory> {
-    let mut search = Search::new(alloc, &trace.header, trace.lines.as_slice())?;
-    let ran = search.run();
-    let (added, steps) = search.found();
-    drop(search);
-    match ran {
-        Ok(()) | Err(StepFault::Broken(_)) => {}
-        Err(StepFault::OutOfMemory) => return Err(AllocError),
-    }
-    let witness = Witness {
-        version: trace.header.version,
-        steps,
-    };
-    Ok((added, witness))
-}
-
 // A thread that no line has, if there is one above all others.
 pub(crate) fn unused_thread(lines: &[Line]) -> u32 {
     let mut greatest = 0;
@@ -68,7 +126,7 @@ pub(crate) fn unused_thread(lines: &[Line]) -> u32 {
     greatest.saturating_add(1)
 }
 
-// Writes the text of the trace, with the lines that are added. What follows the last of them is copied unchanged.
+// Writes the text of the trace, with the lines that are added. What stands after the last of them is copied as it is.
 pub(crate) fn push_trace(
     out: &mut Vec<u8>,
     text: &[u8],
@@ -115,7 +173,7 @@ pub(crate) fn push_before<'a>(
     Ok(left)
 }
 
-// Writes a line that shows an expiry.
+// Writes a line that tells of an expiry.
 fn push_expiry(out: &mut Vec<u8>, line: &Added, thread: u32) -> Result<(), OutOfMemory> {
     push_number(out, line.moment)?;
     push_space(out)?;

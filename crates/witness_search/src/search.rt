@@ -1,19 +1,21 @@
 //! One pass over the lines of a trace, each with the steps that belong to it.
 
-use crate::ahead::LaterLines;
+use crate::ahead::{LaterLines, Unmade, connection_key};
 use crate::calls::Calls;
+use crate::chains::ConnectionKey;
+use crate::choices::Choices;
 use crate::copies::Copies;
 use crate::deeds::has_room;
 use case_forms::{Answer, Call, Event, Header, Host, Line, OutOfMemory, Ports, Steps, Timer, Wire};
 use endpoint_state::{StepFault, World};
+use seqno::Word;
 use std::alloc::Global;
 use std::collections::BTreeMap;
-use std::mem::replace;
 
 /// A line that is added: a timer expires.
 #[derive(Clone, Copy)]
 pub(crate) struct Added {
-    /// The place of the event line that it precedes.
+    /// The place of the event line before which it stands.
     pub before: usize,
     pub moment: u64,
     pub host: Host,
@@ -21,56 +23,83 @@ pub(crate) struct Added {
     pub timer: Timer,
 }
 
-/// A search in progress.
+/// A call, by the place of its beginning, and the endpoint that it means.
+#[derive(Clone, Copy)]
+pub(crate) struct MeantCall {
+    pub place: usize,
+    pub key: ConnectionKey,
+}
+
+/// A trace for which a witness is looked for.
+#[derive(Clone, Copy)]
+pub(crate) struct Sought<'t> {
+    pub alloc: Global,
+    pub header: &'t Header,
+    pub lines: &'t [Line],
+    pub later: &'t LaterLines,
+}
+
+/// A search on its way.
 #[derive(Drop)]
 pub(crate) struct Search<'t> {
     pub alloc: Global,
     pub world: World,
     pub lines: &'t [Line],
-    pub ahead: LaterLines,
+    pub later: &'t LaterLines,
+    /// What is chosen at lines where the usual way isn't taken.
+    pub choices: &'t Choices,
+    pub ahead: Unmade<'t>,
     pub copies: Copies<'t>,
     pub calls: Calls,
-    /// For the place of a line of a sent segment, the number of that segment if it was built before.
+    /// For the place of a line that goes out, the number of its segment, where it was made before.
     pub made: BTreeMap<usize, u32>,
+    /// For the place of an arrival that waits, the number of its line.
+    pub waiting: BTreeMap<usize, u64>,
+    /// For each endpoint, the number of its last SYN.
+    pub syns: BTreeMap<ConnectionKey, Word>,
+    /// What calls mean, in the order of their beginnings.
+    pub meant: Vec<MeantCall>,
     pub steps: Steps,
     pub added: Vec<Added>,
     /// The place of the line that is looked at, from 0.
     pub place: usize,
-    /// Its number in the trace that is written.
+    /// The place of the first line that isn't taken.
+    pub next: usize,
+    /// The number in the trace that is written of the next line that is taken.
     pub number: u64,
-    /// Its moment, in microseconds.
+    /// The moment of the line that is looked at, in microseconds.
     pub moment: u64,
 }
 
 impl<'t> Search<'t> {
     /// A search before the first line.
-    pub(crate) fn new(
-        alloc: Global,
-        header: &Header,
-        lines: &'t [Line],
-    ) -> Result<Search<'t>, OutOfMemory> {
-        let ahead = LaterLines::of(alloc, lines)?;
-        Ok(Search {
+    pub(crate) fn new(sought: Sought<'t>, choices: &'t Choices) -> Search<'t> {
+        let Sought {
+            alloc,
+            header,
+            lines,
+            later,
+        } = sought;
+        Search {
             alloc,
             world: World::start(alloc, header),
             lines,
-            ahead,
+            later,
+            choices,
+            ahead: Unmade::all(alloc, later),
             copies: Copies::new(alloc),
             calls: Calls::new(alloc),
             made: BTreeMap::new(alloc),
+            waiting: BTreeMap::new(alloc),
+            syns: BTreeMap::new(alloc),
+            meant: Vec::new(alloc),
             steps: Steps::new(alloc),
             added: Vec::new(alloc),
             place: 0,
+            next: 0,
             number: header.first_event_line(),
             moment: 0,
-        })
-    }
-
-    /// What was found, which the search has no more: the lines that are added, and the steps.
-    pub(crate) fn found(&mut self) -> (Vec<Added>, Steps) {
-        let added = replace(&mut self.added, Vec::new(self.alloc));
-        let steps = replace(&mut self.steps, Steps::new(self.alloc));
-        (added, steps)
+        }
     }
 
     /// Goes over all lines. An error is the rule that the last step breaks, or that memory ran out.
@@ -78,9 +107,11 @@ impl<'t> Search<'t> {
         let lines = self.lines;
         for (place, line) in lines.iter().enumerate() {
             self.place = place;
+            self.next = place;
             self.moment = line.moment;
+            self.prepare(place)?;
             self.read(place, line)?;
-            self.number = self.number.saturating_add(1);
+            self.go_on(place)?;
         }
         Ok(())
     }
@@ -101,6 +132,16 @@ impl<'t> Search<'t> {
         }
     }
 
+    /// The endpoint on which a line bears. None: it isn't known, or the line bears on a listener.
+    pub(crate) fn key_of(&self, line: &Line) -> Option<ConnectionKey> {
+        match &line.event {
+            Event::Sent(host, wire) => Some(connection_key(*host, wire.seg.src, wire.seg.dst)),
+            Event::Came(host, wire) => Some(connection_key(*host, wire.seg.dst, wire.seg.src)),
+            Event::Expired(host, lport, rport, _) => Some(connection_key(*host, *lport, *rport)),
+            Event::CallBegin(_) | Event::CallEnd(_) => self.key_of_call(line.thread),
+        }
+    }
+
     /// A thread begins a call.
     pub(crate) fn begin_in_world(&mut self, thread: u32, call: &Call) -> Result<(), StepFault> {
         has_room(&self.world)?;
@@ -117,32 +158,38 @@ impl<'t> Search<'t> {
         self.world.finish(thread, answer)
     }
 
-    /// The line sends a built segment.
+    /// A made segment goes out with a line.
     pub(crate) fn send_in_world(
         &mut self,
         host: Host,
+        line: u64,
         made: u32,
         wire: &Wire,
     ) -> Result<(), StepFault> {
         has_room(&self.world)?;
-        self.world.send(host, self.number, made, wire, self.moment)
+        self.world.send(host, line, made, wire, self.moment)
     }
 
-    /// The line receives a segment of the host that is not recorded.
-    pub(crate) fn hear_in_world(&mut self, host: Host, wire: &Wire) -> Result<(), StepFault> {
+    /// A segment of the host that is not recorded comes in with a line.
+    pub(crate) fn hear_in_world(
+        &mut self,
+        host: Host,
+        line: u64,
+        wire: &Wire,
+    ) -> Result<(), StepFault> {
         has_room(&self.world)?;
-        self.world.hear(host, self.number, wire, self.moment)
+        self.world.hear(host, line, wire, self.moment)
     }
 
-    /// The line receives a copy of another line.
+    /// A copy of another line comes in with a line.
     pub(crate) fn arrive_in_world(
         &mut self,
         host: Host,
+        line: u64,
         copied: u64,
         wire: &Wire,
     ) -> Result<(), StepFault> {
         has_room(&self.world)?;
-        self.world
-            .arrive(host, self.number, copied, wire, self.moment)
+        self.world.arrive(host, line, copied, wire, self.moment)
     }
 }

@@ -1,9 +1,11 @@
-//! A segment is built at the moment of the line that sends it.
+//! A line that goes out is made at its moment.
 
 use crate::ahead::connection_key;
 use crate::calls::endpoint_at;
+use crate::choices::Unseen;
+use crate::copies::Sending;
 use crate::search::Search;
-use case_forms::{Extras, Flags, Host, Label, POSITIONS, Ports, SegmentPlan, Timer, Wire};
+use case_forms::{Extras, Flags, Host, Judged, Label, POSITIONS, Ports, SegmentPlan, Timer, Wire};
 use endpoint_state::{Endpoint, StepFault, World};
 use segment::Flag;
 use seqno::{Word, read_near};
@@ -61,23 +63,28 @@ pub(crate) fn plan_of(world: &World, host: Host, wire: &Wire) -> SegmentPlan {
 }
 
 impl<'t> Search<'t> {
-    /// A line shows a sent segment: it is built, if it wasn't before.
+    /// A line shows a segment that goes out: it is made, if it wasn't.
     pub(crate) fn go_out(&mut self, host: Host, wire: &'t Wire) -> Result<(), StepFault> {
         let key = connection_key(host, wire.seg.src, wire.seg.dst);
-        self.ahead.pass(key, self.place);
+        self.ahead.pass(key, self.place)?;
         let made = match self.made.remove(&self.place) {
             Some(made) => made,
             None => self.make_shown(host, wire)?,
         };
-        self.push_line_step(Extras::One(made))?;
-        self.send_in_world(host, made, wire)?;
-        let line = self.number;
-        self.copies.send(host, wire.bytes.as_slice(), line)?;
+        let line = self.push_line_step(Extras::One(made))?;
+        self.send_in_world(host, line, made, wire)?;
+        let moment = self.moment;
+        self.copies
+            .send(host, wire.bytes.as_slice(), Sending { line, moment })?;
+        if wire.seg.has(Flag::Syn) {
+            self.syns.insert(key, wire.seg.seq)?;
+        }
         Ok(())
     }
 
     // Makes the segment that a line shows; if it may not be made yet, what is missing is done first.
     fn make_shown(&mut self, host: Host, wire: &Wire) -> Result<u32, StepFault> {
+        self.expire_before_syn(host, plan_of(&self.world, host, wire))?;
         for _ in 0..REMEDIES {
             let plan = plan_of(&self.world, host, wire);
             let rule = match self.make(host, plan) {
@@ -122,15 +129,70 @@ impl<'t> Search<'t> {
             rport: plan.rport,
         };
         match rule {
+            Rule::OldData if self.is_gap_before(host, plan) => {
+                self.make_unseen(host, ports, Unseen::One, plan.pos)
+            }
             Rule::OldData => self.send_again(host, ports),
             Rule::Offered => self.add_expiry(host, ports, Timer::Persist),
+            Rule::State | Rule::NoEndpoint if plan.flags.syn && !plan.flags.ack => {
+                self.reopen(host, ports)
+            }
             Rule::PayloadRange | Rule::State | Rule::NoEndpoint => self.suppose_at(host, ports),
             _ => Ok(false),
         }
     }
 
-    // What permits old data to be retransmitted.
+    // Whether positions before a segment weren't made: then they were, and no line shows it.
+    fn is_gap_before(&self, host: Host, plan: SegmentPlan) -> bool {
+        match self.world.body(host).endpoint_of(plan.lport, plan.rport) {
+            Some(endpoint) => endpoint.snd_max() < plan.pos,
+            None => false,
+        }
+    }
+
+    // A SYN goes out: the wait of an older endpoint is over, or a call opens the ports again.
+    fn reopen(&mut self, host: Host, ports: Ports) -> Result<bool, StepFault> {
+        let is_over = self.add_expiry(host, ports, Timer::Msl2)?;
+        let is_opened = self.open_again(host, ports)?;
+        if is_over || is_opened {
+            return Ok(true);
+        }
+        self.suppose_at(host, ports)
+    }
+
+    // Whether the peer's window is 0.
+    fn is_window_closed(&self, host: Host, ports: Ports) -> bool {
+        match self.world.body(host).endpoint_of(ports.lport, ports.rport) {
+            Some(endpoint) => endpoint.window.snd_wnd == 0,
+            None => false,
+        }
+    }
+
+    // Where retransmissions aren't judged, a SYN that was made goes out again without an expiry. Its timer may have
+    // expired all the same.
+    fn expire_before_syn(&mut self, host: Host, plan: SegmentPlan) -> Result<(), StepFault> {
+        if !plan.flags.syn || self.world.header().congestion != Judged::Nothing {
+            return Ok(());
+        }
+        let ports = Ports {
+            lport: plan.lport,
+            rport: plan.rport,
+        };
+        let is_again = match self.world.body(host).endpoint_of(ports.lport, ports.rport) {
+            Some(endpoint) => endpoint.iss.is_some() && endpoint.snd_max() > 0,
+            None => false,
+        };
+        if is_again {
+            self.add_expiry(host, ports, Timer::Rto)?;
+        }
+        Ok(())
+    }
+
+    // What lets old data go out again.
     fn send_again(&mut self, host: Host, ports: Ports) -> Result<bool, StepFault> {
+        if self.is_window_closed(host, ports) && self.add_expiry(host, ports, Timer::Persist)? {
+            return Ok(true);
+        }
         if self.try_recovery(host, ports)? {
             return Ok(true);
         }

@@ -6,7 +6,7 @@ ghost use Rattle.std.specs.Cmp.Rules.{comparing};
 ghost use Rattle.std.specs.declared.cmp.Ordering.TheVariants.{Equal};
 
 use super::made_bytes::{DIGEST, colliding};
-use crate::copies::{Key, Sent, digest};
+use crate::copies::{Key, Sending, Sent, digest};
 use case_forms::OutOfMemory;
 use std::alloc::Global;
 use std::cell::Cell;
@@ -74,7 +74,8 @@ fn comparisons(alloc: Global, texts: &[Vec<u8>]) -> Result<Option<u64>, OutOfMem
     for text in texts {
         let key = Key::of(text.as_slice());
         let tally = Tally { count: &count };
-        sent.add(Watched { tally, key }, 1)?;
+        let sending = Sending { line: 1, moment: 0 };
+        sent.add(Watched { tally, key }, sending)?;
     }
     for (place, text) in texts.iter().enumerate() {
         let key = Key::of(text.as_slice());

@@ -2,7 +2,7 @@
 
 use super::former_copies;
 use super::made_bytes::{Draws, colliding, few_letters};
-use crate::copies::Copies;
+use crate::copies::{Copies, Sending};
 use case_forms::{Host, OutOfMemory};
 use std::alloc::Global;
 
@@ -25,6 +25,14 @@ fn host(draws: &mut Draws) -> Host {
     }
 }
 
+// The line of which these bytes are a copy, where all segments are as fast.
+fn copied<'t>(copies: &mut Copies<'t>, host: Host, bytes: &'t [u8]) -> Option<u64> {
+    let place = copies.place(host, bytes)?;
+    let line = copies.first(host, place, 0).or(copies.last(host, place))?;
+    copies.arrive(host, place, line, 0);
+    Some(line)
+}
+
 // Does the same with both, and answers the first line in which they differ.
 fn first_difference(
     alloc: Global,
@@ -42,15 +50,14 @@ fn first_difference(
         let bytes = bytes.as_slice();
         if draws.below(2) == 0 {
             former.send(host, bytes, line)?;
-            copies.send(host, bytes, line)?;
+            copies.send(host, bytes, Sending { line, moment: 0 })?;
             continue;
         }
-        let place = copies.place(host, bytes);
-        let first = place.and_then(|place| copies.first(host, place));
-        let passed = place.map_or(false, |place| copies.pass(host, place));
-        if former.first(host, bytes) != first || former.pass(host, bytes) != passed {
+        let copied = copied(&mut copies, host, bytes);
+        if former.first(host, bytes) != copied {
             return Ok(Some(line));
         }
+        former.pass(host, bytes);
     }
     Ok(None)
 }

@@ -1,0 +1,72 @@
+//! Candidates for other choices.
+
+use crate::choices::Choice;
+use case_forms::OutOfMemory;
+use std::alloc::Global;
+
+/// Candidates, each of which is one choice or several.
+#[derive(Drop)]
+pub(crate) struct Candidates {
+    choices: Vec<Choice>,
+    /// For each candidate, the place after its last choice.
+    stops: Vec<usize>,
+}
+
+impl Candidates {
+    /// No candidates.
+    pub(crate) fn new(alloc: Global) -> Candidates {
+        Candidates {
+            choices: Vec::new(alloc),
+            stops: Vec::new(alloc),
+        }
+    }
+
+    /// How many there are.
+    pub(crate) fn len(&self) -> usize {
+        self.stops.len()
+    }
+
+    // The place of the first choice of a candidate.
+    fn start_of(&self, index: usize) -> usize {
+        match index.checked_sub(1) {
+            Some(before) => self.stops.get(before).copied().unwrap_or(0),
+            None => 0,
+        }
+    }
+
+    /// The choices of a candidate. None are there if it doesn't exist.
+    pub(crate) fn at(&self, index: usize) -> &[Choice] {
+        let stop = self.stops.get(index).copied().unwrap_or(0);
+        self.choices.get(self.start_of(index)..stop).unwrap_or(&[])
+    }
+
+    /// Only the first candidates, so many of them.
+    pub(crate) fn truncate(&mut self, count: usize) {
+        let start = self.start_of(count);
+        if count < self.stops.len() {
+            self.choices.truncate(start);
+            self.stops.truncate(count);
+        }
+    }
+
+    /// A candidate of one choice.
+    pub(crate) fn push(&mut self, choice: Choice) -> Result<(), OutOfMemory> {
+        self.add(choice)?;
+        self.end()
+    }
+
+    /// One choice more for the candidate that ends next.
+    pub(crate) fn add(&mut self, choice: Choice) -> Result<(), OutOfMemory> {
+        self.choices.push(choice)?;
+        Ok(())
+    }
+
+    /// The choices since the last candidate are one, if there are any.
+    pub(crate) fn end(&mut self) -> Result<(), OutOfMemory> {
+        let stop = self.choices.len();
+        if self.start_of(self.stops.len()) < stop {
+            self.stops.push(stop)?;
+        }
+        Ok(())
+    }
+}

@@ -1,0 +1,323 @@
+//! Going back: if a line can't be explained, something before it is chosen otherwise.
+//!
+//! A search goes over all lines anew with what is chosen, so it depends on the choices alone, and the same budget gives
+//! the same case. First single candidates are tried, the nearest to the line first, and those that explain a further
+//! line are kept. If none does, two candidates are tried at once.
+
+use crate::alternatives::{Failure, push_candidates};
+use crate::candidates::Candidates;
+use crate::choices::Choices;
+use crate::search::{Added, MeantCall, Search, Sought};
+use case_forms::{OutOfMemory, Steps};
+use endpoint_state::StepFault;
+use std::alloc::{AllocError, Global};
+use std::collections::BTreeMap;
+use std::mem::swap;
+
+// How many times candidates are listed for one line.
+const LISTS: u32 = 3;
+
+// How many candidates of a line are tried in pairs.
+const PAIRED: usize = 40;
+
+// How many looks at a line count as one step.
+const LOOKS: u64 = 4;
+
+/// What one pass over the lines came to.
+#[derive(Drop)]
+pub(crate) struct Attempt {
+    pub added: Vec<Added>,
+    pub steps: Steps,
+    /// Where it failed. None: all lines are explained.
+    pub failure: Option<Failure>,
+    meant: Vec<MeantCall>,
+    /// How many steps it took.
+    cost: u64,
+}
+
+impl Attempt {
+    fn new(alloc: Global) -> Attempt {
+        Attempt {
+            added: Vec::new(alloc),
+            steps: Steps::new(alloc),
+            failure: None,
+            meant: Vec::new(alloc),
+            cost: 0,
+        }
+    }
+
+    // One pass over the lines with these choices.
+    fn search(&mut self, sought: Sought<'_>, choices: &Choices) -> Result<(), OutOfMemory> {
+        let mut search = Search::new(sought, choices);
+        let ran = search.run();
+        self.failure = failure_of(ran, &search);
+        self.exchange(&mut search);
+        drop(search);
+        match ran {
+            Err(StepFault::OutOfMemory) => Err(AllocError),
+            _ => Ok(()),
+        }
+    }
+
+    // Takes what a search found, and gives it what was found before.
+    fn exchange(&mut self, search: &mut Search<'_>) {
+        swap(&mut self.added, &mut search.added);
+        swap(&mut self.steps, &mut search.steps);
+        swap(&mut self.meant, &mut search.meant);
+        self.cost = search.world.steps().saturating_add(1);
+    }
+
+    // Whether this one explains more than another.
+    fn is_further(&self, other: &Attempt) -> bool {
+        match (self.failure, other.failure) {
+            (_, None) => false,
+            (None, Some(_)) => true,
+            (Some(own), Some(other)) => own.place > other.place,
+        }
+    }
+}
+
+// Where a search failed. None: it didn't, or memory ran out.
+fn failure_of(ran: Result<(), StepFault>, search: &Search<'_>) -> Option<Failure> {
+    let Err(StepFault::Broken(rule)) = ran else {
+        return None;
+    };
+    let key = match search.lines.get(search.place) {
+        Some(line) => search.key_of(line),
+        None => None,
+    };
+    Some(Failure {
+        place: search.place,
+        rule,
+        key,
+    })
+}
+
+// Choices that explain the lines before a place, and what can be chosen besides.
+#[derive(Clone, Copy)]
+struct Level {
+    /// How many choices these are.
+    chosen: usize,
+    place: usize,
+    /// The next candidate, and the first one that is another level's.
+    next: usize,
+    stop: usize,
+}
+
+/// A search that goes back.
+#[derive(Drop)]
+pub(crate) struct Retries<'t> {
+    sought: Sought<'t>,
+    budget: u64,
+    /// The attempt that explains most, and its choices.
+    pub best: Attempt,
+    chosen: Choices,
+    /// The attempt that was made last, and its choices.
+    last: Attempt,
+    choices: Choices,
+    /// The levels that led there, and the candidates of all of them.
+    path: Vec<Level>,
+    candidates: Candidates,
+    /// The candidates that are tried in pairs, and the choices before these.
+    pairs: Candidates,
+    before_pairs: Choices,
+    /// For the place of a line, how many times candidates were listed for it.
+    listed: BTreeMap<usize, u32>,
+    /// How many passes were made after the first one.
+    pub tried: u64,
+    /// How many steps they took.
+    cost: u64,
+}
+
+impl<'t> Retries<'t> {
+    /// A search that spends no more than so many steps on going back.
+    pub(crate) fn new(sought: Sought<'t>, budget: u64) -> Retries<'t> {
+        let alloc = sought.alloc;
+        Retries {
+            sought,
+            budget,
+            best: Attempt::new(alloc),
+            chosen: Choices::new(alloc),
+            last: Attempt::new(alloc),
+            choices: Choices::new(alloc),
+            path: Vec::new(alloc),
+            candidates: Candidates::new(alloc),
+            pairs: Candidates::new(alloc),
+            before_pairs: Choices::new(alloc),
+            listed: BTreeMap::new(alloc),
+            tried: 0,
+            cost: 0,
+        }
+    }
+
+    /// Finds a witness, and goes back while there is something to explain and the budget isn't spent.
+    pub(crate) fn run(&mut self) -> Result<(), OutOfMemory> {
+        self.best.search(self.sought, &self.chosen)?;
+        for _ in 0..self.budget {
+            if !self.go_further()? {
+                break;
+            }
+        }
+        Ok(())
+    }
+
+    /// Whether the budget is spent.
+    pub(crate) fn is_spent(&self) -> bool {
+        self.cost >= self.budget
+    }
+
+    // Whether there is nothing more to do.
+    fn is_over(&self) -> bool {
+        self.best.failure.is_none() || self.is_spent()
+    }
+
+    // Tries single candidates, then pairs, and then the single ones that are left. The answer is whether a further line
+    // was explained at last.
+    fn go_further(&mut self) -> Result<bool, OutOfMemory> {
+        if self.is_over() {
+            return Ok(false);
+        }
+        self.begin_anew()?;
+        let left = self.budget.saturating_sub(self.cost);
+        self.try_singles(self.cost.saturating_add(left / 2))?;
+        if self.is_over() {
+            return Ok(false);
+        }
+        self.before_pairs.set(&self.choices)?;
+        if self.try_pairs()? {
+            return Ok(true);
+        }
+        self.choices.set(&self.before_pairs)?;
+        let tried = self.best.failure;
+        self.try_singles(u64::MAX)?;
+        Ok(match (tried, self.best.failure) {
+            (Some(before), Some(now)) => now.place > before.place,
+            _ => false,
+        })
+    }
+
+    // Tries two candidates of the best attempt at once. The answer is whether they explain a further line.
+    fn try_pairs(&mut self) -> Result<bool, OutOfMemory> {
+        let Some(failure) = self.best.failure else {
+            return Ok(false);
+        };
+        self.pairs.truncate(0);
+        let lines = self.sought.lines;
+        let looks = push_candidates(&mut self.pairs, lines, self.best.meant.as_slice(), failure)?;
+        self.cost = self.cost.saturating_add(looks / LOOKS);
+        for second in 1..self.pairs.len().min(PAIRED) {
+            if self.try_pairs_with(failure.place, second)? {
+                return Ok(true);
+            }
+            if self.is_over() {
+                break;
+            }
+        }
+        Ok(false)
+    }
+
+    // Tries a candidate together with each that precedes it.
+    fn try_pairs_with(&mut self, place: usize, second: usize) -> Result<bool, OutOfMemory> {
+        for first in 0..second {
+            self.choices.set(&self.chosen)?;
+            self.choices.push_all(self.pairs.at(first))?;
+            self.choices.push_all(self.pairs.at(second))?;
+            if self.try_once(place)? {
+                return Ok(true);
+            }
+            if self.is_over() {
+                break;
+            }
+        }
+        Ok(false)
+    }
+
+    // The path begins anew at the best attempt.
+    fn begin_anew(&mut self) -> Result<(), OutOfMemory> {
+        self.path.clear();
+        self.candidates.truncate(0);
+        self.choices.set(&self.chosen)?;
+        swap(&mut self.best, &mut self.last);
+        let listed = self.go_on_from_last(u32::MAX);
+        swap(&mut self.best, &mut self.last);
+        listed
+    }
+
+    // Makes one pass with the choices. The answer is whether it fails further than at a place; the path goes on there.
+    fn try_once(&mut self, place: usize) -> Result<bool, OutOfMemory> {
+        self.last.search(self.sought, &self.choices)?;
+        self.tried = self.tried.saturating_add(1);
+        self.cost = self
+            .cost
+            .saturating_add(self.last.cost)
+            .saturating_add(self.choices.len() as u64);
+        let is_further = match self.last.failure {
+            Some(failure) => failure.place > place,
+            None => true,
+        };
+        if is_further {
+            self.go_on_from_last(LISTS)?;
+        }
+        if self.last.is_further(&self.best) {
+            swap(&mut self.best, &mut self.last);
+            self.chosen.set(&self.choices)?;
+        }
+        Ok(is_further)
+    }
+
+    // Puts the level of the last attempt on the path, unless candidates were listed often enough for its line.
+    fn go_on_from_last(&mut self, lists: u32) -> Result<(), OutOfMemory> {
+        let Some(failure) = self.last.failure else {
+            return Ok(());
+        };
+        let count = self.listed.get(&failure.place).copied().unwrap_or(0);
+        if count >= lists {
+            return Ok(());
+        }
+        self.listed.insert(failure.place, count.saturating_add(1))?;
+        let next = self.candidates.len();
+        let lines = self.sought.lines;
+        let looks = push_candidates(
+            &mut self.candidates,
+            lines,
+            self.last.meant.as_slice(),
+            failure,
+        )?;
+        self.cost = self.cost.saturating_add(looks / LOOKS);
+        self.path.push(Level {
+            chosen: self.choices.len(),
+            place: failure.place,
+            next,
+            stop: self.candidates.len(),
+        })?;
+        Ok(())
+    }
+
+    // Adds one candidate after the other, and goes back if no further one helps. It ends at so many steps.
+    fn try_singles(&mut self, most: u64) -> Result<(), OutOfMemory> {
+        for _ in 0..self.budget {
+            if self.is_over() || self.cost >= most {
+                break;
+            }
+            let Some(level) = self.path.pop() else {
+                break;
+            };
+            self.try_single(level)?;
+        }
+        Ok(())
+    }
+
+    // Tries the next candidate of a level, which is on the path no more. It comes back if there is one.
+    fn try_single(&mut self, level: Level) -> Result<(), OutOfMemory> {
+        self.candidates.truncate(level.stop);
+        if level.next >= level.stop {
+            return Ok(());
+        }
+        let next = level.next.saturating_add(1);
+        self.path.push(Level { next, ..level })?;
+        self.choices.truncate(level.chosen)?;
+        self.choices.push_all(self.candidates.at(level.next))?;
+        self.try_once(level.place)?;
+        Ok(())
+    }
+}
