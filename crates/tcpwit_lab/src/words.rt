@@ -13,6 +13,7 @@ pub(crate) enum Asked<'w> {
     Show,
     Draw(Range),
     Judge(Options<'w>),
+    Remark,
 }
 
 /// What the words ask for. None: nothing that the program does.
@@ -27,6 +28,7 @@ pub(crate) fn asked_by<'w>(words: &[&'w str]) -> Option<Asked<'w>> {
             "find" => Some(Asked::Find),
             "explain" => Some(Asked::Explain(Origin::Captured)),
             "show" => Some(Asked::Show),
+            "remark" => Some(Asked::Remark),
             _ => None,
         },
         _ => None,
