@@ -97,8 +97,8 @@ pub(crate) struct Note {
     /// Since when nothing was sent before the retransmission timer expired last.
     pub waited_from: u64,
     pub chain: Option<Chain>,
-    /// How many times the oldest segment was sent again since the retransmission timer was armed, each time so late that
-    /// the timer may have expired with no line.
+    /// How many times the oldest segment was sent again since the retransmission timer was armed, each time so late
+    /// that the timer may have expired with no line.
     pub unseen: u32,
     /// Something arrived since it last sent something that takes positions.
     pub heard: bool,

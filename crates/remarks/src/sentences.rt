@@ -219,7 +219,7 @@ fn push_back_off(out: &mut Vec<u8>, times: u64, wait: u64, before: u64) -> Resul
             Word(if times == 1 { "" } else { "first " }),
             Word("after "),
             Number(wait),
-            Word(" microseconds, when the wait before was "),
+            Word(" microseconds, and the longest wait before was "),
             Number(before),
         ],
     )
@@ -258,7 +258,6 @@ fn push_permit(out: &mut Vec<u8>, permit: Permit) -> Result<(), OutOfMemory> {
 }
 
 fn push_wait(out: &mut Vec<u8>, remark: &Remark) -> Result<(), OutOfMemory> {
-    use Piece::{Number, Word};
     match remark {
         Remark::Overdue {
             who,
@@ -267,17 +266,7 @@ fn push_wait(out: &mut Vec<u8>, remark: &Remark) -> Result<(), OutOfMemory> {
             late,
         } => {
             push_who(out, *who)?;
-            add(
-                out,
-                &[
-                    Word(" sends nothing, and its timer "),
-                    Word(timer_name(*timer)),
-                    Word(" is "),
-                    Number(*late),
-                    Word(" microseconds past its time of "),
-                    Number(*time),
-                ],
-            )
+            push_late(out, timer_name(*timer), *time, *late)
         }
         Remark::Stalled {
             who,
@@ -286,20 +275,45 @@ fn push_wait(out: &mut Vec<u8>, remark: &Remark) -> Result<(), OutOfMemory> {
             room,
         } => {
             push_who(out, *who)?;
-            add(
-                out,
-                &[
-                    Word(" sends nothing for "),
-                    Number(*time),
-                    Word(" microseconds, while "),
-                    Number(*bytes),
-                    Word(" bytes wait and the peer offers a window of "),
-                    Number(*room),
-                ],
-            )
+            push_stall(out, *time, *bytes, *room)
         }
         _ => Ok(()),
     }
+}
+
+fn push_late(out: &mut Vec<u8>, timer: &str, time: u64, late: u64) -> Result<(), OutOfMemory> {
+    use Piece::{Number, Word};
+    add(
+        out,
+        &[
+            Word(" sends nothing, and its timer "),
+            Word(timer),
+            Word(" is "),
+            Number(late),
+            Word(" microseconds past its time of "),
+            Number(time),
+        ],
+    )
+}
+
+fn push_stall(out: &mut Vec<u8>, time: u64, bytes: u64, room: u64) -> Result<(), OutOfMemory> {
+    use Piece::{Number, Word};
+    add(
+        out,
+        &[
+            Word(" sends nothing for "),
+            Number(time),
+            Word(" microseconds, while "),
+            Number(bytes),
+            Word(if bytes == 1 {
+                " byte waits"
+            } else {
+                " bytes wait"
+            }),
+            Word(" and the peer offers a window of "),
+            Number(room),
+        ],
+    )
 }
 
 fn push_bytes_left(out: &mut Vec<u8>, remark: &Remark) -> Result<(), OutOfMemory> {

@@ -3,8 +3,8 @@
 //! The case of each name is `data/NAME.case`, and `data/expected.txt` has the line that `tcpwit check` must print for
 //! it (`data/README.md`). Beside the files, each beginning of two of them is asked for, lines of the greatest length,
 //! inputs of several cases, pairs of texts that no case would be cut into, the command lines of
-//! `data/command_lines.txt`, what `tcpwit_lab` says of some cases (`data/told.txt`) and of some traces
-//! (`data/judged.txt`), and the cases that are found for recordings of the Linux kernel (`data/kernel/`) and for
+//! `data/command_lines.txt`, what `tcpwit_lab` says of some cases (`data/told.txt`, `data/remarked.txt`) and of some
+//! traces (`data/judged.txt`), and the cases that are found for recordings of the Linux kernel (`data/kernel/`) and for
 //! written traces (`data/found/`). Each case file is also checked as version 4. Where all is answered as wanted, three
 //! lines with the counts are printed. Else each answer that differs has a line on standard error, with the name of the
 //! case, how it was asked, what was wanted and what was found, and the program ends with status 1.
@@ -15,7 +15,8 @@
 //! - `pairs`: a trace and a witness as two texts, into which no case would be cut
 //! - `asking`: by `check_case`, by the word `check`, as two texts in pieces, and by the words of `many`
 //! - `command_lines`: by words, as the program is given them
-//! - `told`: what `tcpwit_lab` says of a case; `judged`: how much of a run keeps the RFCs
+//! - `told`: what `tcpwit_lab` says of a case; `judged`: how much of a run keeps the RFCs; `remarked`: what is worth a
+//!   look
 //! - `kernel`: cases that are found for recordings of the Linux kernel and for written traces
 //! - `drawn`: which lines of a long case are drawn; `printed`: bytes that no terminal obeys
 //! - `version_four`: rewrites a case as version 4
@@ -32,6 +33,7 @@ mod less_judged;
 mod long_lines;
 mod pairs;
 mod printed;
+mod remarked;
 mod table;
 mod told;
 mod version_four;
@@ -63,10 +65,7 @@ fn main(rt: HostRuntime) -> io::Result<ExitCode> {
     let pairs = pairs::ask_pairs(&rt, "handshake_and_five_bytes", &mut differing)?;
     let table = fs::read_to_string(&rt, "command_lines.txt")?;
     let rows = command_lines::ask_rows(&rt, alloc, table.as_str(), &mut differing)?;
-    let table = fs::read_to_string(&rt, "told.txt")?;
-    let told = told::ask_told(&rt, alloc, table.as_str(), &mut differing)?;
-    let table = fs::read_to_string(&rt, "judged.txt")?;
-    let judged = judged::ask_judged(&rt, alloc, table.as_str(), &mut differing)?;
+    let told = ask_texts(&rt, &mut differing)?;
     let recorded = kernel::ask_folder(&rt, "kernel", &mut differing)?;
     let counts = ask_lab(&rt, &mut differing)?;
     for line in &differing {
@@ -78,12 +77,27 @@ fn main(rt: HostRuntime) -> io::Result<ExitCode> {
     let long = cases.len().saturating_sub(files).saturating_sub(others);
     println!(rt;
         "{files} case files, {others} beginnings of two of them, {long} long lines, {pairs} pairs of texts and {rows} \
-            command lines are answered as wanted, {told} cases explained, shown or drawn as wanted, {judged} traces \
-            judged as wanted, and {recorded} recordings of the kernel explained by what is found"
+            command lines are answered as wanted, {told}, and {recorded} recordings of the kernel explained by what is \
+            found"
     )?;
     print_covered(&rt, covered)?;
     println!(rt; "{counts}")?;
     Ok(ExitCode::SUCCESS)
+}
+
+// Asks what `tcpwit_lab` says of cases and of traces, and answers the counts in words.
+fn ask_texts(rt: &HostRuntime, differing: &mut Vec<String>) -> io::Result<String> {
+    let alloc = rt.alloc();
+    let table = fs::read_to_string(rt, "told.txt")?;
+    let told = told::ask_told(rt, alloc, table.as_str(), differing)?;
+    let table = fs::read_to_string(rt, "judged.txt")?;
+    let judged = judged::ask_judged(rt, alloc, table.as_str(), differing)?;
+    let table = fs::read_to_string(rt, "remarked.txt")?;
+    let remarked = remarked::ask_remarked(rt, alloc, table.as_str(), differing)?;
+    Ok(format!(in alloc;
+        "{told} cases explained, shown or drawn as wanted, {judged} traces judged as wanted, {remarked} cases remarked \
+            on as wanted"
+    )?)
 }
 
 // Asks what `tcpwit_lab` makes of written traces, of a long case and of texts with ESC, and answers a line with the
