@@ -6,7 +6,7 @@ use crate::notes::{EndpointKey, Note, id_of, who};
 use crate::remarks::{Remark, Stretch, Who};
 use crate::replay::Replay;
 use case_forms::OutOfMemory;
-use spec_tcp::{Endpoint, EndpointId};
+use spec_tcp::{Endpoint, EndpointId, Fault};
 
 impl<'t> Replay<'t> {
     /// Adds what was counted up to here, and if the case is a yes, what is left at its end.
@@ -68,10 +68,10 @@ impl<'t> Replay<'t> {
             return Ok(());
         };
         let who = who(id.host, endpoint);
-        let is_closed = endpoint.state.is_closed();
+        let is_over = endpoint.state.is_closed() && !matches!(endpoint.fault, Some(Fault::Timeout));
         let sent = Left::of(endpoint, &note);
         let undelivered = undelivered(self.alloc, endpoint, &note)?;
-        if !is_closed {
+        if !is_over {
             self.say_waits(AT_THE_END, who, &note)?;
             self.say_stall(AT_THE_END, who, note.stall)?;
             self.say_left(who, sent)?;
