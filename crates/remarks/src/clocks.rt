@@ -34,8 +34,12 @@ impl Clock {
     }
 }
 
-/// The retransmission timer after so many expiries that no line shows. None: it is off.
+/// The retransmission timer after so many expiries that no line shows. None: it is off, or the window is 0, so that
+/// the persist timer counts.
 pub(crate) fn rto_clock(endpoint: &Endpoint, unseen: u32) -> Option<Clock> {
+    if endpoint.timers.persist_armed.is_some() {
+        return None;
+    }
     let armed = endpoint.timers.rto_armed?;
     Some(Clock {
         armed,
@@ -44,8 +48,7 @@ pub(crate) fn rto_clock(endpoint: &Endpoint, unseen: u32) -> Option<Clock> {
     })
 }
 
-/// The persist timer after so many probes, while bytes wait and nothing is in flight; `before` is what it was. None: it
-/// is off, or there is nothing to probe for.
+/// The persist timer after so many probes; `before` is what it was. None: it is off, or there is nothing to probe for.
 pub(crate) fn persist_clock(
     endpoint: &Endpoint,
     before: Option<Clock>,
@@ -53,17 +56,18 @@ pub(crate) fn persist_clock(
     moment: u64,
 ) -> Option<Clock> {
     let armed = endpoint.timers.persist_armed?;
-    if endpoint.flight() != 0 || waiting_bytes(endpoint) == 0 {
+    if endpoint.flight() == 0 && waiting_bytes(endpoint) == 0 {
         return None;
     }
-    match before {
-        Some(clock) if clock.armed == armed => Some(clock),
-        _ => Some(Clock {
-            armed,
-            since: moment,
-            time: backed_off(endpoint.timers.rto, probes),
-        }),
-    }
+    let since = match before {
+        Some(clock) if clock.armed == armed => clock.since,
+        _ => moment,
+    };
+    Some(Clock {
+        armed,
+        since,
+        time: backed_off(endpoint.timers.rto, probes),
+    })
 }
 
 // A timeout that doubled so many times (RFC 6298, 5.5; RFC 9293, 3.8.6.1), within its limits.

@@ -7,6 +7,7 @@ use crate::remarks::{Remark, Stretch, Who};
 use crate::replay::Replay;
 use case_forms::OutOfMemory;
 use spec_tcp::{Endpoint, EndpointId, Fault};
+use std::alloc::Global;
 
 impl<'t> Replay<'t> {
     /// Adds what was counted up to here, and if the case is a yes, what is left at its end.
@@ -149,7 +150,7 @@ impl Left {
 // The bytes that an endpoint received in order and its program wasn't given. None: there are none, or the connection
 // failed or was aborted.
 fn undelivered(
-    alloc: std::alloc::Global,
+    alloc: Global,
     endpoint: &Endpoint,
     note: &Note,
 ) -> Result<Option<Stretch>, OutOfMemory> {

@@ -88,8 +88,10 @@ pub(crate) struct Note {
     pub last_sent: u64,
     pub rto: Option<Clock>,
     pub persist: Option<Clock>,
-    /// How many probes were due since the persist timer was armed.
+    /// How many probes were due since the persist timer was armed, also with no line for its expiry.
     pub probes: u32,
+    /// How many times anything let it retransmit when it last sent a probe again.
+    pub probed_at: u64,
     pub stall: Option<Stall>,
     /// What let it retransmit last, and how many times anything did.
     pub permit: Permit,
@@ -115,6 +117,7 @@ impl Note {
             rto: None,
             persist: None,
             probes: 0,
+            probed_at: 0,
             stall: None,
             permit: Permit::Nothing,
             permits: 0,
@@ -131,6 +134,19 @@ impl Note {
         Note {
             permit,
             permits: self.permits.saturating_add(1),
+            ..*self
+        }
+    }
+
+    /// With one more probe if one is sent again after so many permits, and none of them allowed it.
+    pub(crate) fn probed(&self, permits: u64) -> Note {
+        if self.persist.is_none() {
+            return *self;
+        }
+        let unseen = u32::from(self.probed_at == permits);
+        Note {
+            probes: self.probes.saturating_add(unseen),
+            probed_at: permits,
             ..*self
         }
     }

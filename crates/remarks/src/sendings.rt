@@ -128,6 +128,8 @@ impl<'t> Replay<'t> {
             self.put(sending.id, sent)?;
         }
         if sending.is_again {
+            let note = self.note(sending.id).probed(sending.permits);
+            self.put(sending.id, note)?;
             self.send_again(&sending, line)?;
             self.follow_chain(&sending, line)?;
         }
