@@ -46,7 +46,7 @@ class Completion(unittest.TestCase):
 
     def test_first_words(self):
         self.assertEqual(self.completed("tcpwit", ""), ["check", "many", "segment", "record", *GENERAL])
-        self.assertEqual(self.completed("tcpwit_lab", ""), ["find", "explain", "show", "draw", "judge", *GENERAL])
+        self.assertEqual(self.completed("tcpwit_lab", ""), ["find", "explain", "show", "draw", "judge", "remark", *GENERAL])
         for name in ("tcpwit", "tcpwit_lab"):
             self.assertEqual(self.completed(name, "--"), ["--help", "--version"])
             self.assertEqual(self.completed(name, "he"), ["help"])
@@ -63,7 +63,8 @@ class Completion(unittest.TestCase):
         self.assertEqual(self.completed("tcpwit", "record", "--rounds", "20", "--l"), ["--lose"])
 
     def test_options_of_tcpwit_lab(self):
-        self.assertEqual(self.completed("tcpwit_lab", "show", ""), ["--help"])
+        for word in ("show", "remark"):
+            self.assertEqual(self.completed("tcpwit_lab", word, ""), ["--help"])
         self.assertEqual(self.completed("tcpwit_lab", "find", ""), ["--budget", "--help"])
         self.assertEqual(self.completed("tcpwit_lab", "find", "--budget", ""), [])
         self.assertEqual(self.completed("tcpwit_lab", "explain", ""), ["--simulated", "--help"])

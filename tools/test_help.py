@@ -16,7 +16,7 @@ TOP = os.path.dirname(os.path.dirname(os.path.abspath(__file__)))
 TCPWIT = shlex.split(os.environ.get("TCPWIT", f"{TOP}/tcpwit"))
 LAB = shlex.split(os.environ.get("TCPWIT_LAB", f"{TOP}/tcpwit_lab"))
 # The subcommands of each program.
-WORDS = {"tcpwit": (TCPWIT, "check many segment record".split()), "tcpwit_lab": (LAB, "find explain show draw judge".split())}
+WORDS = {"tcpwit": (TCPWIT, "check many segment record".split()), "tcpwit_lab": (LAB, "find explain show draw judge remark".split())}
 DEVICE = 5
 
 

@@ -20,6 +20,7 @@ USUAL = {"name": "a stack", "msl": "120000000", "grain": "1000", "minrto": "0", 
 EXPLAIN = ["explain", "--simulated"]
 # A search that doesn't go back: the first one did, and going back for each set of dropped arrivals would take long.
 ONCE = ["find", "--budget", "0"]
+REMARK = ["remark"]
 # How many seconds a program may take in a trial before the first scenario.
 LIMIT = 60
 
@@ -34,6 +35,7 @@ class Outcome:
     unexpected: list = field(default_factory=list)
     missing: int = 0            # bytes that were accepted and never read
     waiting: list = field(default_factory=list)
+    remarks: list = field(default_factory=list)  # the lines of `tcpwit_lab remark`
     notes: list = field(default_factory=list)    # what else is shown: the line where a storm began
     said: list = field(default_factory=list)     # the last lines of the stack's standard error
     seconds: float = 0
@@ -112,7 +114,7 @@ class Judge:
     def unfit(self):
         """The program that is older than the suite, which needs format version 4 and `explain --simulated`; empty if none is."""
         case, _ = self.call(self.lab, ["find"], trace_of(USUAL, False, [], WORDS[-1]))
-        if not case.startswith(f"trace {BY_WORD}\n") or self.call(self.lab, EXPLAIN, case)[0].startswith("bad usage"):
+        if not case.startswith(f"trace {BY_WORD}\n") or any(self.call(self.lab, words, case)[0].startswith("bad usage") for words in (EXPLAIN, REMARK)):
             return " ".join(self.lab)
         return "" if self.answer(case).startswith("yes") else " ".join(self.check)
 
@@ -166,7 +168,14 @@ class Judge:
             outcome.why = "\n".join(shown(line) for line in told.split("\n")[1:] if line.strip())
         if outcome.verdict.startswith("no"):
             self.judge_less(outcome, run, values, cases)
+        if outcome.verdict.startswith(("yes", "no")):
+            outcome.remarks = self.remarks(cases[outcome.strictest or FULL])
         return cases
+
+    def remarks(self, case):
+        """What breaks no rule of a case and is worth a look, a line each."""
+        told, _ = self.call(self.lab, REMARK, case)
+        return [shown(line) for line in told.split("\n") if line]
 
     def judge_less(self, outcome, run, values, cases):
         """Looks for a yes that judges less of congestion control."""

@@ -242,6 +242,8 @@ class StandIn(judging.Judge):
 
     def call(self, program, words, text):
         """Reads the arguments of `tcpwit` or `tcpwit_lab`, and fails for any others."""
+        if words == ["remark"]:
+            return f"line 7: of {text.split()[1]}\nat the end: x\n", 1
         if words not in (["check"], ["find"], ["explain", "--simulated"]):
             raise AssertionError(words)
         return text, 0
@@ -255,18 +257,20 @@ class TheStrictestWord(unittest.TestCase):
             self.assertEqual(list(cases), list(dict.fromkeys(each for each in ("full", word) if each)))
             self.assertEqual(cases["full"][:8], "trace 2\n")
             self.assertEqual([outcome.is_good(least) for least in judging.WORDS], [bool(word) and word in judging.WORDS[:n] for n in (1, 2, 3)])
+            self.assertEqual(outcome.remarks, ["line 7: of " + ("4" if word in ("recovery", "none") else "2"), "at the end: x"])
 
     def test_a_fault_is_judged_once(self):
         outcome, cases = StandIn("none", "bad trace 7 0 9 header").outcome()
-        self.assertEqual((outcome.strictest, list(cases)), ("", ["full"]))
+        self.assertEqual((outcome.strictest, list(cases), outcome.remarks), ("", ["full"], []))
 
     def test_programs_that_know_no_words(self):
         self.assertEqual(StandIn("none").unfit(), "")
         self.assertEqual(StandIn("", "bad trace 1 0 7 header").unfit(), "the check")
         with mock.patch.object(StandIn, "call", lambda *words: ("bad trace 1 0 7 header", 1)):
             self.assertEqual(StandIn("none").unfit(), "the lab")
-        with mock.patch.object(StandIn, "call", lambda self, program, words, text: ("bad usage\n", 3) if words[0] == "explain" else (text, 0)):
-            self.assertEqual(StandIn("none").unfit(), "the lab")
+        for old in ("explain", "remark"):
+            with mock.patch.object(StandIn, "call", lambda self, program, words, text: ("bad usage\n", 3) if words[0] == old else (text, 0)):
+                self.assertEqual(StandIn("none").unfit(), "the lab")
 
 
 class Answers(unittest.TestCase):
@@ -393,7 +397,7 @@ class TheCommand(unittest.TestCase):
     def test_the_column(self):
         status, out = self.reported()
         self.assertEqual((status, [line[66:74].strip() for line in out.split("\n")[:4]]), (1, ["yes at", "full", "recovery", "-"]))
-        self.assertEqual(out.split("\n")[0].split(), ["scenario", "verdict", "yes", "at", "missing", "open"])
+        self.assertEqual(out.split("\n")[0].split(), ["scenario", "verdict", "yes", "at", "missing", "open", "remarks"])
         self.assertIn("of those with no, 1 has a yes at recovery", out)
 
     def test_the_status_goes_by_the_least_word(self):
@@ -416,6 +420,16 @@ class TheCommand(unittest.TestCase):
             self.assertIn(message.split(": 7 bytes")[0].split(" (")[0], out)
         self.assertIn("\n    7 bytes were accepted and never read\n", out)
         self.assertEqual((out.count("\nyes, but: "), self.reported()[1].count("yes, but: ")), (1, 0))
+
+    def test_remarks_are_counted_and_reported(self):
+        outcomes = [self.outcome("yes 5 3", "full", "one"), self.outcome("no 9 0 congestion", "", "two")]
+        outcomes[0].remarks, outcomes[1].remarks = ["line 7: a -> b", "at the end: x"], ["line 8: y"]
+        _, out = self.reported("--junit", f"{self.folder}/report.xml", outcomes=outcomes)
+        self.assertEqual([line.split()[-1] for line in out.split("\n")[:3]], ["remarks", "2", "1"])
+        self.assertNotIn("a -> b", out)
+        found = [case.findtext("system-out") for case in xml.etree.ElementTree.parse(f"{self.folder}/report.xml").iter("testcase")]
+        self.assertEqual(found, ["line 7: a -> b\nat the end: x", "line 8: y"])
+        self.assertIn("\n    line 7: a -> b\n    at the end: x\n", self.reported("-v", outcomes=outcomes)[1])
 
     def test_the_compared_values_are_shown(self):
         refused = self.outcome("no 9 0 congestion", "", "one")
@@ -545,7 +559,7 @@ class TheCommand(unittest.TestCase):
     def test_control_bytes_of_a_program_are_escaped(self):
         judge = f"{self.folder}/judge\x1b[2J"
         with open(judge, "w") as file:
-            file.write("#!/bin/sh\ncase $1 in find) cat;; explain) printf 'x\\nmade \\033[2J\\n';; esac\n"
+            file.write("#!/bin/sh\ncase $1 in find) cat;; explain | remark) printf 'x\\nmade \\033[2J\\n';; esac\n"
                        "case $1$(cat) in check*'congestion none'*) echo yes 1 1;; check*) printf 'no 9 0 \\033[2J\\n';; esac\n")
         os.chmod(judge, 0o755)
         report = f"{self.folder}/report.xml"
@@ -553,6 +567,7 @@ class TheCommand(unittest.TestCase):
         self.assertIn("no 9 0 \\x1b[2J", out)
         self.assertIn("    made \\x1b[2J\n", out)
         self.assertIn("\\x1b[2J", xml.etree.ElementTree.parse(report).find("testcase/failure").get("message"))
+        self.assertEqual(xml.etree.ElementTree.parse(report).findtext("testcase/system-out"), "x\nmade \\x1b[2J")
 
     def test_control_bytes_of_names_and_files_are_escaped(self):
         odd = f"{self.folder}/\x1b[2J\udc9b"

@@ -19,7 +19,7 @@ is_subcommand Tcpwit word =
     || bytes_eq word (codes "record")
 is_subcommand TcpwitLab word =
     bytes_eq word (codes "find") || bytes_eq word (codes "explain") || bytes_eq word (codes "show")
-    || bytes_eq word (codes "draw") || bytes_eq word (codes "judge")
+    || bytes_eq word (codes "draw") || bytes_eq word (codes "judge") || bytes_eq word (codes "remark")
 
 -- whether these words ask the program for its help or its version: one of the options or `help` alone, an option for
 -- help after a subcommand, or a subcommand after `help`

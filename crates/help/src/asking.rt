@@ -51,6 +51,7 @@ fn is_subcommand(program: Program, word: &str) -> bool
                 || word == "show"
                 || word == "draw"
                 || word == "judge"
+                || word == "remark"
         }
     }
 }

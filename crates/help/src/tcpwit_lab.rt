@@ -9,8 +9,8 @@ Each subcommand reads its text from standard input and writes to standard output
 stream can't be opened, read or written, standard error has its name and the reason.
 
 Status:
-  0  done; explain: yes; judge: the least word or a stricter one has a yes
-  1  explain: no; judge: no such word has a yes
+  0  done; explain: yes; judge: the least word or a stricter one has a yes; remark: no remark
+  1  explain: no; judge: no such word has a yes; remark: a remark
   2  bad trace, bad witness: the text is refused
   3  bad usage
   4  bad memory: memory ran out
@@ -21,6 +21,7 @@ Examples:
   tcpwit_lab find < run.trace > run.case
   tcpwit_lab explain < run.case
   tcpwit_lab draw < run.case > run.svg
+  tcpwit_lab remark < run.case
 
 The answers of `tcpwit` don't depend on this program.";
 
@@ -47,6 +48,13 @@ first.
 
 Status: 0 if WORD or a stricter word has a yes, 1 if none has.";
 
+const REMARK: &str = "\
+Input: a case. Output: a line for each remark, with the trace lines that it is about. For a no, only
+the steps before the refused one count. Remarks are about acceptable segments that were dropped or
+not kept, retransmissions, timers and open windows with nothing sent, and what is left at the end.
+
+Status: 0 if there is no remark, 1 if there is any.";
+
 /// The whole command line.
 pub(crate) fn tcpwit_lab<'a>(alloc: Global) -> Result<Command<'a>, AllocError> {
     let command = Command::new(alloc, "tcpwit_lab")
@@ -58,7 +66,8 @@ pub(crate) fn tcpwit_lab<'a>(alloc: Global) -> Result<Command<'a>, AllocError> {
         .subcommand(explain(alloc)?)?
         .subcommand(show(alloc))?
         .subcommand(draw(alloc)?)?
-        .subcommand(judge(alloc)?)?;
+        .subcommand(judge(alloc)?)?
+        .subcommand(remark(alloc))?;
     Ok(command.after_help(AFTER))
 }
 
@@ -133,4 +142,11 @@ fn judge<'a>(alloc: Global) -> Result<Command<'a>, AllocError> {
             .arg(least)?
             .arg(case)?,
     )
+}
+
+fn remark<'a>(alloc: Global) -> Command<'a> {
+    Command::new(alloc, "remark")
+        .about("Lists what breaks no rule of a case and is worth a look")
+        .override_usage("tcpwit_lab remark < CASE")
+        .after_help(REMARK)
 }

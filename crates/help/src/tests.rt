@@ -41,7 +41,7 @@ fn each_subcommand_has_help(rt: HostRuntime) -> Result<(), Fail> {
     for name in ["check", "many", "segment", "record"] {
         are_answered(&rt, rt.alloc(), Program::Tcpwit, name, "tcpwit")?;
     }
-    for name in ["find", "explain", "show", "draw", "judge"] {
+    for name in ["find", "explain", "show", "draw", "judge", "remark"] {
         are_answered(&rt, rt.alloc(), Program::TcpwitLab, name, "tcpwit_lab")?;
     }
     Ok(())

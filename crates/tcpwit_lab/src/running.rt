@@ -1,6 +1,7 @@
 //! What the program does with its words and its standard input.
 
 use crate::judgements::write_judgement;
+use crate::remarking::write_remarks;
 use crate::saying::{DONE, USAGE, say, say_bad_device, say_bad_memory, say_fault};
 use crate::words::{Asked, asked_by};
 use counted::Counted;
@@ -52,6 +53,7 @@ fn write_answer<H: Files + Eprint, W: Write>(
             Err(_) => say_bad_memory(rt, w),
         },
         Asked::Judge(options) => write_judgement(rt, alloc, options, text, w),
+        Asked::Remark => write_remarks(rt, alloc, text, w),
     }
 }
 

@@ -15,6 +15,7 @@ pub(crate) enum Asked<'w> {
     Show,
     Draw(Range),
     Judge(Options<'w>),
+    Remark,
 }
 
 /// What the words ask for. None: nothing that the program does.
@@ -29,6 +30,7 @@ pub(crate) fn asked_by<'w>(words: &[&'w str]) -> Option<Asked<'w>> {
         [word] => match *word {
             "explain" => Some(Asked::Explain(Origin::Captured)),
             "show" => Some(Asked::Show),
+            "remark" => Some(Asked::Remark),
             _ => None,
         },
         _ => None,

@@ -3,11 +3,12 @@
 //! The case of each name is `data/NAME.case`, and `data/expected.txt` has the line that `tcpwit check` must print for
 //! it (`data/README.md`). The program also checks each beginning of two of the files, lines of the greatest length,
 //! inputs of several cases, pairs of texts that no case would be split into, the command lines of
-//! `data/command_lines.txt`, what `tcpwit_lab` prints for some cases (`data/told.txt`) and for some traces
-//! (`data/judged.txt`), and the witnesses that are found for recordings of the Linux kernel (`data/kernel/`) and for
-//! written traces (`data/found/`). Each case file is also checked as version 4. If all answers are as expected, it
-//! prints three lines with the counts. Else standard error has a line for each answer that differs, with the name of
-//! the case, how it was checked, what was expected and what was found, and the program ends with status 1.
+//! `data/command_lines.txt`, what `tcpwit_lab` prints for some cases (`data/told.txt`, `data/remarked.txt`) and for
+//! some traces (`data/judged.txt`), and the witnesses that are found for recordings of the Linux kernel
+//! (`data/kernel/`) and for written traces (`data/found/`). Each case file is also checked as version 4. If all answers
+//! are as expected, it prints three lines with the counts. Else standard error has a line for each answer that differs,
+//! with the name of the case, how it was checked, what was expected and what was found, and the program ends with
+//! status 1.
 //!
 //! - `table`: cases, and those of the files
 //! - `beginnings`: each beginning of a case
@@ -15,7 +16,8 @@
 //! - `pairs`: a trace and a witness as two texts, into which no case would be split
 //! - `asking`: by `check_case`, by the command `check`, as two texts in pieces, and by the command `many`
 //! - `command_lines`: command lines, read as the program reads its own
-//! - `told`: what `tcpwit_lab` prints for a case; `judged`: how much of a run follows the RFCs
+//! - `told`: what `tcpwit_lab` prints for a case; `judged`: how much of a run follows the RFCs; `remarked`: what is worth
+//!   a look
 //! - `kernel`: witnesses found for recordings of the Linux kernel and for written traces
 //! - `drawn`: which lines of a long case are drawn; `printed`: bytes that no terminal interprets
 //! - `version_four`: rewrites a case as version 4
@@ -32,6 +34,7 @@ mod less_judged;
 mod long_lines;
 mod pairs;
 mod printed;
+mod remarked;
 mod table;
 mod told;
 mod version_four;
@@ -63,10 +66,7 @@ fn main(rt: HostRuntime) -> io::Result<ExitCode> {
     let pairs = pairs::ask_pairs(&rt, "handshake_and_five_bytes", &mut differing)?;
     let table = fs::read_to_string(&rt, "command_lines.txt")?;
     let rows = command_lines::ask_rows(&rt, alloc, table.as_str(), &mut differing)?;
-    let table = fs::read_to_string(&rt, "told.txt")?;
-    let told = told::ask_told(&rt, alloc, table.as_str(), &mut differing)?;
-    let table = fs::read_to_string(&rt, "judged.txt")?;
-    let judged = judged::ask_judged(&rt, alloc, table.as_str(), &mut differing)?;
+    let told = ask_texts(&rt, &mut differing)?;
     let recorded = kernel::ask_folder(&rt, "kernel", &mut differing)?;
     let counts = ask_lab(&rt, &mut differing)?;
     for line in &differing {
@@ -78,12 +78,27 @@ fn main(rt: HostRuntime) -> io::Result<ExitCode> {
     let long = cases.len().saturating_sub(files).saturating_sub(others);
     println!(rt;
         "{files} case files, {others} beginnings of two of them, {long} long lines, {pairs} pairs of texts and {rows} \
-            command lines are answered as wanted, {told} cases explained, shown or drawn as wanted, {judged} traces \
-            judged as wanted, and {recorded} recordings of the kernel explained by what is found"
+            command lines are answered as wanted, {told}, and {recorded} recordings of the kernel explained by what is \
+            found"
     )?;
     print_covered(&rt, covered)?;
     println!(rt; "{counts}")?;
     Ok(ExitCode::SUCCESS)
+}
+
+// Runs `tcpwit_lab` on cases and traces. The result has the counts in words.
+fn ask_texts(rt: &HostRuntime, differing: &mut Vec<String>) -> io::Result<String> {
+    let alloc = rt.alloc();
+    let table = fs::read_to_string(rt, "told.txt")?;
+    let told = told::ask_told(rt, alloc, table.as_str(), differing)?;
+    let table = fs::read_to_string(rt, "judged.txt")?;
+    let judged = judged::ask_judged(rt, alloc, table.as_str(), differing)?;
+    let table = fs::read_to_string(rt, "remarked.txt")?;
+    let remarked = remarked::ask_remarked(rt, alloc, table.as_str(), differing)?;
+    Ok(format!(in alloc;
+        "{told} cases explained, shown or drawn as wanted, {judged} traces judged as wanted, {remarked} cases remarked \
+            on as wanted"
+    )?)
 }
 
 // Runs `tcpwit_lab` on written traces, on a long case and on texts with ESC. The result is a line with the counts.
