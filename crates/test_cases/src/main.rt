@@ -16,8 +16,8 @@
 //! - `pairs`: a trace and a witness as two texts, into which no case would be split
 //! - `asking`: by `check_case`, by the command `check`, as two texts in pieces, and by the command `many`
 //! - `command_lines`: command lines, read as the program reads its own
-//! - `told`: what `tcpwit_lab` prints for a case; `judged`: how much of a run follows the RFCs; `remarked`: what is worth
-//!   a look
+//! - `told`: what `tcpwit_lab` prints for a case; `judged`: how much of a run follows the RFCs; `remarked`: what is
+//!   worth a look
 //! - `kernel`: witnesses found for recordings of the Linux kernel and for written traces
 //! - `drawn`: which lines of a long case are drawn; `printed`: bytes that no terminal interprets
 //! - `version_four`: rewrites a case as version 4
