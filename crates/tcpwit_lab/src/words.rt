@@ -52,7 +52,7 @@ fn number(value: &str) -> Option<u64> {
     if value == "0" {
         Some(0)
     } else {
-        line_number(value)
+        line_number(Some(value))?
     }
 }
 

@@ -164,26 +164,27 @@ impl Known<'_> {
         before: usize,
         is_far: bool,
     ) -> Result<(), OutOfMemory> {
-        let mut calls = self.meant;
+        let mut calls = self.meant.len();
         for back in 0..=self.failure.place.min(REACH) {
             if out.len().saturating_sub(before) >= MOST {
                 break;
             }
             let place = self.failure.place.saturating_sub(back);
-            let key = match calls {
-                [more @ .., call] if call.place >= place => {
-                    calls = more;
-                    if call.place == place {
-                        Some(call.key)
-                    } else {
-                        None
-                    }
-                }
-                _ => None,
-            };
+            let (left, key) = self.call_at(calls, place);
+            calls = left;
             self.look_at(out, place, key, is_far)?;
         }
         Ok(())
+    }
+
+    // What the last of the first calls means, if it begins at a place, and how many calls are left before that place.
+    fn call_at(&self, calls: usize, place: usize) -> (usize, Option<ConnectionKey>) {
+        let before = calls.saturating_sub(1);
+        match self.meant.get(before) {
+            Some(call) if call.place == place => (before, Some(call.key)),
+            Some(call) if call.place > place => (before, None),
+            _ => (calls, None),
+        }
     }
 
     // What may be chosen at one line, if it bears on the failure. `call` is what a call means that begins there.

@@ -80,15 +80,16 @@ impl<'t> Left<'t> {
     /// Removes the places of an endpoint up to and including this one.
     pub(crate) fn pass(&mut self, key: ConnectionKey, place: usize) -> Result<(), OutOfMemory> {
         let places = self.of(key);
-        let mut left = places;
+        let mut left = places.len();
         for _ in 0..places.len() {
-            match left {
-                [more @ .., first] if *first <= place => left = more,
+            let last = left.saturating_sub(1);
+            match places.get(last) {
+                Some(first) if *first <= place && left > 0 => left = last,
                 _ => break,
             }
         }
-        if left.len() < places.len() {
-            self.counts.insert(key, left.len())?;
+        if left < places.len() {
+            self.counts.insert(key, left)?;
         }
         Ok(())
     }

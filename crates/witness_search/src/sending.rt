@@ -84,7 +84,8 @@ impl<'t> Search<'t> {
 
     // Makes the segment that a line shows; if it may not be made yet, what is missing is done first.
     fn make_shown(&mut self, host: Host, wire: &Wire) -> Result<u32, StepFault> {
-        self.expire_before_syn(host, plan_of(&self.world, host, wire))?;
+        let plan = plan_of(&self.world, host, wire);
+        self.expire_before_syn(host, plan)?;
         for _ in 0..REMEDIES {
             let plan = plan_of(&self.world, host, wire);
             let rule = match self.make(host, plan) {
