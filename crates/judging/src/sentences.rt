@@ -50,9 +50,10 @@ pub(crate) fn push_ending(out: &mut Vec<u8>, ending: Ending) -> Result<(), OutOf
         out,
         match ending {
             Ending::Whole => "",
-            Ending::Exhausted { .. } => "The search tried all other choices that it knows.\n",
+            Ending::Exhausted { .. } =>
+                "The search tried every choice that it knows. Another witness may still exist.\n",
             Ending::BudgetSpent { .. } =>
-                "The search spent its budget before it had tried all other choices.\n",
+                "The search spent its budget. With a larger one, `find` may find a witness.\n",
         },
     )
 }
