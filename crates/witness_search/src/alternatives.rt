@@ -25,6 +25,9 @@ const TOGETHER: usize = 256;
 // tried.
 const NEAR: usize = 12;
 
+// For how many microseconds an arrival may wait. The model sets no limit, but a stack that waits longer is not at work.
+const LONGEST_WAIT: u64 = 1_000_000;
+
 // Half of all sequence numbers: so far ahead a number may be.
 const HALF: u32 = 0x8000_0000;
 
@@ -260,15 +263,39 @@ impl Known<'_> {
             return Ok(());
         }
         if !is_far {
-            return out.push(Choice::Waits { place, after: last });
+            return self.push_wait(out, place, last);
         }
         for step in 1..NEAR {
             let after = place.saturating_add(step);
             if after < last {
-                out.push(Choice::Waits { place, after })?;
+                self.push_wait(out, place, after)?;
             }
         }
         Ok(())
+    }
+
+    // An arrival or a call waits until a line was taken; an arrival not for too long.
+    fn push_wait(
+        &self,
+        out: &mut Candidates,
+        place: usize,
+        after: usize,
+    ) -> Result<(), OutOfMemory> {
+        if self.may_wait(place, after) {
+            out.push(Choice::Waits { place, after })
+        } else {
+            Ok(())
+        }
+    }
+
+    fn may_wait(&self, place: usize, after: usize) -> bool {
+        let (Some(line), Some(later)) = (self.lines.get(place), self.lines.get(after)) else {
+            return false;
+        };
+        match &line.event {
+            Event::Came(_, _) => later.moment.saturating_sub(line.moment) <= LONGEST_WAIT,
+            _ => true,
+        }
     }
 
     // What goes out was made earlier, or something happened before it.
