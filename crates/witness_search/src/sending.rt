@@ -5,7 +5,7 @@ use crate::calls::endpoint_at;
 use crate::choices::Unseen;
 use crate::copies::Sending;
 use crate::search::Search;
-use case_forms::{Extras, Flags, Host, Judged, Label, POSITIONS, Ports, SegmentPlan, Timer, Wire};
+use case_forms::{Extras, Flags, Host, Label, POSITIONS, Ports, SegmentPlan, Timer, Wire};
 use endpoint_state::{Endpoint, StepFault, World};
 use segment::Flag;
 use seqno::{Word, read_near};
@@ -169,10 +169,10 @@ impl<'t> Search<'t> {
         }
     }
 
-    // Where retransmissions aren't judged, a SYN that was made goes out again without an expiry. Its timer may have
-    // expired all the same.
+    // After one expiry, or if retransmissions aren't judged, a SYN that was made may be made again without another expiry.
+    // Its timer may have expired all the same.
     fn expire_before_syn(&mut self, host: Host, plan: SegmentPlan) -> Result<(), StepFault> {
-        if !plan.flags.syn || self.world.header().congestion != Judged::Nothing {
+        if !plan.flags.syn {
             return Ok(());
         }
         let ports = Ports {
