@@ -169,8 +169,8 @@ impl<'t> Search<'t> {
         }
     }
 
-    // After one expiry, or if retransmissions aren't judged, a SYN that was made may be made again without another expiry.
-    // Its timer may have expired all the same.
+    // After one expiry, or if retransmissions aren't judged, a SYN may be made again without another expiry. Its timer
+    // may have expired all the same.
     fn expire_before_syn(&mut self, host: Host, plan: SegmentPlan) -> Result<(), StepFault> {
         if !plan.flags.syn {
             return Ok(());
