@@ -18,7 +18,7 @@ const LOOKS: u64 = 5;
 // How many candidates there are for one line, at most.
 const MOST: usize = 500;
 
-// How many arrivals are chosen at once, at most.
+// How many arrivals before a failure are chosen at once, at most, and how many after it.
 const TOGETHER: usize = 256;
 
 // How many lines earlier a segment may have been made, and how many lines later an arrival taken, of which each is
@@ -89,6 +89,13 @@ enum Kind {
     EndsBeyond,
 }
 
+// A side of the failing line.
+#[derive(Clone, Copy)]
+enum Side {
+    Before,
+    After,
+}
+
 // How many numbers a segment's bytes and its FIN have.
 fn length_of(wire: &Wire) -> u32 {
     let len = u32::try_from(wire.seg.payload.len()).unwrap_or(u32::MAX);
@@ -116,29 +123,55 @@ impl Known<'_> {
         }
     }
 
-    // Several arrivals at once that bear on the failure.
+    // Several arrivals at once that bear on the failure. A host that ignores one reset may ignore a flood of them, so
+    // the resets after the failure are dropped, too.
     fn together(&self, out: &mut Candidates) -> Result<(), OutOfMemory> {
         if self.failure.rule == Rule::BytesDiffer {
             self.gather(out, Kind::Covers, Fate::NotKept)?;
             return self.gather(out, Kind::EndsBeyond, Fate::NotKept);
         }
-        self.gather(out, Kind::Has(Flag::Rst), Fate::Dropped)?;
+        let resets = Kind::Has(Flag::Rst);
+        self.add(out, resets, Fate::Dropped, Side::Before)?;
+        self.add(out, resets, Fate::Dropped, Side::After)?;
+        out.end()?;
         self.gather(out, Kind::Has(Flag::Syn), Fate::Dropped)?;
         self.gather(out, Kind::Has(Flag::Fin), Fate::Dropped)
     }
 
-    // One candidate: all arrivals of a kind have this fate.
+    // One candidate: all arrivals of a kind before the failure have this fate.
     fn gather(&self, out: &mut Candidates, kind: Kind, fate: Fate) -> Result<(), OutOfMemory> {
+        self.add(out, kind, fate, Side::Before)?;
+        out.end()
+    }
+
+    // The arrivals of a kind on one side of the failure have this fate, the nearest first.
+    fn add(
+        &self,
+        out: &mut Candidates,
+        kind: Kind,
+        fate: Fate,
+        side: Side,
+    ) -> Result<(), OutOfMemory> {
         let mut left = TOGETHER;
-        for back in 1..=self.failure.place.min(REACH) {
-            let place = self.failure.place.saturating_sub(back);
+        for distance in 1..=REACH {
+            let Some(place) = self.place_at(side, distance) else {
+                break;
+            };
             if left == 0 || !self.is_arrival_of(place, kind) {
                 continue;
             }
             left = left.saturating_sub(1);
             out.add(Choice::Fate { place, fate })?;
         }
-        out.end()
+        Ok(())
+    }
+
+    // The place at a distance from the failure.
+    fn place_at(&self, side: Side, distance: usize) -> Option<usize> {
+        match side {
+            Side::Before => self.failure.place.checked_sub(distance),
+            Side::After => self.failure.place.checked_add(distance),
+        }
     }
 
     // Whether a line shows an arrival of this kind at the endpoint of the failure.
@@ -230,6 +263,8 @@ impl Known<'_> {
         }
         let fates = if is_far {
             [Fate::OfLast, Fate::NotGrown]
+        } else if self.is_arrival_of(place, Kind::Has(Flag::Rst)) {
+            [Fate::Usual, Fate::Dropped]
         } else {
             [Fate::NotKept, Fate::Dropped]
         };

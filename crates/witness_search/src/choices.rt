@@ -10,6 +10,8 @@ use std::collections::BTreeMap;
 /// What becomes of an arrival.
 #[derive(Clone, Copy, PartialEq, Eq)]
 pub(crate) enum Fate {
+    /// The usual one, whatever was chosen before.
+    Usual,
     /// It is taken, and its bytes and its FIN are not kept.
     NotKept,
     /// It is dropped.
@@ -115,6 +117,7 @@ impl Arrival {
     // The same, with one choice more. Of keeping and dropping the last choice counts.
     fn with(self, fate: Fate) -> Arrival {
         match fate {
+            Fate::Usual => USUAL,
             Fate::NotKept => Arrival {
                 is_kept: false,
                 is_dropped: false,

@@ -15,7 +15,7 @@ use witness::push_witness;
 const USUAL_STEP: usize = 40;
 
 /// How many steps are spent on going back, unless another budget is given.
-pub const USUAL_BUDGET: u64 = 50_000;
+pub const USUAL_BUDGET: u64 = 500_000;
 
 /// How a search ended.
 #[derive(Clone, Copy, Debug, PartialEq, Eq)]
