@@ -1,7 +1,7 @@
 #!/usr/bin/env python3
 """Builds a program of this repository without proving it, and keeps the result.
 
-    python3 tools/unproved.py NAME OUT [-O1]
+    python3 tools/unproved.py NAME OUT [-O0]
     python3 tools/unproved.py --keep NAME ..
 
 NAME is a crate with a `main`, OUT the file of the program. With --keep, the program of each crate is built as `./tcpwit` builds it,
@@ -101,8 +101,8 @@ def linked(objects, out):
     subprocess.run([f"{whole}/toolchain/bin/ld.lld", *words, *before, *objects, *libraries, *after], check=True)
 
 
-def build(name, out, level="-O0"):
-    """Builds the program of a crate as the file `out`."""
+def build(name, out, level="-O1"):
+    """Builds the program of a crate as the file `out`. Without optimization (-O0), it builds sooner and runs 50 to 100 times slower."""
     need_toolchain(name)
     os.makedirs(os.path.dirname(os.path.abspath(out)), exist_ok=True)
     with tempfile.TemporaryDirectory() as folder:

@@ -3,7 +3,6 @@ import os
 import re
 from dataclasses import dataclass, field
 
-import dropping
 import processes
 from limits import Broken
 from texts import shown
@@ -18,8 +17,6 @@ HEADER = ("msl", "grain", "minrto", "extra", "initial")
 USUAL = {"name": "a stack", "msl": "120000000", "grain": "1000", "minrto": "0", "extra": "65535", "initial": "5681", "options": ""}
 # The command that explains a no. The segments came over a simulated wire, so no capture can have changed them.
 EXPLAIN = ["explain", "--simulated"]
-# A search that doesn't go back: the first one did, and going back for each set of dropped arrivals would take long.
-ONCE = ["find", "--budget", "0"]
 REMARK = ["remark"]
 # How many seconds a program may take in a trial before the first scenario.
 LIMIT = 60
@@ -123,39 +120,9 @@ class Judge:
         return self.answer(self.call(self.lab, ["find"], trace_of(values, False, [], WORDS[-1]))[0])
 
     def found(self, run, values, word):
-        """A case and its verdict: the first yes, else that of the whole trace."""
-        first, _ = self.call(self.lab, ["find"], trace_of(values, run.peer, run.lines, word))
-        verdict = self.answer(first)
-        if not verdict.startswith("no"):
-            return first, verdict
-        for left in dropping.choices(run.lines, run.odd):
-            case, answer = self.without(run, values, word, left)
-            if answer.startswith("yes"):
-                return case, answer
-        case, answer = self.without_unkept(run, values, word, first, verdict)
-        return (case, answer) if answer.startswith("yes") else (first, verdict)
-
-    def without(self, run, values, word, left):
-        """A case in which the arrivals at these places are dropped, and its verdict. If that isn't a yes, the witness covers only the rest."""
-        rest = [line for at, line in enumerate(run.lines) if at not in left]
-        case, _ = self.call(self.lab, ONCE, trace_of(values, run.peer, rest, word))
-        answer = self.answer(case)
-        if not answer.startswith("yes"):
-            return case, answer
-        case = dropping.put_in_again(case, len(header_of(values, run.peer, word)), run.lines, left, run.peer)
+        """A case and its verdict."""
+        case, _ = self.call(self.lab, ["find"], trace_of(values, run.peer, run.lines, word))
         return case, self.answer(case)
-
-    def without_unkept(self, run, values, word, case, verdict):
-        """Repeatedly drops arrivals that the stack's acknowledgments show it didn't keep."""
-        left = set()
-        for _ in range(dropping.MOST_TRIES):
-            told, _ = self.call(self.lab, EXPLAIN, case)
-            more = dropping.not_acknowledged(verdict, told, case, run.lines) - left
-            if not more:
-                break
-            left |= more
-            case, verdict = self.without(run, values, word, left)
-        return case, verdict
 
     def judge(self, outcome, run, values):
         """Finds witnesses and fills in the outcome. Returns the case judged in full and one for the strictest word with a yes, keyed by word."""

@@ -80,8 +80,7 @@ class Peer:
         segment = Segment(self.port, self.other, seq, ack, flags, window, extra, payload)
         if own and not flags & RST:
             self.nxt = (self.nxt + segment.length()) % 2**32
-        self.run.at(self.run.now + self.run.scenario.delay, "come", 0, segments.write(segment).hex(),
-                    "seq" in options or "ack" in options)
+        self.run.at(self.run.now + self.run.scenario.delay, "come", 0, segments.write(segment).hex())
 
     # ---- the script ----
 

@@ -131,7 +131,6 @@ class Run:
         self.scenario = scenario
         self.wire = Wire(scenario)
         self.lines = []
-        self.odd = set()         # places in `lines` of arrivals that a script made odd
         self.now = 0
         self.events = []
         self.order = 0
@@ -188,12 +187,10 @@ class Run:
         for delay in self.wire.delays(host, segment, self.now):
             self.at(self.now + delay, "come", 1 - host, text)
 
-    def come(self, host, text, is_odd=False):
+    def come(self, host, text):
         if self.peer and host == 1:
             self.peer.take(read(bytes.fromhex(text)))
             return
-        if is_odd:
-            self.odd.add(len(self.lines))
         self.say(IN_THREAD + host, f"I {host} {text}")
         self.ask(host, f"in {text}")
 
@@ -379,7 +376,6 @@ class Run:
         self.storm = storm(self.lines)
         if self.storm is not None:
             del self.lines[self.storm + KEPT:]
-            self.odd = {at for at in self.odd if at < len(self.lines)}
 
     def start(self):
         for number in (0,) if self.peer else (0, 1):

@@ -19,7 +19,6 @@ TOP = os.path.dirname(os.path.dirname(os.path.abspath(__file__)))
 sys.path.insert(0, os.path.join(TOP, "runner"))
 sys.dont_write_bytecode = True
 
-import dropping  # noqa: E402
 import host  # noqa: E402
 import judging  # noqa: E402
 import language  # noqa: E402
@@ -172,33 +171,6 @@ class Storms(unittest.TestCase):
             self.assertIsNone(simulation.storm(lines))
 
 
-class Dropping(unittest.TestCase):
-    HEADER = judging.header_of(judging.USUAL, False)
-    LINES = ["10 90 O 0 aa", "20 93 I 1 aa", "30 90 O 0 bb", "40 93 I 1 bb", "50 91 O 1 cc"]
-
-    def test_a_line_is_put_in_again(self):
-        rest = [self.LINES[0], self.LINES[2], self.LINES[3], self.LINES[4]]
-        steps = ["witness 2", "10 L 8 1", "30 L 9 2", "40 L 10 9", "40 T 1 10 0 1 0", "50 L 11 3"]
-        case = dropping.put_in_again("\n".join(self.HEADER + rest + steps) + "\n", 7, self.LINES, {1})
-        self.assertEqual(case.split("\n")[7:], self.LINES + ["witness 2", "10 L 8 1", "20 L 9 8", "20 K 1 9", "30 L 10 2", "40 L 11 10",
-                                                            "40 T 1 11 0 1 0", "50 L 12 3", ""])
-
-    def test_lines_that_were_added_move_it(self):
-        rest = [self.LINES[0], "15 94 T 0 1 2 rto", self.LINES[2], self.LINES[3], self.LINES[4]]
-        steps = ["witness 2", "10 L 8 1", "15 L 9 5 6", "30 L 10 2", "40 L 11 10", "50 L 12 3"]
-        case = dropping.put_in_again("\n".join(self.HEADER + rest + steps) + "\n", 7, self.LINES, {1})
-        self.assertIn("20 L 9 8\n20 K 1 9", case.replace("20 L 10 8\n20 K 1 10", "20 L 9 8\n20 K 1 9"))
-        self.assertIn("40 L 12 11", case)
-
-    def test_a_line_of_a_half_case_names_no_copy(self):
-        lines = ["10 90 O 0 aa", "20 93 I 0 bb"]
-        for word, version in (("full", 3), ("none", 4)):
-            header = judging.header_of(judging.USUAL, True, word)
-            case = "\n".join(header + lines[:1] + [f"witness {version}", f"10 L {len(header) + 1} 1"]) + "\n"
-            found = dropping.put_in_again(case, len(header), lines, {1}, True)
-            self.assertEqual(found.split("\n")[-3:], [f"20 L {len(header) + 2}", f"20 K 0 {len(header) + 2}", ""])
-
-
 class Profiles(unittest.TestCase):
     def test_a_profile(self):
         values = judging.profile("# x\nname  A stack\nmsl 30000000 # half\n")
@@ -238,7 +210,7 @@ class StandIn(judging.Judge):
     def outcome(self):
         """The outcome and cases of an empty run."""
         outcome = judging.Outcome(SimpleNamespace(keeps=True, name="x"))
-        return outcome, self.judge(outcome, SimpleNamespace(peer=False, lines=[], odd=[]), judging.USUAL)
+        return outcome, self.judge(outcome, SimpleNamespace(peer=False, lines=[]), judging.USUAL)
 
     def call(self, program, words, text):
         """Reads the arguments of `tcpwit` or `tcpwit_lab`, and fails for any others."""
