@@ -5,31 +5,26 @@ use crate::candidates::Candidates;
 use crate::chains::ConnectionKey;
 use crate::choices::{Choice, Fate, Place, Remedy, Unseen};
 use crate::search::MeantCall;
+use crate::together::Kind;
 use case_forms::{Event, Host, Line, OutOfMemory, Ports, Timer, Wire};
 use segment::Flag;
 use verdict::Rule;
 
 // How many lines before the one that can't be explained are looked at.
-const REACH: usize = 1_000;
+pub(crate) const REACH: usize = 1_000;
 
 // How many times each of these lines is looked at, at most.
-const LOOKS: u64 = 5;
+const LOOKS: u64 = 8;
 
 // How many candidates there are for one line, at most.
 const MOST: usize = 500;
 
-// How many arrivals before a failure are chosen at once, at most, and how many after it.
-const TOGETHER: usize = 256;
-
 // How many lines earlier a segment may have been made, and how many lines later an arrival taken, of which each is
 // tried.
-const NEAR: usize = 12;
+pub(crate) const NEAR: usize = 12;
 
 // For how many microseconds an arrival may wait. The model sets no limit, but a stack that waits longer is not at work.
 const LONGEST_WAIT: u64 = 1_000_000;
-
-// Half of all sequence numbers: so far ahead a number may be.
-const HALF: u32 = 0x8000_0000;
 
 /// Where a search failed.
 #[derive(Clone, Copy)]
@@ -41,36 +36,29 @@ pub(crate) struct Failure {
     pub key: Option<ConnectionKey>,
 }
 
-// What is known of a failure.
+/// What is known of a failure.
 #[derive(Clone, Copy)]
-struct Known<'t> {
-    lines: &'t [Line],
+pub(crate) struct Known<'t> {
+    pub lines: &'t [Line],
     /// What calls mean, in the order of their beginnings.
-    meant: &'t [MeantCall],
-    failure: Failure,
+    pub meant: &'t [MeantCall],
+    /// The places of arrivals that ended beyond the window.
+    pub beyond: &'t [usize],
+    pub failure: Failure,
 }
 
 /// Adds what could have been chosen before a failure, the most likely first, then the nearest lines first. The answer
 /// is how many times a line was looked at, at most.
-pub(crate) fn push_candidates(
-    out: &mut Candidates,
-    lines: &[Line],
-    meant: &[MeantCall],
-    failure: Failure,
-) -> Result<u64, OutOfMemory> {
-    let known = Known {
-        lines,
-        meant,
-        failure,
-    };
+pub(crate) fn push_candidates(out: &mut Candidates, known: &Known<'_>) -> Result<u64, OutOfMemory> {
     known.together(out)?;
     let before = out.len();
     known.look_back(out, before, false)?;
     known.look_back(out, before, true)?;
-    Ok(LOOKS.saturating_mul(failure.place.min(REACH) as u64))
+    Ok(LOOKS.saturating_mul(known.failure.place.min(REACH) as u64))
 }
 
-fn place_of(key: ConnectionKey) -> Place {
+/// The host and the ports of a key.
+pub(crate) fn place_of(key: ConnectionKey) -> Place {
     let (host, lport, rport) = key;
     Place {
         host: if host == 0 { Host::Zero } else { Host::One },
@@ -78,121 +66,7 @@ fn place_of(key: ConnectionKey) -> Place {
     }
 }
 
-// Which arrivals are chosen at once.
-#[derive(Clone, Copy)]
-enum Kind {
-    /// They have this flag.
-    Has(Flag),
-    /// They carry the byte that the failing line acknowledges next.
-    Covers,
-    /// They carry more than the failing line acknowledges.
-    EndsBeyond,
-}
-
-// A side of the failing line.
-#[derive(Clone, Copy)]
-enum Side {
-    Before,
-    After,
-}
-
-// How many numbers a segment's bytes and its FIN have.
-fn length_of(wire: &Wire) -> u32 {
-    let len = u32::try_from(wire.seg.payload.len()).unwrap_or(u32::MAX);
-    len.saturating_add(u32::from(wire.seg.has(Flag::Fin)))
-}
-
-// Whether a segment carries the byte, or the FIN, of this number.
-fn covers(wire: &Wire, number: u32) -> bool {
-    number.wrapping_sub(wire.seg.seq.0) < length_of(wire)
-}
-
-// Whether a segment carries bytes, or a FIN, at this number or after it.
-fn ends_beyond(wire: &Wire, number: u32) -> bool {
-    let len = length_of(wire);
-    let ahead = wire.seg.seq.0.wrapping_add(len).wrapping_sub(number);
-    len > 0 && ahead > 0 && ahead < HALF
-}
-
 impl Known<'_> {
-    // The acknowledgment number that the failing line shows. None: it shows none.
-    fn shown_ack(&self) -> Option<u32> {
-        match &self.lines.get(self.failure.place)?.event {
-            Event::Sent(_, wire) if wire.seg.has(Flag::Ack) => Some(wire.seg.ack.0),
-            _ => None,
-        }
-    }
-
-    // Several arrivals at once that bear on the failure. A host that ignores one reset may ignore a flood of them, so
-    // the resets after the failure are dropped, too.
-    fn together(&self, out: &mut Candidates) -> Result<(), OutOfMemory> {
-        if self.failure.rule == Rule::BytesDiffer {
-            self.gather(out, Kind::Covers, Fate::NotKept)?;
-            return self.gather(out, Kind::EndsBeyond, Fate::NotKept);
-        }
-        let resets = Kind::Has(Flag::Rst);
-        self.add(out, resets, Fate::Dropped, Side::Before)?;
-        self.add(out, resets, Fate::Dropped, Side::After)?;
-        out.end()?;
-        self.gather(out, Kind::Has(Flag::Syn), Fate::Dropped)?;
-        self.gather(out, Kind::Has(Flag::Fin), Fate::Dropped)
-    }
-
-    // One candidate: all arrivals of a kind before the failure have this fate.
-    fn gather(&self, out: &mut Candidates, kind: Kind, fate: Fate) -> Result<(), OutOfMemory> {
-        self.add(out, kind, fate, Side::Before)?;
-        out.end()
-    }
-
-    // The arrivals of a kind on one side of the failure have this fate, the nearest first.
-    fn add(
-        &self,
-        out: &mut Candidates,
-        kind: Kind,
-        fate: Fate,
-        side: Side,
-    ) -> Result<(), OutOfMemory> {
-        let mut left = TOGETHER;
-        for distance in 1..=REACH {
-            let Some(place) = self.place_at(side, distance) else {
-                break;
-            };
-            if left == 0 || !self.is_arrival_of(place, kind) {
-                continue;
-            }
-            left = left.saturating_sub(1);
-            out.add(Choice::Fate { place, fate })?;
-        }
-        Ok(())
-    }
-
-    // The place at a distance from the failure.
-    fn place_at(&self, side: Side, distance: usize) -> Option<usize> {
-        match side {
-            Side::Before => self.failure.place.checked_sub(distance),
-            Side::After => self.failure.place.checked_add(distance),
-        }
-    }
-
-    // Whether a line shows an arrival of this kind at the endpoint of the failure.
-    fn is_arrival_of(&self, place: usize, kind: Kind) -> bool {
-        let Some(line) = self.lines.get(place) else {
-            return false;
-        };
-        let Event::Came(_, wire) = &line.event else {
-            return false;
-        };
-        if self.failure.key.is_some() && key_of(line) != self.failure.key {
-            return false;
-        }
-        match (kind, self.shown_ack()) {
-            (Kind::Has(flag), _) => wire.seg.has(flag),
-            (Kind::Covers, Some(ack)) => covers(wire, ack),
-            (Kind::EndsBeyond, Some(ack)) => ends_beyond(wire, ack),
-            (Kind::Covers | Kind::EndsBeyond, None) => false,
-        }
-    }
-
     // Looks at the lines before a failure, the nearest first.
     fn look_back(
         &self,
@@ -446,8 +320,8 @@ impl Known<'_> {
     }
 }
 
-// The endpoint whose segment or timer a line shows. None: it shows a call.
-fn key_of(line: &Line) -> Option<ConnectionKey> {
+/// The endpoint whose segment or timer a line shows. None: it shows a call.
+pub(crate) fn key_of(line: &Line) -> Option<ConnectionKey> {
     match &line.event {
         Event::Sent(host, wire) => Some(connection_key(*host, wire.seg.src, wire.seg.dst)),
         Event::Came(host, wire) => Some(connection_key(*host, wire.seg.dst, wire.seg.src)),

@@ -15,8 +15,12 @@ use seqno::number;
 use spec_tcp::{Arrived, Emission};
 use verdict::Rule;
 
-// The endpoint that a segment finds, if it is not CLOSED.
-fn endpoint_found<'w>(world: &'w World, host: Host, m: &Emission) -> Option<&'w Endpoint> {
+/// The endpoint that a segment finds, if it is not CLOSED.
+pub(crate) fn endpoint_found<'w>(
+    world: &'w World,
+    host: Host,
+    m: &Emission,
+) -> Option<&'w Endpoint> {
     let endpoint = world.body(host).endpoint_of(m.rport, m.lport)?;
     if endpoint.state.is_closed() {
         None
@@ -25,8 +29,12 @@ fn endpoint_found<'w>(world: &'w World, host: Host, m: &Emission) -> Option<&'w 
     }
 }
 
-// A segment as the endpoint reads it. None: the endpoint is further than positions go.
-fn as_read<'m>(world: &World, endpoint: &Endpoint, m: &'m Emission) -> Option<Arrived<'m>> {
+/// A segment as the endpoint reads it. None: the endpoint is further than positions go.
+pub(crate) fn as_read<'m>(
+    world: &World,
+    endpoint: &Endpoint,
+    m: &'m Emission,
+) -> Option<Arrived<'m>> {
     Arrived::checked_read(world.header().version, endpoint, m)
 }
 
@@ -117,6 +125,9 @@ impl<'t> Search<'t> {
         let place = self.place;
         let how = self.choices.arrival(place);
         let line = self.bring_in(host, wire, how)?;
+        if self.widening(host, line).is_some() {
+            self.beyond.push(place)?;
+        }
         if how.waits {
             self.waiting.insert(place, line)?;
             return Ok(());
@@ -174,6 +185,9 @@ impl<'t> Search<'t> {
             return self.drop_arrival(host, line);
         }
         let is_kept = self.make_earlier(host, line)? && how.is_kept;
+        if how.is_widened {
+            self.widen(host, line)?;
+        }
         let how = Arrival { is_kept, ..how };
         if self.try_taking(host, line, how)? {
             return Ok(());

@@ -22,6 +22,8 @@ pub(crate) enum Fate {
     NotGrown,
     /// It copies the last of several equal sendings.
     OfLast,
+    /// It is taken, and a segment that no line shows advertised a window that reaches to its end.
+    Widened,
 }
 
 /// What happens at an endpoint before a line.
@@ -101,6 +103,7 @@ pub(crate) struct Arrival {
     pub is_measured: bool,
     pub grows: bool,
     pub is_of_last: bool,
+    pub is_widened: bool,
     pub waits: bool,
 }
 
@@ -110,6 +113,7 @@ const USUAL: Arrival = Arrival {
     is_measured: true,
     grows: true,
     is_of_last: false,
+    is_widened: false,
     waits: false,
 };
 
@@ -137,6 +141,10 @@ impl Arrival {
             },
             Fate::OfLast => Arrival {
                 is_of_last: true,
+                ..self
+            },
+            Fate::Widened => Arrival {
+                is_widened: true,
                 ..self
             },
         }

@@ -4,11 +4,11 @@
 //! the same case. First single candidates are tried, the nearest to the line first, and those that explain a further
 //! line are kept. If none does, two candidates are tried at once.
 
-use crate::alternatives::{Failure, push_candidates};
+use crate::alternatives::{Failure, Known, push_candidates};
 use crate::candidates::Candidates;
 use crate::choices::Choices;
 use crate::search::{Added, MeantCall, Search, Sought};
-use case_forms::{OutOfMemory, Steps};
+use case_forms::{Line, OutOfMemory, Steps};
 use endpoint_state::StepFault;
 use std::alloc::{AllocError, Global};
 use std::collections::BTreeMap;
@@ -31,6 +31,7 @@ pub(crate) struct Attempt {
     /// Where it failed. None: all lines are explained.
     pub failure: Option<Failure>,
     meant: Vec<MeantCall>,
+    beyond: Vec<usize>,
     /// How many steps it took.
     cost: u64,
 }
@@ -42,6 +43,7 @@ impl Attempt {
             steps: Steps::new(alloc),
             failure: None,
             meant: Vec::new(alloc),
+            beyond: Vec::new(alloc),
             cost: 0,
         }
     }
@@ -64,7 +66,18 @@ impl Attempt {
         swap(&mut self.added, &mut search.added);
         swap(&mut self.steps, &mut search.steps);
         swap(&mut self.meant, &mut search.meant);
+        swap(&mut self.beyond, &mut search.beyond);
         self.cost = search.world.steps().saturating_add(1);
+    }
+
+    // What is known of where it failed. None: it didn't.
+    fn known<'a>(&'a self, lines: &'a [Line]) -> Option<Known<'a>> {
+        Some(Known {
+            lines,
+            meant: self.meant.as_slice(),
+            beyond: self.beyond.as_slice(),
+            failure: self.failure?,
+        })
     }
 
     // Whether this one explains more than another.
@@ -198,15 +211,15 @@ impl<'t> Retries<'t> {
 
     // Tries two candidates of the best attempt at once. The answer is whether they explain a further line.
     fn try_pairs(&mut self) -> Result<bool, OutOfMemory> {
-        let Some(failure) = self.best.failure else {
+        let Some(known) = self.best.known(self.sought.lines) else {
             return Ok(false);
         };
+        let place = known.failure.place;
         self.pairs.truncate(0);
-        let lines = self.sought.lines;
-        let looks = push_candidates(&mut self.pairs, lines, self.best.meant.as_slice(), failure)?;
+        let looks = push_candidates(&mut self.pairs, &known)?;
         self.cost = self.cost.saturating_add(looks / LOOKS);
         for second in 1..self.pairs.len().min(PAIRED) {
-            if self.try_pairs_with(failure.place, second)? {
+            if self.try_pairs_with(place, second)? {
                 return Ok(true);
             }
             if self.is_over() {
@@ -267,26 +280,21 @@ impl<'t> Retries<'t> {
 
     // Puts the level of the last attempt on the path, unless candidates were listed often enough for its line.
     fn go_on_from_last(&mut self, lists: u32) -> Result<(), OutOfMemory> {
-        let Some(failure) = self.last.failure else {
+        let Some(known) = self.last.known(self.sought.lines) else {
             return Ok(());
         };
-        let count = self.listed.get(&failure.place).copied().unwrap_or(0);
+        let place = known.failure.place;
+        let count = self.listed.get(&place).copied().unwrap_or(0);
         if count >= lists {
             return Ok(());
         }
-        self.listed.insert(failure.place, count.saturating_add(1))?;
+        self.listed.insert(place, count.saturating_add(1))?;
         let next = self.candidates.len();
-        let lines = self.sought.lines;
-        let looks = push_candidates(
-            &mut self.candidates,
-            lines,
-            self.last.meant.as_slice(),
-            failure,
-        )?;
+        let looks = push_candidates(&mut self.candidates, &known)?;
         self.cost = self.cost.saturating_add(looks / LOOKS);
         self.path.push(Level {
             chosen: self.choices.len(),
-            place: failure.place,
+            place,
             next,
             stop: self.candidates.len(),
         })?;

@@ -7,6 +7,7 @@
 //! - `finding`: the text of a trace becomes the text of a case
 //! - `going_back`: if a line can't be explained, something before it is chosen otherwise, within a budget
 //! - `alternatives`: what else could have been chosen before a line
+//! - `together`: what else could have been chosen at several lines at once
 //! - `candidates`: a list of it, each with one choice or several
 //! - `choices`: what is chosen at lines where more than one step is possible
 //! - `search`: one pass over the lines, each with the steps that belong to it
@@ -37,6 +38,7 @@ mod going_back;
 mod later;
 mod search;
 mod sending;
+mod together;
 mod unseen;
 
 pub use finding::{Ending, Found, USUAL_BUDGET, find, find_within};

@@ -59,6 +59,8 @@ pub(crate) struct Search<'t> {
     pub syns: BTreeMap<ConnectionKey, Word>,
     /// What calls mean, in the order of their beginnings.
     pub meant: Vec<MeantCall>,
+    /// The places of arrivals that ended beyond the window.
+    pub beyond: Vec<usize>,
     pub steps: Steps,
     pub added: Vec<Added>,
     /// The place of the line that is looked at, from 0.
@@ -93,6 +95,7 @@ impl<'t> Search<'t> {
             waiting: BTreeMap::new(alloc),
             syns: BTreeMap::new(alloc),
             meant: Vec::new(alloc),
+            beyond: Vec::new(alloc),
             steps: Steps::new(alloc),
             added: Vec::new(alloc),
             place: 0,

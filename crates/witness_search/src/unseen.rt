@@ -1,6 +1,7 @@
 //! Segments that no line shows: they were made, and lost before the capture.
 
 use crate::ahead::connection_key;
+use crate::arriving::{as_read, endpoint_found};
 use crate::choices::Unseen;
 use crate::search::Search;
 use crate::sending::plan_of;
@@ -85,7 +86,47 @@ fn reset(endpoint: &Endpoint, window: u16) -> SegmentPlan {
     bare(endpoint, endpoint.snd_max(), flags, window)
 }
 
+// The window field that reaches up to a position. None: it is reached already, or beyond every window.
+fn window_up_to(endpoint: &Endpoint, end: u64) -> Option<u16> {
+    if end <= endpoint.window.rcv_adv {
+        return None;
+    }
+    let size = end.saturating_sub(endpoint.rcv_nxt());
+    let shift = if endpoint.is_scaling() {
+        endpoint.shift?
+    } else {
+        0
+    };
+    let unit = 1_u64.checked_shl(u32::from(shift))?;
+    u16::try_from(size.div_ceil(unit)).ok()
+}
+
 impl Search<'_> {
+    /// Advertises a window that reaches to the end of what came in with a line, in a segment that no line shows.
+    pub(crate) fn widen(&mut self, host: Host, line: u64) -> Result<(), StepFault> {
+        let Some(plan) = self.widening(host, line) else {
+            return Ok(());
+        };
+        match self.make(host, plan) {
+            Ok(_) | Err(StepFault::Broken(_)) => Ok(()),
+            Err(StepFault::OutOfMemory) => Err(StepFault::OutOfMemory),
+        }
+    }
+
+    /// The segment that advertises such a window. None: the window reaches there, or none can.
+    pub(crate) fn widening(&self, host: Host, line: u64) -> Option<SegmentPlan> {
+        let m = self.world.waiting(host, line)?;
+        let endpoint = endpoint_found(&self.world, host, m)?;
+        let read = as_read(&self.world, endpoint, m)?;
+        let len = (m.payload.len() as u64).max(1);
+        let window = window_up_to(endpoint, read.pos().saturating_add(len))?;
+        let flags = Flags {
+            ack: true,
+            ..NO_FLAGS
+        };
+        Some(bare(endpoint, endpoint.snd_max(), flags, window))
+    }
+
     /// An endpoint makes what no line shows, of its bytes at most those below a position. The answer is whether it made
     /// any.
     pub(crate) fn make_unseen(

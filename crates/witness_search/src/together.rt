@@ -1,0 +1,204 @@
+//! Several choices at once before a line that no step explains.
+
+use crate::alternatives::{Known, NEAR, REACH, key_of, place_of};
+use crate::candidates::Candidates;
+use crate::chains::ConnectionKey;
+use crate::choices::{Choice, Fate, Remedy};
+use case_forms::{Event, OutOfMemory, Wire};
+use segment::Flag;
+use verdict::Rule;
+
+// How many choices are made at once before a failure, at most, and how many after it.
+const TOGETHER: usize = 256;
+
+// Half of all sequence numbers: so far ahead a number may be.
+const HALF: u32 = 0x8000_0000;
+
+/// Which arrivals are chosen at once.
+#[derive(Clone, Copy)]
+pub(crate) enum Kind {
+    /// They have this flag.
+    Has(Flag),
+    /// They carry the byte that the failing line acknowledges next.
+    Covers,
+    /// They carry more than the failing line acknowledges.
+    EndsBeyond,
+}
+
+// A side of the failing line.
+#[derive(Clone, Copy)]
+enum Side {
+    Before,
+    After,
+}
+
+// How many numbers a segment's bytes and its FIN have.
+fn length_of(wire: &Wire) -> u32 {
+    let len = u32::try_from(wire.seg.payload.len()).unwrap_or(u32::MAX);
+    len.saturating_add(u32::from(wire.seg.has(Flag::Fin)))
+}
+
+// Whether a segment carries the byte, or the FIN, of this number.
+fn covers(wire: &Wire, number: u32) -> bool {
+    number.wrapping_sub(wire.seg.seq.0) < length_of(wire)
+}
+
+// Whether a segment carries bytes, or a FIN, at this number or after it.
+fn ends_beyond(wire: &Wire, number: u32) -> bool {
+    let len = length_of(wire);
+    let ahead = wire.seg.seq.0.wrapping_add(len).wrapping_sub(number);
+    len > 0 && ahead > 0 && ahead < HALF
+}
+
+// Whether a segment carries bytes, or a FIN, that were sent before. `end` is the number after all that was sent.
+fn is_again(end: Option<u32>, wire: &Wire) -> bool {
+    match end {
+        Some(end) => length_of(wire) > 0 && HALF <= wire.seg.seq.0.wrapping_sub(end),
+        None => false,
+    }
+}
+
+impl Known<'_> {
+    // The acknowledgment number that the failing line shows. None: it shows none.
+    fn shown_ack(&self) -> Option<u32> {
+        match &self.lines.get(self.failure.place)?.event {
+            Event::Sent(_, wire) if wire.seg.has(Flag::Ack) => Some(wire.seg.ack.0),
+            _ => None,
+        }
+    }
+
+    /// Adds what bears on the failure and is chosen at several lines at once, and arrivals beyond the window.
+    pub(crate) fn together(&self, out: &mut Candidates) -> Result<(), OutOfMemory> {
+        if self.failure.rule == Rule::BytesDiffer {
+            self.gather(out, Kind::Covers, Fate::NotKept)?;
+            self.gather(out, Kind::EndsBeyond, Fate::NotKept)?;
+            return self.widen(out);
+        }
+        self.widen(out)?;
+        self.drop_all(out)?;
+        match self.failure.rule {
+            Rule::CallAnswer | Rule::OldData | Rule::TimerOff => self.expire_each(out),
+            _ => Ok(()),
+        }
+    }
+
+    // The last arrivals that end beyond the window: an unseen segment advertised a larger one.
+    fn widen(&self, out: &mut Candidates) -> Result<(), OutOfMemory> {
+        for place in self.beyond.iter().rev().take(NEAR) {
+            if self.bears_on_failure(*place) {
+                out.push(Choice::Fate {
+                    place: *place,
+                    fate: Fate::Widened,
+                })?;
+            }
+        }
+        Ok(())
+    }
+
+    // Resets, SYNs or FINs are dropped. A host that ignores one reset may ignore a flood of them, so the resets after
+    // the failure are dropped, too.
+    fn drop_all(&self, out: &mut Candidates) -> Result<(), OutOfMemory> {
+        let resets = Kind::Has(Flag::Rst);
+        self.add(out, resets, Fate::Dropped, Side::Before)?;
+        self.add(out, resets, Fate::Dropped, Side::After)?;
+        out.end()?;
+        self.gather(out, Kind::Has(Flag::Syn), Fate::Dropped)?;
+        self.gather(out, Kind::Has(Flag::Fin), Fate::Dropped)
+    }
+
+    // One candidate: the retransmission timer expires before each retransmission, if it may.
+    fn expire_each(&self, out: &mut Candidates) -> Result<(), OutOfMemory> {
+        let Some(key) = self.failure.key else {
+            return Ok(());
+        };
+        let mut end = None;
+        let first = self.failure.place.saturating_sub(REACH);
+        for place in first..=self.failure.place {
+            let Some(wire) = self.sent_by(key, place) else {
+                continue;
+            };
+            if is_again(end, wire) {
+                out.add(Choice::Before {
+                    place,
+                    at: place_of(key),
+                    remedy: Remedy::Rto,
+                })?;
+            } else if length_of(wire) > 0 {
+                end = Some(wire.seg.seq.0.wrapping_add(length_of(wire)));
+            }
+        }
+        out.end()
+    }
+
+    // The segment that an endpoint sends with the line at a place.
+    fn sent_by(&self, key: ConnectionKey, place: usize) -> Option<&Wire> {
+        let line = self.lines.get(place)?;
+        match &line.event {
+            Event::Sent(_, wire) if key_of(line) == Some(key) => Some(wire),
+            _ => None,
+        }
+    }
+
+    // One candidate: all arrivals of a kind before the failure have this fate.
+    fn gather(&self, out: &mut Candidates, kind: Kind, fate: Fate) -> Result<(), OutOfMemory> {
+        self.add(out, kind, fate, Side::Before)?;
+        out.end()
+    }
+
+    // The arrivals of a kind on one side of the failure have this fate, the nearest first.
+    fn add(
+        &self,
+        out: &mut Candidates,
+        kind: Kind,
+        fate: Fate,
+        side: Side,
+    ) -> Result<(), OutOfMemory> {
+        let mut left = TOGETHER;
+        for distance in 1..=REACH {
+            let Some(place) = self.place_at(side, distance) else {
+                break;
+            };
+            if left == 0 || !self.is_arrival_of(place, kind) {
+                continue;
+            }
+            left = left.saturating_sub(1);
+            out.add(Choice::Fate { place, fate })?;
+        }
+        Ok(())
+    }
+
+    // The place at a distance from the failure.
+    fn place_at(&self, side: Side, distance: usize) -> Option<usize> {
+        match side {
+            Side::Before => self.failure.place.checked_sub(distance),
+            Side::After => self.failure.place.checked_add(distance),
+        }
+    }
+
+    // Whether a line shows the endpoint of the failure, or that isn't known.
+    fn bears_on_failure(&self, place: usize) -> bool {
+        match self.lines.get(place) {
+            Some(line) => self.failure.key.is_none() || key_of(line) == self.failure.key,
+            None => false,
+        }
+    }
+
+    /// Whether a line shows an arrival of this kind at the endpoint of the failure.
+    pub(crate) fn is_arrival_of(&self, place: usize, kind: Kind) -> bool {
+        let Some(line) = self.lines.get(place) else {
+            return false;
+        };
+        let Event::Came(_, wire) = &line.event else {
+            return false;
+        };
+        if !self.bears_on_failure(place) {
+            return false;
+        }
+        match (kind, self.shown_ack()) {
+            (Kind::Has(flag), _) => wire.seg.has(flag),
+            (Kind::Covers, Some(ack)) => covers(wire, ack),
+            (Kind::EndsBeyond, Some(ack)) => ends_beyond(wire, ack),
+            (Kind::Covers | Kind::EndsBeyond, None) => false,
+        }
+    }
+}
