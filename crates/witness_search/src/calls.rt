@@ -306,6 +306,9 @@ impl Search<'_> {
             done => return done,
         }
         self.expire_for(thread, answer)?;
+        if !self.calls.open.contains_key(&thread) {
+            return Ok(());
+        }
         match self.effect(thread, answer) {
             Err(StepFault::Broken(rule)) => {
                 let answer = answer.copy()?;
