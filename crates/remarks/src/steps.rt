@@ -4,56 +4,40 @@ ghost use Rattle.std.specs.Prelude.{◌<◌, IsTrue, OnOk};
 ghost use Rattle.case_forms.specs.Witnesses.{IsWithinLimits};
 ghost use Rattle.spec_tcp.specs.Bounds.{most_steps};
 
-use case_forms::{GREATEST_POSITION, Label, Line, MOST_STEPS, NamedLine, OutOfMemory};
+use case_forms::{GREATEST_POSITION, Label, Line, MOST_STEPS, NamedLine, OutOfMemory, Step};
 use endpoint_state::{StepFault, World};
 use spec_step::{apply_hidden, apply_line};
 use std::alloc::AllocError;
 
-/// Does a step that takes no line. Nothing happens if it is refused.
-pub(crate) fn do_hidden(
+/// Does a step, with the line that it names, if it names one. Nothing happens if it is refused.
+pub(crate) fn do_step(
     world: &mut World,
-    moment: u64,
-    label: &Label<NamedLine>,
+    step: &Step,
+    line: Option<&Line>,
 ) -> Result<(), OutOfMemory> {
-    unless_refused(try_hidden(world, moment, label))
-}
-
-/// Does the step of a line. Nothing happens if it is refused.
-pub(crate) fn do_line(
-    world: &mut World,
-    moment: u64,
-    line: &Line,
-    named: NamedLine,
-) -> Result<(), OutOfMemory> {
-    unless_refused(try_line(world, moment, line, named))
-}
-
-fn unless_refused(done: Result<(), StepFault>) -> Result<(), OutOfMemory> {
-    match done {
+    match try_step(world, step, line) {
         Ok(()) | Err(StepFault::Broken(_)) => Ok(()),
         Err(StepFault::OutOfMemory) => Err(AllocError),
     }
 }
 
-fn try_hidden(world: &mut World, moment: u64, label: &Label<NamedLine>) -> Result<(), StepFault> {
-    has_room(world)?;
-    if !is_within_limits(label) {
-        return Ok(());
+fn try_step(world: &mut World, step: &Step, line: Option<&Line>) -> Result<(), StepFault> {
+    match (&step.label, line) {
+        (Label::L(named), Some(line)) => {
+            let Some(taken) = line.copy()?.taken(named.extras) else {
+                return Ok(());
+            };
+            has_room(world)?;
+            apply_line(world, step.moment, &taken)
+        }
+        (label, _) => {
+            has_room(world)?;
+            if !is_within_limits(label) {
+                return Ok(());
+            }
+            apply_hidden(world, step.moment, label)
+        }
     }
-    apply_hidden(world, moment, label)
-}
-
-fn try_line(
-    world: &mut World,
-    moment: u64,
-    line: &Line,
-    named: NamedLine,
-) -> Result<(), StepFault> {
-    let Some(taken) = line.copy()?.taken(named.extras) else {
-        return Ok(());
-    };
-    has_room(world)?;
-    apply_line(world, moment, &taken)
 }
 
 // Whether one more step may be done; no witness that `check` reads has so many.
