@@ -85,7 +85,7 @@ impl Again {
         let what = Position(self.position);
         let permit = self.permit;
         let text = format!(in found.alloc; "{who} retransmits {what}{} {permit}", Times(times))?;
-        found.add_lines(first, last, text)
+        found.add_lines((first, last), text)
     }
 }
 
@@ -112,23 +112,19 @@ impl Chain {
     /// The chain with one more retransmission, after so many permits, at a moment and with a line.
     pub(crate) fn longer(&self, permits: u64, moment: u64, line: u64, grain: u64) -> Chain {
         let wait = moment.saturating_sub(self.moment);
-        let is_early = is_short(wait, self.wait, grain);
-        Chain {
+        let mut next = Chain {
             moment,
             wait: wait.max(self.wait),
             permits,
-            early: if is_early {
-                self.early.and(line)
-            } else {
-                self.early
-            },
-            waits: if is_early && self.early.times == 0 {
-                (wait, self.wait)
-            } else {
-                self.waits
-            },
             ..*self
+        };
+        if is_short(wait, self.wait, grain) {
+            next.early = self.early.and(line);
+            if self.early.times == 0 {
+                next.waits = (wait, self.wait);
+            }
         }
+        next
     }
 
     /// Remarks on those that came too early, if any did.
@@ -146,6 +142,6 @@ impl Chain {
             "{who} retransmits {what}{} without back-off: {at_first}after {wait} instead of {required} (RFC 6298, 5.5)",
             Times(times),
         )?;
-        found.add_lines(first, last, text)
+        found.add_lines((first, last), text)
     }
 }

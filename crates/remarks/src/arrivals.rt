@@ -22,6 +22,9 @@ struct Carried {
     fin: Option<u64>,
 }
 
+// Who meets a segment, its flags, what it carries, and the position that it acknowledges.
+type Met = (Who, Flags, Carried, u64);
+
 impl Carried {
     // What a segment carries whose number has this position.
     fn of(m: &Emission, position: u64) -> Carried {
@@ -33,16 +36,10 @@ impl Carried {
         }
     }
 
-    // What of it lies in the receive window and wasn't received in order.
+    // What of it lies in the receive window of an endpoint and wasn't received in order.
     fn fresh(&self, endpoint: &Endpoint) -> Carried {
         let next = endpoint.rcv_nxt();
         let edge = endpoint.window.rcv_adv;
-        if endpoint.stream.receive.is_ended() {
-            return Carried {
-                bytes: None,
-                fin: None,
-            };
-        }
         Carried {
             bytes: match self.bytes {
                 Some(Stretch { first, last }) => {
@@ -82,7 +79,8 @@ impl<'t> Replay<'t> {
             None => false,
         };
         if was_shut && is_open {
-            self.put(self.note(id).permitted(Permit::Opening(line)))?;
+            let note = self.note(id).permitted(Permit::Opening(line));
+            self.put(note)?;
         }
         self.touch(id, line)
     }
@@ -95,8 +93,8 @@ impl<'t> Replay<'t> {
             return Ok(());
         }
         match self.met(host, line) {
-            Some((who, flags, carried, ack)) => {
-                let text = dropped(self.alloc, who, flags, carried, ack)?;
+            Some(met) => {
+                let text = dropped(self.found.alloc, met)?;
                 self.found.add(line, text)
             }
             None => Ok(()),
@@ -120,9 +118,8 @@ impl<'t> Replay<'t> {
         Ok((lport, rport))
     }
 
-    // Who drops the segment of a line, and its flags, what it carries, and the position that it acknowledges. None:
-    // nobody is to process it, or a full queue is a reason to drop it.
-    fn met(&self, host: Host, line: u64) -> Option<(Who, Flags, Carried, u64)> {
+    // Who drops the segment of a line. None: nobody is to process it, or a full queue is a reason to drop it.
+    fn met(&self, host: Host, line: u64) -> Option<Met> {
         let m = self.world.waiting(host, line)?;
         let header = &self.whole.trace.header;
         let body = self.world.body(host);
@@ -154,7 +151,7 @@ impl<'t> Replay<'t> {
             return self.hold(id, fresh, next);
         }
         let lost = self.not_held(id, fresh);
-        let alloc = self.alloc;
+        let alloc = self.found.alloc;
         let discards = format!(in alloc; "{who} processes a segment but discards")?;
         let discards = discards.as_str();
         let text = match (lost.bytes, lost.fin) {
@@ -174,7 +171,8 @@ impl<'t> Replay<'t> {
         let m = self.world.waiting(host, line)?;
         let id = self.endpoint_of(host, m.rport, m.lport)?;
         let endpoint = self.endpoint(id)?;
-        if endpoint.state.is_closed() || endpoint.state.is_syn_sent() || m.flags.rst {
+        let may_keep = !endpoint.state.is_closed() && !endpoint.state.is_syn_sent();
+        if !may_keep || endpoint.stream.receive.is_ended() || m.flags.rst {
             return None;
         }
         let read = Arrived::checked_read(self.whole.trace.header.version, endpoint, m)?;
@@ -220,13 +218,7 @@ impl<'t> Replay<'t> {
 }
 
 // That somebody drops an acceptable segment, in words.
-fn dropped(
-    alloc: Global,
-    who: Who,
-    flags: Flags,
-    carried: Carried,
-    ack: u64,
-) -> Result<String, OutOfMemory> {
+fn dropped(alloc: Global, (who, flags, carried, ack): Met) -> Result<String, OutOfMemory> {
     if flags.rst {
         return format!(in alloc; "{who} drops an acceptable reset");
     }

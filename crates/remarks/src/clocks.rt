@@ -78,11 +78,8 @@ fn backed_off(rto: u64, times: u32) -> u64 {
 
 // How many bytes a send accepted and no segment carries yet.
 fn waiting_bytes(endpoint: &Endpoint) -> u64 {
-    endpoint
-        .stream
-        .accepted
-        .end()
-        .saturating_sub(endpoint.snd_max().max(1))
+    let end = endpoint.stream.accepted.end();
+    end.saturating_sub(endpoint.snd_max().max(1))
 }
 
 /// Bytes wait although the window is open and nothing is in flight.

@@ -24,18 +24,18 @@ impl<'t> Replay<'t> {
     }
 
     fn finish_endpoints(&mut self) -> Result<(), OutOfMemory> {
+        let moment = self.moment;
+        let is_yes = self.whole.is_yes;
         for note in self.notes.values() {
             if let Some(chain) = note.chain {
                 chain.say(&mut self.found)?;
             }
-            if self.whole.is_yes {
+            if is_yes {
                 let body = self.world.body(note.id.host);
                 if let Some(endpoint) = body.endpoint_at(note.id.number) {
-                    let now = Now {
-                        line: AT_THE_END,
-                        moment: self.moment,
-                        who: Who::of(note.id.host, endpoint),
-                    };
+                    let line = AT_THE_END;
+                    let who = Who::of(note.id.host, endpoint);
+                    let now = Now { line, moment, who };
                     say_left(&mut self.found, now, endpoint, note)?;
                 }
             }
@@ -44,8 +44,9 @@ impl<'t> Replay<'t> {
     }
 
     fn finish_calls(&mut self) -> Result<(), OutOfMemory> {
+        let whole = self.whole;
         for (thread, line) in self.calls.iter() {
-            say_call(&mut self.found, self.whole, *thread, *line)?;
+            say_call(&mut self.found, whole, *thread, *line)?;
         }
         Ok(())
     }

@@ -1,5 +1,6 @@
 //! The remarks that were found, in the order of their places.
 
+use crate::replay::Remarked;
 use case_forms::OutOfMemory;
 use std::alloc::Global;
 use std::collections::BTreeMap;
@@ -24,16 +25,12 @@ impl Found {
 
     /// One more remark, on this line.
     pub(crate) fn add(&mut self, line: u64, text: String) -> Result<(), OutOfMemory> {
-        self.add_lines(line, line, text)
+        self.add_lines((line, line), text)
     }
 
     /// One more remark, on the lines from the first to the last.
-    pub(crate) fn add_lines(
-        &mut self,
-        first: u64,
-        last: u64,
-        text: String,
-    ) -> Result<(), OutOfMemory> {
+    pub(crate) fn add_lines(&mut self, lines: (u64, u64), text: String) -> Result<(), OutOfMemory> {
+        let (first, last) = lines;
         let number = self.remarks.len() as u64;
         let remark = if first == AT_THE_END {
             format!(in self.alloc; "at the end: {text}\n")?
@@ -46,17 +43,13 @@ impl Found {
         Ok(())
     }
 
-    /// How many there are.
-    pub(crate) fn len(&self) -> usize {
-        self.remarks.len()
-    }
-
-    /// All of them, a line each.
-    pub(crate) fn text(&self) -> Result<Vec<u8>, OutOfMemory> {
+    /// All of them.
+    pub(crate) fn remarked(&self) -> Result<Remarked, OutOfMemory> {
         let mut text = Vec::new(self.alloc);
         for remark in self.remarks.values() {
             text.extend_from_slice(remark.as_bytes())?;
         }
-        Ok(text)
+        let count = self.remarks.len();
+        Ok(Remarked { text, count })
     }
 }

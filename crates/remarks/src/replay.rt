@@ -4,9 +4,8 @@ use crate::again::Again;
 use crate::found::Found;
 use crate::notes::{EndpointKey, Note, key_of};
 use crate::sendings::Sending;
-use crate::steps::do_step;
 use crate::whole::Whole;
-use case_forms::{Event, Extras, Host, Label, Line, NamedLine, OutOfMemory, Step};
+use case_forms::{Event, Extras, Host, Label, NamedLine, OutOfMemory, Step};
 use checker::CaseFault;
 use endpoint_state::World;
 use spec_tcp::{Endpoint, EndpointId};
@@ -29,16 +28,12 @@ pub fn remark(alloc: Global, text: &[u8]) -> Result<Remarked, CaseFault> {
     let mut replay = Replay::new(alloc, &whole);
     replay.all()?;
     replay.finish()?;
-    Ok(Remarked {
-        text: replay.found.text()?,
-        count: replay.found.len(),
-    })
+    Ok(replay.found.remarked()?)
 }
 
 /// A case up to a step.
 #[derive(Drop)]
 pub(crate) struct Replay<'t> {
-    pub alloc: Global,
     pub whole: &'t Whole,
     pub world: World,
     /// The moment of the last step.
@@ -60,7 +55,6 @@ pub(crate) struct Replay<'t> {
 impl<'t> Replay<'t> {
     fn new(alloc: Global, whole: &'t Whole) -> Replay<'t> {
         Replay {
-            alloc,
             whole,
             world: World::start(alloc, &whole.trace.header),
             moment: 0,
@@ -127,11 +121,6 @@ impl<'t> Replay<'t> {
             }
             _ => Ok(()),
         }
-    }
-
-    /// Does a step in the world, with the line that it names, if any.
-    pub(crate) fn apply(&mut self, step: &Step, line: Option<&Line>) -> Result<(), OutOfMemory> {
-        do_step(&mut self.world, step, line)
     }
 
     /// The endpoint of a host that was created last with these ports. None: there was none.

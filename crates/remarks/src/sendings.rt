@@ -80,17 +80,14 @@ impl<'t> Replay<'t> {
         let Some(sending) = self.made.get(&number).copied() else {
             return Ok(());
         };
-        let id = sending.id;
         if sending.position < sending.end {
-            let mut note = self.note(id);
-            let now = Now {
-                line,
-                moment: self.moment,
-                who: sending.who,
-            };
+            let mut note = self.note(sending.id);
+            let moment = self.moment;
+            let who = sending.who;
+            let now = Now { line, moment, who };
             say_waits(&mut self.found, now, &note)?;
             note.sent_end = note.sent_end.max(sending.end);
-            note.last_sent = self.moment;
+            note.last_sent = moment;
             note.heard = false;
             self.put(note)?;
         }
@@ -102,7 +99,7 @@ impl<'t> Replay<'t> {
         if sending.is_reset {
             self.say_reset(&sending, line)?;
         }
-        self.touch(id, line)
+        self.touch(sending.id, line)
     }
 
     // An endpoint sends a reset.
@@ -114,7 +111,9 @@ impl<'t> Replay<'t> {
         let Some((reset, true)) = self.arrived.get(&(host, lport, rport)).copied() else {
             return Ok(());
         };
-        let text = format!(in self.alloc; "{who} sends a reset after the reset of line {reset}")?;
+        let text = format!(in self.found.alloc;
+            "{who} sends a reset after the reset of line {reset}"
+        )?;
         self.found.add(line, text)
     }
 
@@ -252,7 +251,10 @@ impl<'t> Replay<'t> {
         rport: u16,
     ) -> Result<(), OutOfMemory> {
         match self.endpoint_of(host, lport, rport) {
-            Some(id) => self.put(self.note(id).permitted(Permit::Recovery)),
+            Some(id) => {
+                let note = self.note(id).permitted(Permit::Recovery);
+                self.put(note)
+            }
             None => Ok(()),
         }
     }

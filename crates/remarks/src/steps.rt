@@ -4,34 +4,30 @@ ghost use Rattle.std.specs.Prelude.{◌<◌, IsTrue, OnOk};
 ghost use Rattle.case_forms.specs.Witnesses.{IsWithinLimits};
 ghost use Rattle.spec_tcp.specs.Bounds.{most_steps};
 
+use crate::replay::Replay;
 use case_forms::{GREATEST_POSITION, Label, Line, MOST_STEPS, NamedLine, OutOfMemory, Step};
 use endpoint_state::{StepFault, World};
 use spec_step::{apply_hidden, apply_line};
 use std::alloc::AllocError;
 
-/// Does a step, with the line that it names, if it names one. Nothing happens if it is refused.
-pub(crate) fn do_step(
-    world: &mut World,
-    step: &Step,
-    line: Option<&Line>,
-) -> Result<(), OutOfMemory> {
-    match try_step(world, step, line) {
-        Ok(()) | Err(StepFault::Broken(_)) => Ok(()),
-        Err(StepFault::OutOfMemory) => Err(AllocError),
+impl<'t> Replay<'t> {
+    /// Does a step in the world, with the line that it names, if any. Nothing happens if it is refused.
+    pub(crate) fn apply(&mut self, step: &Step, line: Option<&Line>) -> Result<(), OutOfMemory> {
+        match try_step(&mut self.world, step, line) {
+            Ok(()) | Err(StepFault::Broken(_)) => Ok(()),
+            Err(StepFault::OutOfMemory) => Err(AllocError),
+        }
     }
 }
 
 fn try_step(world: &mut World, step: &Step, line: Option<&Line>) -> Result<(), StepFault> {
+    has_room(world)?;
     match (&step.label, line) {
-        (Label::L(named), Some(line)) => {
-            let Some(taken) = line.copy()?.taken(named.extras) else {
-                return Ok(());
-            };
-            has_room(world)?;
-            apply_line(world, step.moment, &taken)
-        }
+        (Label::L(named), Some(line)) => match line.copy()?.taken(named.extras) {
+            Some(taken) => apply_line(world, step.moment, &taken),
+            None => Ok(()),
+        },
         (label, _) => {
-            has_room(world)?;
             if !is_within_limits(label) {
                 return Ok(());
             }

@@ -23,13 +23,13 @@ pub(crate) struct Now {
 impl<'t> Replay<'t> {
     /// Compares an endpoint after a step with what is remembered of it. What ends there ends with this line.
     pub(crate) fn touch(&mut self, id: EndpointId, line: u64) -> Result<(), OutOfMemory> {
+        let before = self.note(id);
+        let moment = self.moment;
         let Some(endpoint) = self.endpoint(id) else {
             return Ok(());
         };
-        let before = self.note(id);
-        let after = before.seen(endpoint, self.moment);
+        let after = before.seen(endpoint, moment);
         let who = Who::of(id.host, endpoint);
-        let moment = self.moment;
         let now = Now { line, moment, who };
         if !is_same(before.rto, after.rto) {
             say_late(&mut self.found, now, before.rto, before.last_sent)?;
