@@ -1,6 +1,5 @@
 //! The effects of calls.
 
-use crate::notes::Note;
 use crate::replay::Replay;
 use case_forms::{Call, Host, OutOfMemory, Step};
 use spec_tcp::{EndpointId, SocketTarget};
@@ -23,59 +22,38 @@ impl<'t> Replay<'t> {
             Some(call) => meant_by(call),
             None => Meant::Nothing,
         };
-        let named = self.endpoint_meant(meant);
-        self.apply(step)?;
-        let line = self.calls.get(&thread).copied().unwrap_or(0);
-        let Some(id) = named.or(self.opened(meant)) else {
+        // A call may end what its socket number names, so that is looked up before.
+        let named = match meant {
+            Meant::Socket(socket, _) => self
+                .endpoint_named(Host::Zero, socket)
+                .or(self.endpoint_named(Host::One, socket)),
+            Meant::Opened(..) | Meant::Nothing => None,
+        };
+        self.apply(step, None)?;
+        let opened = match meant {
+            Meant::Opened(host, lport, rport) => self.endpoint_of(host, lport, rport),
+            Meant::Socket(..) | Meant::Nothing => None,
+        };
+        let Some(id) = named.or(opened) else {
             return Ok(());
         };
         if let Meant::Socket(_, true) = meant {
-            let note = self.note(id);
-            self.put(
-                id,
-                Note {
-                    aborted: self.is_closed(id),
-                    ..note
-                },
-            )?;
+            let mut note = self.note(id);
+            note.aborted = match self.endpoint(id) {
+                Some(endpoint) => endpoint.state.is_closed(),
+                None => false,
+            };
+            self.put(note)?;
         }
+        let line = self.calls.get(&thread).copied().unwrap_or(0);
         self.touch(id, line)
-    }
-
-    // The endpoint that a call names.
-    fn endpoint_meant(&self, meant: Meant) -> Option<EndpointId> {
-        match meant {
-            Meant::Socket(socket, _) => match self.endpoint_named(Host::Zero, socket) {
-                Some(id) => Some(id),
-                None => self.endpoint_named(Host::One, socket),
-            },
-            Meant::Opened(_, _, _) | Meant::Nothing => None,
-        }
     }
 
     // The endpoint that a socket number names at a host.
     fn endpoint_named(&self, host: Host, socket: u32) -> Option<EndpointId> {
-        match self.world.body(host).thing(socket) {
-            Some(SocketTarget::EndpointAt(number)) => Some(EndpointId { host, number }),
-            Some(SocketTarget::ListenerAt(_)) | None => None,
-        }
-    }
-
-    // The endpoint that a call opened.
-    fn opened(&self, meant: Meant) -> Option<EndpointId> {
-        match meant {
-            Meant::Opened(host, lport, rport) => {
-                let number = self.world.body(host).place_of(lport, rport)?;
-                Some(EndpointId { host, number })
-            }
-            Meant::Socket(_, _) | Meant::Nothing => None,
-        }
-    }
-
-    fn is_closed(&self, id: EndpointId) -> bool {
-        match self.world.body(id.host).endpoint_at(id.number) {
-            Some(endpoint) => endpoint.state.is_closed(),
-            None => false,
+        match self.world.body(host).thing(socket)? {
+            SocketTarget::EndpointAt(number) => Some(EndpointId { host, number }),
+            SocketTarget::ListenerAt(_) => None,
         }
     }
 }

@@ -1,20 +1,21 @@
 //! An endpoint's timers, and its waits with nothing sent. Times and moments are microseconds.
 
-use case_forms::State;
+use case_forms::{State, Timer};
 use spec_tcp::Endpoint;
 
 // No stack needs to expire earlier than after a second (RFC 6298, 2.4).
 const SHORTEST: u64 = 1_000_000;
 
+// Before the first sample of a round trip, a stack may still have a timeout of 3 seconds (RFC 6298, 2.1).
+const FIRST: u64 = 3_000_000;
+
 // No back-off has to go beyond a minute (RFC 6298, 2.5).
 const LONGEST: u64 = 60_000_000;
-
-// Data waits at most a second for a fuller segment (RFC 9293, 3.8.6.2.1).
-const OVERRIDE: u64 = 1_000_000;
 
 /// A timer that is armed.
 #[derive(Clone, Copy)]
 pub(crate) struct Clock {
+    pub timer: Timer,
     /// Since when it is armed.
     pub armed: u64,
     /// Since when it runs with something to send.
@@ -23,28 +24,24 @@ pub(crate) struct Clock {
     pub time: u64,
 }
 
-impl Clock {
-    /// How far past its time the timer is at a moment, if nothing was sent since. None: it ran for at most twice its
-    /// time.
-    pub(crate) fn late(&self, last_sent: u64, moment: u64) -> Option<u64> {
-        let late = moment
-            .saturating_sub(self.since.max(last_sent))
-            .saturating_sub(self.time);
-        if self.time < late { Some(late) } else { None }
-    }
-}
-
-/// The retransmission timer after so many expiries that no line shows. None: it is off, or the window is 0, so that
-/// the persist timer counts.
-pub(crate) fn rto_clock(endpoint: &Endpoint, unseen: u32) -> Option<Clock> {
-    if endpoint.timers.persist_armed.is_some() {
+/// The retransmission timer after so many expiries, of which the last `unseen` are in no line. None: it is off, or the
+/// window is 0, so that the persist timer counts.
+pub(crate) fn rto_clock(endpoint: &Endpoint, unseen: u32, expiries: u32) -> Option<Clock> {
+    let timers = &endpoint.timers;
+    if timers.persist_armed.is_some() {
         return None;
     }
-    let armed = endpoint.timers.rto_armed?;
+    let armed = timers.rto_armed?;
+    let time = backed_off(timers.rto, unseen);
     Some(Clock {
+        timer: Timer::Rto,
         armed,
         since: armed,
-        time: backed_off(endpoint.timers.rto, unseen),
+        time: if timers.srtt.is_none() {
+            time.max(backed_off(FIRST, expiries))
+        } else {
+            time
+        },
     })
 }
 
@@ -59,13 +56,13 @@ pub(crate) fn persist_clock(
     if endpoint.flight() == 0 && waiting_bytes(endpoint) == 0 {
         return None;
     }
-    let since = match before {
-        Some(clock) if clock.armed == armed => clock.since,
-        _ => moment,
-    };
     Some(Clock {
+        timer: Timer::Persist,
         armed,
-        since,
+        since: match before {
+            Some(clock) if clock.armed == armed => clock.since,
+            _ => moment,
+        },
         time: backed_off(endpoint.timers.rto, probes),
     })
 }
@@ -79,13 +76,10 @@ fn backed_off(rto: u64, times: u32) -> u64 {
     doubled.min(LONGEST).max(SHORTEST)
 }
 
-/// How many bytes a send accepted and no segment carries yet.
-pub(crate) fn waiting_bytes(endpoint: &Endpoint) -> u64 {
-    endpoint
-        .stream
-        .accepted
-        .end()
-        .saturating_sub(endpoint.snd_max().max(1))
+// How many bytes a send accepted and no segment carries yet.
+fn waiting_bytes(endpoint: &Endpoint) -> u64 {
+    let end = endpoint.stream.accepted.end();
+    end.saturating_sub(endpoint.snd_max().max(1))
 }
 
 /// Bytes wait although the window is open and nothing is in flight.
@@ -95,14 +89,6 @@ pub(crate) struct Stall {
     pub bytes: u64,
     /// The window that the peer offers.
     pub room: u64,
-}
-
-impl Stall {
-    /// How long it lasted at a moment. None: at most a second.
-    pub(crate) fn long(&self, moment: u64) -> Option<u64> {
-        let time = moment.saturating_sub(self.since);
-        if OVERRIDE < time { Some(time) } else { None }
-    }
 }
 
 /// The stall of an endpoint; `before` is the one that lasted until now.
@@ -133,8 +119,13 @@ fn may_send(state: State) -> bool {
     }
 }
 
-/// Whether a wait before a retransmission is too short after one of `before`: it has to double (RFC 6298, 5.5). An
-/// eighth of it and a clock's granularity are left to late timers, and a minute is always enough.
+/// The wait that back-off requires after one of `before` (RFC 6298, 5.5). A minute is always enough.
+pub(crate) fn required_wait(before: u64) -> u64 {
+    before.saturating_mul(2).min(LONGEST)
+}
+
+/// Whether a wait before a retransmission is too short after one of `before`. An eighth of what is required and a
+/// clock's granularity are left to late timers.
 pub(crate) fn is_short(wait: u64, before: u64, grain: u64) -> bool {
     let doubled = before.saturating_mul(2);
     let least = doubled

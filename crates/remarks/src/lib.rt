@@ -10,26 +10,26 @@
 //! Private modules:
 //!
 //! - `whole`: the case, and how far it is replayed
-//! - `remarks`: what is remarked, as values; `sentences`: each of them in words; `found`: those that were found
+//! - `found`: the remarks that were found; `words`: parts of them in words
 //! - `replay`: the world and what is remembered; `steps`: a step of the world
-//! - `notes`: what is remembered of an endpoint; `clocks`: its timers and waits
+//! - `notes`: what is remembered of an endpoint; `clocks`: its timers and waits; `again`: its retransmissions, counted
 //! - `arrivals`: what is dropped, or processed and not kept; `sendings`: what is sent, and sent again
 //! - `calls`: the calls that a step concerns
 //! - `waits`: timers and open windows with nothing sent; `ends`: what is left at the end
 #![tactic(auto)]
 
+mod again;
 mod arrivals;
 mod calls;
 mod clocks;
 mod ends;
 mod found;
 mod notes;
-mod remarks;
 mod replay;
 mod sendings;
-mod sentences;
 mod steps;
 mod waits;
 mod whole;
+mod words;
 
 pub use replay::{Remarked, remark};

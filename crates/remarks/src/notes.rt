@@ -1,7 +1,7 @@
 //! What is remembered of an endpoint.
 
+use crate::again::{Chain, Permit};
 use crate::clocks::{Clock, Stall, persist_clock, rto_clock, stall_of};
-use crate::remarks::{Permit, Remark, Who};
 use case_forms::Host;
 use spec_tcp::{Endpoint, EndpointId};
 
@@ -21,67 +21,10 @@ pub(crate) fn key_of(id: EndpointId) -> EndpointKey {
     (number_of(id.host), id.number)
 }
 
-/// The endpoint of a key.
-pub(crate) fn id_of(key: EndpointKey) -> EndpointId {
-    EndpointId {
-        host: if key.0 == 0 { Host::Zero } else { Host::One },
-        number: key.1,
-    }
-}
-
-/// An endpoint in words.
-pub(crate) fn who(host: Host, endpoint: &Endpoint) -> Who {
-    Who::Endpoint {
-        host,
-        lport: endpoint.lport,
-        rport: endpoint.rport,
-    }
-}
-
-/// Retransmissions of the oldest segment after expiries, with no new acknowledgment between them.
-#[derive(Clone, Copy)]
-pub(crate) struct Chain {
-    pub who: Who,
-    /// The oldest position that is not acknowledged.
-    pub una: u64,
-    pub position: u64,
-    /// When it was last sent.
-    pub moment: u64,
-    /// The longest wait before one of them.
-    pub wait: u64,
-    /// What let the endpoint retransmit until then: how many times anything did.
-    pub permits: u64,
-    /// How many of them came too early, in which lines, and after which waits the first one came.
-    pub times: u64,
-    pub first: u64,
-    pub last: u64,
-    pub first_wait: u64,
-    pub first_before: u64,
-}
-
-impl Chain {
-    /// The remark on it, and the line of its place. None: none came too early.
-    pub(crate) fn remark(&self) -> Option<(u64, Remark)> {
-        if self.times == 0 {
-            return None;
-        }
-        Some((
-            self.first,
-            Remark::NoBackOff {
-                who: self.who,
-                position: self.position,
-                times: self.times,
-                last: self.last,
-                wait: self.first_wait,
-                before: self.first_before,
-            },
-        ))
-    }
-}
-
 /// What is remembered of an endpoint. Moments are microseconds.
 #[derive(Clone, Copy)]
 pub(crate) struct Note {
+    pub id: EndpointId,
     /// The position after all that was sent.
     pub sent_end: u64,
     /// When something that takes positions was last sent; 0 if nothing was.
@@ -99,8 +42,9 @@ pub(crate) struct Note {
     /// Since when nothing was sent before the retransmission timer expired last.
     pub waited_from: u64,
     pub chain: Option<Chain>,
-    /// How many times the oldest segment was sent again since the retransmission timer was armed, each time so late
-    /// that the timer may have expired with no line.
+    /// How many times the retransmission timer expired, also with no line for it.
+    pub expiries: u32,
+    /// How many times it may have expired with no line since it was armed: so late was the oldest segment sent again.
     pub unseen: u32,
     /// Something arrived since it last sent something that takes positions.
     pub heard: bool,
@@ -110,8 +54,9 @@ pub(crate) struct Note {
 
 impl Note {
     /// That of a new endpoint.
-    pub(crate) fn new() -> Note {
+    pub(crate) fn new(id: EndpointId) -> Note {
         Note {
+            id,
             sent_end: 0,
             last_sent: 0,
             rto: None,
@@ -123,6 +68,7 @@ impl Note {
             permits: 0,
             waited_from: 0,
             chain: None,
+            expiries: 0,
             unseen: 0,
             heard: false,
             aborted: false,
@@ -138,38 +84,20 @@ impl Note {
         }
     }
 
-    /// With one more probe if one is sent again after so many permits, and none of them allowed it.
-    pub(crate) fn probed(&self, permits: u64) -> Note {
-        if self.persist.is_none() {
-            return *self;
-        }
-        let unseen = u32::from(self.probed_at == permits);
-        Note {
-            probes: self.probes.saturating_add(unseen),
-            probed_at: permits,
-            ..*self
-        }
-    }
-
     /// With the timers and the stall that the endpoint has at a moment.
     pub(crate) fn seen(&self, endpoint: &Endpoint, moment: u64) -> Note {
-        let probes = if endpoint.timers.persist_armed.is_some() {
-            self.probes
-        } else {
-            0
-        };
-        let unseen = if self.runs_since(endpoint.timers.rto_armed) {
-            self.unseen
-        } else {
-            0
-        };
+        let mut note = *self;
+        if !self.runs_since(endpoint.timers.rto_armed) {
+            note.unseen = 0;
+        }
+        if endpoint.timers.persist_armed.is_none() {
+            note.probes = 0;
+        }
         Note {
-            rto: rto_clock(endpoint, unseen),
-            unseen,
-            persist: persist_clock(endpoint, self.persist, probes, moment),
-            probes,
+            rto: rto_clock(endpoint, note.unseen, note.expiries),
+            persist: persist_clock(endpoint, self.persist, note.probes, moment),
             stall: stall_of(endpoint, self.stall, moment),
-            ..*self
+            ..note
         }
     }
 

@@ -1,14 +1,14 @@
 //! The replay of a case: its world, and what is remembered beside it.
 
+use crate::again::Again;
 use crate::found::Found;
 use crate::notes::{EndpointKey, Note, key_of};
-use crate::sendings::{Again, Sending};
-use crate::steps::{do_hidden, do_line};
+use crate::sendings::Sending;
 use crate::whole::Whole;
-use case_forms::{Event, Extras, Label, NamedLine, OutOfMemory, Ports, Step};
+use case_forms::{Event, Extras, Host, Label, NamedLine, OutOfMemory, Step};
 use checker::CaseFault;
 use endpoint_state::World;
-use spec_tcp::EndpointId;
+use spec_tcp::{Endpoint, EndpointId};
 use std::alloc::Global;
 use std::collections::BTreeMap;
 
@@ -28,18 +28,12 @@ pub fn remark(alloc: Global, text: &[u8]) -> Result<Remarked, CaseFault> {
     let mut replay = Replay::new(alloc, &whole);
     replay.all()?;
     replay.finish()?;
-    let mut text = Vec::new(alloc);
-    replay.found.push(&mut text, &whole)?;
-    Ok(Remarked {
-        text,
-        count: replay.found.len(),
-    })
+    Ok(replay.found.remarked()?)
 }
 
 /// A case up to a step.
 #[derive(Drop)]
 pub(crate) struct Replay<'t> {
-    pub alloc: Global,
     pub whole: &'t Whole,
     pub world: World,
     /// The moment of the last step.
@@ -61,7 +55,6 @@ pub(crate) struct Replay<'t> {
 impl<'t> Replay<'t> {
     fn new(alloc: Global, whole: &'t Whole) -> Replay<'t> {
         Replay {
-            alloc,
             whole,
             world: World::start(alloc, &whole.trace.header),
             moment: 0,
@@ -86,28 +79,30 @@ impl<'t> Replay<'t> {
     fn step(&mut self, step: &Step) -> Result<(), OutOfMemory> {
         self.moment = step.moment;
         match &step.label {
-            Label::L(named) => self.line_step(*named),
+            Label::L(named) => self.line_step(step, *named),
             Label::D { thread, .. } => self.effect(step, *thread),
             Label::M { host, plan } => self.make(step, *host, plan),
-            Label::T { host, line, choice } => self.process(step, *host, *line, *choice),
-            Label::K { host, line } => self.drop_arrival(step, *host, *line),
-            Label::R { host, line } => self.answer(step, *host, *line),
-            Label::F { host, recovery } => self.recover(
-                step,
-                *host,
-                Ports {
-                    lport: recovery.lport,
-                    rport: recovery.rport,
-                },
-            ),
+            Label::T { host, line, choice } => self.process(step, *host, *line, choice.keep),
+            Label::K { host, line } => {
+                self.drop_arrival(*host, *line)?;
+                self.apply(step, None)
+            }
+            Label::R { host, line } => {
+                self.arrive(*host, *line)?;
+                self.apply(step, None)
+            }
+            Label::F { host, recovery } => {
+                self.apply(step, None)?;
+                self.recover(*host, recovery.lport, recovery.rport)
+            }
         }
     }
 
-    fn line_step(&mut self, named: NamedLine) -> Result<(), OutOfMemory> {
+    fn line_step(&mut self, step: &Step, named: NamedLine) -> Result<(), OutOfMemory> {
         let Some(line) = self.whole.line(named.number) else {
             return Ok(());
         };
-        do_line(&mut self.world, self.moment, line, named)?;
+        self.apply(step, Some(line))?;
         match (&line.event, named.extras) {
             (Event::CallBegin(_), _) => {
                 self.calls.insert(line.thread, line.number)?;
@@ -119,15 +114,8 @@ impl<'t> Replay<'t> {
             }
             (Event::Sent(_, _), Extras::One(number)) => self.send(number, line.number),
             (Event::Expired(host, lport, rport, timer), _) => {
-                match self.world.body(*host).place_of(*lport, *rport) {
-                    Some(place) => self.expire(
-                        EndpointId {
-                            host: *host,
-                            number: place,
-                        },
-                        *timer,
-                        line.number,
-                    ),
+                match self.endpoint_of(*host, *lport, *rport) {
+                    Some(id) => self.expire(id, *timer, line.number),
                     None => Ok(()),
                 }
             }
@@ -135,22 +123,28 @@ impl<'t> Replay<'t> {
         }
     }
 
-    /// Does a hidden step in the world.
-    pub(crate) fn apply(&mut self, step: &Step) -> Result<(), OutOfMemory> {
-        do_hidden(&mut self.world, step.moment, &step.label)
+    /// The endpoint of a host that was created last with these ports. None: there was none.
+    pub(crate) fn endpoint_of(&self, host: Host, lport: u16, rport: u16) -> Option<EndpointId> {
+        let number = self.world.body(host).place_of(lport, rport)?;
+        Some(EndpointId { host, number })
+    }
+
+    /// The endpoint at a place.
+    pub(crate) fn endpoint(&self, id: EndpointId) -> Option<&Endpoint> {
+        self.world.body(id.host).endpoint_at(id.number)
     }
 
     /// What is remembered of an endpoint.
     pub(crate) fn note(&self, id: EndpointId) -> Note {
         match self.notes.get(&key_of(id)) {
             Some(note) => *note,
-            None => Note::new(),
+            None => Note::new(id),
         }
     }
 
     /// Remembers this of an endpoint.
-    pub(crate) fn put(&mut self, id: EndpointId, note: Note) -> Result<(), OutOfMemory> {
-        self.notes.insert(key_of(id), note)?;
+    pub(crate) fn put(&mut self, note: Note) -> Result<(), OutOfMemory> {
+        self.notes.insert(key_of(note.id), note)?;
         Ok(())
     }
 }

@@ -1,19 +1,18 @@
 //! What is made and sent, and what is sent again.
 
-use crate::clocks::is_short;
-use crate::notes::{Chain, Note, key_of, number_of, who};
-use crate::remarks::{Permit, Remark, Who};
+use crate::again::{Again, Chain, Count, Permit};
+use crate::notes::key_of;
 use crate::replay::Replay;
-use case_forms::{Host, OutOfMemory, Ports, SegmentPlan, Step, Timer};
-use spec_tcp::{Endpoint, EndpointId};
+use crate::waits::{Now, say_waits};
+use crate::words::Who;
+use case_forms::{Host, OutOfMemory, SegmentPlan, Step, Timer};
+use spec_tcp::EndpointId;
 
 /// A segment that an endpoint made.
 #[derive(Clone, Copy)]
 pub(crate) struct Sending {
-    pub id: EndpointId,
-    pub who: Who,
-    lport: u16,
-    rport: u16,
+    id: EndpointId,
+    who: Who,
     /// The position of its number, and the position after it.
     position: u64,
     end: u64,
@@ -31,39 +30,6 @@ pub(crate) struct Sending {
     rto: u64,
 }
 
-/// The retransmissions from one position after one permit.
-#[derive(Clone, Copy)]
-pub(crate) struct Again {
-    who: Who,
-    position: u64,
-    permit: Permit,
-    permits: u64,
-    /// The moment of the last one.
-    moment: u64,
-    times: u64,
-    first: u64,
-    last: u64,
-}
-
-impl Again {
-    /// The remark on them, and the line of its place. None: there is one alone.
-    pub(crate) fn remark(&self) -> Option<(u64, Remark)> {
-        if self.times < 2 {
-            return None;
-        }
-        Some((
-            self.first,
-            Remark::Repeated {
-                who: self.who,
-                position: self.position,
-                times: self.times,
-                last: self.last,
-                permit: self.permit,
-            },
-        ))
-    }
-}
-
 impl<'t> Replay<'t> {
     /// A host makes a segment.
     pub(crate) fn make(
@@ -73,7 +39,7 @@ impl<'t> Replay<'t> {
         plan: &SegmentPlan,
     ) -> Result<(), OutOfMemory> {
         let sending = self.sending_of(host, plan);
-        self.apply(step)?;
+        self.apply(step, None)?;
         if let Some(sending) = sending {
             self.made.insert(self.world.count(), sending)?;
         }
@@ -82,12 +48,8 @@ impl<'t> Replay<'t> {
 
     // The segment of a plan, before it is made.
     fn sending_of(&self, host: Host, plan: &SegmentPlan) -> Option<Sending> {
-        let place = self.world.body(host).place_of(plan.lport, plan.rport)?;
-        let endpoint = self.world.body(host).endpoint_at(place)?;
-        let id = EndpointId {
-            host,
-            number: place,
-        };
+        let id = self.endpoint_of(host, plan.lport, plan.rport)?;
+        let endpoint = self.endpoint(id)?;
         let note = self.note(id);
         let end = plan
             .pos
@@ -96,15 +58,17 @@ impl<'t> Replay<'t> {
             .saturating_add(u64::from(plan.flags.fin));
         Some(Sending {
             id,
-            who: who(host, endpoint),
-            lport: plan.lport,
-            rport: plan.rport,
+            who: Who::of(host, endpoint),
             position: plan.pos,
             end,
             is_again: plan.pos < end && plan.pos < endpoint.snd_max(),
             is_reset: plan.flags.rst,
             una: endpoint.stream.snd_una,
-            permit: permit_for(endpoint, &note, plan.pos),
+            permit: if plan.pos < endpoint.recover {
+                note.permit
+            } else {
+                Permit::Nothing
+            },
             permits: note.permits,
             answers: note.heard,
             rto: endpoint.timers.rto,
@@ -117,76 +81,79 @@ impl<'t> Replay<'t> {
             return Ok(());
         };
         if sending.position < sending.end {
-            self.end_waits(sending.id, line)?;
-            let note = self.note(sending.id);
-            let sent = Note {
-                sent_end: note.sent_end.max(sending.end),
-                last_sent: self.moment,
-                heard: false,
-                ..note
-            };
-            self.put(sending.id, sent)?;
+            let mut note = self.note(sending.id);
+            let moment = self.moment;
+            let who = sending.who;
+            let now = Now { line, moment, who };
+            say_waits(&mut self.found, now, &note)?;
+            note.sent_end = note.sent_end.max(sending.end);
+            note.last_sent = moment;
+            note.heard = false;
+            self.put(note)?;
         }
         if sending.is_again {
-            let note = self.note(sending.id).probed(sending.permits);
-            self.put(sending.id, note)?;
-            self.send_again(&sending, line)?;
+            self.count_probe(&sending)?;
+            self.count_again(&sending, line)?;
             self.follow_chain(&sending, line)?;
         }
         if sending.is_reset {
-            self.send_reset(&sending, line)?;
+            self.say_reset(&sending, line)?;
         }
         self.touch(sending.id, line)
     }
 
     // An endpoint sends a reset.
-    fn send_reset(&mut self, sending: &Sending, line: u64) -> Result<(), OutOfMemory> {
-        let key = (number_of(sending.id.host), sending.lport, sending.rport);
-        match self.arrived.get(&key).copied() {
-            Some((reset, true)) => self.found.add(
-                line,
-                Remark::ResetAfterReset {
-                    who: sending.who,
-                    reset,
-                },
-            ),
-            Some((_, false)) | None => Ok(()),
+    fn say_reset(&mut self, sending: &Sending, line: u64) -> Result<(), OutOfMemory> {
+        let who = sending.who;
+        let Who::Endpoint { host, lport, rport } = who else {
+            return Ok(());
+        };
+        let Some((reset, true)) = self.arrived.get(&(host, lport, rport)).copied() else {
+            return Ok(());
+        };
+        let text = format!(in self.found.alloc;
+            "{who} sends a reset after the reset of line {reset}"
+        )?;
+        self.found.add(line, text)
+    }
+
+    // Counts a probe that is sent again although nothing allowed it since the last one.
+    fn count_probe(&mut self, sending: &Sending) -> Result<(), OutOfMemory> {
+        let mut note = self.note(sending.id);
+        if note.persist.is_none() {
+            return Ok(());
         }
+        let unseen = u32::from(note.probed_at == sending.permits);
+        note.probes = note.probes.saturating_add(unseen);
+        note.probed_at = sending.permits;
+        self.put(note)
     }
 
     // Counts the retransmissions from a position. A SYN may be sent again for each one that arrives. After a whole
     // timeout, the timer may have expired with no line.
-    fn send_again(&mut self, sending: &Sending, line: u64) -> Result<(), OutOfMemory> {
+    fn count_again(&mut self, sending: &Sending, line: u64) -> Result<(), OutOfMemory> {
         if sending.position == 0 && sending.answers {
             return Ok(());
         }
         let (host, place) = key_of(sending.id);
         let key = (host, place, sending.position);
-        let first = Again {
+        let mut again = Again {
             who: sending.who,
             position: sending.position,
             permit: sending.permit,
             permits: sending.permits,
             moment: self.moment,
-            times: 1,
-            first: line,
-            last: line,
+            count: Count::none(),
         };
-        let again = match self.again.get(&key).copied() {
-            Some(again)
-                if again.permits == sending.permits && !self.is_late(again.moment, sending.rto) =>
-                Again {
-                    moment: self.moment,
-                    times: again.times.saturating_add(1),
-                    last: line,
-                    ..again
-                },
-            Some(again) => {
-                self.add(again.remark())?;
-                first
+        if let Some(before) = self.again.get(&key).copied() {
+            if before.permits == sending.permits && !self.is_late(before.moment, sending.rto) {
+                again.permit = before.permit;
+                again.count = before.count;
+            } else {
+                before.say(&mut self.found)?;
             }
-            None => first,
-        };
+        }
+        again.count = again.count.and(line);
         self.again.insert(key, again)?;
         Ok(())
     }
@@ -197,53 +164,56 @@ impl<'t> Replay<'t> {
         rto.saturating_sub(self.whole.trace.header.grain) <= wait
     }
 
-    /// Adds a remark, if there is one.
-    pub(crate) fn add(&mut self, remark: Option<(u64, Remark)>) -> Result<(), OutOfMemory> {
-        match remark {
-            Some((line, remark)) => self.found.add(line, remark),
-            None => Ok(()),
-        }
-    }
-
     // Compares the waits before retransmissions of the oldest segment.
     fn follow_chain(&mut self, sending: &Sending, line: u64) -> Result<(), OutOfMemory> {
         if sending.una < sending.position || sending.end <= sending.una {
             return Ok(());
         }
-        let note = self.note(sending.id);
-        let unseen = match note.chain {
-            Some(chain) if chain.una == sending.una && chain.permits == sending.permits => {
+        let mut note = self.note(sending.id);
+        let before = note.chain;
+        let going_on = match before {
+            Some(chain) if chain.una == sending.una => Some(chain),
+            _ => None,
+        };
+        if let Some(chain) = going_on {
+            if chain.permits == sending.permits {
                 if sending.answers {
                     return Ok(());
                 }
-                u32::from(self.is_late(chain.moment, sending.rto))
-            }
-            _ => 0,
-        };
-        let chain = match (sending.permit, note.chain) {
-            (Permit::Rto(_), Some(chain)) if chain.una == sending.una => Some(lengthened(
-                &chain,
-                sending.permits,
-                self.moment,
-                line,
-                self.whole.trace.header.grain,
-            )),
-            (Permit::Rto(_), _) => Some(begun(sending, self.moment, note.waited_from)),
-            _ => None,
-        };
-        if let Some(before) = note.chain {
-            if !goes_on(&before, chain) {
-                self.add(before.remark())?;
+                let unseen = u32::from(self.is_late(chain.moment, sending.rto));
+                note.unseen = note.unseen.saturating_add(unseen);
+                note.expiries = note.expiries.saturating_add(unseen);
             }
         }
-        self.put(
-            sending.id,
-            Note {
-                chain,
-                unseen: note.unseen.saturating_add(unseen),
-                ..note
-            },
-        )
+        let grain = self.whole.trace.header.grain;
+        note.chain = match (sending.permit, going_on) {
+            (Permit::Rto(_), Some(chain)) => {
+                Some(chain.longer(sending.permits, self.moment, line, grain))
+            }
+            (Permit::Rto(_), None) => Some(self.begun(sending, note.waited_from)),
+            _ => None,
+        };
+        self.put(note)?;
+        match before {
+            Some(before) if going_on.is_none() || note.chain.is_none() => {
+                before.say(&mut self.found)
+            }
+            _ => Ok(()),
+        }
+    }
+
+    // The chain that a retransmission begins.
+    fn begun(&self, sending: &Sending, waited_from: u64) -> Chain {
+        Chain {
+            who: sending.who,
+            una: sending.una,
+            position: sending.position,
+            moment: self.moment,
+            wait: self.moment.saturating_sub(waited_from),
+            permits: sending.permits,
+            early: Count::none(),
+            waits: (0, 0),
+        }
     }
 
     /// A timer of an endpoint expires with a line.
@@ -253,108 +223,39 @@ impl<'t> Replay<'t> {
         timer: Timer,
         line: u64,
     ) -> Result<(), OutOfMemory> {
-        let note = self.note(id);
-        let after = match timer {
-            Timer::Rto => Note {
-                waited_from: match note.rto {
+        let mut note = self.note(id);
+        match timer {
+            Timer::Rto => {
+                note.waited_from = match note.rto {
                     Some(clock) => clock.since.max(note.last_sent),
                     None => note.last_sent,
-                },
-                ..note.permitted(Permit::Rto(line))
-            },
-            Timer::Persist => Note {
-                probes: note.probes.saturating_add(1),
-                ..note.permitted(Permit::Persist(line))
-            },
-            Timer::Msl2 | Timer::Giveup => note,
-        };
-        self.put(id, after)?;
+                };
+                note.expiries = note.expiries.saturating_add(1);
+                note = note.permitted(Permit::Rto(line));
+            }
+            Timer::Persist => {
+                note.probes = note.probes.saturating_add(1);
+                note = note.permitted(Permit::Persist(line));
+            }
+            Timer::Msl2 | Timer::Giveup => {}
+        }
+        self.put(note)?;
         self.touch(id, line)
     }
 
-    /// An endpoint of a host enters fast recovery.
+    /// The endpoint of a host with these ports entered fast recovery.
     pub(crate) fn recover(
         &mut self,
-        step: &Step,
         host: Host,
-        ports: Ports,
+        lport: u16,
+        rport: u16,
     ) -> Result<(), OutOfMemory> {
-        self.apply(step)?;
-        match self.world.body(host).place_of(ports.lport, ports.rport) {
-            Some(place) => {
-                let id = EndpointId {
-                    host,
-                    number: place,
-                };
+        match self.endpoint_of(host, lport, rport) {
+            Some(id) => {
                 let note = self.note(id).permitted(Permit::Recovery);
-                self.put(id, note)
+                self.put(note)
             }
             None => Ok(()),
-        }
-    }
-}
-
-// What lets an endpoint make a segment again at a position.
-fn permit_for(endpoint: &Endpoint, note: &Note, position: u64) -> Permit {
-    if position < endpoint.recover {
-        note.permit
-    } else {
-        Permit::Nothing
-    }
-}
-
-// Whether a chain goes on as the other one.
-fn goes_on(before: &Chain, after: Option<Chain>) -> bool {
-    match after {
-        Some(after) => before.una == after.una,
-        None => false,
-    }
-}
-
-// The chain that a retransmission begins.
-fn begun(sending: &Sending, moment: u64, waited_from: u64) -> Chain {
-    Chain {
-        who: sending.who,
-        una: sending.una,
-        position: sending.position,
-        moment,
-        wait: moment.saturating_sub(waited_from),
-        permits: sending.permits,
-        times: 0,
-        first: 0,
-        last: 0,
-        first_wait: 0,
-        first_before: 0,
-    }
-}
-
-// The chain with one more retransmission, after so many permits, at a moment and with a line.
-fn lengthened(chain: &Chain, permits: u64, moment: u64, line: u64, grain: u64) -> Chain {
-    let wait = moment.saturating_sub(chain.moment);
-    let next = Chain {
-        moment,
-        wait: wait.max(chain.wait),
-        permits,
-        ..*chain
-    };
-    if !is_short(wait, chain.wait, grain) {
-        return next;
-    }
-    let times = chain.times.saturating_add(1);
-    if chain.times == 0 {
-        Chain {
-            times,
-            first: line,
-            last: line,
-            first_wait: wait,
-            first_before: chain.wait,
-            ..next
-        }
-    } else {
-        Chain {
-            times,
-            last: line,
-            ..next
         }
     }
 }

@@ -4,56 +4,36 @@ ghost use Rattle.std.specs.Prelude.{◌<◌, IsTrue, OnOk};
 ghost use Rattle.case_forms.specs.Witnesses.{IsWithinLimits};
 ghost use Rattle.spec_tcp.specs.Bounds.{most_steps};
 
-use case_forms::{GREATEST_POSITION, Label, Line, MOST_STEPS, NamedLine, OutOfMemory};
+use crate::replay::Replay;
+use case_forms::{GREATEST_POSITION, Label, Line, MOST_STEPS, NamedLine, OutOfMemory, Step};
 use endpoint_state::{StepFault, World};
 use spec_step::{apply_hidden, apply_line};
 use std::alloc::AllocError;
 
-/// Does a step that takes no line. Nothing happens if it is refused.
-pub(crate) fn do_hidden(
-    world: &mut World,
-    moment: u64,
-    label: &Label<NamedLine>,
-) -> Result<(), OutOfMemory> {
-    unless_refused(try_hidden(world, moment, label))
-}
-
-/// Does the step of a line. Nothing happens if it is refused.
-pub(crate) fn do_line(
-    world: &mut World,
-    moment: u64,
-    line: &Line,
-    named: NamedLine,
-) -> Result<(), OutOfMemory> {
-    unless_refused(try_line(world, moment, line, named))
-}
-
-fn unless_refused(done: Result<(), StepFault>) -> Result<(), OutOfMemory> {
-    match done {
-        Ok(()) | Err(StepFault::Broken(_)) => Ok(()),
-        Err(StepFault::OutOfMemory) => Err(AllocError),
+impl<'t> Replay<'t> {
+    /// Does a step in the world, with the line that it names, if any. Nothing happens if it is refused.
+    pub(crate) fn apply(&mut self, step: &Step, line: Option<&Line>) -> Result<(), OutOfMemory> {
+        match try_step(&mut self.world, step, line) {
+            Ok(()) | Err(StepFault::Broken(_)) => Ok(()),
+            Err(StepFault::OutOfMemory) => Err(AllocError),
+        }
     }
 }
 
-fn try_hidden(world: &mut World, moment: u64, label: &Label<NamedLine>) -> Result<(), StepFault> {
+fn try_step(world: &mut World, step: &Step, line: Option<&Line>) -> Result<(), StepFault> {
     has_room(world)?;
-    if !is_within_limits(label) {
-        return Ok(());
+    match (&step.label, line) {
+        (Label::L(named), Some(line)) => match line.copy()?.taken(named.extras) {
+            Some(taken) => apply_line(world, step.moment, &taken),
+            None => Ok(()),
+        },
+        (label, _) => {
+            if !is_within_limits(label) {
+                return Ok(());
+            }
+            apply_hidden(world, step.moment, label)
+        }
     }
-    apply_hidden(world, moment, label)
-}
-
-fn try_line(
-    world: &mut World,
-    moment: u64,
-    line: &Line,
-    named: NamedLine,
-) -> Result<(), StepFault> {
-    let Some(taken) = line.copy()?.taken(named.extras) else {
-        return Ok(());
-    };
-    has_room(world)?;
-    apply_line(world, moment, &taken)
 }
 
 // Whether one more step may be done; no witness that `check` reads has so many.

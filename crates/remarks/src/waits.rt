@@ -1,101 +1,46 @@
 //! Timers that are past their time, and open windows, with nothing sent.
 
 use crate::clocks::{Clock, Stall};
-use crate::notes::{Note, who};
-use crate::remarks::{Remark, Who};
+use crate::found::Found;
+use crate::notes::Note;
 use crate::replay::Replay;
-use case_forms::{OutOfMemory, Timer};
+use crate::words::{Time, Who};
+use case_forms::OutOfMemory;
+use line_fields::timer_name;
 use spec_tcp::EndpointId;
+
+// Data waits at most a second for a fuller segment (RFC 9293, 3.8.6.2.1).
+const OVERRIDE: u64 = 1_000_000;
+
+/// Up to when nothing was sent: a line, a moment, and by whom.
+#[derive(Clone, Copy)]
+pub(crate) struct Now {
+    pub line: u64,
+    pub moment: u64,
+    pub who: Who,
+}
 
 impl<'t> Replay<'t> {
     /// Compares an endpoint after a step with what is remembered of it. What ends there ends with this line.
     pub(crate) fn touch(&mut self, id: EndpointId, line: u64) -> Result<(), OutOfMemory> {
-        let Some(endpoint) = self.world.body(id.host).endpoint_at(id.number) else {
+        let before = self.note(id);
+        let moment = self.moment;
+        let Some(endpoint) = self.endpoint(id) else {
             return Ok(());
         };
-        let before = self.note(id);
-        let after = before.seen(endpoint, self.moment);
-        let who = who(id.host, endpoint);
+        let after = before.seen(endpoint, moment);
+        let who = Who::of(id.host, endpoint);
+        let now = Now { line, moment, who };
         if !is_same(before.rto, after.rto) {
-            self.say_late(line, who, Timer::Rto, before.rto, before.last_sent)?;
+            say_late(&mut self.found, now, before.rto, before.last_sent)?;
         }
         if !is_same(before.persist, after.persist) {
-            self.say_late(line, who, Timer::Persist, before.persist, before.last_sent)?;
+            say_late(&mut self.found, now, before.persist, before.last_sent)?;
         }
         if after.stall.is_none() {
-            self.say_stall(line, who, before.stall)?;
+            say_stall(&mut self.found, now, before.stall)?;
         }
-        self.put(id, after)
-    }
-
-    /// An endpoint sends with a line, and didn't before: its timers ran with nothing sent up to now.
-    pub(crate) fn end_waits(&mut self, id: EndpointId, line: u64) -> Result<(), OutOfMemory> {
-        let Some(endpoint) = self.world.body(id.host).endpoint_at(id.number) else {
-            return Ok(());
-        };
-        let who = who(id.host, endpoint);
-        let note = self.note(id);
-        self.say_waits(line, who, &note)
-    }
-
-    /// Remarks on the timers of an endpoint up to now.
-    pub(crate) fn say_waits(
-        &mut self,
-        line: u64,
-        who: Who,
-        note: &Note,
-    ) -> Result<(), OutOfMemory> {
-        self.say_late(line, who, Timer::Rto, note.rto, note.last_sent)?;
-        self.say_late(line, who, Timer::Persist, note.persist, note.last_sent)
-    }
-
-    fn say_late(
-        &mut self,
-        line: u64,
-        who: Who,
-        timer: Timer,
-        clock: Option<Clock>,
-        last_sent: u64,
-    ) -> Result<(), OutOfMemory> {
-        let Some(clock) = clock else {
-            return Ok(());
-        };
-        match clock.late(last_sent, self.moment) {
-            Some(late) => self.found.add(
-                line,
-                Remark::Overdue {
-                    who,
-                    timer,
-                    time: clock.time,
-                    late,
-                },
-            ),
-            None => Ok(()),
-        }
-    }
-
-    /// Remarks on an open window up to now.
-    pub(crate) fn say_stall(
-        &mut self,
-        line: u64,
-        who: Who,
-        stall: Option<Stall>,
-    ) -> Result<(), OutOfMemory> {
-        let Some(stall) = stall else {
-            return Ok(());
-        };
-        match stall.long(self.moment) {
-            Some(time) => self.found.add(
-                line,
-                Remark::Stalled {
-                    who,
-                    time,
-                    bytes: stall.bytes,
-                    room: stall.room,
-                },
-            ),
-            None => Ok(()),
-        }
+        self.put(after)
     }
 }
 
@@ -106,4 +51,56 @@ fn is_same(before: Option<Clock>, after: Option<Clock>) -> bool {
         (None, None) => true,
         _ => false,
     }
+}
+
+/// Remarks on the timers of an endpoint.
+pub(crate) fn say_waits(found: &mut Found, now: Now, note: &Note) -> Result<(), OutOfMemory> {
+    say_late(found, now, note.rto, note.last_sent)?;
+    say_late(found, now, note.persist, note.last_sent)
+}
+
+// Remarks on a timer that ran for more than twice its time with nothing sent.
+fn say_late(
+    found: &mut Found,
+    now: Now,
+    clock: Option<Clock>,
+    last_sent: u64,
+) -> Result<(), OutOfMemory> {
+    let Some(clock) = clock else {
+        return Ok(());
+    };
+    let ran = now.moment.saturating_sub(clock.since.max(last_sent));
+    let late = ran.saturating_sub(clock.time);
+    if late <= clock.time {
+        return Ok(());
+    }
+    let who = now.who;
+    let timer = timer_name(clock.timer);
+    let (time, late) = (Time(clock.time), Time(late));
+    let text = format!(in found.alloc;
+        "{who} sends nothing: its {timer} timer ({time}) is {late} overdue",
+    )?;
+    found.add(now.line, text)
+}
+
+/// Remarks on a window that is open for long.
+pub(crate) fn say_stall(
+    found: &mut Found,
+    now: Now,
+    stall: Option<Stall>,
+) -> Result<(), OutOfMemory> {
+    let Some(Stall { since, bytes, room }) = stall else {
+        return Ok(());
+    };
+    let time = now.moment.saturating_sub(since);
+    if time <= OVERRIDE {
+        return Ok(());
+    }
+    let (who, time) = (now.who, Time(time));
+    let wait = if bytes == 1 { "waits" } else { "wait" };
+    let s = if bytes == 1 { "" } else { "s" };
+    let text = format!(in found.alloc;
+        "{who} sends nothing for {time} with the window open: {bytes} byte{s} {wait}, the window is {room}",
+    )?;
+    found.add(now.line, text)
 }

@@ -41,10 +41,8 @@ impl Whole {
     /// The line of this number. None: the trace has no such event line.
     pub(crate) fn line(&self, number: u64) -> Option<&Line> {
         let place = number.checked_sub(self.trace.header.first_event_line())?;
-        self.trace
-            .lines
-            .as_slice()
-            .get(usize::try_from(place).ok()?)
+        let lines = self.trace.lines.as_slice();
+        lines.get(usize::try_from(place).ok()?)
     }
 }
 

@@ -1,0 +1,126 @@
+//! Parts of remarks in words. Bytes and FINs are named by their positions.
+
+use crate::notes::number_of;
+use case_forms::Host;
+use spec_tcp::Endpoint;
+use std::fmt;
+
+/// Who is meant.
+#[derive(Clone, Copy)]
+pub(crate) enum Who {
+    Endpoint { host: u8, lport: u16, rport: u16 },
+    Listener { host: u8, port: u16 },
+}
+
+impl Who {
+    /// An endpoint of a host.
+    pub(crate) fn of(host: Host, endpoint: &Endpoint) -> Who {
+        Who::Endpoint {
+            host: number_of(host),
+            lport: endpoint.lport,
+            rport: endpoint.rport,
+        }
+    }
+}
+
+impl fmt::Display for Who {
+    fn fmt<W: fmt::Write>(&self, f: &mut fmt::Formatter<W>) -> fmt::Result {
+        match self {
+            Who::Endpoint { host, lport, rport } => {
+                write!(f, "host {host}'s endpoint {lport} -> {rport}")
+            }
+            Who::Listener { host, port } => write!(f, "host {host}'s listener on port {port}"),
+        }
+    }
+}
+
+/// Bytes that follow each other, by the positions of the first and the last.
+#[derive(Clone, Copy)]
+pub(crate) struct Stretch {
+    pub first: u64,
+    pub last: u64,
+}
+
+impl Stretch {
+    /// The bytes from one position up to another, which is none of them. None: there are none.
+    pub(crate) fn up_to(first: u64, end: u64) -> Option<Stretch> {
+        if end <= first {
+            return None;
+        }
+        let last = end.saturating_sub(1);
+        Some(Stretch { first, last })
+    }
+}
+
+impl fmt::Display for Stretch {
+    fn fmt<W: fmt::Write>(&self, f: &mut fmt::Formatter<W>) -> fmt::Result {
+        let Stretch { first, last } = *self;
+        if first == last {
+            write!(f, "byte {first}")
+        } else {
+            write!(f, "bytes {first} to {last}")
+        }
+    }
+}
+
+/// What is sent again, by its first position.
+#[derive(Clone, Copy)]
+pub(crate) struct Position(pub u64);
+
+impl fmt::Display for Position {
+    fn fmt<W: fmt::Write>(&self, f: &mut fmt::Formatter<W>) -> fmt::Result {
+        match self.0 {
+            0 => write!(f, "its SYN"),
+            position => write!(f, "position {position}"),
+        }
+    }
+}
+
+/// How many times something is done, after a word; once is not said.
+#[derive(Clone, Copy)]
+pub(crate) struct Times(pub u64);
+
+impl fmt::Display for Times {
+    fn fmt<W: fmt::Write>(&self, f: &mut fmt::Formatter<W>) -> fmt::Result {
+        match self.0 {
+            1 => Ok(()),
+            2 => write!(f, " twice"),
+            times => write!(f, " {times} times"),
+        }
+    }
+}
+
+/// A time of so many microseconds. From 1,000 on it is in milliseconds, and from 1,000,000 on in seconds, both with at
+/// most three decimals, rounded down.
+#[derive(Clone, Copy)]
+pub(crate) struct Time(pub u64);
+
+impl fmt::Display for Time {
+    fn fmt<W: fmt::Write>(&self, f: &mut fmt::Formatter<W>) -> fmt::Result {
+        match self.0 {
+            0..=999 => write!(f, "{} us", self.0),
+            1_000..=999_999 => write!(f, "{} ms", Thousandths(self.0)),
+            time => write!(f, "{} s", Thousandths(time / 1_000)),
+        }
+    }
+}
+
+// So many thousandths as a decimal number, with no zero at its end.
+#[derive(Clone, Copy)]
+struct Thousandths(u64);
+
+impl fmt::Display for Thousandths {
+    fn fmt<W: fmt::Write>(&self, f: &mut fmt::Formatter<W>) -> fmt::Result {
+        let whole = self.0 / 1_000;
+        let rest = self.0 % 1_000;
+        if rest == 0 {
+            write!(f, "{whole}")
+        } else if rest % 100 == 0 {
+            write!(f, "{whole}.{}", rest / 100)
+        } else if rest % 10 == 0 {
+            write!(f, "{whole}.{:02}", rest / 10)
+        } else {
+            write!(f, "{whole}.{rest:03}")
+        }
+    }
+}
