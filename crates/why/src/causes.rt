@@ -106,9 +106,9 @@ fn of_old_data(endpoint: &Endpoint, plan: &SegmentPlan, congestion: Judged) -> C
             "the stack retransmits acknowledged data, or the witness has the acknowledgment too early",
         ),
         (_, Judged::Nothing) => anywhere(if endpoint.is_up() {
-            "the witness lacks an F step before it; under `none` it may have one at any moment"
+            "the witness lacks an F step before it; at `none` it may have one at any moment"
         } else {
-            "the trace lacks the expiry (a `T` line) before it, which a SYN needs under every word"
+            "the trace lacks the expiry (a `T` line) before it, which a SYN needs at every level"
         }),
         _ => usual_cause(Rule::OldData),
     }
