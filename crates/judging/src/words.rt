@@ -53,8 +53,8 @@ pub fn budget_of(value: Option<&str>) -> Option<u64> {
     }
 }
 
-/// The values of these options, which the words give in any order and each at most once. A value is the next word, which
-/// doesn't begin with `-`, or follows `=` in the same word. None: other words.
+/// The values of these options, which the words give in any order and each at most once. A value is the next word,
+/// which doesn't begin with `-`, or follows `=` in the same word. None: other words.
 pub fn values_of<'w, const N: usize>(
     words: &[&'w str],
     names: [&str; N],

@@ -75,8 +75,8 @@ pub(crate) fn say_fault<H: Eprint, W: Write>(
     }
 }
 
-/// Writes the fault of a text that should be a trace. If it's a case, standard error has a command that passes its trace
-/// alone to this subcommand.
+/// Writes the fault of a text that should be a trace. If it's a case, standard error has a command that passes its
+/// trace alone to this subcommand.
 pub(crate) fn say_bad_trace<H: Eprint, W: Write>(
     rt: &H,
     alloc: Global,
