@@ -1,7 +1,9 @@
 #!/usr/bin/env python3
 """Writes a case of successive calls to standard output.
 
-One thread requests the state of an unused socket number, each time at a new moment. The argument is the number of calls (default:
+    python3 bench/calls.py [CALLS]
+
+One thread requests the state of an unused socket number, each time at a new moment. CALLS is their number (default:
 100,000). The verdict on N calls is `yes A B` with A = 2 N and B = N.
 """
 
@@ -13,6 +15,9 @@ PIECE = 10_000
 
 
 def main():
+    if "--help" in sys.argv:
+        print(__doc__.strip())
+        return
     count = int(sys.argv[1]) if len(sys.argv) > 1 else 100_000
     write = sys.stdout.write
     write(HEADER)

@@ -1,11 +1,13 @@
 #!/usr/bin/env python3
 """Writes a case with many threads whose numbers collide in a hash table to standard output.
 
+    python3 bench/colliding_threads.py [THREADS]
+
 Each thread begins and ends a `status` call. The toolchain's hash function has a fixed seed. It maps the chosen numbers to one 32nd
 of the slots of a table of that size. A check that keeps threads in such a table searches a large part of it for each thread, and
 takes four times as long for twice as many threads.
 
-The argument is the number of threads (default: 147,000). The verdict on N threads is `yes A B` with A = 2 N and B = N.
+THREADS is their number (default: 147,000). The verdict on N threads is `yes A B` with A = 2 N and B = N.
 """
 
 import sys
@@ -42,6 +44,9 @@ def colliding(count):
 
 
 def main():
+    if "--help" in sys.argv:
+        print(__doc__.strip())
+        return
     count = int(sys.argv[1]) if len(sys.argv) > 1 else COUNT
     threads = colliding(count)
     write = sys.stdout.write

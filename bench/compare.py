@@ -98,10 +98,10 @@ def row(name, costs, by_files):
 
 
 def main():
-    parser = argparse.ArgumentParser()
-    parser.add_argument("programs", nargs="+")
-    parser.add_argument("--runs", type=int, default=5)
-    parser.add_argument("--only", default="")
+    parser = argparse.ArgumentParser(description=__doc__.splitlines()[0])
+    parser.add_argument("programs", metavar="PROGRAM", nargs="+", help="the checker, and optionally another one to compare it with")
+    parser.add_argument("--runs", metavar="N", type=int, default=5, help="how many times each case runs; the least time counts (default: 5)")
+    parser.add_argument("--only", metavar="WORD", default="", help="run only the cases with this word in their name")
     given = parser.parse_args()
     programs = [os.path.abspath(program) for program in given.programs[:2]]
     heads = ["case", "ours", "the other", "ours, two files", "time / memory of ours to the other's"]

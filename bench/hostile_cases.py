@@ -1,5 +1,7 @@
 #!/usr/bin/env python3
-"""Writes a hostile case of a given kind and size to standard output: `hostile_cases.py KIND SIZE`.
+"""Writes a hostile case of a given kind and size to standard output.
+
+    python3 bench/hostile_cases.py KIND SIZE
 
 Each kind has a large number of one thing that a check must remember or search for: pieces out of order, waiting copies, threads,
 timeouts and so on (the functions marked `kind` below). From size 3 on, each case is valid, so the checker does all its steps and
@@ -834,6 +836,9 @@ def verdict_of(case):
 
 def main():
     kinds = KINDS | FIND_KINDS
+    if "--help" in sys.argv:
+        print(__doc__.strip(), "\n\nThe kinds: ", ", ".join(kinds), sep="")
+        return
     if len(sys.argv) != 3 or sys.argv[1] not in kinds:
         sys.exit("hostile_cases.py KIND SIZE, where KIND is one of: " + ", ".join(kinds))
     function, _ = kinds[sys.argv[1]]

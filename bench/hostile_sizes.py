@@ -112,11 +112,11 @@ def kinds_of(program, lab):
 
 
 def main():
-    parser = argparse.ArgumentParser()
-    parser.add_argument("program")
-    parser.add_argument("--lab")
-    parser.add_argument("--runs", type=int, default=3)
-    parser.add_argument("--only", default="")
+    parser = argparse.ArgumentParser(description=__doc__.splitlines()[0])
+    parser.add_argument("program", metavar="PROGRAM", help="the program tcpwit")
+    parser.add_argument("--lab", metavar="PROGRAM", help="the program tcpwit_lab; adds the kinds for find")
+    parser.add_argument("--runs", metavar="N", type=int, default=3, help="how many times each case runs; the least time counts (default: 3)")
+    parser.add_argument("--only", metavar="WORD", default="", help="run only the kinds with this word in their name")
     given = parser.parse_args()
     told = []
     print("| kind | size | half | once | twice | time / memory |\n|" + "---|" * 6)

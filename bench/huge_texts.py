@@ -69,9 +69,9 @@ def ran(name, way, words, path, wanted):
 
 
 def main():
-    parser = argparse.ArgumentParser()
-    parser.add_argument("program")
-    parser.add_argument("--only", default="")
+    parser = argparse.ArgumentParser(description=__doc__.splitlines()[0])
+    parser.add_argument("program", metavar="PROGRAM", help="the program tcpwit")
+    parser.add_argument("--only", metavar="WORD", default="", help="run only the texts with this word in their name")
     given = parser.parse_args()
     program = os.path.abspath(given.program)
     wrong = []

@@ -1,12 +1,14 @@
 #!/usr/bin/env python3
 """Writes a case in which many one-byte segments are outstanding and retransmitted to standard output.
 
+    python3 bench/made_again.py [BYTES]
+
 It begins with rounds of `bulk_transfer.py` with full segments, until the congestion window is large enough for all those bytes.
 Then host 0 sends them, one per segment. None is acknowledged, so the retransmission timer expires, and each segment is
 retransmitted, from the last one to the first. A step that examines all outstanding bytes would take time proportional to their
 number.
 
-The argument is the number of bytes (default: 64,000; at most 65,535, because no window is scaled). The verdict on N bytes after R
+BYTES is their number (default: 64,000; at most 65,535, because no window is scaled). The verdict on N bytes after R
 rounds is `yes A B` with A = 15 + 8 R and B = 10 + 6 R + 2 N, where R is the least number with 2144 + 536 R >= N.
 """
 
@@ -22,6 +24,9 @@ TIMEOUT = 2_000_000
 
 
 def main():
+    if "--help" in sys.argv:
+        print(__doc__.strip())
+        return
     count = int(sys.argv[1]) if len(sys.argv) > 1 else COUNT
     chosen = random.Random(1)
     case = Case()

@@ -1,5 +1,7 @@
 #!/usr/bin/env python3
-"""Measures how long a recording host's events take with many connections: many_connections.py [COUNT..].
+"""Measures how long a recording host's events take with many connections.
+
+    python3 bench/many_connections.py [COUNT ..]
 
 Copies the repository's last commit into a folder of its own, adds the program below as a crate, and runs it with `rt try`. That
 proves nothing and is slow, so only the ratios are meaningful. One host opens COUNT connections, each with a SYN that is never
@@ -113,6 +115,9 @@ fn main(rt: HostRuntime) -> std::io::Result<()> {
 
 
 def main():
+    if "--help" in sys.argv:
+        print(__doc__.strip())
+        return
     counts = sys.argv[1:] or ["250", "500", "1000", "2000"]
     top = pathlib.Path(__file__).resolve().parent.parent
     with tempfile.TemporaryDirectory() as folder:

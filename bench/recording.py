@@ -1,11 +1,20 @@
 #!/usr/bin/env python3
-"""Measures how many event lines are recorded per second: recording.py PROGRAM [ROUNDS [K]]."""
+"""Measures how many event lines are recorded per second.
+
+    python3 bench/recording.py PROGRAM [ROUNDS [K]]
+
+PROGRAM is `tcpwit`. Its command `record` runs five times, with ROUNDS as `--rounds` (default: 1000) and K as `--lose` (default: 0); the
+fastest run is printed.
+"""
 import subprocess
 import sys
 import time
 
 
 def main():
+    if "--help" in sys.argv:
+        print(__doc__.strip())
+        return
     program = sys.argv[1]
     rounds = sys.argv[2] if len(sys.argv) > 2 else "1000"
     lose = sys.argv[3] if len(sys.argv) > 3 else "0"

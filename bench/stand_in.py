@@ -64,11 +64,11 @@ def without_tests(lines, inline, apart):
 
 
 def main():
-    words = argparse.ArgumentParser()
-    words.add_argument("out")
-    words.add_argument("--crate", default="tcpwit")
-    words.add_argument("--inline", action="append", type=re.compile, default=[])
-    words.add_argument("--apart", action="append", type=re.compile, default=[])
+    words = argparse.ArgumentParser(description=__doc__.splitlines()[0])
+    words.add_argument("out", metavar="OUT", help="the file of the built program")
+    words.add_argument("--crate", metavar="NAME", default="tcpwit", help="the crate of the program (default: tcpwit)")
+    words.add_argument("--inline", metavar="REGEX", action="append", type=re.compile, default=[], help="always inline the functions that match; may be repeated")
+    words.add_argument("--apart", metavar="REGEX", action="append", type=re.compile, default=[], help="never inline the functions that match; may be repeated")
     words = words.parse_args()
     whole = kit()
     clang = f"{whole}/toolchain/bin/clang"

@@ -65,8 +65,8 @@ def refused(found, limits):
 
 def main():
     words = argparse.ArgumentParser(description=__doc__.splitlines()[0])
-    words.add_argument("--write", action="store_true")
-    words.add_argument("--anew", action="store_true")
+    words.add_argument("--write", action="store_true", help="lower the counts in tools/columns.txt to the current ones, but raise none")
+    words.add_argument("--anew", action="store_true", help="rewrite tools/columns.txt; the sum of all counts may not rise")
     words = words.parse_args()
     found, limits = long_lines(), allowed()
     counts = {path: len(numbers) for path, numbers in found.items()}

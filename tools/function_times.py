@@ -1,5 +1,7 @@
 #!/usr/bin/env python3
-"""Shows which functions took longest in a check from scratch: function_times.py FOLDER [N].
+"""Shows which functions took longest in a check from scratch.
+
+    python3 tools/function_times.py FOLDER [N]
 
 FOLDER is where the check saves its work: `out/` of a crate that was proved from scratch, with one job. A check writes a file for
 each module that it has proved, so the time between two files is that of the second. The script prints the N slowest functions
@@ -22,6 +24,9 @@ def function_of(module):
 
 
 def main():
+    if "--help" in sys.argv:
+        print(__doc__.strip())
+        return
     found = []
     for folder, _, files in os.walk(sys.argv[1]):
         for name in files:

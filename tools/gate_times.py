@@ -62,6 +62,9 @@ def described(pid):
 
 def main():
     words = sys.argv[1:]
+    if words == ["--help"]:
+        print(__doc__.strip())
+        return 0
     out = sys.stdout
     if words[:1] == ["--out"]:
         out = open(words[1], "w")

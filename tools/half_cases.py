@@ -227,6 +227,9 @@ def main(data, folder):
 
 
 if __name__ == "__main__":
+    if "--help" in sys.argv:
+        print(__doc__.strip())
+        sys.exit()
     if len(sys.argv) != 3:
         sys.exit("usage: half_cases.py DATA FOLDER")
     main(pathlib.Path(sys.argv[1]), pathlib.Path(sys.argv[2]))

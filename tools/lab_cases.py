@@ -1,7 +1,7 @@
 #!/usr/bin/env python3
 """Tests tcpwit_lab on the case files: pictures, arguments, and which witnesses it finds again.
 
-    lab_cases.py TCPWIT TCPWIT_LAB CASES
+    python3 tools/lab_cases.py TCPWIT TCPWIT_LAB CASES
 
 CASES is crates/test_cases/data. Checks that each picture is XML, is within its frame, and has one red mark if the verdict is no and
 none otherwise; and that bad arguments get `bad usage`. Looks for a witness of the trace of each case with a yes. The status is 1 if
@@ -71,6 +71,9 @@ def wrong_words(lab, case):
 
 
 def main():
+    if "--help" in sys.argv:
+        print(__doc__.strip())
+        return
     if len(sys.argv) != 4:
         sys.exit(__doc__)
     tcpwit, lab, folder = sys.argv[1], sys.argv[2], pathlib.Path(sys.argv[3])

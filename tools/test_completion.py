@@ -15,7 +15,7 @@ COMP_WORDS=("$@") COMP_CWORD=$(($# - 1))
 printf '%s\\n' "${COMPREPLY[@]}"
 """
 GENERAL = ["help", "--help", "-h", "--version", "-V"]
-WORDS = ["full", "recovery", "none"]
+LEVELS = ["full", "recovery", "none"]
 # The file of each command that is a script.
 COMMANDS = {
     "tcpwit-record": "importer/tcpwit-record",
@@ -71,10 +71,12 @@ class Completion(unittest.TestCase):
         self.assertEqual(self.completed("tcpwit_lab", "explain", "--simulated", ""), [])
         self.assertEqual(self.completed("tcpwit_lab", "draw", ""), ["--from", "--to", "--help"])
         self.assertEqual(self.completed("tcpwit_lab", "draw", "--from", "1", ""), ["--from", "--to"])
-        self.assertEqual(self.completed("tcpwit_lab", "judge", ""), ["--least", "--case", "--help"])
+        self.assertEqual(self.completed("tcpwit_lab", "judge", ""), ["--least", "--budget", "--case", "--help"])
+        self.assertEqual(self.completed("tcpwit_lab", "judge", "--budget", ""), [])
+        self.assertEqual(self.completed("tcpwit_lab", "judge", "--budget", "0", "--b"), ["--budget"])
 
     def test_values(self):
-        self.assertEqual(self.completed("tcpwit_lab", "judge", "--least", ""), WORDS)
+        self.assertEqual(self.completed("tcpwit_lab", "judge", "--least", ""), LEVELS)
         self.assertEqual(self.completed("tcpwit", "record", "--format", ""), ["1", "2"])
         for words in (["tcpwit", "many", "--workers"], ["tcpwit", "record", "--rounds"], ["tcpwit", "record", "--lose"], ["tcpwit_lab", "draw", "--from"],
                       ["tcpwit_lab", "draw", "--to"]):
@@ -102,7 +104,7 @@ class Completion(unittest.TestCase):
     def test_values_of_the_scripts(self):
         self.assertEqual(self.completed("tcpwit-record", "--kernel", ""), ["plain", "shipped"])
         for words in (["tcpwit-record", "--congestion"], ["tcpwit-import", "--congestion"], ["tcpwit-stacks", "lwip", "--least"]):
-            self.assertEqual(self.completed(*words, ""), WORDS)
+            self.assertEqual(self.completed(*words, ""), LEVELS)
             self.assertEqual(self.completed(*words, "r"), ["recovery"])
         self.assertEqual(self.completed("tcpwit-import", "--each", ""), ["pair", "connection"])
         self.assertEqual(sorted(self.completed("tcpwit-import", "--out", "")), ["one.case", "two.trace"])

@@ -1,5 +1,5 @@
 #!/usr/bin/python3
-"""Tests the help and version of both programs, and tcpwit_lab's messages about files that it can't use."""
+"""Tests the help and version of both programs, budgets, and tcpwit_lab's messages about input that it can't use."""
 import os
 import re
 import shlex
@@ -22,8 +22,9 @@ DEVICE = 5
 
 def run(program, *words, **ends):
     """Output, standard error and status."""
-    ran = subprocess.run([*program, *words], stdin=ends.pop("stdin", subprocess.DEVNULL), capture_output="stdout" not in ends, text=True,
-                         check=False, timeout=60, **ends)
+    if "input" not in ends:
+        ends.setdefault("stdin", subprocess.DEVNULL)
+    ran = subprocess.run([*program, *words], capture_output="stdout" not in ends, text=True, check=False, timeout=60, **ends)
     return ran.stdout, ran.stderr, ran.returncode
 
 
@@ -114,6 +115,57 @@ class Files(unittest.TestCase):
         with open(f"{TOP}/examples/handshake.case", encoding="ascii") as case, open("/dev/full", "w", encoding="ascii") as full:
             said, status = run(LAB, "show", stdin=case, stdout=full, stderr=subprocess.PIPE)[1:]
             self.assertEqual((said, status), ("standard output: No space left on device (os error 28)\n", DEVICE))
+
+    def test_a_case_instead_of_a_trace(self):
+        path = f"{TOP}/examples/handshake.case"
+        with open(path, encoding="ascii") as file:
+            text = file.read()
+        number = text.split("\n").index("witness 1") + 1
+        for word in ("judge", "find"):
+            told, said, status = run(LAB, word, input=text)
+            self.assertEqual((told, status), (f"bad trace {number} 0 7 number\n", 2))
+            command = f"sed '/^witness/,$d' FILE | tcpwit_lab {word}"
+            self.assertEqual(said, f"this is a case, with a witness from line {number} on. For {word}, pass the trace alone:\n  {command}\n")
+            # The command works.
+            command = command.replace("FILE", path).replace("tcpwit_lab", shlex.join(LAB))
+            told, said, status = run(["sh", "-c", command])
+            self.assertEqual((told.split()[:2], said, status), (["full", "yes"] if word == "judge" else ["trace", "1"], "", 0))
+
+    def test_a_trace_with_a_fault(self):
+        # Standard error stays empty if the fault isn't a witness, even if one follows.
+        with open(f"{TOP}/examples/handshake.case", encoding="ascii") as file:
+            text = file.read()
+        for word in ("judge", "find"):
+            self.assertEqual(run(LAB, word, input=text.replace("trace 1", "trace 9")), ("bad trace 1 0 7 header\n", "", 2))
+            self.assertEqual(run(LAB, word, input=text.split("witness")[0] + "end\n")[1:], ("", 2))
+
+
+class Budgets(unittest.TestCase):
+    """In this trace, a reset has to be dropped, which only a search that goes back does."""
+
+    def run_on_trace(self, *words):
+        with open(f"{TOP}/crates/test_cases/data/judged/half-reset-dropped.trace", encoding="ascii") as file:
+            return run(LAB, *words, input=file.read())
+
+    def test_no_budget(self):
+        for words in (["--budget", "0"], ["--budget=0"]):
+            told, said, status = self.run_on_trace("judge", *words)
+            self.assertEqual((told.split("\n")[0], said, status), ("full      no 14 0 call-answer", "", 1), words)
+            said, status = self.run_on_trace("find", *words)[1:]
+            self.assertEqual((said, status), ("line 17 of the trace isn't explained, and the budget is spent; other choices tried: 0\n", 0), words)
+
+    def test_enough(self):
+        for words in ([], ["--budget", "50000"], ["--budget=18446744073709551615"]):
+            told, said, status = self.run_on_trace("judge", *words)
+            self.assertEqual((told.split("\n")[0], said, status), ("full      yes 9 7", "", 0), words)
+            self.assertRegex(self.run_on_trace("find", *words)[1], "^every line is explained; other choices tried: [0-9]+\n$")
+
+    def test_bad_usage(self):
+        for word in ("judge", "find"):
+            for words in (["--budget"], ["--budget", ""], ["--budget="], ["--budget", "-1"], ["--budget=-1"], ["--budget", "+1"], ["--budget", "00"],
+                          ["--budget=01"], ["--budget", "1.5"], ["--budget", "all"], ["--budget", "18446744073709551616"], ["--budget", "1", "1"],
+                          ["--budget", "1", "--budget=1"], ["-budget", "1"], ["1"]):
+                self.assertEqual(run(LAB, word, *words), ("bad usage\n", "", 3), words)
 
 
 if __name__ == "__main__":

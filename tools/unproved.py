@@ -176,7 +176,9 @@ def leave_sudo():
 
 def main():
     words = sys.argv[1:]
-    if words[:1] == ["--keep"] and len(words) > 1:
+    if words == ["--help"]:
+        print(__doc__.strip())
+    elif words[:1] == ["--keep"] and len(words) > 1:
         leave_sudo()
         for name in words[1:]:
             print(kept(name))

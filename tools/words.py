@@ -1,7 +1,7 @@
 #!/usr/bin/env python3
 """Runs the built program with arguments that aren't UTF-8, are empty, very long or very many, and with file names of all kinds.
 
-    words.py PROGRAM
+    python3 tools/words.py PROGRAM
 
 `rows` and `named` have the expected output and status of each run. Differences are printed; the last line has the counts, and the
 exit status is 1 if anything differed.
@@ -95,6 +95,9 @@ def runs():
 
 
 def main():
+    if "--help" in sys.argv:
+        print(__doc__.strip())
+        return
     program = os.path.abspath(sys.argv[1])
     count = differing = 0
     with tempfile.TemporaryDirectory() as folder:

@@ -23,7 +23,7 @@ With files of host 0 only, the trace belongs to a half case.
 tcpwit-import prints the trace. With --out, it writes the trace there and judges it: it prints the lines of tcpwit_lab judge
 and saves the case next to the trace. Standard error lists what was left out and which settings were chosen.
 
-The status is 0 if the word of --congestion (default: full) or a stricter one has a yes, 1 if none has, 2 for an error. Without
+The status is 0 if the level of --congestion (default: full) or a stricter one has a yes, 1 if none has, 2 for an error. Without
 --out, or with --no-check, it is 0 once the trace is written."""
 
 

@@ -2,15 +2,15 @@
 from .problem import Problem
 
 # The version for two recorded hosts and for one, and the version that states how much of congestion control is judged.
-WHOLE, HALF, BY_WORD = 2, 3, 4
+WHOLE, HALF, BY_LEVEL = 2, 3, 4
 KERNEL = "plain"
 
-# How much of congestion control is judged, from all of it down to nothing.
+# The levels: how much of congestion control is judged, from all of it down to nothing.
 FULL = "full"
-WORDS_OF_CONGESTION = (FULL, "recovery", "none")
+LEVELS = (FULL, "recovery", "none")
 VALUES = {"skew": 0, "msl": 60_000_000, "grain": 4000, "minrto": 200_000, "extra": 1, "initial": 6928, "congestion": FULL}
 LIMITS = {"skew": (0, 10**9), "msl": (1, 3_600_000_000), "grain": (0, 60_000_000), "minrto": (0, 60_000_000), "extra": (0, 65535)}
-WORDS = {"initial": ("5681", "6928"), "congestion": WORDS_OF_CONGESTION}
+WORDS = {"initial": ("5681", "6928"), "congestion": LEVELS}
 HELP = {
     "skew": "largest remaining clock error, in microseconds",
     "msl": "maximum segment lifetime, in microseconds",
@@ -30,7 +30,7 @@ LINES = {
 
 def header(hosts, skew, chosen, version=None):
     """The lines of a header for this many recorded hosts. The values of `chosen` replace detected and default ones."""
-    version = version or (BY_WORD if "congestion" in chosen else WHOLE if hosts == 2 else HALF)
+    version = version or (BY_LEVEL if "congestion" in chosen else WHOLE if hosts == 2 else HALF)
     if hosts == 1 and version < 3:
         raise Problem(f"format version {version} is for two recorded hosts", "leave out --version, or give the capture and calls of host 1")
     if hosts == 2 and version == 3:

@@ -58,7 +58,7 @@ def judge_all(program, traces, least=None):
 
 
 def judge(program, trace, least):
-    """The lines of `judge` and its status: 0 if this word or a stricter one has a yes, 1 if not. The case is saved."""
+    """The lines of `judge` and its status: 0 if this level or a stricter one has a yes, 1 if not. The case is saved."""
     if not os.path.isfile(trace):
         raise Problem(f"{trace} isn't a file that can be read again", "name a file with --out, or skip judging with --no-check")
     folder, name = os.path.split(case_of(trace))

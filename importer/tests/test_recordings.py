@@ -1,7 +1,7 @@
 """Tests recordings of unmodified programs: data/recordings.tar.xz has captures and logs, expected.txt the results.
 
-A line of expected.txt has the name, the number of lines of the trace, and the strictest word of the header with a yes: full, recovery or
-none. The word is compared if TCPWIT_LAB names the program that judges.
+A line of expected.txt has the name, the number of lines of the trace, and the strictest level with a yes: full, recovery or
+none. The level is compared if TCPWIT_LAB names the program that judges.
 """
 import os
 import re
@@ -9,7 +9,7 @@ import tarfile
 import tempfile
 import unittest
 
-from tcpwit_import.header import WORDS_OF_CONGESTION as WORDS
+from tcpwit_import.header import LEVELS
 
 from .test_command import run
 
@@ -49,14 +49,14 @@ class Recordings(unittest.TestCase):
 
     @unittest.skipUnless(os.environ.get("TCPWIT_LAB"), "TCPWIT_LAB names no program")
     def test_verdicts(self):
-        for name, _, word in self.expected:
-            for options in ([], ["--congestion", word]):
+        for name, _, level in self.expected:
+            for options in ([], ["--congestion", level]):
                 with self.subTest(name, options=options):
                     status, out, error = run(*files_of(os.path.join(self.folder.name, name)), *options, "--out", f"{self.folder.name}/{name}.trace")
                     rows = [line.split() for line in out.splitlines()]
                     strictest = next((row[0] for row in rows if row[1:2] == ["yes"]), "-")
-                    # A better witness may be found, for a stricter word.
-                    self.assertIn(strictest, WORDS[:WORDS.index(word) + 1], out + error)
+                    # A better witness may be found, for a stricter level.
+                    self.assertIn(strictest, LEVELS[:LEVELS.index(level) + 1], out + error)
                     self.assertEqual(status, 0 if options or strictest == "full" else 1)
 
     def is_sound(self, text):

@@ -7,11 +7,11 @@ import processes
 from limits import Broken
 from texts import shown
 
-# How much of congestion control is judged, the strictest first.
-WORDS = ("full", "recovery", "none")
-FULL = WORDS[0]
+# The levels: how much of congestion control is judged, the strictest first.
+LEVELS = ("full", "recovery", "none")
+FULL = LEVELS[0]
 # The format versions; only this module chooses them. A case that is judged in full uses a version below 4.
-BOTH_HOSTS, ONE_HOST, BY_WORD = 2, 3, 4
+BOTH_HOSTS, ONE_HOST, BY_LEVEL = 2, 3, 4
 HEADER = ("msl", "grain", "minrto", "extra", "initial")
 # The values of a stack if its profile has none.
 USUAL = {"name": "a stack", "msl": "120000000", "grain": "1000", "minrto": "0", "extra": "65535", "initial": "5681", "options": ""}
@@ -27,7 +27,7 @@ class Outcome:
     """The outcome of one scenario."""
     scenario: object
     verdict: str = ""           # yes .., no .., bad .., skipped .., recorded, or broken ..: of all of congestion control
-    strictest: str = ""         # the strictest word with a yes; empty if no word has one
+    strictest: str = ""         # the strictest level with a yes; empty if no level has one
     why: str = ""               # after a no: what the rule compares, and what usually causes it
     unexpected: list = field(default_factory=list)
     missing: int = 0            # bytes that were accepted and never read
@@ -41,8 +41,8 @@ class Outcome:
     expired: bool = False       # the stack reported that a timer expired
 
     def is_yes(self, least):
-        """Whether this word or a stricter one has a yes."""
-        return self.verdict.startswith("yes") or self.strictest in WORDS[:WORDS.index(least) + 1]
+        """Whether this level or a stricter one has a yes."""
+        return self.verdict.startswith("yes") or self.strictest in LEVELS[:LEVELS.index(least) + 1]
 
     def is_good(self, least=FULL):
         """Whether it is a yes, and everything happened as the scenario expects."""
@@ -77,17 +77,17 @@ def profile(text):
     return values
 
 
-def header_of(values, half, word=FULL):
-    """The lines of a trace's header. `half`: only host 0 is recorded; `word`: how much of congestion control is judged."""
+def header_of(values, half, level=FULL):
+    """The lines of a trace's header. `half`: only host 0 is recorded; `level`: how much of congestion control is judged."""
     lines = ["skew 0", *(f"{name} {values[name]}" for name in HEADER)]
-    if word != FULL:
-        return [f"trace {BY_WORD}", *lines, f"hosts {1 if half else 2}", f"congestion {word}"]
+    if level != FULL:
+        return [f"trace {BY_LEVEL}", *lines, f"hosts {1 if half else 2}", f"congestion {level}"]
     return [f"trace {ONE_HOST}", *lines, "half 0"] if half else [f"trace {BOTH_HOSTS}", *lines]
 
 
-def trace_of(values, half, lines, word=FULL):
+def trace_of(values, half, lines, level=FULL):
     """The trace as text."""
-    return "\n".join(header_of(values, half, word) + lines) + "\n"
+    return "\n".join(header_of(values, half, level) + lines) + "\n"
 
 
 class Judge:
@@ -110,22 +110,22 @@ class Judge:
 
     def unfit(self):
         """The program that is older than the suite, which needs format version 4 and `explain --simulated`; empty if none is."""
-        case, _ = self.call(self.lab, ["find"], trace_of(USUAL, False, [], WORDS[-1]))
-        if not case.startswith(f"trace {BY_WORD}\n") or any(self.call(self.lab, words, case)[0].startswith("bad usage") for words in (EXPLAIN, REMARK)):
+        case, _ = self.call(self.lab, ["find"], trace_of(USUAL, False, [], LEVELS[-1]))
+        if not case.startswith(f"trace {BY_LEVEL}\n") or any(self.call(self.lab, words, case)[0].startswith("bad usage") for words in (EXPLAIN, REMARK)):
             return " ".join(self.lab)
         return "" if self.answer(case).startswith("yes") else " ".join(self.check)
 
     def empty(self, values):
         """The verdict on an empty trace with these values of a profile."""
-        return self.answer(self.call(self.lab, ["find"], trace_of(values, False, [], WORDS[-1]))[0])
+        return self.answer(self.call(self.lab, ["find"], trace_of(values, False, [], LEVELS[-1]))[0])
 
-    def found(self, run, values, word):
+    def found(self, run, values, level):
         """A case and its verdict."""
-        case, _ = self.call(self.lab, ["find"], trace_of(values, run.peer, run.lines, word))
+        case, _ = self.call(self.lab, ["find"], trace_of(values, run.peer, run.lines, level))
         return case, self.answer(case)
 
     def judge(self, outcome, run, values):
-        """Finds witnesses and fills in the outcome. Returns the case judged in full and one for the strictest word with a yes, keyed by word."""
+        """Finds witnesses and fills in the outcome. Returns the case judged in full and one for the strictest level with a yes, keyed by level."""
         case, outcome.verdict = self.found(run, values, FULL)
         cases = {FULL: case}
         if outcome.verdict.startswith("yes"):
@@ -146,12 +146,12 @@ class Judge:
 
     def judge_less(self, outcome, run, values, cases):
         """Looks for a yes that judges less of congestion control."""
-        for word in WORDS[1:]:
+        for level in LEVELS[1:]:
             try:
-                case, verdict = self.found(run, values, word)
+                case, verdict = self.found(run, values, level)
             except Broken as cause:
-                outcome.unexpected.append(f"run: {cause}; {word} and less strict words weren't tried")
+                outcome.unexpected.append(f"run: {cause}; {level} and less strict levels weren't tried")
                 return
             if verdict.startswith("yes"):
-                outcome.strictest, cases[word] = word, case
+                outcome.strictest, cases[level] = level, case
                 return

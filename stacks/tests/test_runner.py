@@ -183,7 +183,7 @@ class Profiles(unittest.TestCase):
 
     def test_less_of_congestion_control_is_version_4(self):
         for half, hosts in ((False, "hosts 2"), (True, "hosts 1")):
-            for word in judging.WORDS[1:]:
+            for word in judging.LEVELS[1:]:
                 lines = judging.header_of(judging.USUAL, half, word)
                 self.assertEqual((lines[0], lines[1:7], lines[7:]),
                                  ("trace 4", judging.header_of(judging.USUAL, half)[1:7], [hosts, f"congestion {word}"]))
@@ -201,7 +201,7 @@ class StandIn(judging.Judge):
 
     def __init__(self, strictest, fault="no 9 0 congestion"):
         super().__init__(["the", "check"], ["the", "lab"])
-        self.yes, self.fault = judging.WORDS[judging.WORDS.index(strictest):] if strictest else (), fault
+        self.yes, self.fault = judging.LEVELS[judging.LEVELS.index(strictest):] if strictest else (), fault
 
     def answer(self, case):
         word = re.search(r"congestion (\w+)", case)
@@ -228,7 +228,7 @@ class TheStrictestWord(unittest.TestCase):
             self.assertEqual((outcome.strictest, outcome.verdict), (word, verdict))
             self.assertEqual(list(cases), list(dict.fromkeys(each for each in ("full", word) if each)))
             self.assertEqual(cases["full"][:8], "trace 2\n")
-            self.assertEqual([outcome.is_good(least) for least in judging.WORDS], [bool(word) and word in judging.WORDS[:n] for n in (1, 2, 3)])
+            self.assertEqual([outcome.is_good(least) for least in judging.LEVELS], [bool(word) and word in judging.LEVELS[:n] for n in (1, 2, 3)])
             self.assertEqual(outcome.remarks, ["line 7: of " + ("4" if word in ("recovery", "none") else "2"), "at the end: x"])
 
     def test_a_fault_is_judged_once(self):
@@ -373,7 +373,7 @@ class TheCommand(unittest.TestCase):
         self.assertIn("of those with no, 1 has a yes at recovery", out)
 
     def test_the_status_goes_by_the_least_word(self):
-        self.assertEqual([self.reported("--least", word)[0] for word in judging.WORDS], [1, 0, 0])
+        self.assertEqual([self.reported("--least", word)[0] for word in judging.LEVELS], [1, 0, 0])
         for word, failures in (("full", 1), ("recovery", 0)):
             self.reported("--least", word, "--junit", f"{self.folder}/report.xml")
             with open(f"{self.folder}/report.xml") as file:

@@ -129,9 +129,9 @@ def built_library(folder):
 
 def main():
     words = argparse.ArgumentParser(description=__doc__.splitlines()[0])
-    words.add_argument("program")
-    words.add_argument("cases")
-    words.add_argument("--jobs", type=int, default=os.cpu_count())
+    words.add_argument("program", metavar="PROGRAM", help="the program tcpwit")
+    words.add_argument("cases", metavar="CASES", help="the folder of the case files, crates/test_cases/data")
+    words.add_argument("--jobs", metavar="N", type=int, default=os.cpu_count(), help="how many runs at once (default: one for each processor)")
     words = words.parse_args()
     program = os.path.abspath(words.program)
     runs, wrong = 0, []

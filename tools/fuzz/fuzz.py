@@ -151,12 +151,12 @@ def batch(words, cases, first, count, folder):
 
 def main():
     words = argparse.ArgumentParser(description=__doc__.splitlines()[0])
-    words.add_argument("program")
-    words.add_argument("cases")
-    words.add_argument("--changes", type=int, default=100_000)
-    words.add_argument("--seed", type=int, default=1)
-    words.add_argument("--other")
-    words.add_argument("--jobs", type=int, default=os.cpu_count())
+    words.add_argument("program", metavar="PROGRAM", help="the program tcpwit")
+    words.add_argument("cases", metavar="CASES", help="the folder of the case files, crates/test_cases/data")
+    words.add_argument("--changes", metavar="N", type=int, default=100_000, help="how many mutations are tried (default: 100,000)")
+    words.add_argument("--seed", metavar="SEED", type=int, default=1, help="the seed of the first mutation (default: 1)")
+    words.add_argument("--other", metavar="PROGRAM", help="a second checker; reads a case from standard input")
+    words.add_argument("--jobs", metavar="N", type=int, default=os.cpu_count(), help="how many runs at once (default: one for each processor)")
     words = words.parse_args()
     words.program = os.path.abspath(words.program)
     cases = [open(os.path.join(root, file), "rb").read() for root, _, files in os.walk(words.cases) for file in sorted(files) if file.endswith(".case")]

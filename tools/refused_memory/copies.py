@@ -52,9 +52,9 @@ def told(answer):
 
 def main():
     words = argparse.ArgumentParser(description=__doc__.splitlines()[0])
-    words.add_argument("tests")
-    words.add_argument("--most", type=int, default=4000)
-    words.add_argument("--jobs", type=int, default=os.cpu_count())
+    words.add_argument("tests", metavar="TESTS", help="the test program of test_recording")
+    words.add_argument("--most", metavar="N", type=int, default=4000, help="how many allocations are refused at most, evenly spread (default: 4000)")
+    words.add_argument("--jobs", metavar="N", type=int, default=os.cpu_count(), help="how many runs at once (default: one for each processor)")
     words = words.parse_args()
     program = os.path.abspath(words.tests)
     with tempfile.TemporaryDirectory() as folder, concurrent.futures.ThreadPoolExecutor(words.jobs) as pool:

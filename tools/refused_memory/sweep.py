@@ -104,10 +104,10 @@ def swept(program, library, name, command, line, most, folder, pool):
 
 def main():
     words = argparse.ArgumentParser(description=__doc__.splitlines()[0])
-    words.add_argument("program")
-    words.add_argument("cases")
-    words.add_argument("--most", type=int, default=4000)
-    words.add_argument("--jobs", type=int, default=os.cpu_count())
+    words.add_argument("program", metavar="PROGRAM", help="the program tcpwit")
+    words.add_argument("cases", metavar="CASES", help="the folder of the case files, crates/test_cases/data")
+    words.add_argument("--most", metavar="N", type=int, default=4000, help="how many allocations of a command are refused at most, evenly spread (default: 4000)")
+    words.add_argument("--jobs", metavar="N", type=int, default=os.cpu_count(), help="how many runs at once (default: one for each processor)")
     words = words.parse_args()
     program = os.path.abspath(words.program)
     runs, wrong = 0, []

@@ -91,10 +91,10 @@ def run(words, data=None):
 
 
 def main():
-    parser = argparse.ArgumentParser()
-    parser.add_argument("program")
-    parser.add_argument("--minutes", type=float, default=1)
-    parser.add_argument("--seed", type=int, default=1)
+    parser = argparse.ArgumentParser(description=__doc__.splitlines()[0])
+    parser.add_argument("program", metavar="PROGRAM", help="the program tcpwit")
+    parser.add_argument("--minutes", metavar="M", type=float, default=1, help="how many minutes to run (default: 1)")
+    parser.add_argument("--seed", metavar="S", type=int, default=1, help="the seed of the settings (default: 1)")
     given = parser.parse_args()
     chance = random.Random(given.seed)
     end = time.time() + 60 * given.minutes

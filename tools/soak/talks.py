@@ -69,9 +69,9 @@ def prepare(folder):
 
 
 def main():
-    parser = argparse.ArgumentParser()
-    parser.add_argument("--first", type=int, default=0)
-    parser.add_argument("--count", type=int, default=TALKS)
+    parser = argparse.ArgumentParser(description=__doc__.splitlines()[0])
+    parser.add_argument("--first", metavar="SEED", type=int, default=0, help="the seed of the first talk (default: 0)")
+    parser.add_argument("--count", metavar="N", type=int, default=TALKS, help=f"how many talks are simulated (default: {TALKS})")
     given = parser.parse_args()
     failed = 0
     with tempfile.TemporaryDirectory() as folder:

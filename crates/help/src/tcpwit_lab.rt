@@ -9,8 +9,8 @@ Each subcommand reads its text from standard input and writes to standard output
 stream can't be opened, read or written, standard error has its name and the reason.
 
 Status:
-  0  done; explain: yes; judge: the least word or a stricter one has a yes; remark: no remark
-  1  explain: no; judge: no such word has a yes; remark: a remark
+  0  done; explain: yes; judge: the least level or a stricter one has a yes; remark: no remark
+  1  explain: no; judge: no such level has a yes; remark: a remark
   2  bad trace, bad witness: the text is refused
   3  bad usage
   4  bad memory: memory ran out
@@ -42,11 +42,11 @@ Input: a case, or a trace alone. Output: a picture (SVG). Time goes down, segmen
 refused step is red.";
 
 const JUDGE: &str = "\
-Input: a trace. The search for a witness uses `congestion full`, then `recovery`, then `none`, until
-the first yes. Output: a line for each word tried, what the yes means, and what `full` refused
-first.
+Input: a trace. It looks for a witness at the levels `full`, `recovery` and `none`, in this order,
+until the first yes. Output: a line for each level tried, what the yes means, and what `full`
+refused first. If a line can't be explained, it goes back, as find does.
 
-Status: 0 if WORD or a stricter word has a yes, 1 if none has.";
+Status: 0 if LEVEL or a stricter one has a yes, 1 if none has.";
 
 const REMARK: &str = "\
 Input: a case. Output: a line for each remark, with the trace lines that it is about. For a no, only
@@ -128,18 +128,23 @@ fn draw<'a>(alloc: Global) -> Result<Command<'a>, AllocError> {
 fn judge<'a>(alloc: Global) -> Result<Command<'a>, AllocError> {
     let least = Arg::new(alloc, "least")
         .long("least")
-        .value_name("WORD")
-        .help("The weakest word that gives status 0: full, recovery, none [default: full]");
+        .value_name("LEVEL")
+        .help("The weakest level that gives status 0: full, recovery, none [default: full]");
     let case = Arg::new(alloc, "case")
         .long("case")
         .value_name("FILE")
-        .help("Writes the case of the last word tried to FILE");
+        .help("Writes the case of the last level tried to FILE");
+    let budget = Arg::new(alloc, "budget")
+        .long("budget")
+        .value_name("N")
+        .help("How many steps are spent on going back at each level [default: 50000]");
     Ok(
         Command::new(alloc, "judge")
-            .about("Finds the strictest congestion word that gets a yes for a trace")
-            .override_usage("tcpwit_lab judge [--least WORD] [--case FILE] < TRACE")
+            .about("Finds the strictest level that gets a yes for a trace")
+            .override_usage("tcpwit_lab judge [--least LEVEL] [--budget N] [--case FILE] < TRACE")
             .after_help(JUDGE)
             .arg(least)?
+            .arg(budget)?
             .arg(case)?,
     )
 }

@@ -1,19 +1,19 @@
 //! How much of the RFCs a recorded run follows.
 //!
-//! Few stacks follow RFC 5681 to the letter. So a trace is rewritten in version 4 of the texts, once for each word of
+//! Few stacks follow RFC 5681 to the letter. So a trace is rewritten in version 4 of the texts, once for each level of
 //! the header line `congestion`, from `full` on, until `checker` accepts the witness that `witness_search` finds. The
-//! answer is the strictest word with a yes, and the first thing that `full` refused, which `why` reads from the case.
-//! The time is linear in the size of the trace, and a budget bounds what the search spends on going back. Each function
-//! is proved only to be safe and to return.
+//! answer is the strictest level with a yes, and the first thing that `full` refused, which `why` reads from the case.
+//! The time is linear in the size of the trace, and a budget bounds what the search spends on going back at each level.
+//! Each function is proved only to be safe and to return.
 //!
-//! - `judge`, `Judgement`: the answer for a trace, the word with a yes, and the case of the last word
-//! - `options_of`, `Options`: the command line's words; `values_of`: the values of two options
+//! - `judge`, `Judgement`: the answer for a trace, the level with a yes, and the case of the last level
+//! - `options_of`, `Options`: the command line's words; `values_of`: the values of its options; `budget_of`: a budget
 //!
 //! Private modules:
 //!
-//! - `asking`: the words of the header, one after the other
+//! - `asking`: the levels, one after the other
 //! - `rewriting`: a trace in version 4
-//! - `trying`: one word: the case that is found, and its verdict
+//! - `trying`: one level: the case that is found, and its verdict
 //! - `sentences`: what a yes says, and what a no refuses; `phrases`: a few words for each rule
 //! - `grouped`: numbers with commas
 //! - `words`: the command line's words
@@ -28,4 +28,4 @@ mod trying;
 mod words;
 
 pub use asking::{Judgement, judge};
-pub use words::{Options, options_of, values_of};
+pub use words::{Options, budget_of, options_of, values_of};

@@ -5,15 +5,15 @@ use case_forms::{Header, Judged, Lines, OutOfMemory, Trace, Version};
 use std::alloc::Global;
 use trace_reader::print_trace;
 
-/// The text of a trace in version 4, with this word for congestion control: another header, and the same event lines.
+/// The text of a trace in version 4, at this level: another header, and the same event lines.
 pub(crate) fn rewritten(
     alloc: Global,
     text: &[u8],
     header: &Header,
-    word: Judged,
+    level: Judged,
 ) -> Result<Vec<u8>, OutOfMemory> {
     let trace = Trace {
-        header: judged_by(header, word),
+        header: judged_by(header, level),
         lines: Lines::new(alloc),
     };
     let mut rewritten = print_trace(alloc, &trace)?;
@@ -22,7 +22,7 @@ pub(crate) fn rewritten(
 }
 
 // The header in version 4. What an older version doesn't say is read as it is judged: RFC 5681 gives the first window.
-fn judged_by(header: &Header, word: Judged) -> Header {
+fn judged_by(header: &Header, level: Judged) -> Header {
     let version = if header.version.is_half() {
         Version::FourHalf
     } else {
@@ -30,7 +30,7 @@ fn judged_by(header: &Header, word: Judged) -> Header {
     };
     Header {
         version,
-        congestion: word,
+        congestion: level,
         ..*header
     }
 }

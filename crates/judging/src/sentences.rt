@@ -8,11 +8,11 @@ use why::text::{Piece, add};
 use why::{Reason, Refused};
 use witness_search::Ending;
 
-/// Writes a word of the header, and spaces up to column 10.
-pub(crate) fn push_padded(out: &mut Vec<u8>, word: Judged) -> Result<(), OutOfMemory> {
+/// Writes a level's name, and spaces up to column 10.
+pub(crate) fn push_padded(out: &mut Vec<u8>, level: Judged) -> Result<(), OutOfMemory> {
     push_word(
         out,
-        match word {
+        match level {
             Judged::Full => "full      ",
             Judged::Recovery => "recovery  ",
             Judged::Nothing => "none      ",
@@ -20,11 +20,11 @@ pub(crate) fn push_padded(out: &mut Vec<u8>, word: Judged) -> Result<(), OutOfMe
     )
 }
 
-/// Writes what a yes under a word says. README.md, "What a yes means", has the same sentences.
-pub(crate) fn push_yes(out: &mut Vec<u8>, word: Judged) -> Result<(), OutOfMemory> {
+/// Writes what a yes at a level says. README.md, "What a yes means", has the same sentences.
+pub(crate) fn push_yes(out: &mut Vec<u8>, level: Judged) -> Result<(), OutOfMemory> {
     push_word(
         out,
-        match word {
+        match level {
             Judged::Full => "The run follows RFC 9293, 6298 and 5681 as this profile reads them.\n",
             Judged::Recovery => "The run follows RFC 9293 and 6298 as this profile reads them.\n\
 Data is retransmitted only if a timer expired, fast recovery began, or a closed window opened.\n\
@@ -36,7 +36,7 @@ The choice of when to retransmit data isn't judged either.\n",
     )
 }
 
-/// Writes that no word has a yes.
+/// Writes that no level has a yes.
 pub(crate) fn push_none(out: &mut Vec<u8>) -> Result<(), OutOfMemory> {
     push_word(
         out,
@@ -53,7 +53,7 @@ pub(crate) fn push_ending(out: &mut Vec<u8>, ending: Ending) -> Result<(), OutOf
             Ending::Exhausted { .. } =>
                 "The search tried every choice that it knows. Another witness may still exist.\n",
             Ending::BudgetSpent { .. } =>
-                "The search spent its budget. With a larger one, `find` may find a witness.\n",
+                "The search spent its budget. With a larger one (--budget), it may find a witness.\n",
         },
     )
 }
@@ -70,15 +70,15 @@ pub(crate) fn push_half(out: &mut Vec<u8>, header: &Header) -> Result<(), OutOfM
     }
 }
 
-/// Writes what a word refused, as a line.
+/// Writes what a level refused, as a line.
 pub(crate) fn push_under(
     out: &mut Vec<u8>,
-    word: Judged,
+    level: Judged,
     refused: &[u8],
 ) -> Result<(), OutOfMemory> {
     push_word(
         out,
-        match word {
+        match level {
             Judged::Full => "Under full: ",
             Judged::Recovery => "Under recovery: ",
             Judged::Nothing => "Under none: ",

@@ -1,4 +1,4 @@
-//! A trace under one word for congestion control.
+//! A trace at one level.
 
 use crate::asking::trace_fault;
 use crate::rewriting::rewritten;
@@ -9,12 +9,12 @@ use line_fields::push_end;
 use std::alloc::Global;
 use verdict::{Verdict, print_verdict};
 use why::refused_by;
-use witness_search::{Ending, USUAL_BUDGET, find_within};
+use witness_search::{Ending, find_within};
 
-/// A word that was tried.
+/// A level that was tried.
 #[derive(Drop)]
 pub(crate) struct Tried {
-    pub word: Judged,
+    pub level: Judged,
     /// The trace in version 4, and the witness that was found.
     pub case: Vec<u8>,
     /// How the search ended.
@@ -22,21 +22,22 @@ pub(crate) struct Tried {
     verdict: Verdict,
 }
 
-/// Looks for a witness of a trace under a word, and judges it.
-pub(crate) fn try_word(
+/// Looks for a witness of a trace at a level, with so many search steps for going back, and judges it.
+pub(crate) fn try_level(
     alloc: Global,
     text: &[u8],
     header: &Header,
-    word: Judged,
+    level: Judged,
+    budget: u64,
 ) -> Result<Tried, CaseFault> {
-    let trace = rewritten(alloc, text, header, word)?;
-    let found = match find_within(alloc, trace.as_slice(), USUAL_BUDGET) {
+    let trace = rewritten(alloc, text, header, level)?;
+    let found = match find_within(alloc, trace.as_slice(), budget) {
         Ok(found) => found,
         Err(fault) => return Err(trace_fault(fault)),
     };
     let verdict = check_case(alloc, found.case.as_slice())?;
     Ok(Tried {
-        word,
+        level,
         case: found.case,
         ending: found.ending,
         verdict,
@@ -49,9 +50,9 @@ impl Tried {
         matches!(&self.verdict, Verdict::Yes { .. })
     }
 
-    /// Writes the word and the verdict as a line.
+    /// Writes the level and the verdict as a line.
     pub(crate) fn push_row(&self, out: &mut Vec<u8>) -> Result<(), OutOfMemory> {
-        push_padded(out, self.word)?;
+        push_padded(out, self.level)?;
         print_verdict(&self.verdict, out)?;
         push_end(out)
     }

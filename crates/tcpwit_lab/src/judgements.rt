@@ -1,6 +1,6 @@
 //! How much of the RFCs a run follows, and the case that shows it.
 
-use crate::saying::{DONE, NO, say, say_bad_device, say_bad_memory, say_fault};
+use crate::saying::{DONE, NO, say, say_bad_device, say_bad_memory, say_bad_trace, say_fault};
 use checker::CaseFault;
 use counted::Counted;
 use judging::{Options, judge};
@@ -9,8 +9,8 @@ use std::fs;
 use std::io::{Eprint, Write};
 use std::rt::Files;
 
-/// Judges a trace, writes the case of the last word if a file is named for it, and prints the answer. The status is 0
-/// if the word that `--least` names or a stricter one has a yes, and 1 if none has.
+/// Judges a trace, writes the case of the last level if a file is named for it, and prints the answer. The status is 0
+/// if the level that `--least` names or a stricter one has a yes, and 1 if none has.
 pub(crate) fn write_judgement<H: Files + Eprint, W: Write>(
     rt: &H,
     alloc: Global,
@@ -18,9 +18,9 @@ pub(crate) fn write_judgement<H: Files + Eprint, W: Write>(
     text: &[u8],
     w: &mut Counted<W>,
 ) -> u8 {
-    let judgement = match judge(alloc, text) {
+    let judgement = match judge(alloc, text, options.budget) {
         Ok(judgement) => judgement,
-        Err(CaseFault::Trace(fault)) => return say_fault(rt, alloc, "bad trace ", &fault, w),
+        Err(CaseFault::Trace(fault)) => return say_bad_trace(rt, alloc, "judge", text, &fault, w),
         Err(CaseFault::Witness(fault)) => return say_fault(rt, alloc, "bad witness ", &fault, w),
         Err(CaseFault::Read | CaseFault::OutOfMemory) => return say_bad_memory(rt, w),
     };

@@ -2,7 +2,7 @@
 
 use crate::judgements::write_judgement;
 use crate::remarking::write_remarks;
-use crate::saying::{DONE, USAGE, say, say_bad_device, say_bad_memory, say_fault};
+use crate::saying::{DONE, USAGE, say, say_bad_device, say_bad_memory, say_bad_trace, say_fault};
 use crate::words::{Asked, asked_by};
 use counted::Counted;
 use drawing::{draw, show};
@@ -44,7 +44,7 @@ fn write_answer<H: Files + Eprint, W: Write>(
     match asked {
         Asked::Find(budget) => match find_within(alloc, text, budget) {
             Ok(found) => tell_found(rt, &found, w),
-            Err(fault) => say_fault(rt, alloc, "bad trace ", &fault, w),
+            Err(fault) => say_bad_trace(rt, alloc, "find", text, &fault, w),
         },
         Asked::Show => tell(rt, alloc, show(alloc, text), w),
         Asked::Draw(range) => tell(rt, alloc, draw(alloc, text, range), w),

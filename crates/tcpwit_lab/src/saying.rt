@@ -6,6 +6,7 @@ use std::alloc::Global;
 use std::io;
 use std::io::{Eprint, Write};
 use why::fault_line;
+use why::parts::line_at;
 
 /// Done.
 pub(crate) const DONE: u8 = 0;
@@ -71,5 +72,33 @@ pub(crate) fn say_fault<H: Eprint, W: Write>(
             Ok(line) => say(rt, w, line.as_slice(), REFUSED),
             Err(_) => say_bad_memory(rt, w),
         },
+    }
+}
+
+/// Writes the fault of a text that should be a trace. If it's a case, standard error has a command that passes its
+/// trace alone to this subcommand.
+pub(crate) fn say_bad_trace<H: Eprint, W: Write>(
+    rt: &H,
+    alloc: Global,
+    subcommand: &str,
+    text: &[u8],
+    fault: &TextFault,
+    w: &mut Counted<W>,
+) -> u8 {
+    let line = fault.span.line;
+    if begins_witness(text, line) {
+        let _ = eprintln!(rt;
+            "this is a case, with a witness from line {line} on. For {subcommand}, pass the trace alone:"
+        );
+        let _ = eprintln!(rt; "  sed '/^witness/,$d' FILE | tcpwit_lab {subcommand}");
+    }
+    say_fault(rt, alloc, "bad trace ", fault, w)
+}
+
+// Whether the line of this number begins the witness of a case.
+fn begins_witness(text: &[u8], number: u64) -> bool {
+    match line_at(text, number) {
+        Some(line) => line.starts_with(b"witness "),
+        None => false,
     }
 }

@@ -1,9 +1,8 @@
 //! What the words after the program's name ask for.
 
 use drawing::Range;
-use judging::{Options, options_of, values_of};
+use judging::{Options, budget_of, options_of, values_of};
 use why::Origin;
-use witness_search::USUAL_BUDGET;
 
 /// What the words ask for.
 #[derive(Clone, Copy)]
@@ -21,7 +20,7 @@ pub(crate) enum Asked<'w> {
 /// What the words ask for. None: nothing that the program does.
 pub(crate) fn asked_by<'w>(words: &[&'w str]) -> Option<Asked<'w>> {
     match words {
-        [word, options @ ..] if *word == "find" => Some(Asked::Find(budget_of(options)?)),
+        [word, options @ ..] if *word == "find" => Some(Asked::Find(find_budget(options)?)),
         [word, options @ ..] if *word == "judge" => Some(Asked::Judge(options_of(options)?)),
         [word, options @ ..] if *word == "draw" => Some(Asked::Draw(range_of(options)?)),
         [word, option] if *word == "explain" && *option == "--simulated" => {
@@ -38,28 +37,15 @@ pub(crate) fn asked_by<'w>(words: &[&'w str]) -> Option<Asked<'w>> {
 }
 
 // The budget that `--budget N` gives, or the usual one. None: other words, or a number that is badly written.
-fn budget_of(options: &[&str]) -> Option<u64> {
-    match options {
-        [] => Some(USUAL_BUDGET),
-        [option] => number(option.strip_prefix("--budget=")?),
-        [name, value] if *name == "--budget" => number(value),
-        _ => None,
-    }
-}
-
-// A number in digits alone, without a leading zero unless it is 0.
-fn number(value: &str) -> Option<u64> {
-    if value == "0" {
-        Some(0)
-    } else {
-        line_number(Some(value))?
-    }
+fn find_budget(options: &[&str]) -> Option<u64> {
+    let [budget] = values_of(options, ["--budget"])?;
+    budget_of(budget)
 }
 
 // The lines that `--from N`, `--to M` or both ask for, in either order. None: other words, an option twice, a number
 // that is badly written, or M below N.
 fn range_of(options: &[&str]) -> Option<Range> {
-    let (from, to) = values_of(options, "--from", "--to")?;
+    let [from, to] = values_of(options, ["--from", "--to"])?;
     let range = Range {
         from: line_number(from)?,
         to: line_number(to)?,

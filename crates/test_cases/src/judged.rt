@@ -42,7 +42,7 @@ fn answered(alloc: Global, words: &[&str], trace: &[u8]) -> Result<String, Alloc
     let Some(options) = options_of(words) else {
         return String::from_str(alloc, "3 bad usage\n");
     };
-    match judge(alloc, trace) {
+    match judge(alloc, trace, options.budget) {
         Ok(judgement) => said(alloc, options, &judgement),
         Err(CaseFault::Trace(fault)) => {
             let line = fault_line(alloc, "2 bad trace ", &fault)?;
@@ -52,7 +52,7 @@ fn answered(alloc: Global, words: &[&str], trace: &[u8]) -> Result<String, Alloc
     }
 }
 
-// The status and the text, if the case is the one of the last word: its verdict is there.
+// The status and the text, if the case is the one of the last level: its verdict is there.
 fn said(alloc: Global, options: Options<'_>, judgement: &Judgement) -> Result<String, AllocError> {
     let text = String::from_utf8_lossy(alloc, judgement.text.as_slice())?;
     let verdict = match check_case(alloc, judgement.case.as_slice()) {

@@ -5,7 +5,7 @@ use crate::reasons::{Reason, misplaced};
 use crate::scene::Scene;
 use crate::text::{Piece, say};
 use crate::usual::{COARSE_CLOCK, Cause, anywhere, usual_cause};
-use case_forms::{Event, Extras, Judged, Label, OutOfMemory, SegmentPlan, Timer, Wire};
+use case_forms::{Call, Event, Extras, Judged, Label, OutOfMemory, SegmentPlan, Timer, Wire};
 use endpoint_state::Endpoint;
 use spec_tcp::Emission;
 use verdict::Rule;
@@ -44,6 +44,10 @@ fn cause_at(scene: &Scene<'_>, rule: Rule) -> Cause {
         return usual_cause(rule);
     };
     match (&step.label, rule) {
+        (Label::D { thread, .. }, Rule::CallAnswer) => match scene.world.pending_call(*thread) {
+            Some(call) => of_answer(call),
+            None => usual_cause(rule),
+        },
         (Label::M { .. }, Rule::NoEndpoint) => anywhere(
             "the stack sends after a reset, an expiry or a call closed the connection, or before a call opens it",
         ),
@@ -63,6 +67,41 @@ fn cause_at(scene: &Scene<'_>, rule: Rule) -> Cause {
             None => usual_cause(rule),
         },
         _ => usual_cause(rule),
+    }
+}
+
+// The causes if a call has an answer that it can't have.
+fn of_answer(call: &Call) -> Cause {
+    match call {
+        Call::Listen(_, _, _) => anywhere(
+            "the stack allows two listeners on a port, or refuses a port that has none; or the witness has the effect \
+at the wrong place",
+        ),
+        Call::Connect(_, _, _) => anywhere(
+            "the stack opens ports again before their connection is closed, TIME-WAIT included, or refuses free ones; \
+or the witness has the effect at the wrong place",
+        ),
+        Call::Accept(_) => anywhere(
+            "the stack accepts a connection before its handshake is done, or out of order; or the witness has the \
+effect at the wrong place",
+        ),
+        Call::Send(_, _) => anywhere(
+            "the stack accepts data after a shut or a reset, or obeys a reset outside its window; or the witness has \
+the effect at the wrong place",
+        ),
+        Call::Recv(_, _) => anywhere(
+            "the stack delivers data twice, too early or not at all, or obeys a reset outside its window; or the \
+witness has the effect at the wrong place",
+        ),
+        Call::Close(_) | Call::Abort(_) => anywhere(
+            "the socket number was never returned, or was closed before; or the witness has the effect at the \
+wrong place",
+        ),
+        Call::Await(_) => anywhere(
+            "the stack reports a connection before its handshake is done or after it failed, or obeys a reset outside \
+its window; or the witness has the effect at the wrong place",
+        ),
+        Call::Shut(_) | Call::Status(_) => usual_cause(Rule::CallAnswer),
     }
 }
 
@@ -106,9 +145,9 @@ fn of_old_data(endpoint: &Endpoint, plan: &SegmentPlan, congestion: Judged) -> C
             "the stack retransmits acknowledged data, or the witness has the acknowledgment too early",
         ),
         (_, Judged::Nothing) => anywhere(if endpoint.is_up() {
-            "the witness lacks an F step before it; under `none` it may have one at any moment"
+            "the witness lacks an F step before it; at `none` it may have one at any moment"
         } else {
-            "the trace lacks the expiry (a `T` line) before it, which a SYN needs under every word"
+            "the trace lacks the expiry (a `T` line) before it, which a SYN needs at every level"
         }),
         _ => usual_cause(Rule::OldData),
     }

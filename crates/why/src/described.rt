@@ -5,6 +5,9 @@ use case_forms::{Host, OutOfMemory};
 use endpoint_state::Endpoint;
 use line_fields::state_name;
 
+// The slow start threshold of an endpoint that hasn't set it.
+const UNSET: u32 = u32::MAX;
+
 /// Writes the values of an endpoint that rules compare, as they are before the step.
 pub(crate) fn describe(
     out: &mut Vec<u8>,
@@ -46,6 +49,15 @@ fn describe_stream(out: &mut Vec<u8>, endpoint: &Endpoint) -> Result<(), OutOfMe
             Number(endpoint.recover),
         ],
     )?;
+    describe_receiving(out, endpoint)
+}
+
+// Before the peer's SYN, which has position 0, there is nothing to acknowledge and no window to advertise.
+fn describe_receiving(out: &mut Vec<u8>, endpoint: &Endpoint) -> Result<(), OutOfMemory> {
+    use Piece::{Number, Word};
+    if endpoint.rcv_nxt() == 0 {
+        return say(out, &[Word("  receiving: no SYN received yet")]);
+    }
     say(
         out,
         &[
@@ -60,6 +72,10 @@ fn describe_stream(out: &mut Vec<u8>, endpoint: &Endpoint) -> Result<(), OutOfMe
 fn describe_windows(out: &mut Vec<u8>, endpoint: &Endpoint) -> Result<(), OutOfMemory> {
     use Piece::{Number, Word};
     let congestion = &endpoint.control.values;
+    let ssthresh = match congestion.ssthresh {
+        UNSET => Word("not set"),
+        bytes => Number(u64::from(bytes)),
+    };
     say(
         out,
         &[
@@ -68,7 +84,7 @@ fn describe_windows(out: &mut Vec<u8>, endpoint: &Endpoint) -> Result<(), OutOfM
             Word(", cwnd "),
             Number(u64::from(congestion.cwnd)),
             Word(", ssthresh "),
-            Number(u64::from(congestion.ssthresh)),
+            ssthresh,
             Word(word_if(
                 !endpoint.control.profile.bounds_windows(),
                 " (neither is judged)",

@@ -24,7 +24,7 @@
 //! - `causes`: the usual causes at a step that breaks a rule; `usual`: those at any step
 //! - `fitting`: the other congestion windows that a segment would fit; `other_windows`, `segment_window`, `changes`:
 //!   those windows, kept while the case is replayed
-//! - `unjudged`: the congestion word that leaves a refusal unjudged
+//! - `unjudged`: the level that leaves a refusal unjudged
 //! - `refusal`: what a verdict refuses, as values
 #![tactic(auto)]
 

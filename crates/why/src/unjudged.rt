@@ -1,4 +1,4 @@
-//! Which `congestion` word, in a header of version 4, leaves a refusal unjudged.
+//! Which level, in a header of version 4, leaves a refusal unjudged.
 
 use crate::reasons::{Reason, misplaced};
 use crate::scene::Scene;
@@ -6,26 +6,26 @@ use crate::text::{Piece, say};
 use case_forms::{Host, Judged, Label, OutOfMemory, Recovery, SegmentPlan, Version};
 use verdict::Rule;
 
-/// Writes which word leaves the refusal unjudged, if the header's word doesn't and another one does.
+/// Writes which level leaves the refusal unjudged, if the header's level doesn't and another one does.
 pub(crate) fn say_unjudged(
     out: &mut Vec<u8>,
     scene: &Scene<'_>,
     rule: Rule,
 ) -> Result<(), OutOfMemory> {
-    match (scene.header.congestion, lenient_word(scene, rule)) {
-        (Judged::Full, Some(Judged::Recovery)) => say_word(out, scene, rule, "recovery"),
+    match (scene.header.congestion, lenient_level(scene, rule)) {
+        (Judged::Full, Some(Judged::Recovery)) => say_level(out, scene, rule, "recovery"),
         (Judged::Full | Judged::Recovery, Some(Judged::Nothing)) => {
-            say_word(out, scene, rule, "none")
+            say_level(out, scene, rule, "none")
         }
         _ => Ok(()),
     }
 }
 
-fn say_word(
+fn say_level(
     out: &mut Vec<u8>,
     scene: &Scene<'_>,
     rule: Rule,
-    word: &str,
+    level: &str,
 ) -> Result<(), OutOfMemory> {
     let (before, after) = match scene.header.version {
         Version::One | Version::Two | Version::Three => (
@@ -39,7 +39,7 @@ fn say_word(
         &[
             Piece::Word("stacks with CUBIC, BBR, SACK or RACK-TLP do this; "),
             Piece::Word(before),
-            Piece::Word(word),
+            Piece::Word(level),
             Piece::Word(after),
             Piece::Word(match rule {
                 Rule::OldData => " if an F step comes first",
@@ -49,8 +49,8 @@ fn say_word(
     )
 }
 
-// The strictest word under which the step doesn't break the rule. None: it breaks it under every word.
-fn lenient_word(scene: &Scene<'_>, rule: Rule) -> Option<Judged> {
+// The strictest level at which the step doesn't break the rule. None: it breaks it at every level.
+fn lenient_level(scene: &Scene<'_>, rule: Rule) -> Option<Judged> {
     match (&scene.step()?.label, rule) {
         (Label::M { .. }, Rule::Congestion) => Some(Judged::Recovery),
         (Label::M { host, plan }, Rule::OldData) => at_old_data(scene, *host, plan),
@@ -70,7 +70,7 @@ fn at_old_data(scene: &Scene<'_>, host: Host, plan: &SegmentPlan) -> Option<Judg
     }
 }
 
-// A child begins with a window of 0 under every word.
+// A child begins with a window of 0 at every level.
 fn at_taking(scene: &Scene<'_>, host: Host, line: u64) -> Option<Judged> {
     let taker = scene.taker(host, scene.world.waiting(host, line)?)?;
     if taker.state.is_closed() {
@@ -80,7 +80,7 @@ fn at_taking(scene: &Scene<'_>, host: Host, line: u64) -> Option<Judged> {
     }
 }
 
-// Something has to be outstanding under every word.
+// Something has to be outstanding at every level.
 fn at_recovery(scene: &Scene<'_>, host: Host, recovery: Recovery) -> Option<Judged> {
     let endpoint = scene.endpoint(host, recovery.lport, recovery.rport)?;
     if endpoint.stream.snd_una == endpoint.snd_max() {

@@ -53,8 +53,8 @@ pub(crate) fn usual_cause(rule: Rule) -> Cause {
             "the trace has file descriptors as socket numbers; it may return each number only once",
         ),
         Rule::CallAnswer => anywhere(
-            "the stack delivers data twice, obeys a reset outside its window, or skips TIME-WAIT; or the \
-witness has the effect at the wrong place",
+            "the stack obeys a reset outside its window, or skips TIME-WAIT; or the witness has the effect at the \
+wrong place",
         ),
         Rule::NoEndpoint => anywhere(
             "a reset, an expiry or a call already closed the connection, or the witness has the open too late",

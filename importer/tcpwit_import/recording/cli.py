@@ -31,7 +31,7 @@ Capturing and network namespaces need root; the programs run as the user who cal
 tcpwit-record prints the lines of tcpwit_lab judge: how strictly congestion control can be judged with a yes. The programs' own
 output goes to standard error, unchanged. Captures, logs, trace, case and picture are saved in the folder --out.
 
-The status is 0 if the word of --congestion (default: full) or a stricter one has a yes, 1 if none has, 2 for an error."""
+The status is 0 if the level of --congestion (default: full) or a stricter one has a yes, 1 if none has, 2 for an error."""
 
 
 NAME = "tcpwit-record"
