@@ -7,7 +7,8 @@
 //! Each function is proved only to be safe and to return.
 //!
 //! - `judge`, `Judgement`: the answer for a trace, the level with a yes, and the case of the last level
-//! - `options_of`, `Options`: the command line's words; `values_of`: the values of its options; `budget_of`: a budget
+//! - `options_of`, `Options`: the command line's words
+//! - `are_options`, `value_of`, `budget_of`: options, their values, and that of `--budget`
 //!
 //! Private modules:
 //!
@@ -28,4 +29,4 @@ mod trying;
 mod words;
 
 pub use asking::{Judgement, judge};
-pub use words::{Options, budget_of, options_of, values_of};
+pub use words::{Options, are_options, budget_of, options_of, value_of};

@@ -17,15 +17,17 @@ pub struct Options<'w> {
 /// Reads `--least LEVEL`, `--case FILE` and `--budget N`, in any order and each at most once. LEVEL is `full`,
 /// `recovery` or `none`; `full` if it isn't given. FILE isn't empty. None: other words.
 pub fn options_of<'w>(words: &[&'w str]) -> Option<Options<'w>> {
-    let [least, case, budget] = values_of(words, ["--least", "--case", "--budget"])?;
-    let least = match least {
+    if !are_options(words, &["--least", "--case", "--budget"]) {
+        return None;
+    }
+    let least = match value_of(words, "--least") {
         Some(name) => level_named(name)?,
         None => Judged::Full,
     };
-    let budget = budget_of(budget)?;
-    match case {
+    let budget = budget_of(value_of(words, "--budget"))?;
+    match value_of(words, "--case") {
         Some(name) if name.is_empty() => None,
-        _ => Some(Options {
+        case => Some(Options {
             least,
             case,
             budget,
@@ -53,36 +55,46 @@ pub fn budget_of(value: Option<&str>) -> Option<u64> {
     }
 }
 
-/// The values of these options, which the words give in any order and each at most once. A value is the next word,
-/// which doesn't begin with `-`, or follows `=` in the same word. None: other words.
-pub fn values_of<'w, const N: usize>(
-    words: &[&'w str],
-    names: [&str; N],
-) -> Option<[Option<&'w str>; N]> {
-    let mut values: [Option<&'w str>; N] = [None; N];
-    let mut rest = words;
+/// Whether these words are options with these names, in any order and each at most once. Each has a value: the next
+/// word, which doesn't begin with `-`, or what follows `=` in the same word.
+pub fn are_options(words: &[&str], names: &[&str]) -> bool {
+    let mut at: usize = 0;
     for _ in words {
-        let Some((name, value, after)) = first_option(rest) else {
+        let Some((name, _, next)) = option_at(words, at) else {
             break;
         };
-        let place = names.iter().position(|known| *known == name)?;
-        let known = values.get_mut(place)?;
-        if known.is_some() {
-            return None;
+        let after = words.get(next..).unwrap_or(&[]);
+        if !names.iter().any(|known| *known == name) || value_of(after, name).is_some() {
+            return false;
         }
-        *known = Some(value);
-        rest = after;
+        at = next;
     }
-    if rest.is_empty() { Some(values) } else { None }
+    at == words.len()
 }
 
-// The first option, its value, and the words after both. None: there is no word, or the first one has no value.
-fn first_option<'w, 'r>(words: &'r [&'w str]) -> Option<(&'w str, &'w str, &'r [&'w str])> {
-    match words {
+/// The value of the option with this name, if the words have it.
+pub fn value_of<'w>(words: &[&'w str], name: &str) -> Option<&'w str> {
+    let mut at: usize = 0;
+    for _ in words {
+        let (found, value, next) = option_at(words, at)?;
+        if found == name {
+            return Some(value);
+        }
+        at = next;
+    }
+    None
+}
+
+// The name and the value of the option at a place, and the place after both. None: no word is there, or it has no
+// value.
+fn option_at<'w>(words: &[&'w str], at: usize) -> Option<(&'w str, &'w str, usize)> {
+    match words.get(at..)? {
         [] => None,
         [first, rest @ ..] => match (first.split_once('='), rest) {
-            (Some((name, value)), _) => Some((name, value, rest)),
-            (None, [value, rest @ ..]) if !value.starts_with("-") => Some((*first, *value, rest)),
+            (Some((name, value)), _) => Some((name, value, at.saturating_add(1))),
+            (None, [value, ..]) if !value.starts_with("-") => {
+                Some((*first, *value, at.saturating_add(2)))
+            }
             (None, _) => None,
         },
     }

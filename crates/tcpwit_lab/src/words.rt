@@ -1,7 +1,7 @@
 //! What the words after the program's name ask for.
 
 use drawing::Range;
-use judging::{Options, budget_of, options_of, values_of};
+use judging::{Options, are_options, budget_of, options_of, value_of};
 use why::Origin;
 
 /// What the words ask for.
@@ -38,17 +38,21 @@ pub(crate) fn asked_by<'w>(words: &[&'w str]) -> Option<Asked<'w>> {
 
 // The budget that `--budget N` gives, or the usual one. None: other words, or a number that is badly written.
 fn find_budget(options: &[&str]) -> Option<u64> {
-    let [budget] = values_of(options, ["--budget"])?;
-    budget_of(budget)
+    if !are_options(options, &["--budget"]) {
+        return None;
+    }
+    budget_of(value_of(options, "--budget"))
 }
 
 // The lines that `--from N`, `--to M` or both ask for, in either order. None: other words, an option twice, a number
 // that is badly written, or M below N.
 fn range_of(options: &[&str]) -> Option<Range> {
-    let [from, to] = values_of(options, ["--from", "--to"])?;
+    if !are_options(options, &["--from", "--to"]) {
+        return None;
+    }
     let range = Range {
-        from: line_number(from)?,
-        to: line_number(to)?,
+        from: line_number(value_of(options, "--from"))?,
+        to: line_number(value_of(options, "--to"))?,
     };
     match (range.from, range.to) {
         (Some(from), Some(to)) if to < from => None,
