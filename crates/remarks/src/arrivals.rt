@@ -148,6 +148,7 @@ impl<'t> Replay<'t> {
             return Ok(());
         };
         if keeps {
+            self.keep_beyond(id, line, who, fresh)?;
             return self.hold(id, fresh, next);
         }
         let lost = self.not_held(id, fresh);
@@ -162,6 +163,28 @@ impl<'t> Replay<'t> {
             (None, Some(fin)) => format!(in alloc; "{discards} its FIN (position {fin})")?,
             (None, None) => return Ok(()),
         };
+        self.found.add(line, text)
+    }
+
+    // Remarks on bytes that an endpoint keeps beyond the windows that lines show.
+    fn keep_beyond(
+        &mut self,
+        id: EndpointId,
+        line: u64,
+        who: Who,
+        fresh: Carried,
+    ) -> Result<(), OutOfMemory> {
+        let edge = self.note(id).edge;
+        let Some(Stretch { first, last }) = fresh.bytes else {
+            return Ok(());
+        };
+        let Some(bytes) = Stretch::up_to(first.max(edge), last.saturating_add(1)) else {
+            return Ok(());
+        };
+        let text = format!(in self.found.alloc;
+            "{who} keeps {bytes}, but the segments it sent advertise only up to {}",
+            edge.saturating_sub(1)
+        )?;
         self.found.add(line, text)
     }
 

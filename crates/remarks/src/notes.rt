@@ -27,6 +27,8 @@ pub(crate) struct Note {
     pub id: EndpointId,
     /// The position after all that was sent.
     pub sent_end: u64,
+    /// The position after the windows of the segments that lines show.
+    pub edge: u64,
     /// When something that takes positions was last sent; 0 if nothing was.
     pub last_sent: u64,
     pub rto: Option<Clock>,
@@ -58,6 +60,7 @@ impl Note {
         Note {
             id,
             sent_end: 0,
+            edge: 0,
             last_sent: 0,
             rto: None,
             persist: None,

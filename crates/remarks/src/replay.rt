@@ -10,7 +10,7 @@ use checker::CaseFault;
 use endpoint_state::World;
 use spec_tcp::{Endpoint, EndpointId};
 use std::alloc::Global;
-use std::collections::BTreeMap;
+use std::collections::{BTreeMap, BTreeSet};
 
 /// The remarks on a case.
 #[derive(Drop)]
@@ -26,6 +26,7 @@ pub struct Remarked {
 pub fn remark(alloc: Global, text: &[u8]) -> Result<Remarked, CaseFault> {
     let whole = Whole::read(alloc, text)?;
     let mut replay = Replay::new(alloc, &whole);
+    replay.read_shown()?;
     replay.all()?;
     replay.finish()?;
     Ok(replay.found.remarked()?)
@@ -40,8 +41,9 @@ pub(crate) struct Replay<'t> {
     pub moment: u64,
     pub found: Found,
     pub notes: BTreeMap<EndpointKey, Note>,
-    /// The segments that were made, by their numbers.
+    /// The segments that were made, by their numbers, and the numbers of those that lines show.
     pub made: BTreeMap<u32, Sending>,
+    pub shown: BTreeSet<u32>,
     /// What was retransmitted last from a position of an endpoint.
     pub again: BTreeMap<(u8, u32, u64), Again>,
     /// Bytes and FINs that were kept beyond a gap, by their endpoint and first position: the position after them.
@@ -61,11 +63,32 @@ impl<'t> Replay<'t> {
             found: Found::new(alloc),
             notes: BTreeMap::new(alloc),
             made: BTreeMap::new(alloc),
+            shown: BTreeSet::new(alloc),
             again: BTreeMap::new(alloc),
             held: BTreeMap::new(alloc),
             calls: BTreeMap::new(alloc),
             arrived: BTreeMap::new(alloc),
         }
+    }
+
+    // Remembers which segments lines show.
+    fn read_shown(&mut self) -> Result<(), OutOfMemory> {
+        for step in self.whole.steps.as_slice() {
+            if let Label::L(named) = &step.label {
+                self.read_line(*named)?;
+            }
+        }
+        Ok(())
+    }
+
+    fn read_line(&mut self, named: NamedLine) -> Result<(), OutOfMemory> {
+        let (Some(line), Extras::One(number)) = (self.whole.line(named.number), named.extras) else {
+            return Ok(());
+        };
+        if let Event::Sent(_, _) = &line.event {
+            self.shown.insert(number)?;
+        }
+        Ok(())
     }
 
     // Replays the steps before the refused one, or all.

@@ -6,7 +6,7 @@ use crate::replay::Replay;
 use crate::waits::{Now, say_waits};
 use crate::words::Who;
 use case_forms::{Host, OutOfMemory, SegmentPlan, Step, Timer};
-use spec_tcp::EndpointId;
+use spec_tcp::{Endpoint, EndpointId, window_in};
 
 /// A segment that an endpoint made.
 #[derive(Clone, Copy)]
@@ -16,6 +16,8 @@ pub(crate) struct Sending {
     /// The position of its number, and the position after it.
     position: u64,
     end: u64,
+    /// The position after the window that it advertises; 0 without ACK.
+    edge: u64,
     /// Its first position was made before.
     is_again: bool,
     is_reset: bool,
@@ -30,6 +32,20 @@ pub(crate) struct Sending {
     rto: u64,
 }
 
+// The position after the window that a segment advertises; 0 without ACK.
+fn edge_of(endpoint: &Endpoint, plan: &SegmentPlan) -> u64 {
+    if !plan.flags.ack {
+        return 0;
+    }
+    let window = window_in(
+        endpoint.is_scaling(),
+        plan.flags.syn,
+        endpoint.shift,
+        plan.window,
+    );
+    endpoint.rcv_nxt().saturating_add(u64::from(window))
+}
+
 impl<'t> Replay<'t> {
     /// A host makes a segment.
     pub(crate) fn make(
@@ -40,8 +56,15 @@ impl<'t> Replay<'t> {
     ) -> Result<(), OutOfMemory> {
         let sending = self.sending_of(host, plan);
         self.apply(step, None)?;
-        if let Some(sending) = sending {
-            self.made.insert(self.world.count(), sending)?;
+        let Some(sending) = sending else {
+            return Ok(());
+        };
+        let number = self.world.count();
+        self.made.insert(number, sending)?;
+        if self.shown.contains(&number) {
+            let mut note = self.note(sending.id);
+            note.edge = note.edge.max(sending.edge);
+            self.put(note)?;
         }
         Ok(())
     }
@@ -61,6 +84,7 @@ impl<'t> Replay<'t> {
             who: Who::of(host, endpoint),
             position: plan.pos,
             end,
+            edge: edge_of(endpoint, plan),
             is_again: plan.pos < end && plan.pos < endpoint.snd_max(),
             is_reset: plan.flags.rst,
             una: endpoint.stream.snd_una,
