@@ -64,7 +64,7 @@ fn tell_found<H: Eprint, W: Write>(rt: &H, found: &Found, w: &mut Counted<W>) ->
         Ending::Whole if tried == 0 => Ok(()),
         Ending::Whole => eprintln!(rt; "every line is explained; other choices tried: {tried}"),
         Ending::Exhausted { line } => eprintln!(rt;
-            "line {line} of the trace can't be explained, whatever find chooses before it; other choices tried: {tried}"
+            "no choice that find knows explains line {line} of the trace; other choices tried: {tried}"
         ),
         Ending::BudgetSpent { line } => eprintln!(rt;
             "line {line} of the trace isn't explained, and the budget is spent; other choices tried: {tried}"
