@@ -84,13 +84,16 @@ impl Known<'_> {
 
     // The last arrivals that end beyond the window: an unseen segment advertised a larger one.
     fn widen(&self, out: &mut Candidates) -> Result<(), OutOfMemory> {
-        for place in self.beyond.iter().rev().take(NEAR) {
-            if self.bears_on_failure(*place) {
-                out.push(Choice::Fate {
-                    place: *place,
-                    fate: Fate::Widened,
-                })?;
+        let mut left = NEAR;
+        for place in self.beyond.iter().rev().take(REACH) {
+            if left == 0 || !self.bears_on_failure(*place) {
+                continue;
             }
+            left = left.saturating_sub(1);
+            out.push(Choice::Fate {
+                place: *place,
+                fate: Fate::Widened,
+            })?;
         }
         Ok(())
     }
