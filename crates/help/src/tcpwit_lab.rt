@@ -75,7 +75,7 @@ fn find<'a>(alloc: Global) -> Result<Command<'a>, AllocError> {
     let budget = Arg::new(alloc, "budget")
         .long("budget")
         .value_name("N")
-        .help("How many steps are spent on going back [default: 50000]");
+        .help("How many steps are spent on going back [default: 500000]");
     Ok(
         Command::new(alloc, "find")
             .about("Looks for a witness of a trace, and prints the case")
@@ -137,7 +137,7 @@ fn judge<'a>(alloc: Global) -> Result<Command<'a>, AllocError> {
     let budget = Arg::new(alloc, "budget")
         .long("budget")
         .value_name("N")
-        .help("How many steps are spent on going back at each level [default: 50000]");
+        .help("How many steps are spent on going back at each level [default: 500000]");
     Ok(
         Command::new(alloc, "judge")
             .about("Finds the strictest level that gets a yes for a trace")
