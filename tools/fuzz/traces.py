@@ -3,10 +3,11 @@
 
     traces.py PROGRAM LAB CASES .. [--changes N] [--seed S] [--budget N] [--jobs N]
 
-PROGRAM is the built `tcpwit`, LAB the built `tcpwit_lab`, and each CASES a folder with cases and traces. A mutation deletes, doubles, swaps or moves lines, or changes a digit of a segment, a
-moment or an answer, one to three times. `find` must end with status 0 or 2. `check` must answer yes exactly if `find` doesn't name an
-unexplained line, and `remark` must end with status 0 or 1. Other traces are printed with the seed of the mutation, and saved in
-`differing/`. The last line has the counts; the exit status is 1 if anything was wrong.
+PROGRAM is the built `tcpwit`, LAB the built `tcpwit_lab`, and each CASES a folder with cases and traces. A mutation deletes, doubles,
+swaps or cuts off lines, or changes a digit of a segment, a moment or an answer, one to three times. `find` must end with status 0 or
+2. `check` must answer yes exactly if `find` doesn't name an unexplained line, and `remark` must end with status 0 or 1. Other traces
+are printed with the seed of the mutation, and saved in `differing/`. The last line has the counts; the exit status is 1 if anything
+was wrong.
 """
 import argparse
 import concurrent.futures
