@@ -26,10 +26,9 @@ pub struct Remarked {
 pub fn remark(alloc: Global, text: &[u8]) -> Result<Remarked, CaseFault> {
     let whole = Whole::read(alloc, text)?;
     let mut replay = Replay::new(alloc, &whole);
-    replay.read_shown()?;
-    replay.all()?;
-    replay.finish()?;
-    Ok(replay.found.remarked()?)
+    let remarked = replay.run();
+    drop(replay);
+    Ok(remarked?)
 }
 
 /// A case up to a step.
@@ -69,6 +68,13 @@ impl<'t> Replay<'t> {
             calls: BTreeMap::new(alloc),
             arrived: BTreeMap::new(alloc),
         }
+    }
+
+    fn run(&mut self) -> Result<Remarked, OutOfMemory> {
+        self.read_shown()?;
+        self.all()?;
+        self.finish()?;
+        self.found.remarked()
     }
 
     // Remembers which segments lines show.
