@@ -35,12 +35,12 @@ pub enum Reason {
 }
 
 /// The position after the last byte of a segment.
-pub(crate) fn end_of(plan: &SegmentPlan) -> u64 {
+pub fn end_of(plan: &SegmentPlan) -> u64 {
     plan.pos.saturating_add(u64::from(plan.len))
 }
 
 /// Why a segment with new data breaks `congestion`.
-pub(crate) fn beyond(endpoint: &Endpoint, plan: &SegmentPlan) -> Reason {
+pub fn beyond(endpoint: &Endpoint, plan: &SegmentPlan) -> Reason {
     let snd_una = endpoint.stream.snd_una;
     if snd_una >= POSITIONS {
         return Reason::Other;
@@ -53,7 +53,7 @@ pub(crate) fn beyond(endpoint: &Endpoint, plan: &SegmentPlan) -> Reason {
 }
 
 /// Why a segment breaks `old-data`.
-pub(crate) fn misplaced(endpoint: &Endpoint, plan: &SegmentPlan) -> Reason {
+pub fn misplaced(endpoint: &Endpoint, plan: &SegmentPlan) -> Reason {
     let sent = endpoint.snd_max();
     let una = endpoint.stream.snd_una;
     if plan.pos > sent {
