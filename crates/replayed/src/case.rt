@@ -26,10 +26,7 @@ pub enum Refusal {
     /// The verdict is yes, or the witness can't be read.
     Nowhere,
     /// At the step of this place, counted from 0.
-    At {
-        place: usize,
-        rule: Rule,
-    },
+    At { place: usize, rule: Rule },
     /// After the last step: no step uses this line of the trace.
     Unplaced(u64),
 }
@@ -54,7 +51,14 @@ impl<'t> Case<'t> {
 
     /// Where the case is refused.
     pub fn refusal(&self) -> Refusal {
-        let Ok(Verdict::No { witness_line, trace_line, rule }) = &self.verdict else {
+        let Ok(
+            Verdict::No {
+                witness_line,
+                trace_line,
+                rule,
+            },
+        ) = &self.verdict
+        else {
             return Refusal::Nowhere;
         };
         match place_of(*witness_line) {

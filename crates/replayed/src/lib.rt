@@ -18,6 +18,6 @@ mod texts;
 
 pub use case::{Case, Refusal};
 pub use reasons::{Reason, beyond, end_of, misplaced};
-pub use refusal::{Refused, refused};
-pub use replay::{Replay, ReplayFault};
+pub use refusal::{Refused, refused_by};
+pub use replay::{Replay, ReplayFault, has_room};
 pub use texts::{Texts, line_at};

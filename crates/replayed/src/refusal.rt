@@ -19,7 +19,7 @@ pub struct Refused {
 }
 
 /// What the verdict on a case refuses. None: it is yes, or there is none.
-pub fn refused(alloc: Global, case: &Case<'_>) -> Result<Option<Refused>, ReplayFault> {
+pub fn refused_by(alloc: Global, case: &Case<'_>) -> Result<Option<Refused>, ReplayFault> {
     let (step, rule) = match case.refusal() {
         Refusal::Nowhere => return Ok(None),
         Refusal::At { place, rule } => (case.steps.as_slice().get(place), rule),

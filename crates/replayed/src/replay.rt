@@ -1,6 +1,6 @@
 //! The world of a case before and after each step.
 
-ghost use Rattle.std.specs.Prelude.{◌<◌, IsTrue, OnOk};
+ghost use Rattle.std.specs.Prelude.{◌<◌, IsTrue};
 ghost use Rattle.case_forms.specs.Witnesses.{IsWithinLimits};
 ghost use Rattle.spec_tcp.specs.Bounds.{most_steps};
 
@@ -8,7 +8,7 @@ use crate::case::Case;
 use case_forms::{GREATEST_POSITION, Label, MOST_STEPS, NamedLine, Step};
 use endpoint_state::{StepFault, World};
 use spec_step::{apply_hidden, apply_line_owned};
-use std::alloc::{AllocError, Global};
+use std::alloc::{AllocError, AllocFailed, Global};
 use thiserror::Error;
 
 /// Why a case can't be replayed.
@@ -24,6 +24,12 @@ pub enum ReplayFault {
 
 impl From<AllocError> for ReplayFault {
     fn from(_e: AllocError) -> ReplayFault {
+        ReplayFault::OutOfMemory
+    }
+}
+
+impl<T: Drop> From<AllocFailed<T>> for ReplayFault {
+    fn from(_e: AllocFailed<T>) -> ReplayFault {
         ReplayFault::OutOfMemory
     }
 }
@@ -59,7 +65,9 @@ impl<'c> Replay<'c> {
 
     /// Does a step. If it breaks a rule, the world doesn't change.
     pub fn apply(&mut self, step: &Step) -> Result<(), ReplayFault> {
-        has_room(&self.world)?;
+        if !has_room(&self.world) {
+            return Err(ReplayFault::TooManySteps);
+        }
         let done = match &step.label {
             Label::L(named) => apply_named(&mut self.world, self.case, step.moment, *named),
             label if is_within_limits(label) => apply_hidden(&mut self.world, step.moment, label),
@@ -90,15 +98,11 @@ fn apply_named(
     }
 }
 
-// Whether the world can do one more step.
-fn has_room(world: &World) -> Result<(), ReplayFault>
-    ensures { OnOk result (world.now.steps < most_steps) }
+/// Whether a world can do one more step. It always can in a replay of a case that can be read.
+pub fn has_room(world: &World) -> bool
+    ensures { IsTrue result → world.now.steps < most_steps }
 {
-    if world.steps() < MOST_STEPS {
-        Ok(())
-    } else {
-        Err(ReplayFault::TooManySteps)
-    }
+    world.steps() < MOST_STEPS
 }
 
 // Whether the position that a label names is within limits; no witness that can be read has another.

@@ -1,9 +1,9 @@
 //! A line of a text that can't be read, with a mark under its columns.
 
-use crate::parts::line_at;
-use crate::text::{Piece, add, is_shown, say};
 use case_forms::OutOfMemory;
-use line_fields::{FaultKind, TextFault, push_end, push_word};
+use line_fields::{FaultKind, TextFault};
+use plain_words::{Shown, is_shown};
+use replayed::line_at;
 use segment::SegFault;
 
 // How many bytes before the mark are shown, and how many in all.
@@ -12,31 +12,26 @@ const BEFORE: usize = 60;
 const SHOWN: usize = 110;
 
 /// Writes the line with the fault, and a mark under its columns.
-pub(crate) fn mark(out: &mut Vec<u8>, text: &[u8], fault: &TextFault) -> Result<(), OutOfMemory> {
+pub(crate) fn mark(out: &mut String, text: &[u8], fault: &TextFault) -> Result<(), OutOfMemory> {
+    let meaning = meaning(fault.kind);
     let Some(line) = line_at(text, fault.span.line) else {
-        return say(
-            out,
-            &[
-                Piece::Word("the text ends before this line: "),
-                Piece::Word(meaning(fault.kind)),
-            ],
-        );
+        return writeln!(out, "the text ends before this line: {meaning}");
     };
     let from = fault.span.start.saturating_sub(BEFORE);
     let left = line.get(from..).unwrap_or(&[]);
     let shown = left.get(..SHOWN).unwrap_or(left);
-    say(out, &[Piece::Word("  "), Piece::Raw(shown)])?;
-    add(out, &[Piece::Word("  ")])?;
+    writeln!(out, "  {}", Shown(shown))?;
     let before = fault.span.start.saturating_sub(from);
-    push_blank(out, shown.get(..before).unwrap_or(shown))?;
     let marked = fault.span.stop.saturating_sub(fault.span.start);
+    write!(out, "  ")?;
+    push_blank(out, shown.get(..before).unwrap_or(shown))?;
     push_marks(out, shown.get(before..).unwrap_or(&[]), marked)?;
-    push_end(out)?;
-    say(out, &[Piece::Word(meaning(fault.kind))])
+    writeln!(out)?;
+    writeln!(out, "{meaning}")
 }
 
 // Writes a space under each column of the bytes shown, and a tab under a tab.
-fn push_blank(out: &mut Vec<u8>, bytes: &[u8]) -> Result<(), OutOfMemory> {
+fn push_blank(out: &mut String, bytes: &[u8]) -> Result<(), OutOfMemory> {
     for byte in bytes {
         let blank = if *byte == b'\t' {
             "\t"
@@ -45,19 +40,19 @@ fn push_blank(out: &mut Vec<u8>, bytes: &[u8]) -> Result<(), OutOfMemory> {
         } else {
             "    "
         };
-        push_word(out, blank)?;
+        out.push_str(blank)?;
     }
     Ok(())
 }
 
 // Writes marks under the first `count` of the bytes shown; one mark if there are none.
-fn push_marks(out: &mut Vec<u8>, bytes: &[u8], count: usize) -> Result<(), OutOfMemory> {
+fn push_marks(out: &mut String, bytes: &[u8], count: usize) -> Result<(), OutOfMemory> {
     let start = out.len();
     for byte in bytes.iter().take(count) {
-        push_word(out, if is_shown(*byte) { "^" } else { "^^^^" })?;
+        out.push_str(if is_shown(*byte) { "^" } else { "^^^^" })?;
     }
     if out.len() == start {
-        push_word(out, "^")?;
+        out.push_str("^")?;
     }
     Ok(())
 }

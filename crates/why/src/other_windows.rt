@@ -2,10 +2,10 @@
 //! replayed, in constant time for each segment sent or acknowledged.
 
 use crate::changes::{Change, Values};
-use crate::reasons::end_of;
 use crate::segment_window::SegmentWindow;
-use case_forms::{Host, Label, NamedLine, OutOfMemory, POSITIONS, SegmentPlan};
+use case_forms::{Host, Label, OutOfMemory, POSITIONS, SegmentPlan, Step};
 use endpoint_state::World;
+use replayed::end_of;
 use std::alloc::Global;
 use window_rules::{Congestion, congestion_edge, counted_after, may_grow, on_duplicate};
 
@@ -24,23 +24,18 @@ pub(crate) struct OtherWindows {
 
 impl OtherWindows {
     /// The windows for a step. None: it builds no segment.
-    pub(crate) fn of(alloc: Global, label: &Label<NamedLine>) -> Option<OtherWindows> {
-        match label {
-            Label::M { host, plan } => Some(OtherWindows {
-                host: *host,
-                lport: plan.lport,
-                rport: plan.rport,
-                now: Values::start(),
-                upper: Congestion::start(),
-                segments: SegmentWindow::new(alloc),
-            }),
-            Label::L(_)
-            | Label::D { .. }
-            | Label::T { .. }
-            | Label::K { .. }
-            | Label::R { .. }
-            | Label::F { .. } => None,
-        }
+    pub(crate) fn of(alloc: Global, step: Option<&Step>) -> Option<OtherWindows> {
+        let Label::M { host, plan } = &step?.label else {
+            return None;
+        };
+        Some(OtherWindows {
+            host: *host,
+            lport: plan.lport,
+            rport: plan.rport,
+            now: Values::start(),
+            upper: Congestion::start(),
+            segments: SegmentWindow::new(alloc),
+        })
     }
 
     /// Follows the world after one step.

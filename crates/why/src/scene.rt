@@ -1,182 +1,252 @@
-//! A case up to the refused step: the world before it, and the lines used.
-
-ghost use Rattle.std.specs.Prelude.{◌<◌, IsTrue, OnOk};
-ghost use Rattle.case_forms.specs.Witnesses.{IsWithinLimits};
-ghost use Rattle.spec_tcp.specs.Bounds.{most_steps};
+//! A case up to the refused step: the world before it, and what the step is about.
 
 use crate::other_windows::OtherWindows;
 use case_forms::{
-    Flags, GREATEST_POSITION, Header, Host, Label, Line, MOST_STEPS, NamedLine, OutOfMemory,
-    SegmentPlan, Step,
+    Answer, Event, Extras, Header, Host, Label, Line, NamedLine, Recovery, SegmentPlan, Step,
+    TakeChoice, Timer, Wire,
 };
-use endpoint_state::{Endpoint, StepFault, World};
-use spec_step::{apply_hidden, apply_line};
+use endpoint_state::{Endpoint, World};
+use replayed::{Case, Replay, ReplayFault};
 use spec_tcp::{Arrived, Emission};
-use std::alloc::{AllocError, Global};
+use std::alloc::Global;
 use std::collections::BTreeMap;
-use verdict::Rule;
 
-// Whether the world can do one more step. It always can in a witness that `check` reads.
-fn has_room(world: &World) -> Result<(), StepFault>
-    ensures { OnOk result (world.now.steps < most_steps) }
-{
-    if world.steps() < MOST_STEPS {
-        Ok(())
-    } else {
-        Err(StepFault::OutOfMemory)
-    }
-}
-
-/// What is known at a step.
+/// What is known at the refused step, or after the last step if none is refused.
 #[derive(Drop)]
-pub(crate) struct Scene<'t> {
-    pub world: World,
-    pub header: &'t Header,
-    pub lines: &'t [Line],
-    pub steps: &'t [Step],
-    /// The place of the step among the steps, from 0.
-    pub place: usize,
-    /// For each line used, the place of the step that used it.
-    pub taken: BTreeMap<u64, usize>,
+pub(crate) struct Scene<'c> {
+    pub case: &'c Case<'c>,
+    /// The steps before the refused one.
+    pub before: &'c [Step],
+    /// The refused step. None: a rule is broken after the last step.
+    pub step: Option<&'c Step>,
+    replay: Replay<'c>,
+    /// For each line used, the line of the witness that used it.
+    used: BTreeMap<u64, u64>,
     /// If the step builds a segment, other congestion windows of the endpoint that builds it.
     pub others: Option<OtherWindows>,
 }
 
-impl<'t> Scene<'t> {
+/// What a step is about, and the endpoint that it concerns.
+#[derive(Drop)]
+pub(crate) enum Object<'s> {
+    /// The effect of a thread's call, with this answer.
+    Effect(u32, &'s Answer),
+    /// The end of a thread's call, with this answer.
+    End(u32, &'s Answer),
+    Building(Building<'s>),
+    /// A line that shows the built segment of this number as sent.
+    Sent(Host, u32, &'s Wire),
+    /// A line that shows a received segment, a copy of that of this line.
+    Came(Host, u64, &'s Wire),
+    Processing(Processing<'s>),
+    /// A segment that is processed where no connection is open, with this choice.
+    Listening(Host, &'s Emission, TakeChoice),
+    /// A segment that a reset answers.
+    Answered(Host, &'s Emission),
+    Expiring(Expiring<'s>),
+    /// Fast recovery begins.
+    Recovering(&'s Endpoint, Recovery),
+    /// Something else, or no endpoint with its ports exists.
+    Other,
+}
+
+/// A segment that an endpoint builds.
+#[derive(Clone, Copy)]
+pub(crate) struct Building<'s> {
+    pub host: Host,
+    pub plan: &'s SegmentPlan,
+    pub endpoint: &'s Endpoint,
+}
+
+/// A segment that an endpoint processes, as it reads it.
+#[derive(Drop)]
+pub(crate) struct Processing<'s> {
+    pub host: Host,
+    pub endpoint: &'s Endpoint,
+    pub read: Arrived<'s>,
+    pub choice: TakeChoice,
+}
+
+/// A timer of an endpoint that expires with the step's line.
+#[derive(Clone, Copy)]
+pub(crate) struct Expiring<'s> {
+    pub endpoint: &'s Endpoint,
+    pub timer: Timer,
+    pub extras: Extras,
+}
+
+impl<'c> Scene<'c> {
+    /// Replays a case up to the refused step.
+    pub(crate) fn of(alloc: Global, case: &'c Case<'c>) -> Result<Scene<'c>, ReplayFault> {
+        let step = case.refused_step();
+        let mut scene = Scene {
+            case,
+            before: case.steps_before_refusal(),
+            step,
+            replay: Replay::new(alloc, case),
+            used: BTreeMap::new(alloc),
+            others: OtherWindows::of(alloc, step),
+        };
+        scene.run()?;
+        Ok(scene)
+    }
+
+    fn run(&mut self) -> Result<(), ReplayFault> {
+        let mut witness_line: u64 = 2;
+        for step in self.before {
+            self.replay.apply(step)?;
+            if let Label::L(named) = &step.label {
+                self.used.insert(named.number, witness_line)?;
+            }
+            if let Some(others) = &mut self.others {
+                others.follow(self.replay.world())?;
+            }
+            witness_line = witness_line.saturating_add(1);
+        }
+        Ok(())
+    }
+
+    pub(crate) fn world(&self) -> &World {
+        self.replay.world()
+    }
+
+    pub(crate) fn header(&self) -> &'c Header {
+        &self.case.trace.header
+    }
+
+    /// The event lines of the trace.
+    pub(crate) fn lines(&self) -> &'c [Line] {
+        self.case.trace.lines.as_slice()
+    }
+
     /// The moment of the step.
     pub(crate) fn moment(&self) -> u64 {
-        match self.steps.get(self.place) {
+        match self.step {
             Some(step) => step.moment,
             None => 0,
         }
     }
 
-    /// The world before a step, if the steps before it are permitted.
-    pub(crate) fn before(
-        alloc: Global,
-        header: &'t Header,
-        lines: &'t [Line],
-        steps: &'t [Step],
-        place: usize,
-    ) -> Result<Scene<'t>, OutOfMemory> {
-        let others = match steps.get(place) {
-            Some(step) => OtherWindows::of(alloc, &step.label),
-            None => None,
-        };
-        let mut scene = Scene {
-            world: World::start(alloc, header),
-            header,
-            lines,
-            steps,
-            place,
-            taken: BTreeMap::new(alloc),
-            others,
-        };
-        for (at, step) in steps.iter().enumerate().take(place) {
-            scene.go_on(at, step)?;
-        }
-        Ok(scene)
+    /// The line of the witness that used a line of the trace. None: none did before the step.
+    pub(crate) fn used_by(&self, line: u64) -> Option<u64> {
+        self.used.get(&line).copied()
     }
 
-    fn go_on(&mut self, at: usize, step: &Step) -> Result<(), OutOfMemory> {
-        let done = match &step.label {
-            Label::L(named) => self.take_line(at, step.moment, *named),
-            label => do_hidden(&mut self.world, step.moment, label),
-        };
-        match done {
-            Ok(()) | Err(StepFault::Broken(_)) => self.follow(),
-            Err(StepFault::OutOfMemory) => Err(AllocError),
-        }
+    /// How many lines were used.
+    pub(crate) fn used_count(&self) -> u64 {
+        self.used.len() as u64
     }
 
-    fn follow(&mut self) -> Result<(), OutOfMemory> {
-        match &mut self.others {
-            Some(others) => others.follow(&self.world),
-            None => Ok(()),
-        }
-    }
-
-    fn take_line(&mut self, at: usize, moment: u64, named: NamedLine) -> Result<(), StepFault> {
-        let Some(line) = self.line(named.number) else {
-            return Ok(());
-        };
-        let Some(taken) = line.copy()?.taken(named.extras) else {
-            return Ok(());
-        };
-        self.taken.insert(named.number, at)?;
-        has_room(&self.world)?;
-        apply_line(&mut self.world, moment, &taken)
-    }
-
-    /// The line of this number. None: the trace has no such event line.
-    pub(crate) fn line(&self, number: u64) -> Option<&'t Line> {
-        let place = number.checked_sub(self.header.first_event_line())?;
-        self.lines.get(usize::try_from(place).ok()?)
-    }
-
-    /// The refused step. None: a rule is broken after the last step.
-    pub(crate) fn step(&self) -> Option<&'t Step> {
-        self.steps.get(self.place)
+    /// The line of the trace with this number. None: the trace has no such event line.
+    pub(crate) fn line(&self, number: u64) -> Option<&'c Line> {
+        self.case.line(number)
     }
 
     /// The endpoint of a host with these ports, closed or not.
     pub(crate) fn endpoint(&self, host: Host, lport: u16, rport: u16) -> Option<&Endpoint> {
-        self.world.body(host).endpoint_of(lport, rport)
-    }
-
-    /// A segment as an endpoint reads it. None: the endpoint is beyond the greatest position.
-    pub(crate) fn as_read<'m>(&self, endpoint: &Endpoint, m: &'m Emission) -> Option<Arrived<'m>> {
-        Arrived::checked_read(self.header.version, endpoint, m)
-    }
-
-    /// Whether the state of the endpoint at the segment's ports lets it build a segment of this kind.
-    pub(crate) fn allows_kind(
-        &self,
-        host: Host,
-        plan: &SegmentPlan,
-        flags: Flags,
-        len: u16,
-    ) -> bool {
-        if has_room(&self.world).is_err() {
-            return false;
-        }
-        let plan = SegmentPlan {
-            pos: 0,
-            len,
-            flags,
-            ..*plan
-        };
-        !matches!(
-            self.world.admits_making(host, &plan),
-            Err(Rule::NoEndpoint | Rule::State)
-        )
+        self.world().body(host).endpoint_of(lport, rport)
     }
 
     /// The endpoint of a segment's ports, closed or not.
     pub(crate) fn taker(&self, host: Host, m: &Emission) -> Option<&Endpoint> {
         self.endpoint(host, m.rport, m.lport)
     }
-}
 
-// Whether the positions that a label names are within limits; no witness that `check` reads has others.
-fn is_within_limits(label: &Label<NamedLine>) -> bool
-    ensures { IsTrue result → IsWithinLimits label.now }
-{
-    match label {
-        Label::M { plan, .. } => plan.pos <= GREATEST_POSITION,
-        Label::L(_)
-        | Label::D { .. }
-        | Label::T { .. }
-        | Label::K { .. }
-        | Label::R { .. }
-        | Label::F { .. } => true,
+    /// A segment as an endpoint reads it. None: the endpoint is beyond the greatest position.
+    pub(crate) fn as_read<'m>(&self, endpoint: &Endpoint, m: &'m Emission) -> Option<Arrived<'m>> {
+        Arrived::checked_read(self.header().version, endpoint, m)
+    }
+
+    /// The line of the trace that the step uses; 0 if it uses none.
+    pub(crate) fn number(&self) -> u64 {
+        self.named().number
+    }
+
+    /// The extra numbers of the step.
+    pub(crate) fn extras(&self) -> Extras {
+        self.named().extras
+    }
+
+    fn named(&self) -> NamedLine {
+        match self.step {
+            Some(
+                Step {
+                    label: Label::L(named),
+                    ..
+                },
+            ) => *named,
+            _ => NamedLine {
+                number: 0,
+                extras: Extras::Bare,
+            },
+        }
+    }
+
+    /// What the step is about.
+    pub(crate) fn object(&self) -> Object<'_> {
+        self.known_object().unwrap_or(Object::Other)
+    }
+
+    fn known_object(&self) -> Option<Object<'_>> {
+        Some(match &self.step?.label {
+            Label::L(named) => return self.object_of_line(named.number, named.extras),
+            Label::D { thread, answer } => Object::Effect(*thread, answer),
+            Label::M { host, plan } => Object::Building(Building {
+                host: *host,
+                plan,
+                endpoint: self.endpoint(*host, plan.lport, plan.rport)?,
+            }),
+            Label::T { host, line, choice } => return self.processed(*host, *line, *choice),
+            Label::R { host, line } => Object::Answered(*host, self.world().waiting(*host, *line)?),
+            Label::F { host, recovery } => {
+                let endpoint = self.endpoint(*host, recovery.lport, recovery.rport)?;
+                Object::Recovering(endpoint, *recovery)
+            }
+            Label::K { .. } => return None,
+        })
+    }
+
+    fn object_of_line(&self, number: u64, extras: Extras) -> Option<Object<'_>> {
+        let line = self.line(number)?;
+        Some(match &line.event {
+            Event::CallBegin(_) => return None,
+            Event::CallEnd(answer) => Object::End(line.thread, answer),
+            Event::Sent(host, wire) => Object::Sent(*host, first_extra(extras), wire),
+            Event::Came(host, wire) => Object::Came(*host, u64::from(first_extra(extras)), wire),
+            Event::Expired(host, lport, rport, timer) => Object::Expiring(Expiring {
+                endpoint: self.endpoint(*host, *lport, *rport)?,
+                timer: *timer,
+                extras,
+            }),
+        })
+    }
+
+    fn processed(&self, host: Host, line: u64, choice: TakeChoice) -> Option<Object<'_>> {
+        let m = self.world().waiting(host, line)?;
+        match self.taker(host, m) {
+            Some(endpoint) if !endpoint.state.is_closed() => Some(Object::Processing(Processing {
+                host,
+                endpoint,
+                read: self.as_read(endpoint, m)?,
+                choice,
+            })),
+            _ => Some(Object::Listening(host, m, choice)),
+        }
     }
 }
 
-fn do_hidden(world: &mut World, moment: u64, label: &Label<NamedLine>) -> Result<(), StepFault> {
-    has_room(world)?;
-    if !is_within_limits(label) {
-        return Ok(());
+/// The first extra number of a step that uses a line; 0 if it has none.
+pub(crate) fn first_extra(extras: Extras) -> u32 {
+    match extras {
+        Extras::Bare => 0,
+        Extras::One(first) | Extras::Two(first, _) => first,
     }
-    apply_hidden(world, moment, label)
+}
+
+/// The line of the witness that has the step of this place; 0 if there is none.
+pub(crate) fn witness_line(place: Option<usize>) -> u64 {
+    match place {
+        Some(place) => (place as u64).saturating_add(2),
+        None => 0,
+    }
 }

@@ -1,12 +1,11 @@
 //! What usually causes a step to break a rule, by what is known at the step.
 
 use crate::fitting::say_fitting;
-use crate::reasons::{Reason, misplaced};
 use crate::scene::Scene;
-use crate::text::{Piece, say};
 use crate::usual::{COARSE_CLOCK, Cause, anywhere, usual_cause};
 use case_forms::{Call, Event, Extras, Judged, Label, OutOfMemory, SegmentPlan, Timer, Wire};
 use endpoint_state::Endpoint;
+use replayed::{Reason, misplaced};
 use spec_tcp::Emission;
 use verdict::Rule;
 
@@ -21,30 +20,29 @@ pub enum Origin {
 
 /// Writes the usual causes, after the other windows that the segment would fit.
 pub(crate) fn say_cause(
-    out: &mut Vec<u8>,
+    out: &mut String,
     scene: &Scene<'_>,
     rule: Rule,
     origin: Origin,
 ) -> Result<(), OutOfMemory> {
     say_fitting(out, scene, rule)?;
     let cause = cause_at(scene, rule);
-    say(out, &[Piece::Word("usually: "), Piece::Word(cause.usual)])?;
+    writeln!(out, "usually: {}", cause.usual)?;
     match origin {
-        Origin::Captured if !cause.captured.is_empty() => say(
-            out,
-            &[Piece::Word("in a capture: "), Piece::Word(cause.captured)],
-        ),
+        Origin::Captured if !cause.captured.is_empty() => {
+            writeln!(out, "in a capture: {}", cause.captured)
+        }
         Origin::Captured | Origin::Simulated => Ok(()),
     }
 }
 
 // The causes of a rule at the step that breaks it.
 fn cause_at(scene: &Scene<'_>, rule: Rule) -> Cause {
-    let Some(step) = scene.step() else {
+    let Some(step) = scene.step else {
         return usual_cause(rule);
     };
     match (&step.label, rule) {
-        (Label::D { thread, .. }, Rule::CallAnswer) => match scene.world.pending_call(*thread) {
+        (Label::D { thread, .. }, Rule::CallAnswer) => match scene.world().pending_call(*thread) {
             Some(call) => of_answer(call),
             None => usual_cause(rule),
         },
@@ -52,13 +50,13 @@ fn cause_at(scene: &Scene<'_>, rule: Rule) -> Cause {
             "the stack sends after a reset, an expiry or a call closed the connection, or before a call opens it",
         ),
         (Label::M { host, plan }, _) => match scene.endpoint(*host, plan.lport, plan.rport) {
-            Some(endpoint) => at_sending(endpoint, plan, rule, scene.header.congestion),
+            Some(endpoint) => at_sending(endpoint, plan, rule, scene.header().congestion),
             None => usual_cause(rule),
         },
         (Label::T { .. }, Rule::NoEndpoint) => anywhere(
             "the segment finds no connection, so the witness has to drop it (K) or answer it with a reset (R)",
         ),
-        (Label::F { .. }, Rule::Recovery) => match scene.header.congestion {
+        (Label::F { .. }, Rule::Recovery) => match scene.header().congestion {
             Judged::Nothing => anywhere("everything was already acknowledged"),
             Judged::Full | Judged::Recovery => usual_cause(rule),
         },
@@ -123,7 +121,7 @@ fn at_sending(endpoint: &Endpoint, plan: &SegmentPlan, rule: Rule, congestion: J
 fn at_line(scene: &Scene<'_>, event: &Event, extras: Extras, rule: Rule) -> Cause {
     match (event, rule, extras) {
         (Event::Sent(host, wire), Rule::BytesDiffer, Extras::One(number)) => {
-            match scene.world.made(*host, number) {
+            match scene.world().made(*host, number) {
                 Some(made) => of_bytes(made.emission(), wire),
                 None => usual_cause(rule),
             }
