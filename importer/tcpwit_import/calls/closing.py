@@ -40,7 +40,7 @@ class Closing:
             self.close(event, (event.process, "closes", number), socket)
 
     def close(self, event, thread, socket):
-        """Closes a socket whose last descriptor was closed; None if there is none."""
+        """Closes the socket whose last descriptor was closed. Does nothing for None."""
         endpoint = socket and socket.endpoint
         if endpoint is None or endpoint.gone:
             return

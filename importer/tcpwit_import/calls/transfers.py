@@ -112,7 +112,7 @@ class Transfers:
         endpoint.received += event.result
 
     def parts(self, event):
-        """The start and length of each part of a call's bytes. Notes that there are several."""
+        """The start and length of each part of a call's bytes. If there are several, notes that."""
         if event.result > LONGEST:
             self.notes.change("calls of more than 65,535 bytes, split into parts", event.place)
         return [(start, min(LONGEST, event.result - start)) for start in range(0, event.result, LONGEST)]
