@@ -82,8 +82,8 @@ class Clone(unittest.TestCase):
         if name == "importer":
             code = "import sys; sys.path.insert(0, 'importer'); from tcpwit_import import judging; print(judging.lab(None))"
         else:
-            code = "import sys; from importlib.machinery import SourceFileLoader as Loader; run = Loader('run', 'stacks/run').load_module(); " \
-                   "print(run.program('tcpwit', None), run.program('tcpwit_lab', None))"
+            code = "import sys; sys.path.insert(0, 'stacks/runner'); import programs; " \
+                   "print(programs.program('tcpwit', None), programs.program('tcpwit_lab', None))"
         status, out, error = self.run_in_clone(sys.executable, "-W", "ignore", "-c", code)
         self.assertEqual(status, 0, error)
         return out.split(), error

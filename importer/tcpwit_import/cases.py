@@ -2,7 +2,7 @@
 import heapq
 from typing import Any, NamedTuple
 
-from .calls import Action, Data, Endpoint
+from .calls.host_trace import Action, Data, Endpoint
 from .captures import shown
 from .large import Flow
 from .problem import Problem

@@ -129,14 +129,6 @@ class Notes:
         count, first = kinds.get(kind, (0, place))
         kinds[kind] = (count + 1, first)
 
-    def merge(self, other):
-        """Adds the counts of other notes."""
-        for mine, theirs in ((self.left_out, other.left_out), (self.changed, other.changed)):
-            for kind, (count, first) in theirs.items():
-                before, place = mine.get(kind, (0, first))
-                mine[kind] = (before + count, place)
-        self.said += other.said
-
     def lines(self):
         """The lines to print on standard error."""
         yield from self.said

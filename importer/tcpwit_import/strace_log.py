@@ -30,7 +30,6 @@ class SystemCall(NamedTuple):
     error: str | None
     place: str
 
-
     @property
     def when(self):
         """When the call counts: a call that returns descriptors at its end, any other at its beginning. A message that passes descriptors

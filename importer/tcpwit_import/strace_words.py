@@ -4,6 +4,7 @@ Strings become `Text`, structures dicts, arrays lists, `name(..)` a `Call`; anyt
 """
 import ast
 import re
+from ipaddress import ip_address
 from typing import NamedTuple
 
 DESCRIPTOR = re.compile(r"(-?\d+|AT_FDCWD)<((?:->|[^<>])*)>(?:\(deleted\))?")
@@ -120,3 +121,37 @@ def whole_number(value):
     """The number at the beginning of a word; None if it has none."""
     found = re.match(r"-?(0x[0-9a-f]+|\d+)", value) if isinstance(value, str) else None
     return int(found[0], 0) if found else None
+
+
+def address_of(value):
+    """Address and port of a socket address, with mapped addresses as IPv4; None for other families."""
+    if not isinstance(value, dict):
+        return None
+    port = next((value[key] for key in ("sin_port", "sin6_port") if key in value), None)
+    text = value["sin_addr"].words[0] if "sin_addr" in value else value["inet_pton"][1] if "inet_pton" in value else None
+    if not isinstance(text, Text) or not isinstance(port, Call):
+        return None
+    address = ip_address(text.data.decode("ascii", "replace"))
+    mapped = getattr(address, "ipv4_mapped", None)
+    return (mapped or address).packed, int(port.words[0])
+
+
+def gathered(buffers):
+    """The bytes of all buffers that a call names, and how many bytes fit into them."""
+    known, room = b"", 0
+    for buffer in buffers if isinstance(buffers, list) else []:
+        if isinstance(buffer, dict):
+            base = buffer.get("iov_base")
+            # Bytes after a truncated string have another place in the stream.
+            if isinstance(base, Text) and len(known) == room:
+                known += base.data
+            room += whole_number(buffer.get("iov_len", "")) or 0
+    return known, room
+
+
+def passed_descriptors(text):
+    """The descriptors that the message of a call passes on."""
+    message = arguments(text)[1]
+    controls = message.get("msg_control") if isinstance(message, dict) else None
+    return [whole_number(number) for control in controls or [] if isinstance(control, dict)
+            and control.get("cmsg_type") == "SCM_RIGHTS" for number in control.get("cmsg_data", [])]

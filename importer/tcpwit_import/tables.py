@@ -1,11 +1,16 @@
 """Processes and their descriptor tables: what refers to a socket, and when the last reference is dropped."""
+from dataclasses import dataclass
+from typing import Any
 
 
-class Description:
-    """An open socket, to which descriptors of several processes may refer."""
-
-    def __init__(self, socket):
-        self.socket, self.references = socket, 0
+@dataclass(eq=False)
+class Socket:
+    """A TCP socket in any state, to which descriptors of several processes may refer."""
+    bound: tuple = (b"", 0)
+    endpoint: Any = None
+    aborts: bool = False
+    reading_shut: bool = False
+    references: int = 0
 
 
 class Table:
@@ -35,13 +40,12 @@ class Processes:
         """Whether some call opened the descriptor."""
         return descriptor in self.table(process).entries
 
-    def put(self, process, descriptor, description, close_on_exec):
+    def put(self, process, descriptor, socket, close_on_exec):
         """Makes a descriptor refer to a socket, and drops its old reference."""
         dropped = self.drop(process, descriptor)
-        table = self.table(process)
-        table.entries[descriptor] = description
-        if description:
-            description.references += 1
+        self.table(process).entries[descriptor] = socket
+        if socket:
+            socket.references += 1
         self.mark(process, descriptor, close_on_exec)
         return dropped
 
@@ -55,11 +59,11 @@ class Processes:
         return self._release(self.table(process).entries.pop(descriptor, None))
 
     @staticmethod
-    def _release(description):
-        if description is None:
+    def _release(socket):
+        if socket is None:
             return None
-        description.references -= 1
-        return description.socket if description.references == 0 else None
+        socket.references -= 1
+        return socket if socket.references == 0 else None
 
     def begin(self, parent, child, shares):
         """Starts a process or thread with its parent's table, or with a copy of it."""
@@ -70,15 +74,13 @@ class Processes:
             return
         copy = self.tables[child] = Table()
         copy.entries, copy.close_on_exec = dict(before.entries), set(before.close_on_exec)
-        for description in copy.entries.values():
-            if description:
-                description.references += 1
+        for socket in filter(None, copy.entries.values()):
+            socket.references += 1
 
     def execute(self, process):
         """Executes another program in a process: it gets a table of its own, and marked descriptors are closed."""
         if self.table(process).users > 1:
-            shared = self.table(process)
-            shared.users -= 1
+            self.table(process).users -= 1
             self.begin(process, process, False)
         table = self.table(process)
         return [socket for descriptor in sorted(table.close_on_exec) if (socket := self.drop(process, descriptor))]
@@ -91,4 +93,4 @@ class Processes:
         table.users -= 1
         if table.users:
             return []
-        return [socket for description in table.entries.values() if (socket := self._release(description))]
+        return [socket for socket in table.entries.values() if self._release(socket)]

@@ -44,10 +44,14 @@ class Outcome:
         """Whether this level or a stricter one has a yes."""
         return self.verdict.startswith("yes") or self.strictest in LEVELS[:LEVELS.index(least) + 1]
 
+    def wrong(self):
+        """What is wrong apart from the verdict; this turns a yes into `yes, but`."""
+        lost = [f"{self.missing} bytes were accepted and never read"] if self.missing and self.scenario.keeps else []
+        return self.unexpected + [f"never ended: {line}" for line in self.waiting] + lost
+
     def is_good(self, least=FULL):
         """Whether it is a yes, and everything happened as the scenario expects."""
-        lost = self.missing and self.scenario.keeps
-        return self.is_yes(least) and not (self.unexpected or self.waiting or lost)
+        return self.is_yes(least) and not self.wrong()
 
     def is_unjudged(self):
         """Whether there is neither a verdict nor a fault: the adapter can't run the scenario, or nothing is judged."""
@@ -63,17 +67,17 @@ class Outcome:
         return f"{self.verdict}, but" if self.word() == "yes, but" else self.verdict
 
 
-def profile(text):
-    """The header's values and the name, from lines of a word and a value."""
+def profile(text, path="profile"):
+    """The header's values and the name, from lines of a word and a value; the usual ones if there are none. `path` is the text's file."""
     values = dict(USUAL)
     for line in text.split("\n"):
         word, _, value = line.split("#")[0].strip().partition(" ")
         if word:
             if word not in values:
-                raise ValueError(f"{word} isn't a word of a profile")
+                raise ValueError(f"{path}: {word} isn't a word of a profile")
             values[word] = value.strip()
             if word in HEADER and not re.fullmatch("[0-9]+", values[word]):
-                raise ValueError(f"{word} {values[word]!r} isn't a number")
+                raise ValueError(f"{path}: {word} {values[word]!r} isn't a number")
     return values
 
 
@@ -136,13 +140,9 @@ class Judge:
         if outcome.verdict.startswith("no"):
             self.judge_less(outcome, run, values, cases)
         if outcome.verdict.startswith(("yes", "no")):
-            outcome.remarks = self.remarks(cases[outcome.strictest or FULL])
+            told, _ = self.call(self.lab, REMARK, cases[outcome.strictest or FULL])
+            outcome.remarks = [shown(line) for line in told.split("\n") if line]
         return cases
-
-    def remarks(self, case):
-        """What breaks no rule of a case and is worth a look, a line each."""
-        told, _ = self.call(self.lab, REMARK, case)
-        return [shown(line) for line in told.split("\n") if line]
 
     def judge_less(self, outcome, run, values, cases):
         """Looks for a yes that judges less of congestion control."""

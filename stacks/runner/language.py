@@ -3,7 +3,7 @@ import re
 from dataclasses import dataclass, field
 
 KINDS = ("syn", "syn-ack", "data", "fin", "ack", "rst", "any")
-CALLS = {"listen": 2, "open": 3, "await": 1, "accept": 1, "send": 2, "recv": 2, "shut": 1, "close": 1, "abort": 1, "status": 1}
+CALLS = {"listen": 1, "open": 2, "await": 1, "accept": 1, "send": 2, "recv": 2, "shut": 1, "close": 1, "abort": 1, "status": 1}
 
 
 class Fault(Exception):
@@ -158,10 +158,6 @@ def call(line, words):
         raise ValueError(f"{word} isn't a call")
     count = CALLS[word]
     need, rest = args[:count], args[count:]
-    if word == "listen":
-        need, rest = args[:1], args[1:]
-    if word == "open":
-        need, rest = args[:2], args[2:]
     made = Do(line, word, need, options(rest, ("as", "backlog", "by", "each", "lasted")), expected)
     if word in ("listen", "open", "accept") and "as" not in made.options:
         raise ValueError("a name is missing: as NAME")
@@ -170,7 +166,7 @@ def call(line, words):
     for name in ("each", "lasted"):
         if name in made.options:
             made.options[name] = seconds(made.options[name])
-    if len(need) < {"listen": 1, "open": 2}.get(word, count):
+    if len(need) < count:
         raise ValueError("a word is missing")
     if word == "send" or word == "recv" and need[1] != "eof":
         number(need[1])

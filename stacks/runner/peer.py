@@ -2,6 +2,7 @@
 import re
 
 import segments
+from language import seconds
 from segments import ACK, RST, SYN, Segment, stream
 
 WAIT = 5_000_000
@@ -12,19 +13,16 @@ class Peer:
         self.run = run
         self.port, self.other = run.scenario.peer
         self.script = run.scenario.script
-        self.at = 0
+        self.at = self.ready = self.times = 0
         self.iss = 4_000_000_000
         self.nxt = self.iss
         self.irs = self.rcv = None
         self.una = None            # the greatest acknowledgment received
         self.edge = None           # the end of the window that the stack offers
-        self.shift = 0
         self.window = 65535
         self.acks = False
         self.arrived = []          # segments that no `expect` has examined
-        self.ready = 0
         self.deadline = None
-        self.times = 0
 
     def start(self):
         self.ready = 500
@@ -113,7 +111,6 @@ class Peer:
         return True
 
     def do_put(self, step):
-        from language import seconds
         self.times += 1
         self.send(step.args[0], step.options)
         if self.times < int(step.options.get("times", 1)):
@@ -136,7 +133,6 @@ class Peer:
         return False
 
     def is_late(self, step):
-        from language import seconds
         if self.deadline is None:
             self.deadline = self.run.now + (seconds(step.options["within"]) if "within" in step.options else WAIT)
             self.run.at(self.deadline, "wake")

@@ -117,10 +117,8 @@ def kill(process):
     """Ends a process and its group, unless its number is already free."""
     if process.returncode is not None:
         return
-    try:
+    with contextlib.suppress(ProcessLookupError):
         os.killpg(process.pid, signal.SIGKILL)
-    except ProcessLookupError:
-        pass
 
 
 def end(process):

@@ -37,12 +37,8 @@ class Wire:
         return first <= byte < first + len(segment.payload)
 
     def meant(self, at, rule, host, segment):
-        if rule.host != host:
-            return False
-        if rule.kind == "byte":
-            if not self.carries(host, segment, rule.byte):
-                return False
-        elif rule.kind not in ("any", segment.kind()):
+        fits = self.carries(host, segment, rule.byte) if rule.kind == "byte" else rule.kind in ("any", segment.kind())
+        if rule.host != host or not fits:
             return False
         self.counts[at] += 1
         if rule.share:
@@ -126,29 +122,20 @@ class Run:
     """The run as a whole."""
 
     def __init__(self, scenario, command, watch, options=""):
-        self.options = options
-        self.watch = watch
-        self.scenario = scenario
+        self.scenario, self.command, self.watch, self.options = scenario, command, watch, options
         self.wire = Wire(scenario)
-        self.lines = []
-        self.now = 0
-        self.events = []
-        self.order = 0
-        self.hosts = []
-        self.command = command
+        self.lines, self.events, self.hosts = [], [], []
+        self.now = self.order = self.count = 0
         self.threads = [Runner(thread) for thread in scenario.threads]
         self.names = {}          # (thread's host or None, name): socket number
         self.handles = {}        # socket number: (host, the stack's number)
-        self.given = {}          # (host, the stack's number): socket number
         self.last_number = 1
-        self.ports = {}          # socket number: (local, remote)
         self.faults = {}
         self.dead = set()
         self.sent = {}           # socket number: bytes accepted
         self.received = {}
         self.unexpected = []
         self.peer = Peer(self) if scenario.peer else None
-        self.count = 0
         self.sent_so_far = Sent()
         self.resent = False      # the stack retransmitted at a tick
         self.expired = False     # the stack reported that a timer expired
@@ -245,9 +232,7 @@ class Run:
             most = step.options.get("by", LONGEST_CALL)
             most = most if args[1] == "eof" else min(int(args[1]) - thread.told, most)
             more = f" {most}"
-        if number in self.dead:
-            return f"{word} {number}{more}", host, None
-        return f"{word} {number}{more}", host, f"{word} {handle}{more}"
+        return f"{word} {number}{more}", host, None if number in self.dead else f"{word} {handle}{more}"
 
     def attempt(self, thread):
         """Tries an open call. Returns whether it was answered."""
@@ -255,8 +240,7 @@ class Run:
         answer = self.ask(host, command) if command else "badsocket"
         number = self.names.get(step.args[0]) if step.word not in ("listen", "open") else None
         answer = self.told_again(number, step.word, answer)
-        waits = answer == "again" and step.word in ("await", "accept", "send", "recv") and "again" not in step.expected
-        if waits:
+        if answer == "again" and step.word in ("await", "accept", "send", "recv") and "again" not in step.expected:
             return False
         thread.open = None
         answer = self.count_and_name(thread, step, number, answer)
@@ -313,7 +297,6 @@ class Run:
         found = answer.split()[1] if word == "state" and step.expected else word
         if "any" not in expected and found not in expected:
             self.blame(thread, step, f"{step.word} returned {found}, not {' or '.join(expected)}")
-
         elif self.now - thread.began < step.options.get("lasted", 0):
             self.blame(thread, step, f"{step.word} returned {found} too early")
 

@@ -23,8 +23,12 @@ import host  # noqa: E402
 import judging  # noqa: E402
 import language  # noqa: E402
 import limits  # noqa: E402
+import programs  # noqa: E402
+import running  # noqa: E402
 import segments  # noqa: E402
+import selection  # noqa: E402
 import simulation  # noqa: E402
+import table  # noqa: E402
 import texts  # noqa: E402
 
 LOADER = importlib.machinery.SourceFileLoader("command", os.path.join(TOP, "run"))
@@ -332,7 +336,7 @@ class TheCommand(unittest.TestCase):
 
     def test_a_whole_name_is_one_scenario(self):
         def names(*words):
-            return [os.path.basename(path)[:-9] for path in command.paths_of(words)]
+            return [os.path.basename(path)[:-9] for path in selection.paths_of(words)]
         folder = os.path.join(TOP, "scenarios")
         self.assertEqual(names("data-bulk"), ["data-bulk"])
         self.assertEqual(names("data-bulk.scenario"), ["data-bulk"])
@@ -460,7 +464,7 @@ class TheCommand(unittest.TestCase):
 
     def test_cases_are_kept_by_their_word(self):
         judge = SimpleNamespace(judge=lambda outcome, run, values: {"full": "a", "none": "b"})
-        command.judge_and_keep(self.outcome("", ""), None, None, judge, self.folder)
+        running.judge_and_keep(self.outcome("", ""), None, None, judge, self.folder)
         self.assertEqual(sorted(os.listdir(self.folder)), ["x.case", "x.none.case"])
 
     def shell(self, text):
@@ -607,7 +611,7 @@ for line in sys.stdin:
     def test_one_reported_expiry_is_enough(self):
         more = {"resent": True}, {"resent": True, "expired": True}, {"expired": True}, {}
         outcomes = [SimpleNamespace(**{"resent": False, "expired": False, **each}) for each in more]
-        self.assertEqual([bool(command.warning(some)) for some in (outcomes[:1], outcomes[:2], outcomes[2:], [outcomes[0], outcomes[2]])],
+        self.assertEqual([bool(table.warning(some)) for some in (outcomes[:1], outcomes[:2], outcomes[2:], [outcomes[0], outcomes[2]])],
                          [True, False, False, True])
 
     def test_a_storm_ends_a_scenario(self):
@@ -721,7 +725,7 @@ for line in sys.stdin:
             self.assertEqual(self.run_it("true", "open-plain"), (2, "", "tcpwit isn't found: TCPWIT=/nowhere: No such file or directory\n"))
 
     def test_the_two_programs_are_named_apart(self):
-        with mock.patch.dict(os.environ, {"PATH": self.folder, "TCPWIT": "", "TCPWIT_LAB": ""}), mock.patch.object(command, "kept", lambda name: None):
+        with mock.patch.dict(os.environ, {"PATH": self.folder, "TCPWIT": "", "TCPWIT_LAB": ""}), mock.patch.object(programs, "kept", lambda name: None):
             self.assertEqual(self.told_of_programs(), "tcpwit and tcpwit_lab aren't found. The package tcpwit contains both (packaging/README.md). "
                                                       "Otherwise give --check and --lab, or set TCPWIT and TCPWIT_LAB.\n")
             for there, lacking, option, variable in (("tcpwit", "tcpwit_lab", "--lab", "TCPWIT_LAB"), ("tcpwit_lab", "tcpwit", "--check", "TCPWIT")):
@@ -734,7 +738,7 @@ for line in sys.stdin:
     def told_of_programs(self):
         """The output if a program is missing."""
         with contextlib.redirect_stderr(io.StringIO()) as error, self.assertRaises(SystemExit) as ended:
-            command.programs(SimpleNamespace(check=None, lab=None))
+            programs.programs(SimpleNamespace(check=None, lab=None))
         self.assertEqual(ended.exception.code, 2)
         return error.getvalue()
 

@@ -39,7 +39,7 @@ class Carrier:
 
     def __init__(self, between, chances):
         self.chances, self.dice = chances, random.Random(chances.seed)
-        self.data, self.lost, self.stopped, self.fault = 0, 0, False, None
+        self.data, self.stopped, self.fault = 0, False, None
         self.ends = []
         with between.inside():
             for name in ("c0", "c1"):
@@ -82,7 +82,6 @@ class Carrier:
                 if address[2] == OUTGOING:
                     continue
                 if self.is_lost(side, frame):
-                    self.lost += 1
                     continue
                 for _ in range(2 if self.dice.random() < self.chances.double else 1):
                     late = self.chances.delay / 1000 * (2 if self.dice.random() < self.chances.reorder else 1)

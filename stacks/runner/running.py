@@ -1,0 +1,104 @@
+"""Runs and judges scenarios."""
+import concurrent.futures
+import os
+import time
+from dataclasses import dataclass
+
+import files
+import host
+import judging
+import limits
+import processes
+import programs
+import simulation
+
+
+@dataclass
+class Task:
+    """What all scenarios of a run have in common."""
+    command: list
+    values: dict            # of the profile
+    programs: tuple         # tcpwit and tcpwit_lab; empty if nothing is to be judged
+    out: str
+    limits: limits.Limits
+    run_end: float          # when the run's time is up
+
+
+def task_of(words, folder):
+    """What the scenarios have in common; the stack is built in `folder`."""
+    for path in filter(None, (words.junit, words.write_against)):
+        files.try_to_write(path)
+    if words.out:
+        os.makedirs(words.out, exist_ok=True)
+    command = programs.stack_of(words, folder)
+    values = judging.profile(files.read(words.profile) if words.profile else "", words.profile)
+    judge = programs.judge_of(words, values)
+    bounds = limits.Limits(words.command_limit, words.scenario_limit, words.run_limit, words.events)
+    return Task(command, values, (judge.check, judge.lab) if judge else (), words.out, bounds, time.monotonic() + words.run_limit)
+
+
+def outcomes_of(wanted, task, jobs):
+    """Runs and judges the scenarios, and yields the outcomes in their order as they become available."""
+    workers, before = concurrent.futures.ThreadPoolExecutor(jobs), processes.adopt()
+    try:
+        yield from workers.map(lambda scenario: one(scenario, task), wanted)
+    finally:
+        processes.end_all()
+        workers.shutdown(cancel_futures=True)
+        processes.end_orphans(before)
+
+
+def one(scenario, task):
+    """Runs and judges one scenario."""
+    outcome, began = judging.Outcome(scenario), time.monotonic()
+    try:
+        watch = limits.Watch(task.limits, task.run_end)
+        watch.left("before this scenario began")
+        run = simulation.Run(scenario, task.command, watch, task.values["options"])
+        record(outcome, run, task)
+        if not outcome.verdict:
+            judge_and_keep(outcome, run, task.values, judging.Judge(*task.programs, watch) if task.programs else None, task.out)
+    except limits.Broken as cause:
+        outcome.verdict = f"broken {cause}"
+    except processes.Stopped:
+        outcome.verdict = "broken the run was stopped"
+    outcome.seconds = time.monotonic() - began
+    return outcome
+
+
+def record(outcome, run, task):
+    """Runs a scenario and records its results, even if it doesn't finish."""
+    try:
+        run.run()
+    except host.Cannot as cause:
+        outcome.verdict = f"skipped {cause}"
+        return
+    finally:
+        outcome.lines, outcome.resent, outcome.expired = len(run.lines), run.resent, run.expired
+        outcome.said = [line for each in run.hosts for line in each.tail()]
+        if task.out:
+            files.write(os.path.join(task.out, run.scenario.name + ".trace"), judging.trace_of(task.values, run.peer, run.lines))
+    outcome.unexpected, outcome.waiting = run.unexpected + run.stuck(), run.waiting()
+    if run.early:
+        note_early_end(outcome, run, task.values)
+    outcome.missing = 0 if run.peer else max(0, sum(run.sent.values()) - sum(run.received.values()))
+
+
+def note_early_end(outcome, run, values):
+    """Notes that a run was ended after too many events, and where a storm began."""
+    text = f"run: ended after {run.count} events"
+    if run.storm is not None:
+        line = len(judging.header_of(values, run.peer)) + run.storm + 1
+        text += f": a storm of acknowledgments from line {line} of the trace on, of which {simulation.KEPT} lines are kept"
+        outcome.notes.append(f"line {line}: {run.lines[run.storm]}")
+    outcome.unexpected.append(text)
+
+
+def judge_and_keep(outcome, run, values, judge, out):
+    """Judges one scenario. NAME.case is judged in full; NAME.LEVEL.case has the yes if that needed a less strict level."""
+    if not judge:
+        outcome.verdict = "recorded"
+        return
+    cases = judge.judge(outcome, run, values)
+    for level, case in cases.items() if out else ():
+        files.write(os.path.join(out, outcome.scenario.name + ("" if level == judging.FULL else f".{level}") + ".case"), case)
