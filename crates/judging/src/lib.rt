@@ -15,14 +15,13 @@
 //! - `asking`: the levels, one after the other
 //! - `rewriting`: a trace in version 4
 //! - `trying`: one level: the case that is found, and its verdict
-//! - `sentences`: what a yes says, and what a no refuses; `phrases`: a few words for each rule
+//! - `sentences`: what a yes says, and what a no refuses
 //! - `grouped`: numbers with commas
 //! - `words`: the command line's words
 #![tactic(auto)]
 
 mod asking;
 mod grouped;
-mod phrases;
 mod rewriting;
 mod sentences;
 mod trying;

@@ -1,9 +1,9 @@
 //! What a yes says, and what a no refuses, in a sentence.
 
 use crate::grouped::push_grouped;
-use crate::phrases::phrase;
 use case_forms::{Header, Judged, OutOfMemory};
 use line_fields::{push_end, push_word};
+use plain_words::about;
 use why::text::{Piece, add};
 use why::{Reason, Refused};
 use witness_search::Ending;
@@ -119,7 +119,7 @@ pub(crate) fn push_refused(out: &mut Vec<u8>, refused: &Refused) -> Result<(), O
             out,
             &[
                 Word(": "),
-                Word(phrase(refused.rule)),
+                Word(about(refused.rule).refused),
                 Word(" ("),
                 Word(refused.rule.name()),
                 Word(")."),

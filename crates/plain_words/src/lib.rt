@@ -6,14 +6,19 @@
 //! - `shown`: bytes of a text, escaped; the line that reports a text's fault
 //! - `words`: hosts, flags, calls and answers; `events`: segments, lines and steps
 //! - `numbers`: numbers on the wire as positions
+//! - `rules`: what each rule refuses, its usual causes, and its sections of RFCs; `causes`: what may be known at a step
 #![tactic(auto)]
 
+mod causes;
 mod events;
 mod numbers;
+mod rules;
 mod shown;
 mod words;
 
+pub use causes::{Cause, Known};
 pub use events::{EventWords, SegmentWords, StepWords};
 pub use numbers::Numbers;
+pub use rules::{Meaning, Special, about, cause};
 pub use shown::{Shown, fault_line, is_shown};
 pub use words::{AnswerFields, AnswerWords, CallWords, FlagWords, HostName, word_if};

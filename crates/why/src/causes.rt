@@ -4,10 +4,9 @@ use crate::fitting::say_fitting;
 use crate::reasons::{Reason, misplaced};
 use crate::scene::Scene;
 use crate::text::{Piece, say};
-use crate::usual::{COARSE_CLOCK, Cause, anywhere, usual_cause};
-use case_forms::{Call, Event, Extras, Judged, Label, OutOfMemory, SegmentPlan, Timer, Wire};
+use case_forms::{Call, Event, Extras, Judged, Label, NamedLine, OutOfMemory, SegmentPlan, Timer};
 use endpoint_state::Endpoint;
-use spec_tcp::Emission;
+use plain_words::{Known, cause};
 use verdict::Rule;
 
 /// Where the segments of a trace come from.
@@ -27,7 +26,7 @@ pub(crate) fn say_cause(
     origin: Origin,
 ) -> Result<(), OutOfMemory> {
     say_fitting(out, scene, rule)?;
-    let cause = cause_at(scene, rule);
+    let cause = cause(rule, known_at(scene, rule));
     say(out, &[Piece::Word("usually: "), Piece::Word(cause.usual)])?;
     match origin {
         Origin::Captured if !cause.captured.is_empty() => say(
@@ -38,168 +37,167 @@ pub(crate) fn say_cause(
     }
 }
 
-// The causes of a rule at the step that breaks it.
-fn cause_at(scene: &Scene<'_>, rule: Rule) -> Cause {
-    let Some(step) = scene.step() else {
-        return usual_cause(rule);
-    };
-    match (&step.label, rule) {
-        (Label::D { thread, .. }, Rule::CallAnswer) => match scene.world.pending_call(*thread) {
-            Some(call) => of_answer(call),
-            None => usual_cause(rule),
-        },
-        (Label::M { .. }, Rule::NoEndpoint) => anywhere(
-            "the stack sends after a reset, an expiry or a call closed the connection, or before a call opens it",
-        ),
-        (Label::M { host, plan }, _) => match scene.endpoint(*host, plan.lport, plan.rport) {
-            Some(endpoint) => at_sending(endpoint, plan, rule, scene.header.congestion),
-            None => usual_cause(rule),
-        },
-        (Label::T { .. }, Rule::NoEndpoint) => anywhere(
-            "the segment finds no connection, so the witness has to drop it (K) or answer it with a reset (R)",
-        ),
-        (Label::F { .. }, Rule::Recovery) => match scene.header.congestion {
-            Judged::Nothing => anywhere("everything was already acknowledged"),
-            Judged::Full | Judged::Recovery => usual_cause(rule),
-        },
-        (Label::L(named), _) => match scene.line(named.number) {
-            Some(line) => at_line(scene, &line.event, named.extras, rule),
-            None => usual_cause(rule),
-        },
-        _ => usual_cause(rule),
-    }
-}
-
-// The causes if a call has an answer that it can't have.
-fn of_answer(call: &Call) -> Cause {
-    match call {
-        Call::Listen(_, _, _) => anywhere(
-            "the stack allows two listeners on a port, or refuses a port that has none; or the witness has the effect \
-at the wrong place",
-        ),
-        Call::Connect(_, _, _) => anywhere(
-            "the stack opens ports again before their connection is closed, TIME-WAIT included, or refuses free ones; \
-or the witness has the effect at the wrong place",
-        ),
-        Call::Accept(_) => anywhere(
-            "the stack accepts a connection before its handshake is done, or out of order; or the witness has the \
-effect at the wrong place",
-        ),
-        Call::Send(_, _) => anywhere(
-            "the stack accepts data after a shut or a reset, or obeys a reset outside its window; or the witness has \
-the effect at the wrong place",
-        ),
-        Call::Recv(_, _) => anywhere(
-            "the stack delivers data twice, too early or not at all, or obeys a reset outside its window; or the \
-witness has the effect at the wrong place",
-        ),
-        Call::Close(_) | Call::Abort(_) => anywhere(
-            "the socket number was never returned, or was closed before; or the witness has the effect at the \
-wrong place",
-        ),
-        Call::Await(_) => anywhere(
-            "the stack reports a connection before its handshake is done or after it failed, or obeys a reset outside \
-its window; or the witness has the effect at the wrong place",
-        ),
-        Call::Shut(_) | Call::Status(_) => usual_cause(Rule::CallAnswer),
-    }
-}
-
-// The causes if an endpoint sends a segment.
-fn at_sending(endpoint: &Endpoint, plan: &SegmentPlan, rule: Rule, congestion: Judged) -> Cause {
+// What is known at the refused step, if the causes of the rule may depend on it.
+fn known_at(scene: &Scene<'_>, rule: Rule) -> Option<Known> {
+    let label = &scene.step()?.label;
     match rule {
-        Rule::State | Rule::OldData if endpoint.state.is_time_wait() => anywhere(
-            "the stack skips TIME-WAIT, or ends it before 2 `msl`",
-        ),
-        Rule::OldData => of_old_data(endpoint, plan, congestion),
-        Rule::Congestion if endpoint.control.values.smss < u32::from(plan.len) => {
-            usual_cause(Rule::Size)
-        }
-        _ => usual_cause(rule),
+        Rule::CallAnswer => of_answer(scene, label),
+        Rule::NoEndpoint => of_segment(label),
+        Rule::State => of_state(scene, label),
+        Rule::BytesDiffer => of_bytes(scene, label),
+        Rule::OldData => of_position(scene, label),
+        Rule::Congestion => of_length(scene, label),
+        Rule::TimerOff | Rule::TimerEarly => of_timer(scene, label),
+        Rule::Recovery => of_recovery(scene.header.congestion),
+        Rule::LineRange
+        | Rule::LineAgain
+        | Rule::ThreadOrder
+        | Rule::MomentFalls
+        | Rule::MomentOff
+        | Rule::Overdue
+        | Rule::ThreadBusy
+        | Rule::NoCall
+        | Rule::DoneTwice
+        | Rule::AnswerDiffers
+        | Rule::Socket
+        | Rule::Iss
+        | Rule::NotMade
+        | Rule::PayloadRange
+        | Rule::AckField
+        | Rule::Offered
+        | Rule::Size
+        | Rule::NoEmission
+        | Rule::CopyDiffers
+        | Rule::Lifetime
+        | Rule::Inbox
+        | Rule::NotPeer
+        | Rule::Number
+        | Rule::Unacceptable
+        | Rule::AckRange
+        | Rule::QueueFull
+        | Rule::Growth
+        | Rule::Sample
+        | Rule::ScaleUnread
+        | Rule::Unplaced => None,
     }
 }
 
-// The causes if a step uses a line.
-fn at_line(scene: &Scene<'_>, event: &Event, extras: Extras, rule: Rule) -> Cause {
-    match (event, rule, extras) {
-        (Event::Sent(host, wire), Rule::BytesDiffer, Extras::One(number)) => {
-            match scene.world.made(*host, number) {
-                Some(made) => of_bytes(made.emission(), wire),
-                None => usual_cause(rule),
-            }
-        }
-        (Event::Expired(_, _, _, timer), Rule::TimerEarly, _) => of_early(*timer),
-        (Event::Expired(_, _, _, timer), Rule::TimerOff, _) => of_off(*timer),
-        _ => usual_cause(rule),
+// The call that has an answer that it can't have.
+fn of_answer(scene: &Scene<'_>, label: &Label<NamedLine>) -> Option<Known> {
+    let Label::D { thread, .. } = label else {
+        return None;
+    };
+    match scene.world.pending_call(*thread)? {
+        Call::Listen(_, _, _) => Some(Known::Listen),
+        Call::Connect(_, _, _) => Some(Known::Open),
+        Call::Accept(_) => Some(Known::Accept),
+        Call::Send(_, _) => Some(Known::Send),
+        Call::Recv(_, _) => Some(Known::Receive),
+        Call::Close(_) | Call::Abort(_) => Some(Known::Close),
+        Call::Await(_) => Some(Known::Await),
+        Call::Shut(_) | Call::Status(_) => None,
     }
 }
 
-// The causes if a segment begins at a position where it may not.
-fn of_old_data(endpoint: &Endpoint, plan: &SegmentPlan, congestion: Judged) -> Cause {
-    match (misplaced(endpoint, plan), congestion) {
-        (Reason::Gap { .. }, _) => Cause {
-            usual: "the stack skips positions that it hasn't sent yet",
-            captured: "the capture lost the segments before this one",
-        },
-        (Reason::Acknowledged { .. }, _) => anywhere(
-            "the stack retransmits acknowledged data, or the witness has the acknowledgment too early",
-        ),
-        (_, Judged::Nothing) => anywhere(if endpoint.is_up() {
-            "the witness lacks an F step before it; at `none` it may have one at any moment"
-        } else {
-            "the trace lacks the expiry (a `T` line) before it, which a SYN needs at every level"
-        }),
-        _ => usual_cause(Rule::OldData),
+// Whether the step builds or processes a segment.
+fn of_segment(label: &Label<NamedLine>) -> Option<Known> {
+    match label {
+        Label::M { .. } => Some(Known::Building),
+        Label::T { .. } => Some(Known::Processing),
+        Label::L(_) | Label::D { .. } | Label::K { .. } | Label::R { .. } | Label::F { .. } => None,
     }
 }
 
-// The causes if the segment sent differs from the one built.
-fn of_bytes(made: &Emission, wire: &Wire) -> Cause {
+// The segment that the step builds, and the endpoint that builds it.
+fn built<'s>(
+    scene: &'s Scene<'_>,
+    label: &'s Label<NamedLine>,
+) -> Option<(&'s Endpoint, &'s SegmentPlan)> {
+    let Label::M { host, plan } = label else {
+        return None;
+    };
+    let endpoint = scene.endpoint(*host, plan.lport, plan.rport)?;
+    Some((endpoint, plan))
+}
+
+// The state of an endpoint that builds a segment.
+fn of_state(scene: &Scene<'_>, label: &Label<NamedLine>) -> Option<Known> {
+    let (endpoint, _) = built(scene, label)?;
+    if endpoint.state.is_time_wait() {
+        Some(Known::TimeWait)
+    } else {
+        None
+    }
+}
+
+// Where a segment begins.
+fn of_position(scene: &Scene<'_>, label: &Label<NamedLine>) -> Option<Known> {
+    let (endpoint, plan) = built(scene, label)?;
+    if endpoint.state.is_time_wait() {
+        return Some(Known::TimeWait);
+    }
+    match (misplaced(endpoint, plan), scene.header.congestion) {
+        (Reason::Gap { .. }, _) => Some(Known::Gap),
+        (Reason::Acknowledged { .. }, _) => Some(Known::Acknowledged),
+        (_, Judged::Nothing) if endpoint.is_up() => Some(Known::OutstandingAtNone),
+        (_, Judged::Nothing) => Some(Known::SynAtNone),
+        (_, Judged::Full | Judged::Recovery) => None,
+    }
+}
+
+// Whether a segment has more bytes than SMSS.
+fn of_length(scene: &Scene<'_>, label: &Label<NamedLine>) -> Option<Known> {
+    let (endpoint, plan) = built(scene, label)?;
+    if endpoint.control.values.smss < u32::from(plan.len) {
+        Some(Known::Oversized)
+    } else {
+        None
+    }
+}
+
+// How the acknowledgment number sent differs from the one built.
+fn of_bytes(scene: &Scene<'_>, label: &Label<NamedLine>) -> Option<Known> {
+    let Label::L(named) = label else {
+        return None;
+    };
+    let (Event::Sent(host, wire), Extras::One(number)) =
+        (&scene.line(named.number)?.event, named.extras)
+    else {
+        return None;
+    };
+    let made = scene.world.made(*host, number)?.emission();
     let seg = &wire.seg;
     let is_same = made.lport == seg.src && made.rport == seg.dst && made.seq == seg.seq;
     let ahead = seg.ack.0.wrapping_sub(made.ack_seq.0);
     if !is_same || !made.flags.ack || ahead == 0 {
-        return usual_cause(Rule::BytesDiffer);
-    }
-    if ahead <= u32::MAX / 2 {
-        Cause {
-            usual: "the stack acknowledges what never arrived, skips a gap, or accepts data after the FIN",
-            captured: "the capture lost a segment that arrived",
-        }
+        None
+    } else if ahead <= u32::MAX / 2 {
+        Some(Known::HigherAck)
     } else {
-        Cause {
-            usual: "the stack doesn't keep data inside the window that it offered: it shrinks the window, or drops \
-data (`keep` 0 in the witness)",
-            captured: "the stack processed a segment later than the capture shows",
-        }
+        Some(Known::LowerAck)
     }
 }
 
-// The causes if a timer expires early.
-fn of_early(timer: Timer) -> Cause {
-    let usual = match timer {
-        Timer::Persist => "the stack probes a closed window before its timeout",
-        Timer::Msl2 => "TIME-WAIT is shorter than 2 `msl`",
-        Timer::Rto | Timer::Giveup => return usual_cause(Rule::TimerEarly),
+// The timer that expires.
+fn of_timer(scene: &Scene<'_>, label: &Label<NamedLine>) -> Option<Known> {
+    let Label::L(named) = label else {
+        return None;
     };
-    Cause {
-        usual,
-        captured: COARSE_CLOCK,
+    let Event::Expired(_, _, _, timer) = &scene.line(named.number)?.event else {
+        return None;
+    };
+    match timer {
+        Timer::Rto => None,
+        Timer::Persist => Some(Known::Persist),
+        Timer::Msl2 => Some(Known::Msl2),
+        Timer::Giveup => Some(Known::Giveup),
     }
 }
 
-// The causes if a timer expires although it's off.
-fn of_off(timer: Timer) -> Cause {
-    match timer {
-        Timer::Rto => usual_cause(Rule::TimerOff),
-        Timer::Persist => anywhere(
-            "the stack probes although the window is open or nothing is left to send",
-        ),
-        Timer::Msl2 => anywhere(
-            "the witness lacks the segment that leads to TIME-WAIT, or has it later",
-        ),
-        Timer::Giveup => anywhere(
-            "the stack gives up after fewer than three expiries, or with nothing outstanding",
-        ),
+// Why fast recovery may not begin.
+fn of_recovery(level: Judged) -> Option<Known> {
+    match level {
+        Judged::Nothing => Some(Known::NothingOutstanding),
+        Judged::Full | Judged::Recovery => None,
     }
 }
