@@ -1,15 +1,47 @@
 //! A trace at one level.
 
-use crate::asking::trace_fault;
 use crate::rewriting::rewritten;
-use crate::sentences::{push_padded, push_refused};
-use case_forms::{Header, Judged, OutOfMemory};
-use checker::{CaseFault, check_case};
-use line_fields::push_end;
-use std::alloc::Global;
-use verdict::{Verdict, print_verdict};
-use why::refused_by;
+use case_forms::{Header, Judged};
+use line_fields::{FaultKind, TextFault};
+use replayed::{Case, Refused, ReplayFault, refused_by};
+use std::alloc::{AllocError, Global};
+use thiserror::Error;
+use verdict::Verdict;
 use witness_search::{Ending, find_within};
+
+/// Why a trace can't be judged.
+#[derive(Clone, Copy, Debug, Error)]
+pub enum JudgeFault {
+    /// The first fault of the trace.
+    #[error("the trace: {0}")]
+    Trace(TextFault),
+    /// The first fault of the witness that was found: it has too many lines.
+    #[error("the witness: {0}")]
+    Witness(TextFault),
+    #[error("{0}")]
+    Replay(ReplayFault),
+}
+
+impl From<AllocError> for JudgeFault {
+    fn from(e: AllocError) -> JudgeFault {
+        JudgeFault::Replay(ReplayFault::from(e))
+    }
+}
+
+impl From<ReplayFault> for JudgeFault {
+    fn from(fault: ReplayFault) -> JudgeFault {
+        JudgeFault::Replay(fault)
+    }
+}
+
+impl From<TextFault> for JudgeFault {
+    fn from(fault: TextFault) -> JudgeFault {
+        match fault.kind {
+            FaultKind::OutOfMemory => JudgeFault::Replay(ReplayFault::OutOfMemory),
+            _ => JudgeFault::Trace(fault),
+        }
+    }
+}
 
 /// A level that was tried.
 #[derive(Drop)]
@@ -19,7 +51,9 @@ pub(crate) struct Tried {
     pub case: Vec<u8>,
     /// How the search ended.
     pub ending: Ending,
-    verdict: Verdict,
+    pub verdict: Verdict,
+    /// What the verdict refuses. None: it is yes.
+    pub refused: Option<Refused>,
 }
 
 /// Looks for a witness of a trace at a level, with so many search steps for going back, and judges it.
@@ -29,40 +63,24 @@ pub(crate) fn try_level(
     header: &Header,
     level: Judged,
     budget: u64,
-) -> Result<Tried, CaseFault> {
+) -> Result<Tried, JudgeFault> {
     let trace = rewritten(alloc, text, header, level)?;
-    let found = match find_within(alloc, trace.as_slice(), budget) {
-        Ok(found) => found,
-        Err(fault) => return Err(trace_fault(fault)),
-    };
-    let verdict = check_case(alloc, found.case.as_slice())?;
+    let found = find_within(alloc, trace.as_slice(), budget)?;
+    let (verdict, refused) = judged(alloc, found.case.as_slice())?;
     Ok(Tried {
         level,
         case: found.case,
         ending: found.ending,
         verdict,
+        refused,
     })
 }
 
-impl Tried {
-    /// Whether the witness explains the trace.
-    pub(crate) fn is_yes(&self) -> bool {
-        matches!(&self.verdict, Verdict::Yes { .. })
-    }
-
-    /// Writes the level and the verdict as a line.
-    pub(crate) fn push_row(&self, out: &mut Vec<u8>) -> Result<(), OutOfMemory> {
-        push_padded(out, self.level)?;
-        print_verdict(&self.verdict, out)?;
-        push_end(out)
-    }
-
-    /// The sentence on what is refused; empty if nothing is.
-    pub(crate) fn refusal(&self, alloc: Global) -> Result<Vec<u8>, OutOfMemory> {
-        let mut out = Vec::new(alloc);
-        if let Some(refused) = refused_by(alloc, self.case.as_slice(), &self.verdict)? {
-            push_refused(&mut out, &refused)?;
-        }
-        Ok(out)
+// The verdict on a case that was found, and what it refuses.
+fn judged(alloc: Global, text: &[u8]) -> Result<(Verdict, Option<Refused>), JudgeFault> {
+    let case = Case::read(alloc, text)?;
+    match case.verdict {
+        Ok(verdict) => Ok((verdict, refused_by(alloc, &case)?)),
+        Err(fault) => Err(JudgeFault::Witness(fault)),
     }
 }

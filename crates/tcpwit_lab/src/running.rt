@@ -1,13 +1,16 @@
 //! What the program does with its words and its standard input.
 
-use crate::judgements::write_judgement;
-use crate::remarking::write_remarks;
-use crate::saying::{DONE, USAGE, say, say_bad_device, say_bad_memory, say_bad_trace, say_fault};
-use crate::words::{Asked, asked_by};
+use crate::saying::{
+    DONE, NO, USAGE, say, say_bad_device, say_bad_memory, say_bad_replay, say_bad_trace, say_fault,
+};
+use crate::words::{Asked, Judging, asked_by};
 use counted::Counted;
 use drawing::{draw, show};
-use line_fields::TextFault;
-use std::alloc::Global;
+use judging::{JudgeFault, judge};
+use remarks::remark;
+use replayed::Case;
+use std::alloc::{AllocError, Global};
+use std::fs;
 use std::io::{Eprint, ErrorKind, Input, Read, Write};
 use std::rt::Files;
 use why::explain;
@@ -46,15 +49,80 @@ fn write_answer<H: Files + Eprint, W: Write>(
             Ok(found) => tell_found(rt, &found, w),
             Err(fault) => say_bad_trace(rt, alloc, "find", text, &fault, w),
         },
-        Asked::Show => tell(rt, alloc, show(alloc, text), w),
-        Asked::Draw(range) => tell(rt, alloc, draw(alloc, text, range), w),
         Asked::Explain(origin) => match explain(alloc, text, origin) {
-            Ok(said) => say(rt, w, said.text.as_slice(), said.status),
-            Err(_) => say_bad_memory(rt, w),
+            Ok(said) => say(rt, w, said.text.as_bytes(), said.status),
+            Err(fault) => say_bad_replay(rt, w, fault),
         },
-        Asked::Judge(options) => write_judgement(rt, alloc, options, text, w),
-        Asked::Remark => write_remarks(rt, alloc, text, w),
+        Asked::Judge(judging) => write_judgement(rt, alloc, judging, text, w),
+        Asked::Show | Asked::Draw(_) | Asked::Remark => match Case::read(alloc, text) {
+            Ok(case) => write_case(rt, alloc, asked, &case, w),
+            Err(fault) => say_fault(rt, alloc, "bad trace ", &fault, w),
+        },
     }
+}
+
+// Shows or draws a case, or writes the remarks on it.
+fn write_case<H: Eprint, W: Write>(
+    rt: &H,
+    alloc: Global,
+    asked: Asked<'_>,
+    case: &Case<'_>,
+    w: &mut Counted<W>,
+) -> u8 {
+    match asked {
+        Asked::Draw(range) => tell(rt, draw(alloc, case, range), w),
+        Asked::Remark => match &case.verdict {
+            Ok(_) => write_remarks(rt, alloc, case, w),
+            Err(fault) => say_fault(rt, alloc, "bad witness ", fault, w),
+        },
+        Asked::Show | Asked::Find(_) | Asked::Explain(_) | Asked::Judge(_) => {
+            tell(rt, show(alloc, case), w)
+        }
+    }
+}
+
+// Writes the remarks on a case. The status is 0 if there is none, and 1 if there is any.
+fn write_remarks<H: Eprint, W: Write>(
+    rt: &H,
+    alloc: Global,
+    case: &Case<'_>,
+    w: &mut Counted<W>,
+) -> u8 {
+    match remark(alloc, case) {
+        Ok(remarked) => {
+            let status = if remarked.count == 0 { DONE } else { NO };
+            say(rt, w, remarked.text.as_bytes(), status)
+        }
+        Err(fault) => say_bad_replay(rt, w, fault),
+    }
+}
+
+// Judges a trace, writes the case of the last level if a file is named for it, and prints the answer. The status is 0
+// if the level that `--least` names or a stricter one has a yes, and 1 if none has.
+fn write_judgement<H: Files + Eprint, W: Write>(
+    rt: &H,
+    alloc: Global,
+    judging: Judging<'_>,
+    text: &[u8],
+    w: &mut Counted<W>,
+) -> u8 {
+    let judgement = match judge(alloc, text, judging.budget) {
+        Ok(judgement) => judgement,
+        Err(JudgeFault::Trace(fault)) => return say_bad_trace(rt, alloc, "judge", text, &fault, w),
+        Err(JudgeFault::Witness(fault)) => return say_fault(rt, alloc, "bad witness ", &fault, w),
+        Err(JudgeFault::Replay(fault)) => return say_bad_replay(rt, w, fault),
+    };
+    if let Some(name) = judging.case {
+        if let Err(error) = fs::write(rt, name, judgement.case.as_slice()) {
+            return say_bad_device(rt, w, name, &error);
+        }
+    }
+    let status = if judgement.meets(judging.least) {
+        DONE
+    } else {
+        NO
+    };
+    say(rt, w, judgement.text.as_bytes(), status)
 }
 
 // Writes a case. If lines were left or the search went back, standard error has how far it came.
@@ -73,15 +141,10 @@ fn tell_found<H: Eprint, W: Write>(rt: &H, found: &Found, w: &mut Counted<W>) ->
     say(rt, w, found.case.as_slice(), DONE)
 }
 
-// Writes a case, or the fault of its trace.
-fn tell<H: Eprint, W: Write>(
-    rt: &H,
-    alloc: Global,
-    case: Result<Vec<u8>, TextFault>,
-    w: &mut Counted<W>,
-) -> u8 {
-    match case {
-        Ok(text) => say(rt, w, text.as_slice(), DONE),
-        Err(fault) => say_fault(rt, alloc, "bad trace ", &fault, w),
+// Writes a text.
+fn tell<H: Eprint, W: Write>(rt: &H, text: Result<String, AllocError>, w: &mut Counted<W>) -> u8 {
+    match text {
+        Ok(text) => say(rt, w, text.as_bytes(), DONE),
+        Err(AllocError) => say_bad_memory(rt, w),
     }
 }

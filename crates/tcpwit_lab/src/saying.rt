@@ -2,11 +2,11 @@
 
 use counted::Counted;
 use line_fields::{FaultKind, TextFault};
+use plain_words::fault_line;
+use replayed::{ReplayFault, line_at};
 use std::alloc::Global;
 use std::io;
 use std::io::{Eprint, Write};
-use why::fault_line;
-use why::parts::line_at;
 
 /// Done.
 pub(crate) const DONE: u8 = 0;
@@ -58,6 +58,21 @@ pub(crate) fn say_bad_memory<H: Eprint, W: Write>(rt: &H, w: &mut Counted<W>) ->
     say(rt, w, b"bad memory\n", MEMORY)
 }
 
+/// Writes why a case can't be replayed.
+pub(crate) fn say_bad_replay<H: Eprint, W: Write>(
+    rt: &H,
+    w: &mut Counted<W>,
+    fault: ReplayFault,
+) -> u8 {
+    match fault {
+        ReplayFault::OutOfMemory => say_bad_memory(rt, w),
+        ReplayFault::TooManySteps => {
+            let _ = eprintln!(rt; "{fault}");
+            say(rt, w, b"too many steps\n", REFUSED)
+        }
+    }
+}
+
 /// Writes the fault of a text as a line that begins with these words.
 pub(crate) fn say_fault<H: Eprint, W: Write>(
     rt: &H,
@@ -69,7 +84,7 @@ pub(crate) fn say_fault<H: Eprint, W: Write>(
     match fault.kind {
         FaultKind::OutOfMemory => say_bad_memory(rt, w),
         _ => match fault_line(alloc, refusal, fault) {
-            Ok(line) => say(rt, w, line.as_slice(), REFUSED),
+            Ok(line) => say(rt, w, line.as_bytes(), REFUSED),
             Err(_) => say_bad_memory(rt, w),
         },
     }

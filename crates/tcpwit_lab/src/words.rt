@@ -1,8 +1,9 @@
 //! What the words after the program's name ask for.
 
+use case_forms::Judged;
 use drawing::Range;
-use judging::{Options, are_options, budget_of, options_of, value_of};
 use why::Origin;
+use witness_search::USUAL_BUDGET;
 
 /// What the words ask for.
 #[derive(Clone, Copy)]
@@ -13,25 +14,34 @@ pub(crate) enum Asked<'w> {
     Explain(Origin),
     Show,
     Draw(Range),
-    Judge(Options<'w>),
+    Judge(Judging<'w>),
     Remark,
+}
+
+/// What the words after `judge` ask for.
+#[derive(Clone, Copy)]
+pub(crate) struct Judging<'w> {
+    /// The weakest level whose yes is a success.
+    pub least: Judged,
+    /// The file in which the case of the last level is kept. None: it isn't kept.
+    pub case: Option<&'w str>,
+    /// How many search steps are spent on going back at each level.
+    pub budget: u64,
 }
 
 /// What the words ask for. None: nothing that the program does.
 pub(crate) fn asked_by<'w>(words: &[&'w str]) -> Option<Asked<'w>> {
-    match words {
-        [word, options @ ..] if *word == "find" => Some(Asked::Find(find_budget(options)?)),
-        [word, options @ ..] if *word == "judge" => Some(Asked::Judge(options_of(options)?)),
-        [word, options @ ..] if *word == "draw" => Some(Asked::Draw(range_of(options)?)),
-        [word, option] if *word == "explain" && *option == "--simulated" => {
-            Some(Asked::Explain(Origin::Simulated))
-        }
-        [word] => match *word {
-            "explain" => Some(Asked::Explain(Origin::Captured)),
-            "show" => Some(Asked::Show),
-            "remark" => Some(Asked::Remark),
-            _ => None,
-        },
+    let [subcommand, options @ ..] = words else {
+        return None;
+    };
+    match (*subcommand, options) {
+        ("find", _) => Some(Asked::Find(find_budget(options)?)),
+        ("judge", _) => Some(Asked::Judge(judging(options)?)),
+        ("draw", _) => Some(Asked::Draw(range_of(options)?)),
+        ("explain", ["--simulated"]) => Some(Asked::Explain(Origin::Simulated)),
+        ("explain", []) => Some(Asked::Explain(Origin::Captured)),
+        ("show", []) => Some(Asked::Show),
+        ("remark", []) => Some(Asked::Remark),
         _ => None,
     }
 }
@@ -42,6 +52,29 @@ fn find_budget(options: &[&str]) -> Option<u64> {
         return None;
     }
     budget_of(value_of(options, "--budget"))
+}
+
+// What `--least LEVEL`, `--case FILE` and `--budget N` ask for, in any order and each at most once. LEVEL is `full`,
+// `recovery` or `none`; `full` if it isn't given. FILE isn't empty. None: other words.
+fn judging<'w>(options: &[&'w str]) -> Option<Judging<'w>> {
+    if !are_options(options, &["--least", "--case", "--budget"]) {
+        return None;
+    }
+    let least = match value_of(options, "--least") {
+        None | Some("full") => Judged::Full,
+        Some("recovery") => Judged::Recovery,
+        Some("none") => Judged::Nothing,
+        Some(_) => return None,
+    };
+    let budget = budget_of(value_of(options, "--budget"))?;
+    match value_of(options, "--case") {
+        Some("") => None,
+        case => Some(Judging {
+            least,
+            case,
+            budget,
+        }),
+    }
 }
 
 // The lines that `--from N`, `--to M` or both ask for, in either order. None: other words, an option twice, a number
@@ -62,12 +95,72 @@ fn range_of(options: &[&str]) -> Option<Range> {
 
 // The number of a line, in digits alone without a leading zero, if one is given. None: no such number.
 fn line_number(value: Option<&str>) -> Option<Option<u64>> {
-    let Some(value) = value else {
-        return Some(None);
-    };
-    if value.starts_with("+") || value.starts_with("0") {
+    match value {
+        None => Some(None),
+        Some("0") => None,
+        Some(digits) => Some(Some(number_of(digits)?)),
+    }
+}
+
+// The budget that the value of `--budget` gives; the usual one if there is no value. None: it isn't a number in digits
+// alone, has a leading zero and isn't 0, or is above 2^64 - 1.
+fn budget_of(value: Option<&str>) -> Option<u64> {
+    match value {
+        None => Some(USUAL_BUDGET),
+        Some("0") => Some(0),
+        Some(digits) => number_of(digits),
+    }
+}
+
+// A number in digits alone, without a leading zero.
+fn number_of(digits: &str) -> Option<u64> {
+    if digits.starts_with("+") || digits.starts_with("0") {
         return None;
     }
-    let number = value.parse::<u64>().ok()?;
-    Some(Some(number))
+    digits.parse::<u64>().ok()
+}
+
+// Whether these words are options with these names, in any order and each at most once. Each has a value: the next
+// word, which doesn't begin with `-`, or what follows `=` in the same word.
+fn are_options(words: &[&str], names: &[&str]) -> bool {
+    let mut at: usize = 0;
+    for _ in words {
+        let Some((name, _, next)) = option_at(words, at) else {
+            break;
+        };
+        let after = words.get(next..).unwrap_or(&[]);
+        if !names.iter().any(|known| *known == name) || value_of(after, name).is_some() {
+            return false;
+        }
+        at = next;
+    }
+    at == words.len()
+}
+
+// The value of the option with this name, if the words have it.
+fn value_of<'w>(words: &[&'w str], name: &str) -> Option<&'w str> {
+    let mut at: usize = 0;
+    for _ in words {
+        let (found, value, next) = option_at(words, at)?;
+        if found == name {
+            return Some(value);
+        }
+        at = next;
+    }
+    None
+}
+
+// The name and the value of the option at a place, and the place after both. None: no word is there, or it has no
+// value.
+fn option_at<'w>(words: &[&'w str], at: usize) -> Option<(&'w str, &'w str, usize)> {
+    match words.get(at..)? {
+        [] => None,
+        [first, rest @ ..] => match (first.split_once('='), rest) {
+            (Some((name, value)), _) => Some((name, value, at.saturating_add(1))),
+            (None, [value, ..]) if !value.starts_with("-") => {
+                Some((*first, *value, at.saturating_add(2)))
+            }
+            (None, _) => None,
+        },
+    }
 }

@@ -1,6 +1,7 @@
 //! Which lines `tcpwit_lab draw` shows of a case with more than 400.
 
 use drawing::{Range, draw};
+use replayed::Case;
 use std::alloc::{AllocError, Global};
 
 const HEADER: &str = "trace 1\nskew 0\nmsl 120000000\ngrain 1000\nminrto 1000000\nextra 0\n";
@@ -50,8 +51,8 @@ pub fn ask_drawn(alloc: Global, differing: &mut Vec<String>) -> Result<usize, Al
             from: *from,
             to: *to,
         };
-        let found = match draw(alloc, case.as_slice(), range) {
-            Ok(drawn) => lines_drawn(alloc, drawn.as_slice())?,
+        let found = match Case::read(alloc, case.as_slice()) {
+            Ok(case) => lines_drawn(alloc, draw(alloc, &case, range)?.as_str())?,
             Err(_) => String::from_str(alloc, "no picture")?,
         };
         if found.as_str() != *wanted {
@@ -107,11 +108,10 @@ fn push_steps(
 }
 
 // The first and the last line that a picture shows; 0 if it shows none.
-fn lines_drawn(alloc: Global, picture: &[u8]) -> Result<String, AllocError> {
-    let picture = String::from_utf8_lossy(alloc, picture)?;
+fn lines_drawn(alloc: Global, picture: &str) -> Result<String, AllocError> {
     let mut first: u64 = 0;
     let mut last: u64 = 0;
-    for row in picture.as_str().lines() {
+    for row in picture.lines() {
         if let Some(number) = line_drawn(row) {
             if first == 0 {
                 first = number;

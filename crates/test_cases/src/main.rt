@@ -3,12 +3,11 @@
 //! The case of each name is `data/NAME.case`, and `data/expected.txt` has the line that `tcpwit check` must print for
 //! it (`data/README.md`). The program also checks each beginning of two of the files, lines of the greatest length,
 //! inputs of several cases, pairs of texts that no case would be split into, the command lines of
-//! `data/command_lines.txt`, what `tcpwit_lab` prints for some cases (`data/told.txt`, `data/remarked.txt`) and for
-//! some traces (`data/judged.txt`), and the witnesses that are found for recordings of the Linux kernel
-//! (`data/kernel/`) and for written traces (`data/found/`). Each case file is also checked as version 4. If all answers
-//! are as expected, it prints three lines with the counts. Else standard error has a line for each answer that differs,
-//! with the name of the case, how it was checked, what was expected and what was found, and the program ends with
-//! status 1.
+//! `data/command_lines.txt`, what `tcpwit_lab` prints for some cases (`data/told.txt`, `data/remarked.txt`), and the
+//! witnesses that are found for recordings of the Linux kernel (`data/kernel/`) and for written traces (`data/found/`).
+//! Each case file is also checked as version 4. If all answers are as expected, it prints three lines with the counts.
+//! Else standard error has a line for each answer that differs, with the name of the case, how it was checked, what was
+//! expected and what was found, and the program ends with status 1.
 //!
 //! - `table`: cases, and those of the files
 //! - `beginnings`: each beginning of a case
@@ -16,8 +15,7 @@
 //! - `pairs`: a trace and a witness as two texts, into which no case would be split
 //! - `asking`: by `check_case`, by the command `check`, as two texts in pieces, and by the command `many`
 //! - `command_lines`: command lines, read as the program reads its own
-//! - `told`: what `tcpwit_lab` prints for a case; `judged`: how much of a run follows the RFCs; `remarked`: what is
-//!   worth a look
+//! - `told`: what `tcpwit_lab` prints for a case; `remarked`: suspicious behavior that breaks no rule
 //! - `kernel`: witnesses found for recordings of the Linux kernel and for written traces
 //! - `drawn`: which lines of a long case are drawn; `printed`: bytes that no terminal interprets
 //! - `version_four`: rewrites a case as version 4
@@ -28,7 +26,6 @@ mod asking;
 mod beginnings;
 mod command_lines;
 mod drawn;
-mod judged;
 mod kernel;
 mod less_judged;
 mod long_lines;
@@ -91,13 +88,10 @@ fn ask_texts(rt: &HostRuntime, differing: &mut Vec<String>) -> io::Result<String
     let alloc = rt.alloc();
     let table = fs::read_to_string(rt, "told.txt")?;
     let told = told::ask_told(rt, alloc, table.as_str(), differing)?;
-    let table = fs::read_to_string(rt, "judged.txt")?;
-    let judged = judged::ask_judged(rt, alloc, table.as_str(), differing)?;
     let table = fs::read_to_string(rt, "remarked.txt")?;
     let remarked = remarked::ask_remarked(rt, alloc, table.as_str(), differing)?;
     Ok(format!(in alloc;
-        "{told} cases explained, shown or drawn as wanted, {judged} traces judged as wanted, {remarked} cases remarked \
-            on as wanted"
+        "{told} cases explained, shown or drawn as wanted, {remarked} cases remarked on as wanted"
     )?)
 }
 

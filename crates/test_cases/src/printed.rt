@@ -1,10 +1,10 @@
 //! A text in which one byte is ESC, which a terminal would interpret: `tcpwit_lab` prints no such byte.
 
 use drawing::{Range, draw, show};
-use line_fields::TextFault;
+use plain_words::fault_line;
+use replayed::{Case, Texts};
 use std::alloc::{AllocError, Global};
 use std::{fs, io};
-use why::fault_line;
 use witness_search::find;
 
 const ESC: u8 = 0x1b;
@@ -32,40 +32,32 @@ fn with_esc(alloc: Global, text: &[u8], place: usize) -> Result<Vec<u8>, AllocEr
 
 fn ask_text(
     alloc: Global,
-    case: &[u8],
+    text: &[u8],
     place: usize,
     differing: &mut Vec<String>,
 ) -> Result<(), AllocError> {
-    let range = Range {
-        from: None,
-        to: None,
+    let mut printed = match find(alloc, Texts::of(text).trace) {
+        Ok(case) => case,
+        Err(fault) => fault_line(alloc, "bad trace ", &fault)?.into_bytes(),
     };
-    let printed = [
-        ("find", printed(alloc, find(alloc, trace_of(case)))?),
-        ("show", printed(alloc, show(alloc, case))?),
-        ("draw", printed(alloc, draw(alloc, case, range))?),
-    ];
-    for (word, text) in &printed {
-        if !text.as_slice().iter().all(|byte| is_printable(*byte)) {
-            differing.push(format!(in alloc;
-                "ESC at byte {place}: {word} prints a control byte"
-            )?)?;
-        }
+    push_shown(alloc, text, &mut printed)?;
+    if !printed.as_slice().iter().all(|byte| is_printable(*byte)) {
+        differing.push(format!(in alloc; "ESC at byte {place}: a control byte is printed")?)?;
     }
     Ok(())
 }
 
-// The trace of a case.
-fn trace_of(case: &[u8]) -> &[u8] {
-    why::parts::cut(case).trace
-}
-
-// What is printed: a text, or the line of a fault.
-fn printed(alloc: Global, answer: Result<Vec<u8>, TextFault>) -> Result<Vec<u8>, AllocError> {
-    match answer {
-        Ok(text) => Ok(text),
-        Err(fault) => fault_line(alloc, "bad trace ", &fault),
+// Writes what `show` and `draw` print for a case.
+fn push_shown(alloc: Global, text: &[u8], printed: &mut Vec<u8>) -> Result<(), AllocError> {
+    let range = Range {
+        from: None,
+        to: None,
+    };
+    if let Ok(case) = Case::read(alloc, text) {
+        printed.extend_from_slice(show(alloc, &case)?.as_bytes())?;
+        printed.extend_from_slice(draw(alloc, &case, range)?.as_bytes())?;
     }
+    Ok(())
 }
 
 // Whether a terminal shows this byte or ends a line there.

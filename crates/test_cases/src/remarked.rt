@@ -1,13 +1,14 @@
-//! What `remark` of `tcpwit_lab` says of a case, and the text that is wanted.
+//! What `tcpwit_lab remark` prints for a case, and the expected text.
 
-use checker::{CaseFault, check_case};
+use plain_words::fault_line;
 use remarks::{Remarked, remark};
+use replayed::Case;
 use std::alloc::{AllocError, Global};
 use std::{fs, io};
-use why::fault_line;
+use verdict::Verdict;
 
-/// Asks for each text of a table: a line `== STATUS NAME VERDICT` with the name of a case and its verdict, and after it
-/// the text that is wanted. Answers how many texts there are.
+/// Checks each text of a table: a line `== STATUS NAME VERDICT` with the name of a case and its verdict, followed by the
+/// expected text. The result is the number of texts.
 pub fn ask_remarked(
     rt: &HostRuntime,
     alloc: Global,
@@ -32,28 +33,31 @@ pub fn ask_remarked(
 }
 
 // The block of a case: the status, its name and its verdict, and what is printed.
-fn answered(alloc: Global, name: &str, case: &[u8]) -> Result<String, AllocError> {
-    match remark(alloc, case) {
-        Ok(remarked) => said(alloc, name, case, &remarked),
-        Err(CaseFault::Trace(fault)) => {
+fn answered(alloc: Global, name: &str, text: &[u8]) -> Result<String, AllocError> {
+    let case = match Case::read(alloc, text) {
+        Ok(case) => case,
+        Err(fault) => {
             let line = fault_line(alloc, "bad trace ", &fault)?;
-            let text = String::from_utf8_lossy(alloc, line.as_slice())?;
-            format!(in alloc; "2 {name} {}", text.as_str())
+            return format!(in alloc; "2 {name} {line}");
         }
-        Err(fault) => format!(in alloc; "{fault}"),
+    };
+    match (case.verdict, remark(alloc, &case)) {
+        (Ok(verdict), Ok(remarked)) => said(alloc, name, verdict, &remarked),
+        (Err(fault), _) => fault_line(alloc, "bad witness ", &fault),
+        (_, Err(fault)) => format!(in alloc; "{fault}"),
     }
 }
 
-fn said(alloc: Global, name: &str, case: &[u8], remarked: &Remarked) -> Result<String, AllocError> {
-    let verdict = match check_case(alloc, case) {
-        Ok(verdict) => format!(in alloc; "{verdict}")?,
-        Err(fault) => format!(in alloc; "{fault}")?,
-    };
-    let text = String::from_utf8_lossy(alloc, remarked.text.as_slice())?;
-    let rows = text.as_str();
+fn said(
+    alloc: Global,
+    name: &str,
+    verdict: Verdict,
+    remarked: &Remarked,
+) -> Result<String, AllocError> {
+    let rows = remarked.text.as_str();
     if rows.lines().count() != remarked.count {
         return format!(in alloc; "{name} has another count of remarks than lines");
     }
     let status = if remarked.count == 0 { 0 } else { 1 };
-    format!(in alloc; "{status} {name} {}\n{rows}", verdict.as_str())
+    format!(in alloc; "{status} {name} {verdict}\n{rows}")
 }

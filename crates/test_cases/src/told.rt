@@ -1,6 +1,7 @@
 //! What `explain`, `show` and `draw` of `tcpwit_lab` print for a case, and the expected text.
 
 use drawing::{Range, draw, show};
+use replayed::Case;
 use std::alloc::{AllocError, Global};
 use std::{fs, io};
 use why::{Origin, explain};
@@ -23,7 +24,7 @@ pub fn ask_told(
         };
         let case = fs::read(rt, format!(in alloc; "{name}.case")?.as_str())?;
         let told = told(alloc, word, case.as_slice())?;
-        if told.as_slice() != wanted.as_bytes() {
+        if told.as_str() != wanted {
             differing.push(format!(in alloc; "{name}: {word} says something else")?)?;
         }
         count = count.saturating_add(1);
@@ -32,20 +33,32 @@ pub fn ask_told(
 }
 
 // What a command prints for a case; nothing if the word is another one, or the trace can't be read.
-fn told(alloc: Global, word: &str, case: &[u8]) -> Result<Vec<u8>, AllocError> {
+fn told(alloc: Global, word: &str, case: &[u8]) -> Result<String, AllocError> {
+    match word {
+        "explain" => explained(alloc, case, Origin::Captured),
+        "simulated" => explained(alloc, case, Origin::Simulated),
+        _ => match Case::read(alloc, case) {
+            Ok(case) => shown(alloc, word, &case),
+            Err(_) => Ok(String::new(alloc)),
+        },
+    }
+}
+
+fn explained(alloc: Global, case: &[u8], origin: Origin) -> Result<String, AllocError> {
+    match explain(alloc, case, origin) {
+        Ok(said) => Ok(said.text),
+        Err(fault) => format!(in alloc; "{fault}"),
+    }
+}
+
+fn shown(alloc: Global, word: &str, case: &Case<'_>) -> Result<String, AllocError> {
     let range = Range {
         from: None,
         to: None,
     };
-    let told = match word {
-        "explain" => return Ok(explain(alloc, case, Origin::Captured)?.text),
-        "simulated" => return Ok(explain(alloc, case, Origin::Simulated)?.text),
+    match word {
         "show" => show(alloc, case),
         "draw" => draw(alloc, case, range),
-        _ => return Ok(Vec::new(alloc)),
-    };
-    match told {
-        Ok(text) => Ok(text),
-        Err(_) => Ok(Vec::new(alloc)),
+        _ => Ok(String::new(alloc)),
     }
 }

@@ -38,7 +38,6 @@ mod scene;
 mod segment_window;
 mod timers;
 mod unjudged;
-mod usual;
 mod wire;
 
 pub use explaining::{Said, explain};

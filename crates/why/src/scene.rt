@@ -182,6 +182,11 @@ impl<'c> Scene<'c> {
         }
     }
 
+    /// Whether the step builds a segment.
+    pub(crate) fn builds(&self) -> bool {
+        matches!(self.step, Some(Step { label: Label::M { .. }, .. }))
+    }
+
     /// What the step is about.
     pub(crate) fn object(&self) -> Object<'_> {
         self.known_object().unwrap_or(Object::Other)

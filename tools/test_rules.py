@@ -1,0 +1,145 @@
+#!/usr/bin/python3
+"""Compares the rules in the code with docs/reference/rules.md: each rule's number, name, words, causes and RFC sections."""
+import os
+import re
+import unittest
+
+TOP = os.path.dirname(os.path.dirname(os.path.abspath(__file__)))
+NAMES = "crates/verdict/src/rule.rt"
+TABLE = "crates/plain_words/src/rules.rt"
+PAGE = "docs/reference/rules.md"
+
+STRING = r'"((?:[^"\\]|\\.)*)"'
+# A field of an arm: its value is a string, a constant, or what is known at the step.
+FIELD = re.compile(rf"\b(refused|usual|captured|known|rfc):\s*(?:{STRING}|([\w:]+))", re.S)
+CAPTURED = ". In a capture: "
+
+
+def read(name):
+    """The text of a file of the repository."""
+    with open(os.path.join(TOP, name), encoding="utf-8") as file:
+        return file.read()
+
+
+def value_of(string):
+    """The value of a string literal, whose lines may be continued."""
+    return re.sub(r"\\\n\s*", "", string).replace('\\"', '"')
+
+
+def plain(text):
+    """A text with a small letter at the beginning, without the period at the end."""
+    return text[:1].lower() + text[1:].removesuffix(".")
+
+
+def numbered(code):
+    """The heading of each rule, such as `2 line-again`, by its variant in the enum."""
+    variants = re.findall(r"(?m)^    (\w+),$", code[code.index("pub enum Rule {") :])
+    names = dict(re.findall(r'Rule::(\w+) => "([\w-]+)"', code))
+    return {variant: f"{number} {names.get(variant)}" for number, variant in enumerate(variants, 1)}
+
+
+def in_table(code, headings):
+    """What the code says of each rule, by heading. Causes are pairs of a usual text and one for captures, which may be empty."""
+    constants = {name: value_of(text) for name, text in re.findall(rf"const (\w+): &str =\s*{STRING};", code, re.S)}
+    arms = re.split(r"Rule::(\w+) =>", code)
+    rules = {}
+    for variant, arm in zip(arms[1::2], arms[2::2]):
+        said, causes = {}, [{}]
+        for field, string, constant in FIELD.findall(arm):
+            text = plain(constants[constant] if constant in constants else value_of(string))
+            if field == "known":
+                causes.append({})
+            elif field in ("refused", "rfc"):
+                said[field] = text
+            else:
+                causes[-1][field] = text
+        rules[headings.get(variant, variant)] = {
+            "words": said["refused"],
+            "causes": [(cause["usual"], cause["captured"]) for cause in causes],
+            "RFC sections": said["rfc"],
+        }
+    return rules
+
+
+def cause_in(sentences, lead, shared):
+    """The causes in these sentences after their lead; without a text for captures, the shared one."""
+    usual, _, captured = sentences.removesuffix(".").partition(CAPTURED)
+    return plain(re.sub(lead, "", usual, count=1)), plain(captured) or shared
+
+
+def causes_in(paragraphs):
+    """The causes in the paragraphs of an entry: those at any step, and those of each list item."""
+    for place, paragraph in enumerate(paragraphs):
+        if paragraph.startswith("Causes: "):
+            first = cause_in(paragraph, "^Causes: ", "")
+            items = re.split(r"(?:^| )- (?=[A-Z])", paragraphs[place + 1])[1:] if paragraphs[place + 1].startswith("- ") else []
+            return [first, *(cause_in(item, "^.*?: ", first[1]) for item in items)]
+    return []
+
+
+def in_page(page):
+    """What the page says of each rule, by heading."""
+    rules = {}
+    for heading, entry in re.findall(r"(?ms)^### (\d+ [\w-]+)\n(.*?)(?=^###? |\Z)", page):
+        paragraphs = [" ".join(paragraph.split()) for paragraph in entry.split("\n\n")] + [""]
+        words = re.match(r"\s*\*([^*]+)\.\*\n\n", entry)
+        rules[heading] = {
+            "words": plain(" ".join(words[1].split())) if words else "",
+            "causes": causes_in(paragraphs),
+            "RFC sections": "".join(plain(paragraph[5:]) for paragraph in paragraphs if paragraph.startswith("RFC: ")),
+        }
+    return rules
+
+
+def faults(names, table, page):
+    """A line for each difference between these three texts."""
+    headings = numbered(names)
+    wanted = list(headings.values())
+    code, told = in_table(table, headings), in_page(page)
+    found = []
+    for name, rules in ((TABLE, code), (PAGE, told)):
+        found += [f"{heading}: {name} doesn't have it" for heading in wanted if heading not in rules]
+        found += [f"{heading}: {name} has it, but {NAMES} doesn't" for heading in rules if heading not in wanted]
+    for heading in [heading for heading in wanted if heading in code and heading in told]:
+        for part, one in code[heading].items():
+            another = told[heading][part]
+            is_list = isinstance(one, list) and len(one) == len(another)
+            pairs = zip(one, another) if is_list else [(one, another)]
+            found += [f"{heading}: the {part} differ:\n  {TABLE}: {left}\n  {PAGE}: {right}" for left, right in pairs if left != right]
+    return found
+
+
+class Rules(unittest.TestCase):
+    def setUp(self):
+        self.texts = {name: read(name) for name in (NAMES, TABLE, PAGE)}
+
+    def faults_with(self, name, old, new):
+        """The faults if one text has other words in the place of these."""
+        self.assertTrue(old in self.texts[name], f"{name} doesn't have {old!r}")
+        return faults(*(text.replace(old, new, 1) if name == at else text for at, text in self.texts.items()))
+
+    def test_the_page_has_the_texts_of_the_code(self):
+        found = faults(*self.texts.values())
+        self.assertFalse(found, "\n" + "\n".join(found))
+
+    def test_what_differs_is_found(self):
+        for name, old, new, fault in (
+            (TABLE, "the listen queue is full", "the listen queue was full", "32 queue-full: the words differ"),
+            (TABLE, "skips positions that it", "skips what it", "20 old-data: the causes differ"),
+            (TABLE, "coarser than `grain`", "finer than `grain`", "36 timer-early: the causes differ"),
+            (TABLE, '"6298, 3"', '"6298, 4"', "34 sample: the RFC sections differ"),
+            (TABLE, "Rule::Sample =>", "Rule::Samples =>", f"34 sample: {TABLE} doesn't have it"),
+            (PAGE, "*The listen queue is full.*", "*The listen queue is empty.*", "32 queue-full: the words differ"),
+            (PAGE, "witness ends too early", "witness ends too late", "39 unplaced: the causes differ"),
+            (PAGE, "- For `recv`: the", "For `recv`: the", "12 call-answer: the causes differ"),
+            (PAGE, "clock is coarser than", "clock is finer than", "36 timer-early: the causes differ"),
+            (PAGE, "RFC: 6298, 3.\n", "", "34 sample: the RFC sections differ"),
+            (PAGE, "### 34 sample\n", "### 33 sample\n", f"34 sample: {PAGE} doesn't have it"),
+            (NAMES, '"sample"', '"samples"', f"34 samples: {PAGE} doesn't have it"),
+        ):
+            found = self.faults_with(name, old, new)
+            self.assertTrue(found and found[0].startswith(fault), (name, old, found))
+
+
+if __name__ == "__main__":
+    unittest.main()
