@@ -32,8 +32,8 @@ pub struct Special {
 
 /// What usually causes a step to break a rule, if this is known at the step.
 pub fn cause(rule: Rule, known: Option<Known>) -> Cause {
-    let about = about(rule);
-    match about
+    let meaning = about(rule);
+    match meaning
         .special
         .iter()
         .find(|special| Some(special.known) == known)
@@ -43,8 +43,8 @@ pub fn cause(rule: Rule, known: Option<Known>) -> Cause {
             captured: special.captured,
         },
         None => Cause {
-            usual: about.usual,
-            captured: about.captured,
+            usual: meaning.usual,
+            captured: meaning.captured,
         },
     }
 }
@@ -58,7 +58,7 @@ const JOINED_SEGMENTS: &str =
 
 const COARSE_CLOCK: &str = "the stack's clock is coarser than `grain`";
 
-/// What a rule means to someone whose case breaks it.
+/// The meaning of a rule.
 pub fn about(rule: Rule) -> Meaning {
     match rule {
         Rule::LineRange => Meaning {
