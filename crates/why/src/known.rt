@@ -1,12 +1,11 @@
 //! What usually causes a step to break a rule, by what is known at the step.
 
 use crate::fitting::say_fitting;
-use crate::reasons::{Reason, misplaced};
 use crate::scene::Scene;
-use crate::text::{Piece, say};
 use case_forms::{Call, Event, Extras, Judged, Label, NamedLine, OutOfMemory, SegmentPlan, Timer};
 use endpoint_state::Endpoint;
 use plain_words::{Known, cause};
+use replayed::{Reason, misplaced};
 use verdict::Rule;
 
 /// Where the segments of a trace come from.
@@ -20,26 +19,25 @@ pub enum Origin {
 
 /// Writes the usual causes, after the other windows that the segment would fit.
 pub(crate) fn say_cause(
-    out: &mut Vec<u8>,
+    out: &mut String,
     scene: &Scene<'_>,
     rule: Rule,
     origin: Origin,
 ) -> Result<(), OutOfMemory> {
     say_fitting(out, scene, rule)?;
     let cause = cause(rule, known_at(scene, rule));
-    say(out, &[Piece::Word("usually: "), Piece::Word(cause.usual)])?;
+    writeln!(out, "usually: {}", cause.usual)?;
     match origin {
-        Origin::Captured if !cause.captured.is_empty() => say(
-            out,
-            &[Piece::Word("in a capture: "), Piece::Word(cause.captured)],
-        ),
+        Origin::Captured if !cause.captured.is_empty() => {
+            writeln!(out, "in a capture: {}", cause.captured)
+        }
         Origin::Captured | Origin::Simulated => Ok(()),
     }
 }
 
 // What is known at the refused step, if the causes of the rule may depend on it.
 fn known_at(scene: &Scene<'_>, rule: Rule) -> Option<Known> {
-    let label = &scene.step()?.label;
+    let label = &scene.step?.label;
     match rule {
         Rule::CallAnswer => of_answer(scene, label),
         Rule::NoEndpoint => of_segment(label),
@@ -48,7 +46,7 @@ fn known_at(scene: &Scene<'_>, rule: Rule) -> Option<Known> {
         Rule::OldData => of_position(scene, label),
         Rule::Congestion => of_length(scene, label),
         Rule::TimerOff | Rule::TimerEarly => of_timer(scene, label),
-        Rule::Recovery => of_recovery(scene.header.congestion),
+        Rule::Recovery => of_recovery(scene.header().congestion),
         Rule::LineRange
         | Rule::LineAgain
         | Rule::ThreadOrder
@@ -87,7 +85,7 @@ fn of_answer(scene: &Scene<'_>, label: &Label<NamedLine>) -> Option<Known> {
     let Label::D { thread, .. } = label else {
         return None;
     };
-    match scene.world.pending_call(*thread)? {
+    match scene.world().pending_call(*thread)? {
         Call::Listen(_, _, _) => Some(Known::Listen),
         Call::Connect(_, _, _) => Some(Known::Open),
         Call::Accept(_) => Some(Known::Accept),
@@ -136,7 +134,7 @@ fn of_position(scene: &Scene<'_>, label: &Label<NamedLine>) -> Option<Known> {
     if endpoint.state.is_time_wait() {
         return Some(Known::TimeWait);
     }
-    match (misplaced(endpoint, plan), scene.header.congestion) {
+    match (misplaced(endpoint, plan), scene.header().congestion) {
         (Reason::Gap { .. }, _) => Some(Known::Gap),
         (Reason::Acknowledged { .. }, _) => Some(Known::Acknowledged),
         (_, Judged::Nothing) if endpoint.is_up() => Some(Known::OutstandingAtNone),
@@ -165,7 +163,7 @@ fn of_bytes(scene: &Scene<'_>, label: &Label<NamedLine>) -> Option<Known> {
     else {
         return None;
     };
-    let made = scene.world.made(*host, number)?.emission();
+    let made = scene.world().made(*host, number)?.emission();
     let seg = &wire.seg;
     let is_same = made.lport == seg.src && made.rport == seg.dst && made.seq == seg.seq;
     let ahead = seg.ack.0.wrapping_sub(made.ack_seq.0);
