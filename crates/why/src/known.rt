@@ -158,9 +158,10 @@ fn of_bytes(scene: &Scene<'_>, label: &Label<NamedLine>) -> Option<Known> {
     let Label::L(named) = label else {
         return None;
     };
-    let (Event::Sent(host, wire), Extras::One(number)) =
-        (&scene.line(named.number)?.event, named.extras)
-    else {
+    let (Event::Sent(host, wire), Extras::One(number)) = (
+        &scene.line(named.number)?.event,
+        named.extras,
+    ) else {
         return None;
     };
     let made = scene.world().made(*host, number)?.emission();
