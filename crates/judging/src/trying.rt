@@ -79,8 +79,11 @@ pub(crate) fn try_level(
 // The verdict on a case that was found, and what it refuses.
 fn judged(alloc: Global, text: &[u8]) -> Result<(Verdict, Option<Refused>), JudgeFault> {
     let case = Case::read(alloc, text)?;
-    match case.verdict {
-        Ok(verdict) => Ok((verdict, refused_by(alloc, &case)?)),
+    let refused = refused_by(alloc, &case);
+    let verdict = case.verdict;
+    drop(case);
+    match verdict {
+        Ok(verdict) => Ok((verdict, refused?)),
         Err(fault) => Err(JudgeFault::Witness(fault)),
     }
 }

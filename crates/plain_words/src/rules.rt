@@ -39,7 +39,7 @@ const JOINED_SEGMENTS: &str =
 
 const COARSE_CLOCK: &str = "the stack's clock is coarser than `grain`";
 
-/// What a rule means to someone whose case breaks it.
+/// The meaning of a rule.
 pub fn about(rule: Rule) -> Meaning {
     match rule {
         Rule::LineRange => Meaning {

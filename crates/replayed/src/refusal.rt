@@ -31,16 +31,25 @@ pub fn refused_by(alloc: Global, case: &Case<'_>) -> Result<Option<Refused>, Rep
             }));
         }
     };
-    let Some(step) = step else {
-        return Ok(None);
-    };
+    match step {
+        Some(step) => Ok(Some(refused_at(alloc, case, step, rule)?)),
+        None => Ok(None),
+    }
+}
+
+fn refused_at(
+    alloc: Global,
+    case: &Case<'_>,
+    step: &Step,
+    rule: Rule,
+) -> Result<Refused, ReplayFault> {
+    let line = line_of(case, step);
     let mut replay = Replay::new(alloc, case);
-    replay.run()?;
-    Ok(Some(Refused {
-        line: line_of(case, step),
-        rule,
-        reason: reason_of(replay.world(), step, rule),
-    }))
+    let ran = replay.run();
+    let reason = reason_of(replay.world(), step, rule);
+    drop(replay);
+    ran?;
+    Ok(Refused { line, rule, reason })
 }
 
 // The line for `Refused`.

@@ -62,7 +62,7 @@ fn say_fault(
     })
 }
 
-// The step and its line, what is known there, what the rule compares, and the usual causes.
+// The step and its line, and the reason for the verdict.
 fn explain_no(
     alloc: Global,
     out: &mut String,
@@ -71,11 +71,25 @@ fn explain_no(
     origin: Origin,
 ) -> Result<(), ReplayFault> {
     quote(out, case)?;
-    let scene = Scene::of(alloc, case)?;
-    describe_step(out, &scene, rule)?;
-    compare(alloc, out, &scene, rule)?;
-    say_cause(out, &scene, rule, origin)?;
-    say_unjudged(out, &scene, rule)?;
+    let mut scene = Scene::new(alloc, case);
+    let explained = explain_refusal(alloc, out, &mut scene, rule, origin);
+    drop(scene);
+    explained
+}
+
+// What is known at the refused step, what the rule compares, and the usual causes.
+fn explain_refusal(
+    alloc: Global,
+    out: &mut String,
+    scene: &mut Scene<'_>,
+    rule: Rule,
+    origin: Origin,
+) -> Result<(), ReplayFault> {
+    scene.run()?;
+    describe_step(out, scene, rule)?;
+    compare(alloc, out, scene, rule)?;
+    say_cause(out, scene, rule, origin)?;
+    say_unjudged(out, scene, rule)?;
     Ok(())
 }
 

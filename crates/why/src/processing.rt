@@ -82,7 +82,11 @@ pub(crate) fn queue_full(
 }
 
 /// The congestion window that the step chooses, and the greatest one.
-pub(crate) fn growth(out: &mut String, it: &Processing<'_>, moment: u64) -> Result<(), OutOfMemory> {
+pub(crate) fn growth(
+    out: &mut String,
+    it: &Processing<'_>,
+    moment: u64,
+) -> Result<(), OutOfMemory> {
     let greatest = greatest_taking(it.endpoint, &it.read, moment);
     let acknowledged = if it.read.flags().ack {
         it.read.ack().saturating_sub(it.endpoint.stream.snd_una)

@@ -76,32 +76,35 @@ pub(crate) struct Expiring<'s> {
 }
 
 impl<'c> Scene<'c> {
-    /// Replays a case up to the refused step.
-    pub(crate) fn of(alloc: Global, case: &'c Case<'c>) -> Result<Scene<'c>, ReplayFault> {
+    /// A case before its first step.
+    pub(crate) fn new(alloc: Global, case: &'c Case<'c>) -> Scene<'c> {
         let step = case.refused_step();
-        let mut scene = Scene {
+        Scene {
             case,
             before: case.steps_before_refusal(),
             step,
             replay: Replay::new(alloc, case),
             used: BTreeMap::new(alloc),
             others: OtherWindows::of(alloc, step),
-        };
-        scene.run()?;
-        Ok(scene)
+        }
     }
 
-    fn run(&mut self) -> Result<(), ReplayFault> {
-        let mut witness_line: u64 = 2;
-        for step in self.before {
-            self.replay.apply(step)?;
-            if let Label::L(named) = &step.label {
-                self.used.insert(named.number, witness_line)?;
-            }
-            if let Some(others) = &mut self.others {
-                others.follow(self.replay.world())?;
-            }
-            witness_line = witness_line.saturating_add(1);
+    /// Does the steps before the refused one.
+    pub(crate) fn run(&mut self) -> Result<(), ReplayFault> {
+        for (place, step) in self.before.iter().enumerate() {
+            self.go_on(step, witness_line(Some(place)))?;
+        }
+        Ok(())
+    }
+
+    // Does the step of a line of the witness.
+    fn go_on(&mut self, step: &Step, witness_line: u64) -> Result<(), ReplayFault> {
+        self.replay.apply(step)?;
+        if let Label::L(named) = &step.label {
+            self.used.insert(named.number, witness_line)?;
+        }
+        if let Some(others) = &mut self.others {
+            others.follow(self.replay.world())?;
         }
         Ok(())
     }
@@ -184,7 +187,13 @@ impl<'c> Scene<'c> {
 
     /// Whether the step builds a segment.
     pub(crate) fn builds(&self) -> bool {
-        matches!(self.step, Some(Step { label: Label::M { .. }, .. }))
+        matches!(
+            self.step,
+            Some(Step {
+                label: Label::M { .. },
+                ..
+            })
+        )
     }
 
     /// What the step is about.
