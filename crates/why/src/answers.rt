@@ -1,6 +1,7 @@
 //! The answers that a call may have.
 
-use case_forms::{Answer, Call, Host, OutOfMemory, State};
+use crate::Done;
+use case_forms::{Answer, Call, Host, State};
 use endpoint_state::{World, call_allowed};
 use plain_words::{AnswerFields, Shown};
 use spec_tcp::SocketTarget;
@@ -35,12 +36,7 @@ const STATES: [State; 11] = [
 ];
 
 /// Writes the answers that a call may have, with `or` between them.
-pub(crate) fn say_allowed(
-    alloc: Global,
-    out: &mut String,
-    world: &World,
-    call: &Call,
-) -> Result<(), OutOfMemory> {
+pub(crate) fn say_allowed(alloc: Global, out: &mut String, world: &World, call: &Call) -> Done {
     let start = out.len();
     for answer in &WORDS {
         say_if_allowed(out, start, world, call, answer)?;
@@ -57,7 +53,7 @@ fn say_if_allowed(
     world: &World,
     call: &Call,
     answer: &Answer,
-) -> Result<(), OutOfMemory> {
+) -> Done {
     if call_allowed(world, call, answer).is_ok() {
         say_or(out, start)?;
         write!(out, "{}", AnswerFields(answer))?;
@@ -66,7 +62,7 @@ fn say_if_allowed(
 }
 
 // Writes `or` before any answer but the first.
-fn say_or(out: &mut String, start: usize) -> Result<(), OutOfMemory> {
+fn say_or(out: &mut String, start: usize) -> Done {
     if out.len() == start {
         Ok(())
     } else {
@@ -75,13 +71,7 @@ fn say_or(out: &mut String, start: usize) -> Result<(), OutOfMemory> {
 }
 
 // Writes the answers with a number or bytes.
-fn say_bytes(
-    alloc: Global,
-    out: &mut String,
-    start: usize,
-    world: &World,
-    call: &Call,
-) -> Result<(), OutOfMemory> {
+fn say_bytes(alloc: Global, out: &mut String, start: usize, world: &World, call: &Call) -> Done {
     match call {
         Call::Send(_, bytes) => {
             if call_allowed(world, call, &Answer::Given(1)).is_ok() {
@@ -115,7 +105,7 @@ fn say_next(
     world: &World,
     host: Host,
     (socket, most): (u32, u16),
-) -> Result<(), OutOfMemory> {
+) -> Done {
     let body = world.body(host);
     let Some(SocketTarget::EndpointAt(place)) = body.thing(socket) else {
         return Ok(());

@@ -1,7 +1,8 @@
 //! The rules of building segments.
 
+use crate::Done;
 use crate::scene::{Building, Scene};
-use case_forms::{Flags, Host, OutOfMemory, POSITIONS, SegmentPlan};
+use case_forms::{Flags, Host, POSITIONS, SegmentPlan};
 use endpoint_state::{Endpoint, World};
 use plain_words::{FlagWords, word_if};
 use replayed::{Reason, end_of, has_room, misplaced};
@@ -9,13 +10,13 @@ use verdict::Rule;
 use window_rules::offered_edge;
 
 /// The length of the segment, and SMSS.
-pub(crate) fn size(out: &mut String, it: Building<'_>) -> Result<(), OutOfMemory> {
+pub(crate) fn size(out: &mut String, it: Building) -> Done {
     let (len, smss) = (it.plan.len, it.endpoint.control.values.smss);
     writeln!(out, "it has {len} bytes, SMSS is {smss}")
 }
 
 /// The end of new bytes, and the offered edge.
-pub(crate) fn offered(out: &mut String, it: Building<'_>) -> Result<(), OutOfMemory> {
+pub(crate) fn offered(out: &mut String, it: Building) -> Done {
     let (una, wnd) = (it.endpoint.stream.snd_una, it.endpoint.window.snd_wnd);
     if una >= POSITIONS {
         return Ok(());
@@ -28,7 +29,7 @@ pub(crate) fn offered(out: &mut String, it: Building<'_>) -> Result<(), OutOfMem
 }
 
 /// The end of new bytes, and the congestion edge.
-pub(crate) fn congestion(out: &mut String, it: Building<'_>) -> Result<(), OutOfMemory> {
+pub(crate) fn congestion(out: &mut String, it: Building) -> Done {
     let una = it.endpoint.stream.snd_una;
     if una >= POSITIONS {
         return Ok(());
@@ -48,7 +49,7 @@ pub(crate) fn congestion(out: &mut String, it: Building<'_>) -> Result<(), OutOf
 }
 
 /// Where the segment begins, and what may be sent.
-pub(crate) fn old_data(out: &mut String, it: Building<'_>, moment: u64) -> Result<(), OutOfMemory> {
+pub(crate) fn old_data(out: &mut String, it: Building, moment: u64) -> Done {
     let (pos, end) = (it.plan.pos, end_of(it.plan));
     let fin = word_if(it.plan.flags.fin, " with a FIN");
     write!(out, "it begins at {pos} and ends at {end}{fin}")?;
@@ -73,7 +74,7 @@ pub(crate) fn old_data(out: &mut String, it: Building<'_>, moment: u64) -> Resul
 }
 
 // When the retransmission timer is due, and how far that is from the step's moment.
-fn timer_due(out: &mut String, endpoint: &Endpoint, moment: u64) -> Result<(), OutOfMemory> {
+fn timer_due(out: &mut String, endpoint: &Endpoint, moment: u64) -> Done {
     let rto = endpoint.timers.rto;
     let Some(since) = endpoint.timers.rto_armed else {
         return writeln!(out, "the retransmission timer is off");
@@ -95,7 +96,7 @@ fn timer_due(out: &mut String, endpoint: &Endpoint, moment: u64) -> Result<(), O
 }
 
 /// Where the segment's bytes begin and end, and which bytes may be sent.
-pub(crate) fn payload_range(out: &mut String, it: Building<'_>) -> Result<(), OutOfMemory> {
+pub(crate) fn payload_range(out: &mut String, it: Building) -> Done {
     let flags = it.plan.flags;
     let (pos, len, end) = (it.plan.pos, it.plan.len, end_of(it.plan));
     write!(out, "it begins at {pos} and has {len} bytes, up to {end}")?;
@@ -119,7 +120,7 @@ pub(crate) fn payload_range(out: &mut String, it: Building<'_>) -> Result<(), Ou
 }
 
 /// Whether the segment has ACK, and whether the peer's SYN was received.
-pub(crate) fn ack_field(out: &mut String, it: Building<'_>) -> Result<(), OutOfMemory> {
+pub(crate) fn ack_field(out: &mut String, it: Building) -> Done {
     let ack = if it.plan.flags.ack { "ACK" } else { "no ACK" };
     let was = if it.endpoint.rcv_nxt() == 0 {
         "wasn't"
@@ -130,7 +131,7 @@ pub(crate) fn ack_field(out: &mut String, it: Building<'_>) -> Result<(), OutOfM
 }
 
 /// The initial sequence numbers that were given.
-pub(crate) fn iss(out: &mut String, it: Building<'_>) -> Result<(), OutOfMemory> {
+pub(crate) fn iss(out: &mut String, it: Building) -> Done {
     match it.endpoint.iss {
         Some(number) => {
             write!(
@@ -153,11 +154,7 @@ pub(crate) fn iss(out: &mut String, it: Building<'_>) -> Result<(), OutOfMemory>
 }
 
 /// What the state of the endpoint lets it build.
-pub(crate) fn state(
-    out: &mut String,
-    scene: &Scene<'_>,
-    it: Building<'_>,
-) -> Result<(), OutOfMemory> {
+pub(crate) fn state(out: &mut String, scene: &Scene, it: Building) -> Done {
     let due = if it.endpoint.reset_due {
         "a reset is due"
     } else {
@@ -189,7 +186,7 @@ const KINDS: [(&str, [bool; 4], u16); 6] = [
 ];
 
 // Writes which kinds of segments may be built at these ports.
-fn may_build(out: &mut String, scene: &Scene<'_>, it: Building<'_>) -> Result<(), OutOfMemory> {
+fn may_build(out: &mut String, scene: &Scene, it: Building) -> Done {
     write!(out, "allowed there:")?;
     let mut separator = "";
     for (name, [syn, ack, fin, rst], len) in KINDS {

@@ -1,10 +1,11 @@
 //! The rules of threads and calls.
 
+use crate::Done;
 use crate::answers::say_allowed;
 use crate::described::describe;
 use crate::scene::{Scene, witness_line};
 use crate::wire::first_difference;
-use case_forms::{Answer, Call, Event, Host, Label, OutOfMemory};
+use case_forms::{Answer, Call, Event, Host, Label};
 use endpoint_state::World;
 use plain_words::{AnswerFields, AnswerWords, CallWords, HostName};
 use spec_tcp::SocketTarget;
@@ -14,11 +15,7 @@ use std::alloc::Global;
 const SHOWN: usize = 60;
 
 /// Writes the open call of a thread.
-pub(crate) fn describe_thread(
-    out: &mut String,
-    scene: &Scene<'_>,
-    thread: u32,
-) -> Result<(), OutOfMemory> {
+pub(crate) fn describe_thread(out: &mut String, scene: &Scene, thread: u32) -> Done {
     let pending = scene.world().pending_call(thread);
     let given = scene.world().given_answer(thread);
     let begun = begun_at(scene, thread);
@@ -44,7 +41,7 @@ pub(crate) fn describe_thread(
 }
 
 // The last used line that began a call of a thread; 0 if there is none.
-fn begun_at(scene: &Scene<'_>, thread: u32) -> u64 {
+fn begun_at(scene: &Scene, thread: u32) -> u64 {
     let begun = scene.lines().iter().rfind(|line| {
         line.thread == thread
             && matches!(&line.event, Event::CallBegin(_))
@@ -57,7 +54,7 @@ fn begun_at(scene: &Scene<'_>, thread: u32) -> u64 {
 }
 
 // The line of the witness with the last effect of a thread before the step; 0 if there is none.
-fn effect_at(scene: &Scene<'_>, thread: u32) -> u64 {
+fn effect_at(scene: &Scene, thread: u32) -> u64 {
     witness_line(
         scene.before.iter().rposition(|step| {
             matches!(&step.label, Label::D { thread: other, .. } if *other == thread)
@@ -66,7 +63,7 @@ fn effect_at(scene: &Scene<'_>, thread: u32) -> u64 {
 }
 
 // Writes an answer, and of long data only the length.
-fn say_answer(out: &mut String, answer: &Answer) -> Result<(), OutOfMemory> {
+fn say_answer(out: &mut String, answer: &Answer) -> Done {
     match answer {
         Answer::Bytes(bytes) if SHOWN < bytes.len() => writeln!(out, "{}", AnswerWords(answer)),
         answer => writeln!(out, "{}", AnswerFields(answer)),
@@ -74,12 +71,7 @@ fn say_answer(out: &mut String, answer: &Answer) -> Result<(), OutOfMemory> {
 }
 
 /// Writes the answer of an `E` line, and the thread's call.
-pub(crate) fn describe_end(
-    out: &mut String,
-    scene: &Scene<'_>,
-    thread: u32,
-    answer: &Answer,
-) -> Result<(), OutOfMemory> {
+pub(crate) fn describe_end(out: &mut String, scene: &Scene, thread: u32, answer: &Answer) -> Done {
     write!(out, "the line has the answer")?;
     say_answer(out, answer)?;
     describe_thread(out, scene, thread)
@@ -88,10 +80,10 @@ pub(crate) fn describe_end(
 /// The first byte in which the data of an `E` line differs from that of the effect.
 pub(crate) fn answer_differs(
     out: &mut String,
-    scene: &Scene<'_>,
+    scene: &Scene,
     thread: u32,
     answer: &Answer,
-) -> Result<(), OutOfMemory> {
+) -> Done {
     match (answer, scene.world().given_answer(thread)) {
         (Answer::Bytes(told), Some(Answer::Bytes(given))) => {
             let (told, given) = (told.as_slice(), given.as_slice());
@@ -102,7 +94,7 @@ pub(crate) fn answer_differs(
 }
 
 /// Where a socket number was returned before.
-pub(crate) fn socket(out: &mut String, world: &World, number: u32) -> Result<(), OutOfMemory> {
+pub(crate) fn socket(out: &mut String, world: &World, number: u32) -> Done {
     let host = if world.body(Host::Zero).is_given(number) {
         Host::Zero
     } else {
@@ -124,7 +116,7 @@ pub(crate) fn call_answer(
     world: &World,
     thread: u32,
     answer: &Answer,
-) -> Result<(), OutOfMemory> {
+) -> Done {
     let Some(call) = world.pending_call(thread) else {
         return Ok(());
     };
@@ -137,7 +129,7 @@ pub(crate) fn call_answer(
 }
 
 // Writes what a call refers to.
-fn describe_object(out: &mut String, world: &World, call: &Call) -> Result<(), OutOfMemory> {
+fn describe_object(out: &mut String, world: &World, call: &Call) -> Done {
     match call {
         Call::Listen(host, port, _) => match world.body(*host).listener_on(*port) {
             Some(place) => describe_listener(out, world, *host, place),
@@ -159,7 +151,7 @@ fn describe_object(out: &mut String, world: &World, call: &Call) -> Result<(), O
 }
 
 // Writes what a socket number names.
-fn describe_named(out: &mut String, world: &World, socket: u32) -> Result<(), OutOfMemory> {
+fn describe_named(out: &mut String, world: &World, socket: u32) -> Done {
     let mut is_given = false;
     for host in [Host::Zero, Host::One] {
         if world.body(host).is_given(socket) {
@@ -175,12 +167,7 @@ fn describe_named(out: &mut String, world: &World, socket: u32) -> Result<(), Ou
 }
 
 // Writes what a socket number names at the host that returned it.
-fn describe_socket(
-    out: &mut String,
-    world: &World,
-    host: Host,
-    socket: u32,
-) -> Result<(), OutOfMemory> {
+fn describe_socket(out: &mut String, world: &World, host: Host, socket: u32) -> Done {
     let body = world.body(host);
     match body.thing(socket) {
         Some(SocketTarget::EndpointAt(place)) => match body.endpoint_at(place) {
@@ -193,12 +180,7 @@ fn describe_socket(
 }
 
 // Writes a host's listener.
-fn describe_listener(
-    out: &mut String,
-    world: &World,
-    host: Host,
-    place: u32,
-) -> Result<(), OutOfMemory> {
+fn describe_listener(out: &mut String, world: &World, host: Host, place: u32) -> Done {
     match world.body(host).listener_at(place) {
         Some(listener) => {
             let (host, port) = (HostName(host), listener.port);

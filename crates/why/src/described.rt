@@ -1,6 +1,7 @@
 //! An endpoint in words.
 
-use case_forms::{Host, OutOfMemory};
+use crate::Done;
+use case_forms::Host;
 use endpoint_state::Endpoint;
 use line_fields::state_name;
 use plain_words::{HostName, word_if};
@@ -9,12 +10,7 @@ use plain_words::{HostName, word_if};
 const UNSET: u32 = u32::MAX;
 
 /// Writes that a host has no endpoint with these ports.
-pub(crate) fn no_endpoint(
-    out: &mut String,
-    host: Host,
-    lport: u16,
-    rport: u16,
-) -> Result<(), OutOfMemory> {
+pub(crate) fn no_endpoint(out: &mut String, host: Host, lport: u16, rport: u16) -> Done {
     let host = HostName(host);
     writeln!(
         out,
@@ -23,11 +19,7 @@ pub(crate) fn no_endpoint(
 }
 
 /// Writes the values of an endpoint that rules compare, as they are before the step.
-pub(crate) fn describe(
-    out: &mut String,
-    host: Host,
-    endpoint: &Endpoint,
-) -> Result<(), OutOfMemory> {
+pub(crate) fn describe(out: &mut String, host: Host, endpoint: &Endpoint) -> Done {
     let (host, state) = (HostName(host), state_name(endpoint.state));
     let (lport, rport) = (endpoint.lport, endpoint.rport);
     writeln!(
@@ -40,7 +32,7 @@ pub(crate) fn describe(
     describe_timers(out, endpoint)
 }
 
-fn describe_sending(out: &mut String, endpoint: &Endpoint) -> Result<(), OutOfMemory> {
+fn describe_sending(out: &mut String, endpoint: &Endpoint) -> Done {
     let stream = &endpoint.stream;
     let (una, sent, recover) = (stream.snd_una, endpoint.snd_max(), endpoint.recover);
     let accepted = stream.accepted.end();
@@ -53,7 +45,7 @@ fn describe_sending(out: &mut String, endpoint: &Endpoint) -> Result<(), OutOfMe
 }
 
 // Before the peer's SYN, which has position 0, there is nothing to acknowledge and no window to advertise.
-fn describe_receiving(out: &mut String, endpoint: &Endpoint) -> Result<(), OutOfMemory> {
+fn describe_receiving(out: &mut String, endpoint: &Endpoint) -> Done {
     match endpoint.rcv_nxt() {
         0 => writeln!(out, "  receiving: no SYN received yet"),
         next => {
@@ -63,7 +55,7 @@ fn describe_receiving(out: &mut String, endpoint: &Endpoint) -> Result<(), OutOf
     }
 }
 
-fn describe_windows(out: &mut String, endpoint: &Endpoint) -> Result<(), OutOfMemory> {
+fn describe_windows(out: &mut String, endpoint: &Endpoint) -> Done {
     let congestion = &endpoint.control.values;
     let (wnd, cwnd) = (endpoint.window.snd_wnd, congestion.cwnd);
     write!(out, "  windows: SND.WND {wnd}, cwnd {cwnd}, ssthresh ")?;
@@ -83,7 +75,7 @@ fn describe_windows(out: &mut String, endpoint: &Endpoint) -> Result<(), OutOfMe
     writeln!(out, "{recovering}{scaled}")
 }
 
-fn describe_timers(out: &mut String, endpoint: &Endpoint) -> Result<(), OutOfMemory> {
+fn describe_timers(out: &mut String, endpoint: &Endpoint) -> Done {
     let timers = &endpoint.timers;
     write!(out, "  timers: RTO {}", timers.rto)?;
     for (name, armed) in [

@@ -5,7 +5,7 @@ use crate::known::{Origin, say_cause};
 use crate::marks::mark;
 use crate::scene::{Object, Scene, first_extra};
 use crate::unjudged::say_unjudged;
-use crate::{building, calls, inbox, numbers, order, processing, timers, wire};
+use crate::{Done, building, calls, inbox, numbers, order, processing, timers, wire};
 use case_forms::{Answer, Event, Extras, Host, Label, Line, OutOfMemory};
 use line_fields::{FaultKind, TextFault};
 use plain_words::{Shown, fault_line};
@@ -29,7 +29,7 @@ pub fn explain(alloc: Global, text: &[u8], origin: Origin) -> Result<Said, Repla
     }
 }
 
-fn explain_case(alloc: Global, case: &Case<'_>, origin: Origin) -> Result<Said, ReplayFault> {
+fn explain_case(alloc: Global, case: &Case, origin: Origin) -> Result<Said, ReplayFault> {
     match &case.verdict {
         Ok(verdict @ Verdict::Yes { .. }) => Ok(Said {
             text: format!(in alloc; "{verdict}\n")?,
@@ -66,7 +66,7 @@ fn say_fault(
 fn explain_no(
     alloc: Global,
     out: &mut String,
-    case: &Case<'_>,
+    case: &Case,
     rule: Rule,
     origin: Origin,
 ) -> Result<(), ReplayFault> {
@@ -81,7 +81,7 @@ fn explain_no(
 fn explain_refusal(
     alloc: Global,
     out: &mut String,
-    scene: &mut Scene<'_>,
+    scene: &mut Scene,
     rule: Rule,
     origin: Origin,
 ) -> Result<(), ReplayFault> {
@@ -94,7 +94,7 @@ fn explain_refusal(
 }
 
 // The step and the trace line, as written.
-fn quote(out: &mut String, case: &Case<'_>) -> Result<(), OutOfMemory> {
+fn quote(out: &mut String, case: &Case) -> Done {
     let Ok(
         Verdict::No {
             witness_line,
@@ -115,7 +115,7 @@ fn quote(out: &mut String, case: &Case<'_>) -> Result<(), OutOfMemory> {
 }
 
 // What the step is about. The rules of the order of lines, which are the first six, are about nothing else.
-fn describe_step(out: &mut String, scene: &Scene<'_>, rule: Rule) -> Result<(), OutOfMemory> {
+fn describe_step(out: &mut String, scene: &Scene, rule: Rule) -> Done {
     if rule as u8 <= Rule::Overdue as u8 {
         return Ok(());
     }
@@ -145,12 +145,7 @@ fn describe_step(out: &mut String, scene: &Scene<'_>, rule: Rule) -> Result<(), 
     }
 }
 
-fn describe_line(
-    out: &mut String,
-    scene: &Scene<'_>,
-    line: &Line,
-    extras: Extras,
-) -> Result<(), OutOfMemory> {
+fn describe_line(out: &mut String, scene: &Scene, line: &Line, extras: Extras) -> Done {
     match &line.event {
         Event::CallBegin(_) => calls::describe_thread(out, scene, line.thread),
         Event::CallEnd(answer) => calls::describe_end(out, scene, line.thread, answer),
@@ -164,25 +159,14 @@ fn describe_line(
     }
 }
 
-fn describe_endpoint(
-    out: &mut String,
-    scene: &Scene<'_>,
-    host: Host,
-    lport: u16,
-    rport: u16,
-) -> Result<(), OutOfMemory> {
+fn describe_endpoint(out: &mut String, scene: &Scene, host: Host, lport: u16, rport: u16) -> Done {
     match scene.endpoint(host, lport, rport) {
         Some(endpoint) => describe(out, host, endpoint),
         None => no_endpoint(out, host, lport, rport),
     }
 }
 
-fn describe_arrival(
-    out: &mut String,
-    scene: &Scene<'_>,
-    host: Host,
-    line: u64,
-) -> Result<(), OutOfMemory> {
+fn describe_arrival(out: &mut String, scene: &Scene, host: Host, line: u64) -> Done {
     match scene.world().waiting(host, line) {
         Some(m) => inbox::describe_waiting(out, scene, host, m),
         None => inbox::nothing_waits(out, scene, host, line),
@@ -190,12 +174,7 @@ fn describe_arrival(
 }
 
 // What the rule compares. Each rule is named, so that a new one can't be forgotten here.
-fn compare(
-    alloc: Global,
-    out: &mut String,
-    scene: &Scene<'_>,
-    rule: Rule,
-) -> Result<(), OutOfMemory> {
+fn compare(alloc: Global, out: &mut String, scene: &Scene, rule: Rule) -> Done {
     let (world, moment) = (scene.world(), scene.moment());
     match (rule, scene.object()) {
         (Rule::LineRange, _) => order::line_range(out, scene),

@@ -1,17 +1,13 @@
 //! If `congestion` refuses a segment: the congestion windows with other growth rules that it would fit. They are
 //! computed from the case.
 
+use crate::Done;
 use crate::scene::{Object, Scene};
-use case_forms::OutOfMemory;
 use verdict::Rule;
 
 /// Writes which other windows the segment of the step would fit; nothing if there are none. A segment of more than SMSS
 /// bytes fits none.
-pub(crate) fn say_fitting(
-    out: &mut String,
-    scene: &Scene<'_>,
-    rule: Rule,
-) -> Result<(), OutOfMemory> {
+pub(crate) fn say_fitting(out: &mut String, scene: &Scene, rule: Rule) -> Done {
     let (Object::Building(it), Some(others)) = (scene.object(), &scene.others) else {
         return Ok(());
     };

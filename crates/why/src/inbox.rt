@@ -1,9 +1,10 @@
 //! The segments in an inbox, and which of them a reset may answer.
 
+use crate::Done;
 use crate::described::{describe, no_endpoint};
 use crate::numbers::ack_of_syn;
 use crate::scene::{Scene, witness_line};
-use case_forms::{Event, Host, Label, OutOfMemory};
+use case_forms::{Event, Host, Label};
 use endpoint_state::Endpoint;
 use line_fields::state_name;
 use plain_words::{FlagWords, HostName, word_if};
@@ -11,12 +12,7 @@ use spec_tcp::Emission;
 
 /// Writes a segment in an inbox, and its endpoint. In a half case it has no positions unless an endpoint reads it; then
 /// its numbers are written.
-pub(crate) fn describe_waiting(
-    out: &mut String,
-    scene: &Scene<'_>,
-    host: Host,
-    m: &Emission,
-) -> Result<(), OutOfMemory> {
+pub(crate) fn describe_waiting(out: &mut String, scene: &Scene, host: Host, m: &Emission) -> Done {
     match scene.taker(host, m) {
         Some(endpoint) => {
             let (pos, ack) = match scene.as_read(endpoint, m) {
@@ -38,7 +34,7 @@ pub(crate) fn describe_waiting(
 }
 
 // A segment, by the position at which it begins and the one that it acknowledges.
-fn by_positions(out: &mut String, m: &Emission, pos: u64, ack: u64) -> Result<(), OutOfMemory> {
+fn by_positions(out: &mut String, m: &Emission, pos: u64, ack: u64) -> Done {
     write!(
         out,
         "the segment: position {pos}, {} bytes,",
@@ -56,7 +52,7 @@ fn by_positions(out: &mut String, m: &Emission, pos: u64, ack: u64) -> Result<()
 }
 
 // A segment, by the numbers in its header.
-fn by_numbers(out: &mut String, m: &Emission) -> Result<(), OutOfMemory> {
+fn by_numbers(out: &mut String, m: &Emission) -> Done {
     let (seq, ack) = (m.seq.0, m.ack_seq.0);
     write!(
         out,
@@ -71,12 +67,7 @@ fn by_numbers(out: &mut String, m: &Emission) -> Result<(), OutOfMemory> {
 }
 
 /// Writes why the segment of a line isn't in the inbox.
-pub(crate) fn nothing_waits(
-    out: &mut String,
-    scene: &Scene<'_>,
-    host: Host,
-    line: u64,
-) -> Result<(), OutOfMemory> {
+pub(crate) fn nothing_waits(out: &mut String, scene: &Scene, host: Host, line: u64) -> Done {
     write!(
         out,
         "the segment of line {line} isn't in the inbox of {}: ",
@@ -100,7 +91,7 @@ pub(crate) fn nothing_waits(
 }
 
 // The witness line that processed, dropped or answered the segment of a line; 0 if there is none.
-fn emptied_at(scene: &Scene<'_>, host: Host, line: u64) -> u64 {
+fn emptied_at(scene: &Scene, host: Host, line: u64) -> u64 {
     witness_line(
         scene.before.iter().rposition(|step| match &step.label {
             Label::T {
@@ -122,12 +113,7 @@ fn emptied_at(scene: &Scene<'_>, host: Host, line: u64) -> u64 {
 }
 
 /// Writes why no reset may answer a segment.
-pub(crate) fn unanswerable(
-    out: &mut String,
-    scene: &Scene<'_>,
-    host: Host,
-    m: &Emission,
-) -> Result<(), OutOfMemory> {
+pub(crate) fn unanswerable(out: &mut String, scene: &Scene, host: Host, m: &Emission) -> Done {
     if m.flags.rst {
         return writeln!(out, "a reset is never answered");
     }
@@ -143,12 +129,7 @@ pub(crate) fn unanswerable(
     }
 }
 
-fn unanswerable_at(
-    out: &mut String,
-    scene: &Scene<'_>,
-    endpoint: &Endpoint,
-    m: &Emission,
-) -> Result<(), OutOfMemory> {
+fn unanswerable_at(out: &mut String, scene: &Scene, endpoint: &Endpoint, m: &Emission) -> Done {
     let state = state_name(endpoint.state);
     if !endpoint.state.is_syn_sent() && !endpoint.state.is_syn_received() {
         write!(out, "in {state} no reset answers a segment; ")?;

@@ -1,10 +1,10 @@
 //! What usually causes a step to break a rule, by what is known at the step.
 
+use crate::Done;
 use crate::fitting::say_fitting;
-use crate::scene::Scene;
-use crate::usual::{COARSE_CLOCK, Cause, anywhere, usual_cause};
-use case_forms::{Call, Event, Extras, Judged, Label, OutOfMemory, SegmentPlan, Timer, Wire};
-use endpoint_state::Endpoint;
+use crate::scene::{Building, Object, Scene};
+use case_forms::{Call, Judged, Timer, Wire};
+use plain_words::{Known, about};
 use replayed::{Reason, misplaced};
 use spec_tcp::Emission;
 use verdict::Rule;
@@ -19,185 +19,85 @@ pub enum Origin {
 }
 
 /// Writes the usual causes, after the other windows that the segment would fit.
-pub(crate) fn say_cause(
-    out: &mut String,
-    scene: &Scene<'_>,
-    rule: Rule,
-    origin: Origin,
-) -> Result<(), OutOfMemory> {
+pub(crate) fn say_cause(out: &mut String, scene: &Scene, rule: Rule, origin: Origin) -> Done {
     say_fitting(out, scene, rule)?;
-    let cause = cause_at(scene, rule);
-    writeln!(out, "usually: {}", cause.usual)?;
+    let about = about(rule);
+    let (usual, captured) = match about.special.iter().find(|it| is_known(scene, it.known)) {
+        Some(special) => (special.usual, special.captured),
+        None => (about.usual, about.captured),
+    };
+    writeln!(out, "usually: {usual}")?;
     match origin {
-        Origin::Captured if !cause.captured.is_empty() => {
-            writeln!(out, "in a capture: {}", cause.captured)
-        }
+        Origin::Captured if !captured.is_empty() => writeln!(out, "in a capture: {captured}"),
         Origin::Captured | Origin::Simulated => Ok(()),
     }
 }
 
-// The causes of a rule at the step that breaks it.
-fn cause_at(scene: &Scene<'_>, rule: Rule) -> Cause {
-    let Some(step) = scene.step else {
-        return usual_cause(rule);
+// Whether this is known at the step.
+fn is_known(scene: &Scene, known: Known) -> bool {
+    let is_none = matches!(scene.header().congestion, Judged::Nothing);
+    match scene.object() {
+        Object::Effect(thread, _) => is_call(scene.world().pending_call(thread), known),
+        Object::Building(it) => is_known_of(it, is_none, known),
+        Object::Sent(host, number, wire) => match scene.world().made(host, number) {
+            Some(made) => is_ack(made.emission(), wire, known),
+            None => false,
+        },
+        Object::Expiring(it) => match it.timer {
+            Timer::Rto => false,
+            Timer::Persist => known == Known::Persist,
+            Timer::Msl2 => known == Known::Msl2,
+            Timer::Giveup => known == Known::Giveup,
+        },
+        Object::Processing(_) | Object::Listening(_, _, _) => known == Known::Processing,
+        Object::Recovering(_, _) => known == Known::NothingOutstanding && is_none,
+        Object::Other => known == Known::Building && scene.builds(),
+        Object::End(_, _) | Object::Came(_, _, _) | Object::Answered(_, _) => false,
+    }
+}
+
+fn is_call(call: Option<&Call>, known: Known) -> bool {
+    let Some(call) = call else {
+        return false;
     };
-    match (&step.label, rule) {
-        (Label::D { thread, .. }, Rule::CallAnswer) => match scene.world().pending_call(*thread) {
-            Some(call) => of_answer(call),
-            None => usual_cause(rule),
-        },
-        (Label::M { .. }, Rule::NoEndpoint) => anywhere(
-            "the stack sends after a reset, an expiry or a call closed the connection, or before a call opens it",
-        ),
-        (Label::M { host, plan }, _) => match scene.endpoint(*host, plan.lport, plan.rport) {
-            Some(endpoint) => at_sending(endpoint, plan, rule, scene.header().congestion),
-            None => usual_cause(rule),
-        },
-        (Label::T { .. }, Rule::NoEndpoint) => anywhere(
-            "the segment finds no connection, so the witness has to drop it (K) or answer it with a reset (R)",
-        ),
-        (Label::F { .. }, Rule::Recovery) => match scene.header().congestion {
-            Judged::Nothing => anywhere("everything was already acknowledged"),
-            Judged::Full | Judged::Recovery => usual_cause(rule),
-        },
-        (Label::L(named), _) => match scene.line(named.number) {
-            Some(line) => at_line(scene, &line.event, named.extras, rule),
-            None => usual_cause(rule),
-        },
-        _ => usual_cause(rule),
-    }
-}
-
-// The causes if a call has an answer that it can't have.
-fn of_answer(call: &Call) -> Cause {
     match call {
-        Call::Listen(_, _, _) => anywhere(
-            "the stack allows two listeners on a port, or refuses a port that has none; or the witness has the effect \
-at the wrong place",
-        ),
-        Call::Connect(_, _, _) => anywhere(
-            "the stack opens ports again before their connection is closed, TIME-WAIT included, or refuses free ones; \
-or the witness has the effect at the wrong place",
-        ),
-        Call::Accept(_) => anywhere(
-            "the stack accepts a connection before its handshake is done, or out of order; or the witness has the \
-effect at the wrong place",
-        ),
-        Call::Send(_, _) => anywhere(
-            "the stack accepts data after a shut or a reset, or obeys a reset outside its window; or the witness has \
-the effect at the wrong place",
-        ),
-        Call::Recv(_, _) => anywhere(
-            "the stack delivers data twice, too early or not at all, or obeys a reset outside its window; or the \
-witness has the effect at the wrong place",
-        ),
-        Call::Close(_) | Call::Abort(_) => anywhere(
-            "the socket number was never returned, or was closed before; or the witness has the effect at the \
-wrong place",
-        ),
-        Call::Await(_) => anywhere(
-            "the stack reports a connection before its handshake is done or after it failed, or obeys a reset outside \
-its window; or the witness has the effect at the wrong place",
-        ),
-        Call::Shut(_) | Call::Status(_) => usual_cause(Rule::CallAnswer),
+        Call::Listen(_, _, _) => known == Known::Listen,
+        Call::Connect(_, _, _) => known == Known::Open,
+        Call::Accept(_) => known == Known::Accept,
+        Call::Send(_, _) => known == Known::Send,
+        Call::Recv(_, _) => known == Known::Receive,
+        Call::Close(_) | Call::Abort(_) => known == Known::Close,
+        Call::Await(_) => known == Known::Await,
+        Call::Shut(_) | Call::Status(_) => false,
     }
 }
 
-// The causes if an endpoint sends a segment.
-fn at_sending(endpoint: &Endpoint, plan: &SegmentPlan, rule: Rule, congestion: Judged) -> Cause {
-    match rule {
-        Rule::State | Rule::OldData if endpoint.state.is_time_wait() => anywhere(
-            "the stack skips TIME-WAIT, or ends it before 2 `msl`",
-        ),
-        Rule::OldData => of_old_data(endpoint, plan, congestion),
-        Rule::Congestion if endpoint.control.values.smss < u32::from(plan.len) => {
-            usual_cause(Rule::Size)
-        }
-        _ => usual_cause(rule),
+// Whether this is known of a segment that is built. `is_none`: the level is `none`.
+fn is_known_of(it: Building, is_none: bool, known: Known) -> bool {
+    let endpoint = it.endpoint;
+    match known {
+        Known::Building => true,
+        Known::TimeWait => endpoint.state.is_time_wait(),
+        Known::Gap => matches!(misplaced(endpoint, it.plan), Reason::Gap { .. }),
+        Known::Acknowledged => matches!(misplaced(endpoint, it.plan), Reason::Acknowledged { .. }),
+        Known::OutstandingAtNone => is_none && endpoint.is_up(),
+        Known::SynAtNone => is_none && !endpoint.is_up(),
+        Known::Oversized => endpoint.control.values.smss < u32::from(it.plan.len),
+        _ => false,
     }
 }
 
-// The causes if a step uses a line.
-fn at_line(scene: &Scene<'_>, event: &Event, extras: Extras, rule: Rule) -> Cause {
-    match (event, rule, extras) {
-        (Event::Sent(host, wire), Rule::BytesDiffer, Extras::One(number)) => {
-            match scene.world().made(*host, number) {
-                Some(made) => of_bytes(made.emission(), wire),
-                None => usual_cause(rule),
-            }
-        }
-        (Event::Expired(_, _, _, timer), Rule::TimerEarly, _) => of_early(*timer),
-        (Event::Expired(_, _, _, timer), Rule::TimerOff, _) => of_off(*timer),
-        _ => usual_cause(rule),
-    }
-}
-
-// The causes if a segment begins at a position where it may not.
-fn of_old_data(endpoint: &Endpoint, plan: &SegmentPlan, congestion: Judged) -> Cause {
-    match (misplaced(endpoint, plan), congestion) {
-        (Reason::Gap { .. }, _) => Cause {
-            usual: "the stack skips positions that it hasn't sent yet",
-            captured: "the capture lost the segments before this one",
-        },
-        (Reason::Acknowledged { .. }, _) => anywhere(
-            "the stack retransmits acknowledged data, or the witness has the acknowledgment too early",
-        ),
-        (_, Judged::Nothing) => anywhere(if endpoint.is_up() {
-            "the witness lacks an F step before it; at `none` it may have one at any moment"
-        } else {
-            "the trace lacks the expiry (a `T` line) before it, which a SYN needs at every level"
-        }),
-        _ => usual_cause(Rule::OldData),
-    }
-}
-
-// The causes if the segment sent differs from the one built.
-fn of_bytes(made: &Emission, wire: &Wire) -> Cause {
+// Whether a segment was sent with a higher, or a lower, acknowledgment number than it was built with.
+fn is_ack(made: &Emission, wire: &Wire, known: Known) -> bool {
     let seg = &wire.seg;
     let is_same = made.lport == seg.src && made.rport == seg.dst && made.seq == seg.seq;
     let ahead = seg.ack.0.wrapping_sub(made.ack_seq.0);
     if !is_same || !made.flags.ack || ahead == 0 {
-        return usual_cause(Rule::BytesDiffer);
+        return false;
     }
     if ahead <= u32::MAX / 2 {
-        Cause {
-            usual: "the stack acknowledges what never arrived, skips a gap, or accepts data after the FIN",
-            captured: "the capture lost a segment that arrived",
-        }
+        known == Known::HigherAck
     } else {
-        Cause {
-            usual: "the stack doesn't keep data inside the window that it offered: it shrinks the window, or drops \
-data (`keep` 0 in the witness)",
-            captured: "the stack processed a segment later than the capture shows",
-        }
-    }
-}
-
-// The causes if a timer expires early.
-fn of_early(timer: Timer) -> Cause {
-    let usual = match timer {
-        Timer::Persist => "the stack probes a closed window before its timeout",
-        Timer::Msl2 => "TIME-WAIT is shorter than 2 `msl`",
-        Timer::Rto | Timer::Giveup => return usual_cause(Rule::TimerEarly),
-    };
-    Cause {
-        usual,
-        captured: COARSE_CLOCK,
-    }
-}
-
-// The causes if a timer expires although it's off.
-fn of_off(timer: Timer) -> Cause {
-    match timer {
-        Timer::Rto => usual_cause(Rule::TimerOff),
-        Timer::Persist => anywhere(
-            "the stack probes although the window is open or nothing is left to send",
-        ),
-        Timer::Msl2 => anywhere(
-            "the witness lacks the segment that leads to TIME-WAIT, or has it later",
-        ),
-        Timer::Giveup => anywhere(
-            "the stack gives up after fewer than three expiries, or with nothing outstanding",
-        ),
+        known == Known::LowerAck
     }
 }

@@ -40,5 +40,9 @@ mod timers;
 mod unjudged;
 mod wire;
 
+use case_forms::OutOfMemory;
 pub use explaining::{Said, explain};
 pub use known::Origin;
+
+/// What a function that writes returns. If memory runs out, part of a line may have been written.
+pub(crate) type Done = Result<(), OutOfMemory>;

@@ -1,7 +1,8 @@
 //! Numbers of a received segment as positions, and the ranges that the rules require.
 
+use crate::Done;
 use crate::scene::{Processing, Scene};
-use case_forms::{OutOfMemory, POSITIONS};
+use case_forms::POSITIONS;
 use endpoint_state::Endpoint;
 use plain_words::word_if;
 use seqno::{Word, read_near};
@@ -26,7 +27,7 @@ impl Number {
     }
 
     // Writes the position that it reads as.
-    fn say(&self, out: &mut String) -> Result<(), OutOfMemory> {
+    fn say(&self, out: &mut String) -> Done {
         let (name, number, near) = (self.name, self.number.0, self.near);
         write!(out, "{name} {number} reads near {near} as ")?;
         match self.position() {
@@ -36,7 +37,7 @@ impl Number {
     }
 }
 
-fn sequence_number(endpoint: &Endpoint, m: &Arrived<'_>) -> Number {
+fn sequence_number(endpoint: &Endpoint, m: &Arrived) -> Number {
     Number {
         name: "its sequence number",
         number: m.seq(),
@@ -46,11 +47,7 @@ fn sequence_number(endpoint: &Endpoint, m: &Arrived<'_>) -> Number {
 }
 
 /// The positions that both numbers read as. Without a half case, also those that the segment was built with.
-pub(crate) fn misread(
-    out: &mut String,
-    scene: &Scene<'_>,
-    it: &Processing<'_>,
-) -> Result<(), OutOfMemory> {
+pub(crate) fn misread(out: &mut String, scene: &Scene, it: &Processing) -> Done {
     let half = scene.header().version.is_half();
     let (endpoint, m) = (it.endpoint, &it.read);
     sequence_number(endpoint, m).say(out)?;
@@ -71,7 +68,7 @@ pub(crate) fn misread(
     built_with(out, half, m.ack())
 }
 
-fn built_with(out: &mut String, half: bool, position: u64) -> Result<(), OutOfMemory> {
+fn built_with(out: &mut String, half: bool, position: u64) -> Done {
     if half {
         writeln!(out)
     } else {
@@ -80,7 +77,7 @@ fn built_with(out: &mut String, half: bool, position: u64) -> Result<(), OutOfMe
 }
 
 /// The positions that a segment occupies, and the receive window.
-pub(crate) fn unacceptable(out: &mut String, it: &Processing<'_>) -> Result<(), OutOfMemory> {
+pub(crate) fn unacceptable(out: &mut String, it: &Processing) -> Done {
     let (endpoint, m) = (it.endpoint, &it.read);
     if m.flags().syn && !m.flags().rst {
         return writeln!(
@@ -101,7 +98,7 @@ pub(crate) fn unacceptable(out: &mut String, it: &Processing<'_>) -> Result<(), 
 }
 
 // The receive window of an endpoint, and how a segment has to fit it.
-fn receive_window(out: &mut String, endpoint: &Endpoint) -> Result<(), OutOfMemory> {
+fn receive_window(out: &mut String, endpoint: &Endpoint) -> Done {
     let next = endpoint.rcv_nxt();
     match endpoint.window.rcv_adv.checked_sub(1) {
         Some(last) if next <= last => {
@@ -115,7 +112,7 @@ fn receive_window(out: &mut String, endpoint: &Endpoint) -> Result<(), OutOfMemo
 }
 
 /// The position that a segment acknowledges, and those that it may.
-pub(crate) fn ack_range(out: &mut String, it: &Processing<'_>) -> Result<(), OutOfMemory> {
+pub(crate) fn ack_range(out: &mut String, it: &Processing) -> Done {
     let (endpoint, m) = (it.endpoint, &it.read);
     if !m.flags().ack {
         return writeln!(
@@ -138,11 +135,7 @@ pub(crate) fn ack_range(out: &mut String, it: &Processing<'_>) -> Result<(), Out
 }
 
 /// The acknowledgment number, and the one that acknowledges the own SYN.
-pub(crate) fn ack_of_syn(
-    out: &mut String,
-    endpoint: &Endpoint,
-    m: &Arrived<'_>,
-) -> Result<(), OutOfMemory> {
+pub(crate) fn ack_of_syn(out: &mut String, endpoint: &Endpoint, m: &Arrived) -> Done {
     write!(out, "its acknowledgment number is {}; ", m.ack_seq().0)?;
     match endpoint.iss {
         Some(iss) => writeln!(out, "{} acknowledges the own SYN", iss.0.wrapping_add(1)),

@@ -1,10 +1,11 @@
 //! The rules of the order of lines.
 
+use crate::Done;
 use crate::scene::Scene;
-use case_forms::{Event, Line, OutOfMemory, Timer};
+use case_forms::{Event, Line, Timer};
 
 /// A line that the trace doesn't have, or extra numbers that it can't have.
-pub(crate) fn line_range(out: &mut String, scene: &Scene<'_>) -> Result<(), OutOfMemory> {
+pub(crate) fn line_range(out: &mut String, scene: &Scene) -> Done {
     let (number, extras) = (scene.number(), scene.extras());
     let count = scene.lines().len();
     let first = scene.header().first_event_line();
@@ -41,7 +42,7 @@ fn wanted(line: &Line, half: bool) -> &'static str {
 }
 
 /// A line that was used before.
-pub(crate) fn line_again(out: &mut String, scene: &Scene<'_>) -> Result<(), OutOfMemory> {
+pub(crate) fn line_again(out: &mut String, scene: &Scene) -> Done {
     let number = scene.number();
     match scene.used_by(number) {
         Some(step) => {
@@ -55,7 +56,7 @@ pub(crate) fn line_again(out: &mut String, scene: &Scene<'_>) -> Result<(), OutO
 }
 
 /// The first earlier line of the same thread that isn't used yet.
-pub(crate) fn thread_order(out: &mut String, scene: &Scene<'_>) -> Result<(), OutOfMemory> {
+pub(crate) fn thread_order(out: &mut String, scene: &Scene) -> Done {
     let number = scene.number();
     let Some(line) = scene.line(number) else {
         return Ok(());
@@ -77,7 +78,7 @@ pub(crate) fn thread_order(out: &mut String, scene: &Scene<'_>) -> Result<(), Ou
 }
 
 /// The moment of the step, next to that of the step before it.
-pub(crate) fn moment_falls(out: &mut String, scene: &Scene<'_>) -> Result<(), OutOfMemory> {
+pub(crate) fn moment_falls(out: &mut String, scene: &Scene) -> Done {
     let moment = scene.moment();
     match scene.before.last() {
         Some(before) => {
@@ -92,7 +93,7 @@ pub(crate) fn moment_falls(out: &mut String, scene: &Scene<'_>) -> Result<(), Ou
 }
 
 /// When a line may be used.
-pub(crate) fn moment_off(out: &mut String, scene: &Scene<'_>) -> Result<(), OutOfMemory> {
+pub(crate) fn moment_off(out: &mut String, scene: &Scene) -> Done {
     let number = scene.number();
     let Some(line) = scene.line(number) else {
         return Ok(());
@@ -107,7 +108,7 @@ pub(crate) fn moment_off(out: &mut String, scene: &Scene<'_>) -> Result<(), OutO
 }
 
 /// The first line that had to be used before the step's moment.
-pub(crate) fn overdue(out: &mut String, scene: &Scene<'_>) -> Result<(), OutOfMemory> {
+pub(crate) fn overdue(out: &mut String, scene: &Scene) -> Done {
     let (moment, skew) = (scene.moment(), scene.header().skew);
     let overdue = scene.lines().iter().find(|line| {
         scene.used_by(line.number).is_none() && line.moment.saturating_add(skew) < moment
@@ -125,7 +126,7 @@ pub(crate) fn overdue(out: &mut String, scene: &Scene<'_>) -> Result<(), OutOfMe
 }
 
 /// The event lines that no step used.
-pub(crate) fn unplaced(out: &mut String, scene: &Scene<'_>) -> Result<(), OutOfMemory> {
+pub(crate) fn unplaced(out: &mut String, scene: &Scene) -> Done {
     let (steps, all) = (scene.before.len(), scene.lines().len() as u64);
     let unused = all.saturating_sub(scene.used_count());
     write!(

@@ -1,9 +1,10 @@
 //! Congestion windows with growth rules other than this profile's. They are kept for one endpoint while a case is
 //! replayed, in constant time for each segment sent or acknowledged.
 
+use crate::Done;
 use crate::changes::{Change, Values};
 use crate::segment_window::SegmentWindow;
-use case_forms::{Host, Label, OutOfMemory, POSITIONS, SegmentPlan, Step};
+use case_forms::{Host, Label, POSITIONS, SegmentPlan, Step};
 use endpoint_state::World;
 use replayed::end_of;
 use std::alloc::Global;
@@ -39,7 +40,7 @@ impl OtherWindows {
     }
 
     /// Follows the world after one step.
-    pub(crate) fn follow(&mut self, world: &World) -> Result<(), OutOfMemory> {
+    pub(crate) fn follow(&mut self, world: &World) -> Done {
         let Some(endpoint) = world.body(self.host).endpoint_of(self.lport, self.rport) else {
             return Ok(());
         };

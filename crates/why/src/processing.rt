@@ -1,19 +1,15 @@
 //! The rules of processing a received segment.
 
+use crate::Done;
 use crate::scene::{Processing, Scene};
-use case_forms::{Host, OutOfMemory};
+use case_forms::Host;
 use endpoint::greatest_taking;
 use plain_words::HostName;
 use spec_tcp::{Emission, EndpointId};
 use std::fmt;
 
 /// Writes whether a listener is open on the port of a segment.
-pub(crate) fn listener(
-    out: &mut String,
-    scene: &Scene<'_>,
-    host: Host,
-    m: &Emission,
-) -> Result<(), OutOfMemory> {
+pub(crate) fn listener(out: &mut String, scene: &Scene, host: Host, m: &Emission) -> Done {
     let is_listening = scene.world().body(host).is_listening(m.rport);
     let a = if is_listening { "a" } else { "no" };
     writeln!(out, "{a} listener is open on port {}", m.rport)
@@ -30,11 +26,7 @@ impl fmt::Display for EndpointName {
 }
 
 /// The endpoints that built the segment and that process it.
-pub(crate) fn not_peer(
-    out: &mut String,
-    scene: &Scene<'_>,
-    it: &Processing<'_>,
-) -> Result<(), OutOfMemory> {
+pub(crate) fn not_peer(out: &mut String, scene: &Scene, it: &Processing) -> Done {
     let (host, endpoint, m) = (it.host, it.endpoint, &it.read);
     let body = scene.world().body(host);
     let number = body.place_of(endpoint.lport, endpoint.rport).unwrap_or(0);
@@ -62,11 +54,7 @@ pub(crate) fn not_peer(
 }
 
 /// How many children the listen queue has, and how many it has room for.
-pub(crate) fn queue_full(
-    out: &mut String,
-    scene: &Scene<'_>,
-    it: &Processing<'_>,
-) -> Result<(), OutOfMemory> {
+pub(crate) fn queue_full(out: &mut String, scene: &Scene, it: &Processing) -> Done {
     let Some(place) = it.endpoint.listener else {
         return Ok(());
     };
@@ -82,11 +70,7 @@ pub(crate) fn queue_full(
 }
 
 /// The congestion window that the step chooses, and the greatest one.
-pub(crate) fn growth(
-    out: &mut String,
-    it: &Processing<'_>,
-    moment: u64,
-) -> Result<(), OutOfMemory> {
+pub(crate) fn growth(out: &mut String, it: &Processing, moment: u64) -> Done {
     let greatest = greatest_taking(it.endpoint, &it.read, moment);
     let acknowledged = if it.read.flags().ack {
         it.read.ack().saturating_sub(it.endpoint.stream.snd_una)
@@ -105,7 +89,7 @@ pub(crate) fn growth(
 }
 
 /// What the segment newly acknowledges.
-pub(crate) fn sample(out: &mut String, it: &Processing<'_>) -> Result<(), OutOfMemory> {
+pub(crate) fn sample(out: &mut String, it: &Processing) -> Done {
     let (una, ack) = (it.endpoint.stream.snd_una, it.read.ack());
     let flags = it.read.flags();
     if flags.ack && !flags.rst && una < ack {
@@ -121,7 +105,7 @@ pub(crate) fn sample(out: &mut String, it: &Processing<'_>) -> Result<(), OutOfM
 }
 
 /// Which of the two sides scales windows.
-pub(crate) fn scale_unread(out: &mut String, it: &Processing<'_>) -> Result<(), OutOfMemory> {
+pub(crate) fn scale_unread(out: &mut String, it: &Processing) -> Done {
     let sender = if it.read.is_scaled() {
         "scaled"
     } else {

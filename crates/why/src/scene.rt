@@ -197,11 +197,11 @@ impl<'c> Scene<'c> {
     }
 
     /// What the step is about.
-    pub(crate) fn object(&self) -> Object<'_> {
+    pub(crate) fn object(&self) -> Object {
         self.known_object().unwrap_or(Object::Other)
     }
 
-    fn known_object(&self) -> Option<Object<'_>> {
+    fn known_object(&self) -> Option<Object> {
         Some(match &self.step?.label {
             Label::L(named) => return self.object_of_line(named.number, named.extras),
             Label::D { thread, answer } => Object::Effect(*thread, answer),
@@ -220,7 +220,7 @@ impl<'c> Scene<'c> {
         })
     }
 
-    fn object_of_line(&self, number: u64, extras: Extras) -> Option<Object<'_>> {
+    fn object_of_line(&self, number: u64, extras: Extras) -> Option<Object> {
         let line = self.line(number)?;
         Some(match &line.event {
             Event::CallBegin(_) => return None,
@@ -235,7 +235,7 @@ impl<'c> Scene<'c> {
         })
     }
 
-    fn processed(&self, host: Host, line: u64, choice: TakeChoice) -> Option<Object<'_>> {
+    fn processed(&self, host: Host, line: u64, choice: TakeChoice) -> Option<Object> {
         let m = self.world().waiting(host, line)?;
         match self.taker(host, m) {
             Some(endpoint) if !endpoint.state.is_closed() => Some(Object::Processing(Processing {

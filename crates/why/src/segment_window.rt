@@ -1,7 +1,7 @@
 //! A congestion window that counts segments of any size, like that of Linux.
 
+use crate::Done;
 use crate::changes::{Change, Values};
-use case_forms::OutOfMemory;
 use std::alloc::Global;
 
 /// RFC 5681 with counts in segments. In slow start, the window grows by all segments that an acknowledgment covers.
@@ -31,7 +31,7 @@ impl SegmentWindow {
     }
 
     /// Follows an endpoint from the values before a step to those after it.
-    pub(crate) fn follow(&mut self, before: &Values, after: &Values) -> Result<(), OutOfMemory> {
+    pub(crate) fn follow(&mut self, before: &Values, after: &Values) -> Done {
         self.record(before, after)?;
         let covered = self.cover(after.una);
         self.change(before, after, covered);
@@ -39,7 +39,7 @@ impl SegmentWindow {
     }
 
     // Records the end of a segment sent. A new connection begins with none.
-    fn record(&mut self, before: &Values, after: &Values) -> Result<(), OutOfMemory> {
+    fn record(&mut self, before: &Values, after: &Values) -> Done {
         if after.sent < before.sent {
             self.ends.clear();
             self.acknowledged = 0;

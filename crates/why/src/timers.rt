@@ -1,13 +1,14 @@
 //! The rules of expiries and of fast recovery.
 
+use crate::Done;
 use crate::scene::{Expiring, Scene};
-use case_forms::{Extras, OutOfMemory, Recovery, Timer};
+use case_forms::{Extras, Recovery, Timer};
 use endpoint::{greatest_recovery, greatest_values};
 use endpoint_state::Endpoint;
 use plain_words::word_if;
 
 /// The windows chosen at an expiry of rto, next to the greatest ones.
-pub(crate) fn growth(out: &mut String, it: Expiring<'_>, moment: u64) -> Result<(), OutOfMemory> {
+pub(crate) fn growth(out: &mut String, it: Expiring, moment: u64) -> Done {
     let Extras::Two(cwnd, ssthresh) = it.extras else {
         return Ok(());
     };
@@ -25,7 +26,7 @@ pub(crate) fn growth(out: &mut String, it: Expiring<'_>, moment: u64) -> Result<
 }
 
 /// Why a timer can't expire at all.
-pub(crate) fn off(out: &mut String, it: Expiring<'_>) -> Result<(), OutOfMemory> {
+pub(crate) fn off(out: &mut String, it: Expiring) -> Done {
     match it.timer {
         Timer::Rto => {
             let (una, sent) = (it.endpoint.stream.snd_una, it.endpoint.snd_max());
@@ -38,7 +39,7 @@ pub(crate) fn off(out: &mut String, it: Expiring<'_>) -> Result<(), OutOfMemory>
     }
 }
 
-fn persist_off(out: &mut String, endpoint: &Endpoint) -> Result<(), OutOfMemory> {
+fn persist_off(out: &mut String, endpoint: &Endpoint) -> Done {
     let stream = &endpoint.stream;
     if endpoint.timers.persist_armed.is_none() {
         let wnd = endpoint.window.snd_wnd;
@@ -65,7 +66,7 @@ fn persist_off(out: &mut String, endpoint: &Endpoint) -> Result<(), OutOfMemory>
 }
 
 /// Writes that the handshake isn't done.
-pub(crate) fn handshake(out: &mut String, endpoint: &Endpoint) -> Result<(), OutOfMemory> {
+pub(crate) fn handshake(out: &mut String, endpoint: &Endpoint) -> Done {
     let (una, next) = (endpoint.stream.snd_una, endpoint.rcv_nxt());
     write!(
         out,
@@ -74,7 +75,7 @@ pub(crate) fn handshake(out: &mut String, endpoint: &Endpoint) -> Result<(), Out
     writeln!(out, "both have to be at least 1")
 }
 
-fn giveup_off(out: &mut String, endpoint: &Endpoint) -> Result<(), OutOfMemory> {
+fn giveup_off(out: &mut String, endpoint: &Endpoint) -> Done {
     let (expiries, flight) = (endpoint.unanswered_expiries, endpoint.flight());
     write!(
         out,
@@ -97,11 +98,7 @@ fn giveup_off(out: &mut String, endpoint: &Endpoint) -> Result<(), OutOfMemory> 
 }
 
 /// The moment from which on a timer may expire.
-pub(crate) fn early(
-    out: &mut String,
-    scene: &Scene<'_>,
-    it: Expiring<'_>,
-) -> Result<(), OutOfMemory> {
+pub(crate) fn early(out: &mut String, scene: &Scene, it: Expiring) -> Done {
     let timers = &it.endpoint.timers;
     let (msl, grain, moment) = (scene.header().msl, scene.header().grain, scene.moment());
     let (armed, time) = match it.timer {
@@ -127,7 +124,7 @@ pub(crate) fn recovery(
     endpoint: &Endpoint,
     chosen: Recovery,
     moment: u64,
-) -> Result<(), OutOfMemory> {
+) -> Done {
     let profile = endpoint.control.profile;
     let congestion = &endpoint.control.values;
     if !profile.counts_duplicates() {

@@ -1,18 +1,15 @@
 //! Which level, in a header of version 4, leaves a refusal unjudged.
 
+use crate::Done;
 use crate::scene::{Object, Scene};
-use case_forms::{Judged, OutOfMemory, Version};
+use case_forms::{Judged, Version};
 use endpoint_state::Endpoint;
 use plain_words::word_if;
 use replayed::{Reason, misplaced};
 use verdict::Rule;
 
 /// Writes which level leaves the refusal unjudged, if the header's level doesn't and another one does.
-pub(crate) fn say_unjudged(
-    out: &mut String,
-    scene: &Scene<'_>,
-    rule: Rule,
-) -> Result<(), OutOfMemory> {
+pub(crate) fn say_unjudged(out: &mut String, scene: &Scene, rule: Rule) -> Done {
     match (scene.header().congestion, lenient_level(scene, rule)) {
         (Judged::Full, Some(Judged::Recovery)) => say_level(out, scene, rule, "recovery"),
         (Judged::Full | Judged::Recovery, Some(Judged::Nothing)) => {
@@ -22,12 +19,7 @@ pub(crate) fn say_unjudged(
     }
 }
 
-fn say_level(
-    out: &mut String,
-    scene: &Scene<'_>,
-    rule: Rule,
-    level: &str,
-) -> Result<(), OutOfMemory> {
+fn say_level(out: &mut String, scene: &Scene, rule: Rule, level: &str) -> Done {
     let (before, after) = match scene.header().version {
         Version::One | Version::Two | Version::Three => (
             "in version 4, the header line `congestion ",
@@ -41,7 +33,7 @@ fn say_level(
 }
 
 // The strictest level at which the step doesn't break the rule. None: it breaks it at every level.
-fn lenient_level(scene: &Scene<'_>, rule: Rule) -> Option<Judged> {
+fn lenient_level(scene: &Scene, rule: Rule) -> Option<Judged> {
     match (rule, scene.object()) {
         (Rule::Congestion, Object::Building(_)) => Some(Judged::Recovery),
         // Outstanding data may be retransmitted once fast recovery began, which it may only after the handshake.

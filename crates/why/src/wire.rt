@@ -1,19 +1,15 @@
 //! The rules of lines that show segments.
 
+use crate::Done;
 use crate::scene::{Scene, first_extra};
-use case_forms::{Event, Host, Label, OutOfMemory, Wire};
+use case_forms::{Event, Host, Label, Wire};
 use endpoint_state::World;
 use plain_words::HostName;
 use segment::Flag;
 use spec_tcp::Emission;
 
 /// Writes that the host of an O line built no segment of the number that the step names, if that is so.
-pub(crate) fn describe_sent(
-    out: &mut String,
-    scene: &Scene<'_>,
-    host: Host,
-    number: u32,
-) -> Result<(), OutOfMemory> {
+pub(crate) fn describe_sent(out: &mut String, scene: &Scene, host: Host, number: u32) -> Done {
     if scene.world().made(host, number).is_some() {
         return Ok(());
     }
@@ -27,12 +23,7 @@ pub(crate) fn describe_sent(
 }
 
 /// Writes what is wrong with the line that a received segment should copy, if that is no sent segment.
-pub(crate) fn describe_came(
-    out: &mut String,
-    scene: &Scene<'_>,
-    host: Host,
-    copied: u64,
-) -> Result<(), OutOfMemory> {
+pub(crate) fn describe_came(out: &mut String, scene: &Scene, host: Host, copied: u64) -> Done {
     let sender = host.other();
     if scene.world().sent(sender, copied).is_some() {
         return Ok(());
@@ -54,12 +45,7 @@ pub(crate) fn describe_came(
 }
 
 /// Where the segment was sent before.
-pub(crate) fn not_made(
-    out: &mut String,
-    scene: &Scene<'_>,
-    host: Host,
-    number: u32,
-) -> Result<(), OutOfMemory> {
+pub(crate) fn not_made(out: &mut String, scene: &Scene, host: Host, number: u32) -> Done {
     if scene.world().made(host, number).is_none() {
         return Ok(());
     }
@@ -71,7 +57,7 @@ pub(crate) fn not_made(
 }
 
 // The O line that showed a built segment before the step; 0 if there is none.
-fn shown_before(scene: &Scene<'_>, number: u32) -> u64 {
+fn shown_before(scene: &Scene, number: u32) -> u64 {
     for step in scene.before.iter().rev() {
         if let Label::L(named) = &step.label {
             if first_extra(named.extras) == number && is_sent(scene, named.number) {
@@ -82,7 +68,7 @@ fn shown_before(scene: &Scene<'_>, number: u32) -> u64 {
     0
 }
 
-fn is_sent(scene: &Scene<'_>, number: u64) -> bool {
+fn is_sent(scene: &Scene, number: u64) -> bool {
     match scene.line(number) {
         Some(line) => matches!(&line.event, Event::Sent(_, _)),
         None => false,
@@ -96,7 +82,7 @@ pub(crate) fn bytes_differ(
     host: Host,
     number: u32,
     wire: &Wire,
-) -> Result<(), OutOfMemory> {
+) -> Done {
     match world.made(host, number) {
         Some(made) => differences(out, made.emission(), wire),
         None => Ok(()),
@@ -110,7 +96,7 @@ pub(crate) fn copy_differs(
     host: Host,
     copied: u64,
     wire: &Wire,
-) -> Result<(), OutOfMemory> {
+) -> Done {
     let Some(m) = world.sent(host.other(), copied) else {
         return Ok(());
     };
@@ -127,12 +113,7 @@ pub(crate) fn copy_differs(
 }
 
 /// When the segment was sent and received.
-pub(crate) fn lifetime(
-    out: &mut String,
-    scene: &Scene<'_>,
-    host: Host,
-    copied: u64,
-) -> Result<(), OutOfMemory> {
+pub(crate) fn lifetime(out: &mut String, scene: &Scene, host: Host, copied: u64) -> Done {
     let Some(m) = scene.world().sent(host.other(), copied) else {
         return Ok(());
     };
@@ -141,7 +122,7 @@ pub(crate) fn lifetime(
     writeln!(out, "the maximum segment lifetime is {msl}")
 }
 
-fn differences(out: &mut String, m: &Emission, wire: &Wire) -> Result<(), OutOfMemory> {
+fn differences(out: &mut String, m: &Emission, wire: &Wire) -> Done {
     let seg = &wire.seg;
     let ack_seq = if m.flags.ack { m.ack_seq.0 } else { seg.ack.0 };
     let window = if m.is_reset_reply {
@@ -174,7 +155,7 @@ fn differences(out: &mut String, m: &Emission, wire: &Wire) -> Result<(), OutOfM
     differ_shift(out, m, wire)
 }
 
-fn differ_shift(out: &mut String, m: &Emission, wire: &Wire) -> Result<(), OutOfMemory> {
+fn differ_shift(out: &mut String, m: &Emission, wire: &Wire) -> Done {
     match (m.shift, wire.seg.scale) {
         (Some(built), Some(shown)) if built != shown => {
             writeln!(out, "  window shift: built {built}, the line shows {shown}")
@@ -196,7 +177,7 @@ pub(crate) fn first_difference(
     origin: &str,
     one: &[u8],
     shown: &[u8],
-) -> Result<(), OutOfMemory> {
+) -> Done {
     let Some(place) = one.iter().zip(shown).position(|(a, b)| *a != *b) else {
         return Ok(());
     };
