@@ -54,6 +54,8 @@ pub(crate) fn push_ending(out: &mut Vec<u8>, ending: Ending) -> Result<(), OutOf
                 "The search tried every choice that it knows. Another witness may still exist.\n",
             Ending::BudgetSpent { .. } =>
                 "The search spent its budget. With a larger one (--budget), it may find a witness.\n",
+            Ending::TooManySteps { .. } =>
+                "The search stopped at 40,000,000 steps, the most that a case can have.\n",
         },
     )
 }

@@ -1,13 +1,14 @@
-//! What is done otherwise than usually, if it was chosen: before a line, and once a line was taken.
+//! What happens before or after a line because it was chosen.
 
-use crate::choices::{Choice, Place, Remedy};
-use crate::search::Search;
+use super::Pass;
+use crate::choices::{Choice, Remedy};
+use crate::key::EndpointKey;
+use crate::stop::Stop;
 use case_forms::{Event, Timer};
-use endpoint_state::StepFault;
 
-impl Search<'_> {
+impl Pass<'_> {
     /// Does what was chosen to happen before the line at a place.
-    pub(crate) fn prepare(&mut self, place: usize) -> Result<(), StepFault> {
+    pub(crate) fn prepare(&mut self, place: usize) -> Result<(), Stop> {
         let choices = self.choices;
         for choice in choices.at(place) {
             match choice {
@@ -15,29 +16,27 @@ impl Search<'_> {
                     place: before,
                     at,
                     remedy,
-                } if *before == place => self.remedy_chosen(*at, *remedy)?,
+                } if *before == place => self.apply(*at, *remedy)?,
                 _ => {}
             }
         }
         Ok(())
     }
 
-    fn remedy_chosen(&mut self, at: Place, remedy: Remedy) -> Result<(), StepFault> {
-        let (host, ports) = (at.host, at.ports);
+    fn apply(&mut self, at: EndpointKey, remedy: Remedy) -> Result<(), Stop> {
         match remedy {
-            Remedy::Rto => self.try_expiry(host, ports, Timer::Rto),
-            Remedy::Persist => self.try_expiry(host, ports, Timer::Persist),
-            Remedy::TimeWaitOver => self.try_expiry(host, ports, Timer::Msl2),
+            Remedy::Rto => self.try_expiry(at, Timer::Rto),
+            Remedy::Persist => self.try_expiry(at, Timer::Persist),
+            Remedy::TimeWaitOver => self.try_expiry(at, Timer::Msl2),
             Remedy::Recovery => {
-                self.try_recovery(host, ports)?;
+                self.try_recovery(at)?;
                 Ok(())
             }
         }
     }
 
-    /// Does what was chosen to happen once the line at a place was taken: first segments are made, then what waits goes
-    /// on.
-    pub(crate) fn go_on(&mut self, place: usize) -> Result<(), StepFault> {
+    /// Does what was chosen to happen after the line at a place: segments are built first, then what waits goes on.
+    pub(crate) fn go_on(&mut self, place: usize) -> Result<(), Stop> {
         let choices = self.choices;
         for choice in choices.at(place) {
             self.make_chosen(place, choice)?;
@@ -45,21 +44,21 @@ impl Search<'_> {
         self.end_waits(place)
     }
 
-    fn make_chosen(&mut self, place: usize, choice: &Choice) -> Result<(), StepFault> {
+    fn make_chosen(&mut self, place: usize, choice: &Choice) -> Result<(), Stop> {
         match choice {
             Choice::Early {
                 place: later,
                 after,
             } if *after == place => self.make_early(*later),
             Choice::Unseen { after, at, unseen } if *after == place => {
-                self.make_unseen(at.host, at.ports, *unseen, u64::MAX)?;
+                self.make_unseen(*at, *unseen, u64::MAX)?;
                 Ok(())
             }
             _ => Ok(()),
         }
     }
 
-    fn end_waits(&mut self, place: usize) -> Result<(), StepFault> {
+    fn end_waits(&mut self, place: usize) -> Result<(), Stop> {
         let choices = self.choices;
         for choice in choices.at(place) {
             match choice {
@@ -74,16 +73,15 @@ impl Search<'_> {
     }
 
     // The arrival or the call of the line at a place waits no longer.
-    fn end_wait(&mut self, waiting: usize) -> Result<(), StepFault> {
-        let lines = self.lines;
+    fn end_wait(&mut self, waiting: usize) -> Result<(), Stop> {
+        let lines = self.sought.lines;
         let Some(line) = lines.get(waiting) else {
             return Ok(());
         };
         match &line.event {
             Event::Came(host, _) => match self.waiting.remove(&waiting) {
                 Some(number) => {
-                    let how = self.choices.arrival(waiting);
-                    self.resolve_arrival(*host, number, how)
+                    self.resolve_arrival(*host, number, self.choices.arrival(waiting))
                 }
                 None => Ok(()),
             },

@@ -1,12 +1,12 @@
-//! The lines that went out and have no copy yet.
+//! Sent segments that have no copy yet.
 
 use case_forms::{Host, OutOfMemory};
 use std::alloc::Global;
 use std::collections::BTreeMap;
 use std::collections::btree_map::Entry;
 
-// Of equal sendings one is taken to have been lost if it would have been in flight for longer than so many times the
-// fastest one, and so many microseconds.
+// Of equal segments one counts as lost if it would have been in transit for longer than this many times the fastest
+// one, and this many microseconds.
 const FEW: u64 = 2;
 
 const SLACK: u64 = 200;
@@ -15,7 +15,7 @@ const SLACK: u64 = 200;
 const MULTIPLIER: u64 = 0x517c_c1b7_2722_0a95;
 
 // A digest of bytes, eight of them at a time: FxHash.
-pub(crate) fn digest(bytes: &[u8]) -> u64 {
+fn digest(bytes: &[u8]) -> u64 {
     let mut state = bytes.len() as u64;
     let mut rest = bytes;
     for _ in 0..bytes.len() / 8 {
@@ -30,21 +30,21 @@ pub(crate) fn digest(bytes: &[u8]) -> u64 {
     state
 }
 
-pub(crate) fn mixed(state: u64, word: u64) -> u64 {
+fn mixed(state: u64, word: u64) -> u64 {
     (state.rotate_left(5) ^ word).wrapping_mul(MULTIPLIER)
 }
 
 // The bytes of a segment, ordered by their digest and then by themselves. Bytes with different digests are never
-// compared. A peer can choose bytes that all have one digest; a search then compares the bytes of as many segments as
-// an ordered map looks at, so of at most a few times the logarithm of their number.
+// compared. A peer can choose bytes that all have one digest. A search then compares the bytes of the segments that an
+// ordered map looks at: at most a few times the logarithm of their number.
 #[derive(Clone, Copy, PartialEq, Eq, PartialOrd, Ord)]
-pub(crate) struct Key<'t> {
+struct Key<'t> {
     digest: u64,
     bytes: &'t [u8],
 }
 
 impl<'t> Key<'t> {
-    pub(crate) fn of(bytes: &'t [u8]) -> Key<'t> {
+    fn of(bytes: &'t [u8]) -> Key<'t> {
         Key {
             digest: digest(bytes),
             bytes,
@@ -52,11 +52,11 @@ impl<'t> Key<'t> {
     }
 }
 
-/// A line that went out, by its number in the trace that is written.
-#[derive(Clone, Copy, PartialEq, Eq)]
+/// A line that shows a segment sent, by its number in the trace with added lines.
+#[derive(Clone, Copy)]
 pub(crate) struct Sending {
     pub line: u64,
-    /// When it went out, in microseconds.
+    /// When it was sent, in microseconds.
     pub moment: u64,
 }
 
@@ -71,20 +71,20 @@ struct Sendings {
     is_only: bool,
 }
 
-// What went out at a host.
+// What a host sent.
 #[derive(Drop)]
-pub(crate) struct Sent<K: Ord> {
+struct Sent<'t> {
     all: Vec<Sendings>,
     /// For the bytes of a segment, their place among all.
-    places: BTreeMap<K, usize>,
+    places: BTreeMap<Key<'t>, usize>,
     /// For a line, the next one with the same bytes.
     next: BTreeMap<u64, Sending>,
-    /// How long the fastest segment was in flight that went out once, in microseconds.
+    /// How long the fastest segment was in transit that was sent once, in microseconds.
     fastest: u64,
 }
 
-impl<K: Ord + Drop> Sent<K> {
-    pub(crate) fn new(alloc: Global) -> Sent<K> {
+impl<'t> Sent<'t> {
+    fn new(alloc: Global) -> Sent<'t> {
         Sent {
             all: Vec::new(alloc),
             places: BTreeMap::new(alloc),
@@ -93,12 +93,8 @@ impl<K: Ord + Drop> Sent<K> {
         }
     }
 
-    pub(crate) fn place(&self, key: &K) -> Option<usize> {
-        self.places.get(key).copied()
-    }
-
-    // These bytes went out with a line.
-    pub(crate) fn add(&mut self, key: K, sending: Sending) -> Result<(), OutOfMemory> {
+    // These bytes were sent with a line.
+    fn add(&mut self, key: Key<'t>, sending: Sending) -> Result<(), OutOfMemory> {
         let place = self.all.len();
         match self.places.entry(key)? {
             Entry::Occupied(known) => {
@@ -117,7 +113,7 @@ impl<K: Ord + Drop> Sent<K> {
         Ok(())
     }
 
-    // The bytes of this place went out once more, with a line.
+    // The bytes of this place were sent once more, with a line.
     fn add_again(&mut self, place: usize, sending: Sending) -> Result<(), OutOfMemory> {
         if let Some(known) = self.all.get_mut(place) {
             self.next.insert(known.last.line, sending)?;
@@ -137,8 +133,8 @@ impl<K: Ord + Drop> Sent<K> {
         }
     }
 
-    // The first line of this place that has no copy yet. Of several, those are passed that would have been in flight
-    // for much longer than the fastest segment.
+    // The first line of this place that has no copy yet. Of several, those are passed over that would have been in
+    // transit for much longer than the fastest segment.
     fn first(&mut self, place: usize, moment: u64) -> Option<u64> {
         let longest = self.fastest.saturating_mul(FEW).saturating_add(SLACK);
         for _ in 0..=self.next.len() {
@@ -158,8 +154,8 @@ impl<K: Ord + Drop> Sent<K> {
             return;
         };
         if known.is_only {
-            let flight = moment.saturating_sub(known.last.moment);
-            self.fastest = self.fastest.min(flight);
+            let duration = moment.saturating_sub(known.last.moment);
+            self.fastest = self.fastest.min(duration);
         }
         match known.open {
             Some(open) if open.line == line => self.pass(place),
@@ -168,15 +164,15 @@ impl<K: Ord + Drop> Sent<K> {
     }
 }
 
-/// What went out, by host and bytes.
+/// Sent segments, by host and bytes.
 #[derive(Drop)]
 pub(crate) struct Copies<'t> {
-    zero: Sent<Key<'t>>,
-    one: Sent<Key<'t>>,
+    zero: Sent<'t>,
+    one: Sent<'t>,
 }
 
 impl<'t> Copies<'t> {
-    /// Nothing went out.
+    /// Nothing was sent.
     pub(crate) fn new(alloc: Global) -> Copies<'t> {
         Copies {
             zero: Sent::new(alloc),
@@ -184,21 +180,21 @@ impl<'t> Copies<'t> {
         }
     }
 
-    fn of(&self, host: Host) -> &Sent<Key<'t>> {
+    fn of(&self, host: Host) -> &Sent<'t> {
         match host {
             Host::Zero => &self.zero,
             Host::One => &self.one,
         }
     }
 
-    fn of_mut(&mut self, host: Host) -> &mut Sent<Key<'t>> {
+    fn of_mut(&mut self, host: Host) -> &mut Sent<'t> {
         match host {
             Host::Zero => &mut self.zero,
             Host::One => &mut self.one,
         }
     }
 
-    /// These bytes of a host went out with a line.
+    /// A host sent these bytes with a line.
     pub(crate) fn send(
         &mut self,
         host: Host,
@@ -210,11 +206,11 @@ impl<'t> Copies<'t> {
 
     /// The place of the lines with these bytes of a host. None: no such line.
     pub(crate) fn place(&self, host: Host, bytes: &'t [u8]) -> Option<usize> {
-        self.of(host).place(&Key::of(bytes))
+        self.of(host).places.get(&Key::of(bytes)).copied()
     }
 
-    /// The first line of this place that has no copy yet. Of several, those are passed that would have been in flight
-    /// for much longer than others were.
+    /// The first line of this place that has no copy yet. Of several, those are passed over that would have been in
+    /// transit for much longer than others were.
     pub(crate) fn first(&mut self, host: Host, place: usize, moment: u64) -> Option<u64> {
         self.of_mut(host).first(place, moment)
     }
