@@ -30,9 +30,9 @@ pub(crate) struct Pending {
     pub end: Option<usize>,
 }
 
-// For each listener and endpoint, calls that wait there. Some of them may have had their effect.
+/// For each listener and endpoint, calls that wait there. Some of them may have had their effect.
 #[derive(Drop)]
-struct Waiting {
+pub(crate) struct Waiting {
     alloc: Global,
     queues: BTreeMap<Meant, VecDeque<Pending>>,
 }
@@ -55,16 +55,16 @@ impl Waiting {
         Ok(())
     }
 
-    // Puts a call back that was the first.
-    fn put_back(&mut self, meant: Meant, pending: Pending) -> Result<(), OutOfMemory> {
+    /// Puts a call back that was the first.
+    pub(crate) fn put_back(&mut self, meant: Meant, pending: Pending) -> Result<(), OutOfMemory> {
         if let Some(queue) = self.queues.get_mut(&meant) {
             queue.push_front(pending)?;
         }
         Ok(())
     }
 
-    // Removes the call that has waited longest.
-    fn pop(&mut self, meant: Meant) -> Option<Pending> {
+    /// Removes the call that has waited longest.
+    pub(crate) fn pop(&mut self, meant: Meant) -> Option<Pending> {
         self.queues.get_mut(&meant)?.pop_front()
     }
 }
@@ -75,11 +75,11 @@ pub(crate) struct Calls {
     /// For each thread, the place at which such a call began.
     open: BTreeMap<u32, usize>,
     /// The calls whose end is known, in the order of their beginnings.
-    ended: Waiting,
+    pub ended: Waiting,
     /// The calls that are open at the end of the trace.
-    unended: Waiting,
-    /// For an endpoint, the call that would open it.
-    opens: BTreeMap<EndpointKey, Pending>,
+    pub unended: Waiting,
+    /// For an endpoint whose ports are in use, the call that would open it.
+    pub opens: BTreeMap<EndpointKey, Pending>,
 }
 
 impl Calls {
@@ -119,41 +119,6 @@ impl Calls {
             Some(_) => self.ended.put(meant, pending),
             None => self.unended.put(meant, pending),
         }
-    }
-
-    /// Removes the first waiting call whose end is known.
-    pub(crate) fn pop_ended(&mut self, meant: Meant) -> Option<Pending> {
-        self.ended.pop(meant)
-    }
-
-    /// Puts such a call back.
-    pub(crate) fn put_back(&mut self, meant: Meant, pending: Pending) -> Result<(), OutOfMemory> {
-        self.ended.put_back(meant, pending)
-    }
-
-    /// Removes the first waiting call that is open at the end of the trace.
-    pub(crate) fn pop_unended(&mut self, meant: Meant) -> Option<Pending> {
-        self.unended.pop(meant)
-    }
-
-    /// A call waits until it can open an endpoint.
-    pub(crate) fn wait_to_open(
-        &mut self,
-        key: EndpointKey,
-        pending: Pending,
-    ) -> Result<(), OutOfMemory> {
-        self.opens.insert(key, pending)?;
-        Ok(())
-    }
-
-    /// The call that waits to open an endpoint.
-    pub(crate) fn opening(&self, key: EndpointKey) -> Option<Pending> {
-        self.opens.get(&key).copied()
-    }
-
-    /// The call that waited to open an endpoint did so.
-    pub(crate) fn opened(&mut self, key: EndpointKey) {
-        self.opens.remove(&key);
     }
 }
 

@@ -47,48 +47,27 @@ pub enum Unseen {
     Reset,
 }
 
-/// One choice.
+/// What is done otherwise at a line.
 #[derive(Clone, Copy, PartialEq, Eq)]
-pub enum Choice {
-    /// This becomes of the arrival of a line.
-    Fate {
-        place: usize,
-        fate: Fate,
-    },
-    /// The arrival or the call of a line waits until after a later line.
-    Waits {
-        place: usize,
-        after: usize,
-    },
-    /// The segment of a line is built after an earlier line.
-    Early {
-        place: usize,
-        after: usize,
-    },
-    /// After a line, an endpoint builds what no line shows.
-    Unseen {
-        after: usize,
-        at: EndpointKey,
-        unseen: Unseen,
-    },
-    /// Before a line, this happens at an endpoint.
-    Before {
-        place: usize,
-        at: EndpointKey,
-        remedy: Remedy,
-    },
+pub enum Deed {
+    /// This becomes of its arrival.
+    Fate(Fate),
+    /// Its arrival or its call waits until after this line.
+    WaitUntil(usize),
+    /// After it, the segment of this later line is built.
+    Build(usize),
+    /// After it, an endpoint builds what no line shows.
+    BuildUnseen(EndpointKey, Unseen),
+    /// Before it, this happens at an endpoint.
+    Before(EndpointKey, Remedy),
 }
 
-impl Choice {
-    // The first line that it changes.
-    fn first_line(self) -> usize {
-        match self {
-            Choice::Fate { place, .. }
-            | Choice::Before { place, .. }
-            | Choice::Waits { place, .. } => place,
-            Choice::Early { after, .. } | Choice::Unseen { after, .. } => after,
-        }
-    }
+/// One choice.
+#[derive(Clone, Copy, PartialEq, Eq)]
+pub struct Choice {
+    /// The place of the line.
+    pub place: usize,
+    pub deed: Deed,
 }
 
 /// What was chosen for an arrival.
@@ -152,17 +131,12 @@ impl Choices {
         }
     }
 
-    // Adds a choice.
-    fn push(&mut self, choice: Choice) -> Result<(), OutOfMemory> {
-        self.all.push(choice)?;
-        self.put(choice)
-    }
-
     /// Adds choices, without those that are the last of their lines already.
     pub fn push_all(&mut self, choices: &[Choice]) -> Result<(), OutOfMemory> {
         for choice in choices {
-            if self.at(choice.first_line()).last().copied() != Some(*choice) {
-                self.push(*choice)?;
+            if self.at(choice.place).last().copied() != Some(*choice) {
+                self.all.push(*choice)?;
+                self.put(*choice)?;
             }
         }
         Ok(())
@@ -170,9 +144,9 @@ impl Choices {
 
     // Puts a choice at its lines.
     fn put(&mut self, choice: Choice) -> Result<(), OutOfMemory> {
-        self.put_at(choice.first_line(), choice)?;
-        match choice {
-            Choice::Waits { after, .. } => self.put_at(after, choice),
+        self.put_at(choice.place, choice)?;
+        match choice.deed {
+            Deed::WaitUntil(after) => self.put_at(after, choice),
             _ => Ok(()),
         }
     }
@@ -238,9 +212,8 @@ impl Choices {
     pub(crate) fn arrival(&self, place: usize) -> Arrival {
         let mut arrival = USUAL;
         for choice in self.at(place) {
-            match choice {
-                Choice::Fate { place: at, fate } if *at == place => arrival = arrival.with(*fate),
-                _ => {}
+            if let Deed::Fate(fate) = choice.deed {
+                arrival = arrival.with(fate);
             }
         }
         arrival.waits = self.waits(place);
@@ -250,8 +223,8 @@ impl Choices {
     /// Whether the arrival or the call of a line waits for a later one.
     pub(crate) fn waits(&self, place: usize) -> bool {
         for choice in self.at(place) {
-            match choice {
-                Choice::Waits { place: at, after } if *at == place => return *after > place,
+            match choice.deed {
+                Deed::WaitUntil(after) if choice.place == place => return after > place,
                 _ => {}
             }
         }

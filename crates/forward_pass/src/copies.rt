@@ -71,9 +71,9 @@ struct Sendings {
     is_only: bool,
 }
 
-// What a host sent.
+/// What a host sent.
 #[derive(Drop)]
-struct Sent<'t> {
+pub(crate) struct Sent<'t> {
     all: Vec<Sendings>,
     /// For the bytes of a segment, their place among all.
     places: BTreeMap<Key<'t>, usize>,
@@ -93,10 +93,10 @@ impl<'t> Sent<'t> {
         }
     }
 
-    // These bytes were sent with a line.
-    fn add(&mut self, key: Key<'t>, sending: Sending) -> Result<(), OutOfMemory> {
+    /// These bytes were sent with a line.
+    pub(crate) fn add(&mut self, bytes: &'t [u8], sending: Sending) -> Result<(), OutOfMemory> {
         let place = self.all.len();
-        match self.places.entry(key)? {
+        match self.places.entry(Key::of(bytes))? {
             Entry::Occupied(known) => {
                 let place = *known.get();
                 return self.add_again(place, sending);
@@ -124,8 +124,18 @@ impl<'t> Sent<'t> {
         Ok(())
     }
 
-    // The first line of this place that has no copy will get none.
-    fn pass(&mut self, place: usize) {
+    /// The place of the lines with these bytes. None: no such line.
+    pub(crate) fn place(&self, bytes: &'t [u8]) -> Option<usize> {
+        self.places.get(&Key::of(bytes)).copied()
+    }
+
+    /// The last line of this place.
+    pub(crate) fn last(&self, place: usize) -> Option<u64> {
+        Some(self.all.get(place)?.last.line)
+    }
+
+    /// The first line of this place that has no copy will get none.
+    pub(crate) fn pass(&mut self, place: usize) {
         if let Some(known) = self.all.get_mut(place) {
             if let Some(first) = known.open {
                 known.open = self.next.remove(&first.line);
@@ -133,9 +143,9 @@ impl<'t> Sent<'t> {
         }
     }
 
-    // The first line of this place that has no copy yet. Of several, those are passed over that would have been in
-    // transit for much longer than the fastest segment.
-    fn first(&mut self, place: usize, moment: u64) -> Option<u64> {
+    /// The first line of this place that has no copy yet. Of several, those are passed over that would have been in
+    /// transit for much longer than the fastest segment.
+    pub(crate) fn first(&mut self, place: usize, moment: u64) -> Option<u64> {
         let longest = self.fastest.saturating_mul(FEW).saturating_add(SLACK);
         for _ in 0..=self.next.len() {
             let known = self.all.get(place).copied()?;
@@ -148,8 +158,8 @@ impl<'t> Sent<'t> {
         None
     }
 
-    // A copy of a line of this place arrived.
-    fn arrive(&mut self, place: usize, line: u64, moment: u64) {
+    /// A copy of a line of this place arrived.
+    pub(crate) fn arrive(&mut self, place: usize, line: u64, moment: u64) {
         let Some(known) = self.all.get(place).copied() else {
             return;
         };
@@ -164,7 +174,7 @@ impl<'t> Sent<'t> {
     }
 }
 
-/// Sent segments, by host and bytes.
+/// Sent segments of both hosts.
 #[derive(Drop)]
 pub(crate) struct Copies<'t> {
     zero: Sent<'t>,
@@ -180,53 +190,11 @@ impl<'t> Copies<'t> {
         }
     }
 
-    fn of(&self, host: Host) -> &Sent<'t> {
-        match host {
-            Host::Zero => &self.zero,
-            Host::One => &self.one,
-        }
-    }
-
-    fn of_mut(&mut self, host: Host) -> &mut Sent<'t> {
+    /// What a host sent.
+    pub(crate) fn of(&mut self, host: Host) -> &mut Sent<'t> {
         match host {
             Host::Zero => &mut self.zero,
             Host::One => &mut self.one,
         }
-    }
-
-    /// A host sent these bytes with a line.
-    pub(crate) fn send(
-        &mut self,
-        host: Host,
-        bytes: &'t [u8],
-        sending: Sending,
-    ) -> Result<(), OutOfMemory> {
-        self.of_mut(host).add(Key::of(bytes), sending)
-    }
-
-    /// The place of the lines with these bytes of a host. None: no such line.
-    pub(crate) fn place(&self, host: Host, bytes: &'t [u8]) -> Option<usize> {
-        self.of(host).places.get(&Key::of(bytes)).copied()
-    }
-
-    /// The first line of this place that has no copy yet. Of several, those are passed over that would have been in
-    /// transit for much longer than others were.
-    pub(crate) fn first(&mut self, host: Host, place: usize, moment: u64) -> Option<u64> {
-        self.of_mut(host).first(place, moment)
-    }
-
-    /// The last line of this place.
-    pub(crate) fn last(&self, host: Host, place: usize) -> Option<u64> {
-        Some(self.of(host).all.get(place)?.last.line)
-    }
-
-    /// The first line of this place that has no copy will get none.
-    pub(crate) fn pass(&mut self, host: Host, place: usize) {
-        self.of_mut(host).pass(place)
-    }
-
-    /// A copy of a line of this place arrived.
-    pub(crate) fn arrive(&mut self, host: Host, place: usize, line: u64, moment: u64) {
-        self.of_mut(host).arrive(place, line, moment)
     }
 }

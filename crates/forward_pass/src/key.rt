@@ -1,13 +1,14 @@
 //! Endpoints, by their host and ports.
 
 use case_forms::{Event, Host, Line, Ports, Wire};
+use spec_tcp::Emission;
 
 /// An endpoint of a host.
 #[derive(Clone, Copy, PartialEq, Eq, PartialOrd, Ord)]
 pub struct EndpointKey {
     host: u8,
-    lport: u16,
-    rport: u16,
+    pub lport: u16,
+    pub rport: u16,
 }
 
 /// The number of a host.
@@ -31,6 +32,11 @@ impl EndpointKey {
     /// The endpoint of a host that sends a segment.
     pub fn sender(host: Host, wire: &Wire) -> EndpointKey {
         EndpointKey::new(host, wire.seg.src, wire.seg.dst)
+    }
+
+    /// The endpoint of a host for which a segment is meant.
+    pub(crate) fn receiver(host: Host, m: &Emission) -> EndpointKey {
+        EndpointKey::new(host, m.rport, m.lport)
     }
 
     /// The endpoint whose segment or timer a line shows. None: the line shows a call.

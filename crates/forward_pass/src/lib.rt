@@ -34,7 +34,7 @@ mod progress;
 mod stop;
 
 pub use attempt::{Attempt, End, Failure};
-pub use choices::{Choice, Choices, Fate, Remedy, Unseen};
+pub use choices::{Choice, Choices, Deed, Fate, Remedy, Unseen};
 pub use key::EndpointKey;
 pub use outgoing::LaterLines;
 pub use pass::{MeantCall, Met, Sought};

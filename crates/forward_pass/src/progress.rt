@@ -121,9 +121,8 @@ impl Progress {
 
     /// An endpoint. None: it doesn't exist.
     pub(crate) fn endpoint(&self, key: EndpointKey) -> Option<&Endpoint> {
-        let ports = key.ports();
         let body = self.world.body(key.host());
-        body.endpoint_of(ports.lport, ports.rport)
+        body.endpoint_of(key.lport, key.rport)
     }
 
     /// Writes a step down.

@@ -1,8 +1,5 @@
 //! Why a step isn't done.
 
-ghost use Rattle.std.specs.Prelude.{◌≡◌};
-ghost use Rattle.forward_pass.specs.declared.stop.Stop.TheVariants as stops;
-
 use endpoint_state::StepFault;
 use std::alloc::{AllocError, AllocFailed};
 use verdict::Rule;
@@ -18,8 +15,6 @@ pub(crate) enum Stop {
 }
 
 impl From<Rule> for Stop {
-    ghost from_gives = { λ rule stop. stop ≡ stops.Broken rule };
-
     fn from(rule: Rule) -> Stop {
         Stop::Broken(rule)
     }
@@ -35,16 +30,12 @@ impl From<StepFault> for Stop {
 }
 
 impl From<AllocError> for Stop {
-    ghost from_gives = { λ _ stop. stop ≡ stops.OutOfMemory };
-
     fn from(_error: AllocError) -> Stop {
         Stop::OutOfMemory
     }
 }
 
 impl<T: Drop> From<AllocFailed<T>> for Stop {
-    ghost from_gives = { λ _ stop. stop ≡ stops.OutOfMemory };
-
     fn from(_error: AllocFailed<T>) -> Stop {
         Stop::OutOfMemory
     }

@@ -3,7 +3,7 @@
 use crate::candidates::Candidates;
 use crate::together::Kind;
 use case_forms::{Event, Line, OutOfMemory, Timer};
-use forward_pass::{Attempt, Choice, EndpointKey, Failure, Fate, Met, Remedy, Unseen};
+use forward_pass::{Attempt, Deed, EndpointKey, Failure, Fate, Met, Remedy, Unseen};
 use segment::Flag;
 use verdict::Rule;
 
@@ -29,6 +29,13 @@ pub(crate) struct Known<'t> {
     pub lines: &'t [Line],
     pub met: &'t Met,
     pub failure: Failure,
+}
+
+// A line that is examined, the first time or the second.
+#[derive(Clone, Copy)]
+struct Spot {
+    place: usize,
+    is_far: bool,
 }
 
 /// Adds what could have been chosen before a failure, the most likely first, then the nearest lines first. The result
@@ -66,7 +73,7 @@ impl<'t> Known<'t> {
             let place = self.failure.place.saturating_sub(back);
             let (left, key) = self.call_at(calls, place);
             calls = left;
-            self.look_at(out, place, key, is_far)?;
+            self.look_at(out, Spot { place, is_far }, key)?;
         }
         Ok(())
     }
@@ -86,11 +93,10 @@ impl<'t> Known<'t> {
     fn look_at(
         &self,
         out: &mut Candidates,
-        place: usize,
+        spot: Spot,
         call: Option<EndpointKey>,
-        is_far: bool,
     ) -> Result<(), OutOfMemory> {
-        let Some(line) = self.lines.get(place) else {
+        let Some(line) = self.lines.get(spot.place) else {
             return Ok(());
         };
         let key = EndpointKey::of_line(line).or(call);
@@ -99,26 +105,22 @@ impl<'t> Known<'t> {
             return Ok(());
         }
         match &line.event {
-            Event::Came(_, _) => self.at_arrival(out, place, is_far)?,
+            Event::Came(_, _) => self.at_arrival(out, spot)?,
             Event::Sent(host, wire) => {
-                self.at_sending(out, place, EndpointKey::sender(*host, wire), is_far)?
+                self.at_sending(out, spot, EndpointKey::sender(*host, wire))?
             }
-            Event::CallBegin(_) => self.wait_until(out, place, is_far)?,
+            Event::CallBegin(_) => self.wait_until(out, spot)?,
             Event::CallEnd(_) | Event::Expired(_, _, _, _) => {}
         }
         match wanted {
-            Some(key) => self.unseen_after(out, place, key, is_far),
+            Some(key) => self.unseen_after(out, spot, key),
             None => Ok(()),
         }
     }
 
     // An arrival waits, or is processed otherwise, or dropped.
-    fn at_arrival(
-        &self,
-        out: &mut Candidates,
-        place: usize,
-        is_far: bool,
-    ) -> Result<(), OutOfMemory> {
+    fn at_arrival(&self, out: &mut Candidates, spot: Spot) -> Result<(), OutOfMemory> {
+        let Spot { place, is_far } = spot;
         if place == self.failure.place {
             return Ok(());
         }
@@ -130,13 +132,12 @@ impl<'t> Known<'t> {
             [Fate::NotKept, Fate::Dropped]
         };
         for fate in fates {
-            out.push(Choice::Fate { place, fate })?;
+            out.push(place, Deed::Fate(fate))?;
         }
         if !is_far && self.is_timed() {
-            let fate = Fate::Unmeasured;
-            out.push(Choice::Fate { place, fate })?;
+            out.push(place, Deed::Fate(Fate::Unmeasured))?;
         }
-        self.wait_until(out, place, is_far)
+        self.wait_until(out, spot)
     }
 
     // Whether a failure has to do with timers.
@@ -148,53 +149,41 @@ impl<'t> Known<'t> {
     }
 
     // An arrival or a call waits until after the failure, or one of the next lines before it.
-    fn wait_until(
-        &self,
-        out: &mut Candidates,
-        place: usize,
-        is_far: bool,
-    ) -> Result<(), OutOfMemory> {
+    fn wait_until(&self, out: &mut Candidates, spot: Spot) -> Result<(), OutOfMemory> {
+        let Spot { place, is_far } = spot;
         let last = self.failure.place;
-        if !is_far && place != last {
-            self.push_wait(out, place, last)?;
-        }
-        if is_far {
-            for step in 1..NEAR {
-                let after = place.saturating_add(step);
-                if after < last {
-                    self.push_wait(out, place, after)?;
-                }
+        let lines = if is_far {
+            place.saturating_add(1)..place.saturating_add(NEAR).min(last)
+        } else {
+            last..last.saturating_add(1)
+        };
+        for after in lines {
+            if place < after && self.may_wait(place, after) {
+                out.push(place, Deed::WaitUntil(after))?;
             }
         }
         Ok(())
     }
 
-    // An arrival or a call waits until after a line; an arrival not for too long.
-    fn push_wait(
-        &self,
-        out: &mut Candidates,
-        place: usize,
-        after: usize,
-    ) -> Result<(), OutOfMemory> {
-        let (Some(line), Some(later)) = (self.lines.get(place), self.lines.get(after)) else {
-            return Ok(());
-        };
-        let is_too_long = matches!(&line.event, Event::Came(_, _))
-            && later.moment.saturating_sub(line.moment) > LONGEST_WAIT;
-        if is_too_long {
-            return Ok(());
+    // Whether an arrival or a call may wait until after a line; an arrival not for too long.
+    fn may_wait(&self, place: usize, after: usize) -> bool {
+        match (self.lines.get(place), self.lines.get(after)) {
+            (Some(line), Some(later)) => {
+                !matches!(&line.event, Event::Came(_, _))
+                    || later.moment.saturating_sub(line.moment) <= LONGEST_WAIT
+            }
+            _ => false,
         }
-        out.push(Choice::Waits { place, after })
     }
 
     // The segment of a line was built earlier, or something happened before it.
     fn at_sending(
         &self,
         out: &mut Candidates,
-        place: usize,
+        spot: Spot,
         at: EndpointKey,
-        is_far: bool,
     ) -> Result<(), OutOfMemory> {
+        let Spot { place, is_far } = spot;
         if is_far == (place == self.failure.place) {
             return Ok(());
         }
@@ -205,7 +194,7 @@ impl<'t> Known<'t> {
                 Remedy::Rto,
                 Remedy::TimeWaitOver,
             ] {
-                out.push(Choice::Before { place, at, remedy })?;
+                out.push(place, Deed::Before(at, remedy))?;
             }
         }
         self.earlier(out, place)
@@ -215,7 +204,7 @@ impl<'t> Known<'t> {
     fn earlier(&self, out: &mut Candidates, place: usize) -> Result<(), OutOfMemory> {
         for step in 1..=NEAR {
             if let Some(after) = place.checked_sub(step) {
-                out.push(Choice::Early { place, after })?;
+                out.push(after, Deed::Build(place))?;
             }
         }
         Ok(())
@@ -225,10 +214,13 @@ impl<'t> Known<'t> {
     fn unseen_after(
         &self,
         out: &mut Candidates,
-        after: usize,
+        spot: Spot,
         key: EndpointKey,
-        is_far: bool,
     ) -> Result<(), OutOfMemory> {
+        let Spot {
+            place: after,
+            is_far,
+        } = spot;
         if after >= self.failure.place {
             return Ok(());
         }
@@ -263,7 +255,7 @@ fn push_unseen(
     kinds: [Unseen; 2],
 ) -> Result<(), OutOfMemory> {
     for unseen in kinds {
-        out.push(Choice::Unseen { after, at, unseen })?;
+        out.push(after, Deed::BuildUnseen(at, unseen))?;
     }
     Ok(())
 }

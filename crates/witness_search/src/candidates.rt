@@ -1,7 +1,7 @@
 //! Candidates for other choices.
 
 use case_forms::OutOfMemory;
-use forward_pass::Choice;
+use forward_pass::{Choice, Deed};
 use std::alloc::Global;
 
 /// Candidates, each of which is one choice or several.
@@ -50,14 +50,14 @@ impl Candidates {
     }
 
     /// Adds a candidate of one choice.
-    pub(crate) fn push(&mut self, choice: Choice) -> Result<(), OutOfMemory> {
-        self.add(choice)?;
+    pub(crate) fn push(&mut self, place: usize, deed: Deed) -> Result<(), OutOfMemory> {
+        self.add(place, deed)?;
         self.end()
     }
 
     /// Adds a choice to the candidate that ends next.
-    pub(crate) fn add(&mut self, choice: Choice) -> Result<(), OutOfMemory> {
-        self.choices.push(choice)?;
+    pub(crate) fn add(&mut self, place: usize, deed: Deed) -> Result<(), OutOfMemory> {
+        self.choices.push(Choice { place, deed })?;
         Ok(())
     }
 

@@ -3,7 +3,7 @@
 use crate::alternatives::{Known, NEAR, REACH};
 use crate::candidates::Candidates;
 use case_forms::{Event, OutOfMemory, Wire};
-use forward_pass::{Choice, EndpointKey, Fate, Remedy};
+use forward_pass::{Deed, EndpointKey, Fate, Remedy};
 use segment::Flag;
 use verdict::Rule;
 
@@ -87,10 +87,7 @@ impl Known<'_> {
                 continue;
             }
             left = left.saturating_sub(1);
-            out.push(Choice::Fate {
-                place: *place,
-                fate: Fate::Widened,
-            })?;
+            out.push(*place, Deed::Fate(Fate::Widened))?;
         }
         Ok(())
     }
@@ -115,11 +112,9 @@ impl Known<'_> {
                 continue;
             };
             match end {
-                Some(end) if HALF <= wire.seg.seq.0.wrapping_sub(end) => out.add(Choice::Before {
-                    place,
-                    at,
-                    remedy: Remedy::Rto,
-                })?,
+                Some(end) if HALF <= wire.seg.seq.0.wrapping_sub(end) => {
+                    out.add(place, Deed::Before(at, Remedy::Rto))?
+                }
                 _ => end = Some(end_of(wire)),
             }
         }
@@ -158,7 +153,7 @@ impl Known<'_> {
                 continue;
             }
             left = left.saturating_sub(1);
-            out.add(Choice::Fate { place, fate })?;
+            out.add(place, Deed::Fate(fate))?;
         }
         Ok(())
     }

@@ -108,34 +108,39 @@ impl<'t> Pass<'t> {
         if self.sought.header.version.is_half() {
             return self.progress.hear(host, wire);
         }
-        let Some(place) = self.copies.place(host.other(), wire.bytes.as_slice()) else {
+        let place = self.copies.of(host.other()).place(wire.bytes.as_slice());
+        let Some(place) = place else {
             return self.progress.arrive(host, 0, wire);
         };
         let copied = self.copied(host, wire, place, how);
         let line = self.progress.arrive(host, copied, wire)?;
         let moment = self.progress.moment();
-        self.copies.arrive(host.other(), place, copied, moment);
+        let sent = self.copies.of(host.other());
+        sent.arrive(place, copied, moment);
         Ok(line)
     }
 
     // The line that an arrival copies: of those with its bytes, which are at this place, the first that has no copy
     // yet, unless others show that it is too old; else the last.
     fn copied(&mut self, host: Host, wire: &'t Wire, place: usize, how: Arrival) -> u64 {
-        let sender = host.other();
         let moment = self.progress.moment();
-        if !how.is_of_last {
-            for _ in 0..self.sought.lines.len() {
-                let Some(line) = self.copies.first(sender, place, moment) else {
-                    break;
-                };
-                let world = self.progress.world();
-                match world.admits_arrival(host, moment, line, wire) {
-                    Err(Rule::Lifetime) => self.copies.pass(sender, place),
-                    _ => return line,
-                }
+        let world = self.progress.world();
+        let sent = self.copies.of(host.other());
+        let tries = if how.is_of_last {
+            0
+        } else {
+            self.sought.lines.len()
+        };
+        for _ in 0..tries {
+            let Some(line) = sent.first(place, moment) else {
+                break;
+            };
+            match world.admits_arrival(host, moment, line, wire) {
+                Err(Rule::Lifetime) => sent.pass(place),
+                _ => return line,
             }
         }
-        self.copies.last(sender, place).unwrap_or(0)
+        sent.last(place).unwrap_or(0)
     }
 
     /// An arrival is processed, answered or dropped.
@@ -178,7 +183,7 @@ impl<'t> Pass<'t> {
     // The endpoint that an arrival is meant for.
     fn receiver(&self, host: Host, line: u64) -> Option<EndpointKey> {
         let m = self.progress.world().waiting(host, line)?;
-        Some(EndpointKey::new(host, m.rport, m.lport))
+        Some(EndpointKey::receiver(host, m))
     }
 
     // The greatest choice with which an arrival may be processed.
@@ -237,13 +242,12 @@ impl<'t> Pass<'t> {
         let Some(m) = world.waiting(host, line) else {
             return Ok(false);
         };
-        let Some(endpoint) = endpoint_found(world, host, m) else {
-            return Ok(false);
+        let key = EndpointKey::receiver(host, m);
+        let is_over = match endpoint_found(world, host, m) {
+            Some(endpoint) => m.flags.syn && endpoint.state.is_time_wait(),
+            None => false,
         };
-        if !(m.flags.syn && endpoint.state.is_time_wait()) {
-            return Ok(false);
-        }
-        self.add_expiry(EndpointKey::new(host, m.rport, m.lport), Timer::Msl2)
+        Ok(is_over && self.add_expiry(key, Timer::Msl2)?)
     }
 
     // Answers an arrival by a reset, if its receiver sends that reset next.
@@ -261,7 +265,7 @@ impl<'t> Pass<'t> {
     // The line of the reset that answers an arrival, and its endpoint.
     fn answer_to(&self, host: Host, line: u64) -> Option<(EndpointKey, usize)> {
         let m = self.progress.world().waiting(host, line)?;
-        let key = EndpointKey::new(host, m.rport, m.lport);
+        let key = EndpointKey::receiver(host, m);
         let (place, wire) = self.outgoing.next_reset(key)?;
         let reset = reset_of(self.sought.alloc, m);
         if matches_sent(self.sought.header, wire, &reset) {
@@ -289,7 +293,7 @@ impl<'t> Pass<'t> {
     fn earlier(&self, host: Host, line: u64) -> Option<Earlier<'t>> {
         let world = self.progress.world();
         let m = world.waiting(host, line)?;
-        let key = EndpointKey::new(host, m.rport, m.lport);
+        let key = EndpointKey::receiver(host, m);
         let (place, wire) = self.outgoing.next(key)?;
         let endpoint = endpoint_found(world, host, m)?;
         let read = as_read(world, endpoint, m)?;

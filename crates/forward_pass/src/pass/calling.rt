@@ -28,7 +28,7 @@ fn timer_for(answer: &Answer) -> Option<Timer> {
     }
 }
 
-impl Pass<'_> {
+impl<'t> Pass<'t> {
     /// The current line begins a call; the call has its effect if that's permitted.
     pub(crate) fn begin(&mut self, thread: u32, call: &Call) -> Result<(), Stop> {
         let place = self.progress.place();
@@ -38,9 +38,10 @@ impl Pass<'_> {
             self.met.meant.push(MeantCall { place, key })?;
         }
         if self.choices.waits(place) {
-            return Ok(());
+            Ok(())
+        } else {
+            self.try_first(place, thread, call)
         }
-        self.try_first(place, thread, call)
     }
 
     // A call has its effect if that's permitted; else it waits.
@@ -74,7 +75,7 @@ impl Pass<'_> {
 
     // A call opens an endpoint whose ports are in use: the old one's TIME-WAIT is over, or the call waits.
     fn wait_for_ports(&mut self, pending: Pending, key: EndpointKey) -> Result<(), Stop> {
-        self.calls.wait_to_open(key, pending)?;
+        self.calls.opens.insert(key, pending)?;
         if self.add_expiry(key, Timer::Msl2)? {
             self.open_again(key)?;
         }
@@ -83,13 +84,13 @@ impl Pass<'_> {
 
     /// A call that waits for the ports of an endpoint is tried. The result is whether it had its effect.
     pub(crate) fn open_again(&mut self, key: EndpointKey) -> Result<bool, Stop> {
-        let Some(pending) = self.calls.opening(key) else {
+        let Some(pending) = self.calls.opens.get(&key).copied() else {
             return Ok(false);
         };
         if !self.had_effect(pending)? {
             return Ok(false);
         }
-        self.calls.opened(key);
+        self.calls.opens.remove(&key);
         Ok(true)
     }
 
@@ -144,18 +145,19 @@ impl Pass<'_> {
         Ok(self.calls.is_open(pending.thread, pending.begin) && self.has_effect(pending)?)
     }
 
+    // The answer with which a call ends.
+    fn answer_of(&self, pending: Pending) -> Option<&'t Answer> {
+        match &self.sought.lines.get(pending.end?)?.event {
+            Event::CallEnd(answer) => Some(answer),
+            _ => None,
+        }
+    }
+
     // Whether a call has its effect now.
     fn has_effect(&mut self, pending: Pending) -> Result<bool, Stop> {
-        let lines = self.sought.lines;
-        let Some(end) = pending.end else {
-            return Ok(false);
-        };
-        let Some(line) = lines.get(end) else {
-            return Ok(false);
-        };
-        match &line.event {
-            Event::CallEnd(answer) => self.try_effect(pending.thread, answer),
-            _ => Ok(false),
+        match self.answer_of(pending) {
+            Some(answer) => self.try_effect(pending.thread, answer),
+            None => Ok(false),
         }
     }
 
@@ -177,7 +179,7 @@ impl Pass<'_> {
 
     fn try_waiting(&mut self, meant: Meant, failed: &mut Vec<Pending>) -> Result<(), Stop> {
         for _ in 0..TRIES {
-            let Some(pending) = self.calls.pop_ended(meant) else {
+            let Some(pending) = self.calls.ended.pop(meant) else {
                 break;
             };
             if self.calls.is_open(pending.thread, pending.begin) && !self.has_effect(pending)? {
@@ -190,24 +192,21 @@ impl Pass<'_> {
     // The calls that failed wait on, before all others.
     fn put_back(&mut self, meant: Meant, failed: &[Pending]) -> Result<(), Stop> {
         for pending in failed.iter().rev() {
-            self.calls.put_back(meant, *pending)?;
+            self.calls.ended.put_back(meant, *pending)?;
         }
         Ok(())
     }
 
     /// The first call on an endpoint that is open at the end of the trace has its effect. The result is whether it did.
     pub(crate) fn suppose(&mut self, meant: Meant) -> Result<bool, Stop> {
-        let Some(pending) = self.calls.pop_unended(meant) else {
+        let Some(pending) = self.calls.unended.pop(meant) else {
             return Ok(false);
         };
         if !self.calls.is_open(pending.thread, pending.begin) {
             return Ok(false);
         }
-        let answer = match self.progress.world().pending_call(pending.thread) {
-            Some(call) => supposed(call),
-            None => None,
-        };
-        match answer {
+        let call = self.progress.world().pending_call(pending.thread);
+        match call.and_then(supposed) {
             Some(answer) => self.try_effect(pending.thread, &answer),
             None => Ok(false),
         }

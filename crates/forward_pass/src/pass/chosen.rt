@@ -1,7 +1,7 @@
 //! What happens before or after a line because it was chosen.
 
 use super::Pass;
-use crate::choices::{Choice, Remedy};
+use crate::choices::{Deed, Remedy};
 use crate::key::EndpointKey;
 use crate::stop::Stop;
 use case_forms::{Event, Timer};
@@ -11,13 +11,8 @@ impl Pass<'_> {
     pub(crate) fn prepare(&mut self, place: usize) -> Result<(), Stop> {
         let choices = self.choices;
         for choice in choices.at(place) {
-            match choice {
-                Choice::Before {
-                    place: before,
-                    at,
-                    remedy,
-                } if *before == place => self.apply(*at, *remedy)?,
-                _ => {}
+            if let Deed::Before(at, remedy) = choice.deed {
+                self.apply(at, remedy)?;
             }
         }
         Ok(())
@@ -39,33 +34,22 @@ impl Pass<'_> {
     pub(crate) fn go_on(&mut self, place: usize) -> Result<(), Stop> {
         let choices = self.choices;
         for choice in choices.at(place) {
-            self.make_chosen(place, choice)?;
+            match choice.deed {
+                Deed::Build(later) => self.make_early(later)?,
+                Deed::BuildUnseen(at, unseen) => {
+                    self.make_unseen(at, unseen, u64::MAX)?;
+                }
+                Deed::Fate(_) | Deed::WaitUntil(_) | Deed::Before(_, _) => {}
+            }
         }
         self.end_waits(place)
-    }
-
-    fn make_chosen(&mut self, place: usize, choice: &Choice) -> Result<(), Stop> {
-        match choice {
-            Choice::Early {
-                place: later,
-                after,
-            } if *after == place => self.make_early(*later),
-            Choice::Unseen { after, at, unseen } if *after == place => {
-                self.make_unseen(*at, *unseen, u64::MAX)?;
-                Ok(())
-            }
-            _ => Ok(()),
-        }
     }
 
     fn end_waits(&mut self, place: usize) -> Result<(), Stop> {
         let choices = self.choices;
         for choice in choices.at(place) {
-            match choice {
-                Choice::Waits {
-                    place: waiting,
-                    after,
-                } if *after == place => self.end_wait(*waiting)?,
+            match choice.deed {
+                Deed::WaitUntil(after) if after == place => self.end_wait(choice.place)?,
                 _ => {}
             }
         }
@@ -78,14 +62,11 @@ impl Pass<'_> {
         let Some(line) = lines.get(waiting) else {
             return Ok(());
         };
-        match &line.event {
-            Event::Came(host, _) => match self.waiting.remove(&waiting) {
-                Some(number) => {
-                    self.resolve_arrival(*host, number, self.choices.arrival(waiting))
-                }
-                None => Ok(()),
-            },
-            Event::CallBegin(call) => self.try_late(waiting, line.thread, call),
+        match (&line.event, self.waiting.remove(&waiting)) {
+            (Event::Came(host, _), Some(number)) => {
+                self.resolve_arrival(*host, number, self.choices.arrival(waiting))
+            }
+            (Event::CallBegin(call), _) => self.try_late(waiting, line.thread, call),
             _ => Ok(()),
         }
     }

@@ -11,7 +11,8 @@ use endpoint::{greatest_at_recovery, greatest_values};
 impl Pass<'_> {
     /// The current line shows that a timer expired.
     pub(crate) fn expire_shown(&mut self, key: EndpointKey, timer: Timer) -> Result<(), Stop> {
-        self.progress.expire(key, self.greatest_expiry(key, timer))?;
+        let expired = self.greatest_expiry(key, timer);
+        self.progress.expire(key, expired)?;
         self.wake_endpoint(key)
     }
 
@@ -43,9 +44,8 @@ impl Pass<'_> {
 
     /// The place of an endpoint at its host.
     pub(crate) fn place_of(&self, key: EndpointKey) -> Option<u32> {
-        let ports = key.ports();
         let body = self.progress.world().body(key.host());
-        body.place_of(ports.lport, ports.rport)
+        body.place_of(key.lport, key.rport)
     }
 
     /// Adds a line for an expiry, if the timer may expire now: before the current line, or after it if its step was
@@ -69,10 +69,9 @@ impl Pass<'_> {
             return Ok(false);
         };
         let (cwnd, ssthresh) = greatest_at_recovery(endpoint, self.progress.moment());
-        let ports = key.ports();
         let recovery = Recovery {
-            lport: ports.lport,
-            rport: ports.rport,
+            lport: key.lport,
+            rport: key.rport,
             cwnd: saturated(cwnd),
             ssthresh: saturated(ssthresh),
         };

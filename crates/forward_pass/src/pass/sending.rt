@@ -65,8 +65,8 @@ impl<'t> Pass<'t> {
         };
         let line = self.progress.send(host, made, wire)?;
         let moment = self.progress.moment();
-        self.copies
-            .send(host, wire.bytes.as_slice(), Sending { line, moment })?;
+        let sent = self.copies.of(host);
+        sent.add(wire.bytes.as_slice(), Sending { line, moment })?;
         self.outgoing.sent(key, wire)?;
         Ok(())
     }
