@@ -2,8 +2,8 @@
 
 use crate::choices::Choices;
 use crate::key::EndpointKey;
-use crate::pass::{Met, Pass, Sought};
-use crate::progress::Written;
+use crate::pass::{Pass, Sought};
+use crate::progress::Findings;
 use case_forms::OutOfMemory;
 use std::alloc::{AllocError, Global};
 use verdict::Rule;
@@ -33,8 +33,7 @@ pub enum End {
 /// A pass over the lines, and what it found.
 #[derive(Drop)]
 pub struct Attempt {
-    pub written: Written,
-    pub met: Met,
+    pub findings: Findings,
     pub end: End,
     /// How many steps it took, and 1.
     pub cost: u64,
@@ -44,8 +43,7 @@ impl Attempt {
     /// Before any pass.
     pub fn new(alloc: Global) -> Attempt {
         Attempt {
-            written: Written::new(alloc),
-            met: Met::new(alloc),
+            findings: Findings::new(alloc),
             end: End::Whole,
             cost: 0,
         }
@@ -58,7 +56,7 @@ impl Attempt {
             Ok(()) => Some(End::Whole),
             Err(stop) => pass.end_at(stop),
         };
-        let steps = pass.exchange(&mut self.written, &mut self.met);
+        let steps = pass.exchange(&mut self.findings);
         drop(pass);
         self.cost = steps.saturating_add(1);
         match end {

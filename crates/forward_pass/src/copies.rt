@@ -3,7 +3,6 @@
 use case_forms::{Host, OutOfMemory};
 use std::alloc::Global;
 use std::collections::BTreeMap;
-use std::collections::btree_map::Entry;
 
 // Of equal segments one counts as lost if it would have been in transit for longer than this many times the fastest
 // one, and this many microseconds.
@@ -95,27 +94,15 @@ impl<'t> Sent<'t> {
 
     /// These bytes were sent with a line.
     pub(crate) fn add(&mut self, bytes: &'t [u8], sending: Sending) -> Result<(), OutOfMemory> {
-        let place = self.all.len();
-        match self.places.entry(Key::of(bytes))? {
-            Entry::Occupied(known) => {
-                let place = *known.get();
-                return self.add_again(place, sending);
-            }
-            Entry::Vacant(free) => {
-                self.all.push(Sendings {
-                    open: Some(sending),
-                    last: sending,
-                    is_only: true,
-                })?;
-                free.insert(place);
-            }
-        }
-        Ok(())
-    }
-
-    // The bytes of this place were sent once more, with a line.
-    fn add_again(&mut self, place: usize, sending: Sending) -> Result<(), OutOfMemory> {
-        if let Some(known) = self.all.get_mut(place) {
+        let new = self.all.len();
+        let place = *self.places.entry(Key::of(bytes))?.or_insert(new);
+        if place == new {
+            self.all.push(Sendings {
+                open: Some(sending),
+                last: sending,
+                is_only: true,
+            })?;
+        } else if let Some(known) = self.all.get_mut(place) {
             self.next.insert(known.last.line, sending)?;
             known.open = known.open.or(Some(sending));
             known.last = sending;

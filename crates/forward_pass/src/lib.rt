@@ -37,5 +37,5 @@ pub use attempt::{Attempt, End, Failure};
 pub use choices::{Choice, Choices, Deed, Fate, Remedy, Unseen};
 pub use key::EndpointKey;
 pub use outgoing::LaterLines;
-pub use pass::{MeantCall, Met, Sought};
-pub use progress::{Added, Written};
+pub use pass::Sought;
+pub use progress::{Added, Findings, MeantCall};

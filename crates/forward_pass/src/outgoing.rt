@@ -71,14 +71,6 @@ impl LaterLines {
     }
 }
 
-/// The segment that is sent with the line at a place.
-pub(crate) fn sent_at(lines: &[Line], place: usize) -> Option<&Wire> {
-    match &lines.get(place)?.event {
-        Event::Sent(_, wire) => Some(wire),
-        _ => None,
-    }
-}
-
 /// The segments that are sent from the current line on.
 #[derive(Drop)]
 pub(crate) struct Outgoing<'t> {
@@ -105,16 +97,23 @@ impl<'t> Outgoing<'t> {
         }
     }
 
+    // The first line of an endpoint that is left, and its segment.
+    fn first(&self, left: &Left<'_>, key: EndpointKey) -> Option<(usize, &'t Wire)> {
+        let place = left.first(key)?;
+        match &self.lines.get(place)?.event {
+            Event::Sent(_, wire) => Some((place, wire)),
+            _ => None,
+        }
+    }
+
     /// The next segment that an endpoint sends and that wasn't built yet, and the place of its line.
     pub(crate) fn next(&self, key: EndpointKey) -> Option<(usize, &'t Wire)> {
-        let place = self.unbuilt.first(key)?;
-        Some((place, sent_at(self.lines, place)?))
+        self.first(&self.unbuilt, key)
     }
 
     /// The next reset that an endpoint sends and that wasn't built yet, and the place of its line.
     pub(crate) fn next_reset(&self, key: EndpointKey) -> Option<(usize, &'t Wire)> {
-        let place = self.resets.first(key)?;
-        Some((place, sent_at(self.lines, place)?))
+        self.first(&self.resets, key)
     }
 
     /// Whether the segment of a line was built.
@@ -149,7 +148,7 @@ impl<'t> Outgoing<'t> {
         self.resets.pass(key, place)
     }
 
-    /// The segment of a line is to be sent. The result is its number, if it was built before.
+    /// The segment of a line is sent. The result is its number, if it was built before.
     pub(crate) fn start_sending(
         &mut self,
         key: EndpointKey,
@@ -159,11 +158,9 @@ impl<'t> Outgoing<'t> {
         Ok(self.built.remove(&place))
     }
 
-    /// A segment was sent.
-    pub(crate) fn sent(&mut self, key: EndpointKey, wire: &Wire) -> Result<(), OutOfMemory> {
-        if wire.seg.has(Flag::Syn) {
-            self.syns.insert(key, wire.seg.seq)?;
-        }
+    /// A SYN with this number was sent.
+    pub(crate) fn sent_syn(&mut self, key: EndpointKey, number: Word) -> Result<(), OutOfMemory> {
+        self.syns.insert(key, number)?;
         Ok(())
     }
 

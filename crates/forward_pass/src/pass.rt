@@ -13,7 +13,7 @@ use crate::choices::Choices;
 use crate::copies::Copies;
 use crate::key::EndpointKey;
 use crate::outgoing::{LaterLines, Outgoing};
-use crate::progress::{Progress, Written};
+use crate::progress::{Findings, Progress};
 use crate::stop::Stop;
 use case_forms::{Event, Header, Line};
 use std::alloc::Global;
@@ -29,32 +29,6 @@ pub struct Sought<'t> {
     pub later: &'t LaterLines,
 }
 
-/// A call, by the place of its beginning, and the endpoint that it means.
-#[derive(Clone, Copy)]
-pub struct MeantCall {
-    pub place: usize,
-    pub key: EndpointKey,
-}
-
-/// What a pass found out about lines.
-#[derive(Drop)]
-pub struct Met {
-    /// What calls mean, in the order of their beginnings.
-    pub meant: Vec<MeantCall>,
-    /// The places of arrivals that ended beyond the window.
-    pub beyond: Vec<usize>,
-}
-
-impl Met {
-    /// Nothing yet.
-    pub fn new(alloc: Global) -> Met {
-        Met {
-            meant: Vec::new(alloc),
-            beyond: Vec::new(alloc),
-        }
-    }
-}
-
 /// A pass over the lines of a trace.
 #[derive(Drop)]
 pub(crate) struct Pass<'t> {
@@ -66,7 +40,6 @@ pub(crate) struct Pass<'t> {
     calls: Calls,
     /// For the place of an arrival that waits until a later line, the number of its line.
     waiting: BTreeMap<usize, u64>,
-    met: Met,
 }
 
 impl<'t> Pass<'t> {
@@ -81,7 +54,6 @@ impl<'t> Pass<'t> {
             copies: Copies::new(alloc),
             calls: Calls::new(alloc),
             waiting: BTreeMap::new(alloc),
-            met: Met::new(alloc),
         }
     }
 
@@ -114,10 +86,8 @@ impl<'t> Pass<'t> {
         let place = self.progress.place();
         match stop {
             Stop::Broken(rule) => {
-                let key = match self.sought.lines.get(place) {
-                    Some(line) => self.key_of(line),
-                    None => None,
-                };
+                let line = self.sought.lines.get(place);
+                let key = line.and_then(|line| self.key_of(line));
                 Some(End::Refused(Failure { place, rule, key }))
             }
             Stop::TooManySteps => Some(End::TooManySteps { place }),
@@ -130,10 +100,9 @@ impl<'t> Pass<'t> {
         EndpointKey::of_line(line).or(key_of_call(self.progress.world(), line.thread))
     }
 
-    /// Exchanges what was written and found out for these. The result is how many steps were done.
-    pub(crate) fn exchange(&mut self, written: &mut Written, met: &mut Met) -> u64 {
-        swap(written, self.progress.written_mut());
-        swap(met, &mut self.met);
+    /// Exchanges what was found for something else. The result is how many steps were done.
+    pub(crate) fn exchange(&mut self, findings: &mut Findings) -> u64 {
+        swap(findings, self.progress.findings());
         self.progress.world().steps()
     }
 }

@@ -22,19 +22,34 @@ pub struct Added {
     pub timer: Timer,
 }
 
-/// A witness, and the lines that are added to its trace.
-#[derive(Drop)]
-pub struct Written {
-    pub steps: Steps,
-    pub added: Vec<Added>,
+/// A call, by the place of its beginning, and the endpoint that it means.
+#[derive(Clone, Copy)]
+pub struct MeantCall {
+    pub place: usize,
+    pub key: EndpointKey,
 }
 
-impl Written {
-    /// Nothing is written yet.
-    pub fn new(alloc: Global) -> Written {
-        Written {
+/// What a pass finds.
+#[derive(Drop)]
+pub struct Findings {
+    /// The witness.
+    pub steps: Steps,
+    /// The lines that are added to the trace.
+    pub added: Vec<Added>,
+    /// What calls mean, in the order of their beginnings.
+    pub meant: Vec<MeantCall>,
+    /// The places of arrivals that ended beyond the window.
+    pub beyond: Vec<usize>,
+}
+
+impl Findings {
+    /// Nothing yet.
+    pub fn new(alloc: Global) -> Findings {
+        Findings {
             steps: Steps::new(alloc),
             added: Vec::new(alloc),
+            meant: Vec::new(alloc),
+            beyond: Vec::new(alloc),
         }
     }
 }
@@ -43,7 +58,7 @@ impl Written {
 #[derive(Drop)]
 pub(crate) struct Progress {
     world: World,
-    written: Written,
+    findings: Findings,
     /// The place of the current line, from 0.
     place: usize,
     /// The place of the first line that has no step yet.
@@ -83,7 +98,7 @@ impl Progress {
     pub(crate) fn new(alloc: Global, header: &Header) -> Progress {
         Progress {
             world: World::start(alloc, header),
-            written: Written::new(alloc),
+            findings: Findings::new(alloc),
             place: 0,
             next: 0,
             number: header.first_event_line(),
@@ -102,8 +117,8 @@ impl Progress {
         &self.world
     }
 
-    pub(crate) fn written_mut(&mut self) -> &mut Written {
-        &mut self.written
+    pub(crate) fn findings(&mut self) -> &mut Findings {
+        &mut self.findings
     }
 
     pub(crate) fn place(&self) -> usize {
@@ -132,7 +147,7 @@ impl Progress {
             start: 0,
             stop: 0,
         };
-        self.written.steps.push(Step {
+        self.findings.steps.push(Step {
             moment: self.moment,
             label,
             span,
@@ -210,7 +225,7 @@ impl Progress {
         self.world
             .expire(key.host(), key.ports(), expired, self.moment)?;
         self.push_line(extras_of(expired))?;
-        self.written.added.push(Added {
+        self.findings.added.push(Added {
             before: self.next,
             moment: self.moment,
             key,

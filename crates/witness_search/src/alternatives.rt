@@ -3,7 +3,7 @@
 use crate::candidates::Candidates;
 use crate::together::Kind;
 use case_forms::{Event, Line, OutOfMemory, Timer};
-use forward_pass::{Attempt, Deed, EndpointKey, Failure, Fate, Met, Remedy, Unseen};
+use forward_pass::{Attempt, Deed, EndpointKey, Failure, Fate, Findings, Remedy, Unseen};
 use segment::Flag;
 use verdict::Rule;
 
@@ -27,7 +27,7 @@ const LONGEST_WAIT: u64 = 1_000_000;
 #[derive(Clone, Copy)]
 pub(crate) struct Known<'t> {
     pub lines: &'t [Line],
-    pub met: &'t Met,
+    pub findings: &'t Findings,
     pub failure: Failure,
 }
 
@@ -53,7 +53,7 @@ impl<'t> Known<'t> {
     pub(crate) fn of(attempt: &'t Attempt, lines: &'t [Line]) -> Option<Known<'t>> {
         Some(Known {
             lines,
-            met: &attempt.met,
+            findings: &attempt.findings,
             failure: attempt.failure()?,
         })
     }
@@ -65,7 +65,7 @@ impl<'t> Known<'t> {
         before: usize,
         is_far: bool,
     ) -> Result<(), OutOfMemory> {
-        let mut calls = self.met.meant.len();
+        let mut calls = self.findings.meant.len();
         for back in 0..=self.failure.place.min(REACH) {
             if out.len().saturating_sub(before) >= MOST {
                 break;
@@ -81,7 +81,7 @@ impl<'t> Known<'t> {
     // What the last of the first calls means, if it begins at a place, and how many calls are left before that place.
     fn call_at(&self, calls: usize, place: usize) -> (usize, Option<EndpointKey>) {
         let before = calls.saturating_sub(1);
-        match self.met.meant.get(before) {
+        match self.findings.meant.get(before) {
             Some(call) if call.place == place => (before, Some(call.key)),
             Some(call) if call.place > place => (before, None),
             _ => (calls, None),

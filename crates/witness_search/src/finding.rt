@@ -70,12 +70,12 @@ fn found_by(
     trace: &Trace,
 ) -> Result<Found, OutOfMemory> {
     retries.run()?;
-    let written = &mut retries.best.written;
+    let findings = &mut retries.best.findings;
     let witness = Witness {
         version: trace.header.version,
-        steps: replace(&mut written.steps, Steps::new(alloc)),
+        steps: replace(&mut findings.steps, Steps::new(alloc)),
     };
-    let case = case_text(alloc, text, trace, written.added.as_slice(), &witness)?;
+    let case = case_text(alloc, text, trace, findings.added.as_slice(), &witness)?;
     Ok(Found {
         case,
         ending: ending_of(retries, trace.header.first_event_line()),

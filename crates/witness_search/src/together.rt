@@ -82,7 +82,7 @@ impl Known<'_> {
     // The last arrivals that end beyond the window: an unseen segment advertised a larger one.
     fn widen(&self, out: &mut Candidates) -> Result<(), OutOfMemory> {
         let mut left = NEAR;
-        for place in self.met.beyond.iter().rev().take(REACH) {
+        for place in self.findings.beyond.iter().rev().take(REACH) {
             if left == 0 || !self.is_at_failing_endpoint(*place) {
                 continue;
             }

@@ -38,23 +38,6 @@ pub(crate) fn as_read<'m>(
     Arrived::checked_read(world.header().version, endpoint, m)
 }
 
-// What processing a segment changes that later segments of the receiver may still show as it was.
-#[derive(Clone, Copy)]
-struct Changes {
-    /// The acknowledgment number that the receiver sends.
-    next: bool,
-    /// The oldest position that may be sent again.
-    snd_una: bool,
-}
-
-fn changes_by(endpoint: &Endpoint, m: &Arrived<'_>) -> Changes {
-    let end = u128::from(m.pos()) + m.length();
-    Changes {
-        next: m.pos() <= endpoint.rcv_nxt() && u128::from(endpoint.rcv_nxt()) < end,
-        snd_una: m.flags().ack && endpoint.stream.snd_una < m.ack(),
-    }
-}
-
 // Whether a segment acknowledges exactly what its sender received, or nothing if that has met no peer.
 fn acknowledges_next(endpoint: &Endpoint, wire: &Wire) -> bool {
     match endpoint.irs {
@@ -63,17 +46,21 @@ fn acknowledges_next(endpoint: &Endpoint, wire: &Wire) -> bool {
     }
 }
 
-// Whether a segment was built before its sender processed an arrival: it acknowledges less, or contains what the
-// arrival acknowledges.
-fn is_before(endpoint: &Endpoint, changes: &Changes, m: &Arrived<'_>, wire: &Wire) -> bool {
+// Whether a segment was built before its sender processes an arrival: it acknowledges less, or contains what the
+// arrival acknowledges. If so, the result is whether the arrival changes what is acknowledged.
+fn built_before(endpoint: &Endpoint, m: &Arrived<'_>, wire: &Wire) -> Option<bool> {
     let seg = &wire.seg;
-    if changes.next && acknowledges_next(endpoint, wire) {
-        return true;
+    let end = u128::from(m.pos()) + m.length();
+    let next = m.pos() <= endpoint.rcv_nxt() && u128::from(endpoint.rcv_nxt()) < end;
+    if next && acknowledges_next(endpoint, wire) {
+        return Some(next);
     }
+    let acknowledges = m.flags().ack && endpoint.stream.snd_una < m.ack();
     let has_length = !seg.payload.is_empty() || seg.has(Flag::Fin) || seg.has(Flag::Syn);
-    match position_of(endpoint, seg.seq) {
-        Some(pos) => changes.snd_una && has_length && pos < m.ack(),
-        None => false,
+    if acknowledges && has_length && position_of(endpoint, seg.seq)? < m.ack() {
+        Some(next)
+    } else {
+        None
     }
 }
 
@@ -94,7 +81,7 @@ impl<'t> Pass<'t> {
         let how = self.choices.arrival(place);
         let line = self.bring_in(host, wire, how)?;
         if self.widening(host, line).is_some() {
-            self.met.beyond.push(place)?;
+            self.progress.findings().beyond.push(place)?;
         }
         if how.waits {
             self.waiting.insert(place, line)?;
@@ -169,10 +156,7 @@ impl<'t> Pass<'t> {
 
     // Processes an arrival, if that's permitted.
     fn try_processing(&mut self, host: Host, line: u64, how: Arrival) -> Result<bool, Stop> {
-        let Some(choice) = self.choice(host, line, how) else {
-            return Ok(false);
-        };
-        let Some(key) = self.receiver(host, line) else {
+        let Some((key, choice)) = self.choice(host, line, how) else {
             return Ok(false);
         };
         self.progress.take(host, line, choice)?;
@@ -180,14 +164,8 @@ impl<'t> Pass<'t> {
         Ok(true)
     }
 
-    // The endpoint that an arrival is meant for.
-    fn receiver(&self, host: Host, line: u64) -> Option<EndpointKey> {
-        let m = self.progress.world().waiting(host, line)?;
-        Some(EndpointKey::receiver(host, m))
-    }
-
-    // The greatest choice with which an arrival may be processed.
-    fn choice(&self, host: Host, line: u64, how: Arrival) -> Option<TakeChoice> {
+    // The endpoint for which an arrival is meant, and the greatest choice with which it may be processed.
+    fn choice(&self, host: Host, line: u64, how: Arrival) -> Option<(EndpointKey, TakeChoice)> {
         let world = self.progress.world();
         let moment = self.progress.moment();
         let m = world.waiting(host, line)?;
@@ -197,12 +175,14 @@ impl<'t> Pass<'t> {
             sample: how.is_measured,
         };
         match world.admits_taking(host, moment, line, choice) {
-            Ok(()) => return Some(choice),
-            Err(Rule::Sample) => choice.sample = false,
+            Ok(()) => {}
+            Err(Rule::Sample) => {
+                choice.sample = false;
+                world.admits_taking(host, moment, line, choice).ok()?;
+            }
             Err(_) => return None,
         }
-        world.admits_taking(host, moment, line, choice).ok()?;
-        Some(choice)
+        Some((EndpointKey::receiver(host, m), choice))
     }
 
     // The greatest congestion window with which a segment may be processed, which may have to stay as it is; 0 at a
@@ -297,15 +277,11 @@ impl<'t> Pass<'t> {
         let (place, wire) = self.outgoing.next(key)?;
         let endpoint = endpoint_found(world, host, m)?;
         let read = as_read(world, endpoint, m)?;
-        let changes = changes_by(endpoint, &read);
-        if !is_before(endpoint, &changes, &read, wire) {
-            return None;
-        }
         Some(Earlier {
             key,
             place,
             wire,
-            needed: changes.next,
+            needed: built_before(endpoint, &read, wire)?,
         })
     }
 

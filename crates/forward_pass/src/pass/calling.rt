@@ -1,8 +1,9 @@
 //! A call has its effect as soon as the model permits the answer that its end shows.
 
-use super::{MeantCall, Pass};
+use super::Pass;
 use crate::calls::{Meant, Pending, key_of_call, meant_by, supposed};
 use crate::key::EndpointKey;
+use crate::progress::MeantCall;
 use crate::stop::{Stop, permitted};
 use case_forms::{Answer, Call, Event, Label, State, Timer};
 
@@ -35,7 +36,8 @@ impl<'t> Pass<'t> {
         self.progress.begin(thread, call)?;
         self.calls.begin(thread, place)?;
         if let Some(key) = key_of_call(self.progress.world(), thread) {
-            self.met.meant.push(MeantCall { place, key })?;
+            let findings = self.progress.findings();
+            findings.meant.push(MeantCall { place, key })?;
         }
         if self.choices.waits(place) {
             Ok(())

@@ -67,7 +67,9 @@ impl<'t> Pass<'t> {
         let moment = self.progress.moment();
         let sent = self.copies.of(host);
         sent.add(wire.bytes.as_slice(), Sending { line, moment })?;
-        self.outgoing.sent(key, wire)?;
+        if wire.seg.has(Flag::Syn) {
+            self.outgoing.sent_syn(key, wire.seg.seq)?;
+        }
         Ok(())
     }
 
@@ -79,31 +81,26 @@ impl<'t> Pass<'t> {
         }
         for _ in 0..REMEDIES {
             let plan = plan_of(self.progress.world(), host, wire);
-            let rule = match self.progress.make(host, plan) {
-                Err(Stop::Broken(rule)) => rule,
-                made => return self.made_shown(key, plan, made),
-            };
-            if !self.remedy(key, plan, rule)? {
-                break;
+            match self.progress.make(host, plan) {
+                Err(Stop::Broken(rule)) => {
+                    if !self.remedy(key, plan, rule)? {
+                        break;
+                    }
+                }
+                Ok(made) => {
+                    // A reset closes its endpoint, for which calls may wait.
+                    if plan.flags.rst {
+                        self.wake_endpoint(key)?;
+                    }
+                    return Ok(made);
+                }
+                Err(stop) => return Err(stop),
             }
         }
         let plan = plan_of(self.progress.world(), host, wire);
         let made = self.progress.make(host, plan);
         if let Err(Stop::Broken(_)) = made {
             self.progress.push_step(Label::M { host, plan })?;
-        }
-        made
-    }
-
-    // A reset closes its endpoint, for which calls may wait.
-    fn made_shown(
-        &mut self,
-        key: EndpointKey,
-        plan: SegmentPlan,
-        made: Result<u32, Stop>,
-    ) -> Result<u32, Stop> {
-        if plan.flags.rst && made.is_ok() {
-            self.wake_endpoint(key)?;
         }
         made
     }
