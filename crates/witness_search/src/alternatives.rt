@@ -217,19 +217,17 @@ impl<'t> Known<'t> {
         spot: Spot,
         key: EndpointKey,
     ) -> Result<(), OutOfMemory> {
-        let Spot {
-            place: after,
-            is_far,
-        } = spot;
+        let after = spot.place;
         if after >= self.failure.place {
             return Ok(());
         }
         match self.failure.rule {
-            Rule::TimerOff | Rule::TimerEarly | Rule::Growth if !is_far => match self.timer_at() {
-                Some(at) => push_unseen(out, after, at, [Unseen::All, Unseen::One]),
-                None => Ok(()),
-            },
-            Rule::CallAnswer | Rule::State | Rule::NoEndpoint | Rule::Iss if is_far => {
+            Rule::TimerOff | Rule::TimerEarly | Rule::Growth if !spot.is_far =>
+                match self.timer_at() {
+                    Some(at) => push_unseen(out, after, at, [Unseen::All, Unseen::One]),
+                    None => Ok(()),
+                },
+            Rule::CallAnswer | Rule::State | Rule::NoEndpoint | Rule::Iss if spot.is_far => {
                 push_unseen(out, after, key, [Unseen::Reset, Unseen::All])?;
                 push_unseen(out, after, key.peer(), [Unseen::Reset, Unseen::All])
             }

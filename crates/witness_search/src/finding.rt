@@ -37,8 +37,8 @@ pub struct Found {
 
 /// The text of a case: the trace, with added lines for the expiries that it doesn't show and that were needed, and a
 /// witness. If a line can't be explained, the witness ends with a step that is refused there, so that `check` names
-/// the rule. If explaining a line would take more than 40,000,000 steps, the witness ends before it. The error is the
-/// trace's first fault; its kind is `OutOfMemory` if memory ran out.
+/// the rule. If explaining all lines takes more than 40,000,000 steps, it ends there. The error is the trace's first
+/// fault; its kind is `OutOfMemory` if memory ran out.
 pub fn find(alloc: Global, text: &[u8]) -> Result<Vec<u8>, TextFault> {
     let found = find_within(alloc, text, USUAL_BUDGET)?;
     Ok(found.case)
