@@ -79,6 +79,9 @@ fn say_none(out: &mut String, ending: Ending) -> Result<(), OutOfMemory> {
         Ending::BudgetSpent { .. } => {
             "The search spent its budget. With a larger one (--budget), it may find a witness.\n"
         }
+        Ending::TooManySteps { .. } => {
+            "The search stopped at 40,000,000 steps, the most that a case can have.\n"
+        }
     })
 }
 

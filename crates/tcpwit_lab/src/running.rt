@@ -137,6 +137,9 @@ fn tell_found<H: Eprint, W: Write>(rt: &H, found: &Found, w: &mut Counted<W>) ->
         Ending::BudgetSpent { line } => eprintln!(rt;
             "line {line} of the trace isn't explained, and the budget is spent; other choices tried: {tried}"
         ),
+        Ending::TooManySteps { line } => eprintln!(rt;
+            "line {line} of the trace isn't explained, and a case can't have more steps; other choices tried: {tried}"
+        ),
     };
     say(rt, w, found.case.as_slice(), DONE)
 }

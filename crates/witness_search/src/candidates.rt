@@ -1,7 +1,7 @@
 //! Candidates for other choices.
 
-use crate::choices::Choice;
 use case_forms::OutOfMemory;
+use forward_pass::{Choice, Deed};
 use std::alloc::Global;
 
 /// Candidates, each of which is one choice or several.
@@ -34,13 +34,13 @@ impl Candidates {
         }
     }
 
-    /// The choices of a candidate. None are there if it doesn't exist.
+    /// The choices of a candidate, none if it doesn't exist.
     pub(crate) fn at(&self, index: usize) -> &[Choice] {
         let stop = self.stops.get(index).copied().unwrap_or(0);
         self.choices.get(self.start_of(index)..stop).unwrap_or(&[])
     }
 
-    /// Only the first candidates, so many of them.
+    /// Keeps only the first candidates, so many of them.
     pub(crate) fn truncate(&mut self, count: usize) {
         let start = self.start_of(count);
         if count < self.stops.len() {
@@ -49,15 +49,15 @@ impl Candidates {
         }
     }
 
-    /// A candidate of one choice.
-    pub(crate) fn push(&mut self, choice: Choice) -> Result<(), OutOfMemory> {
-        self.add(choice)?;
+    /// Adds a candidate of one choice.
+    pub(crate) fn push(&mut self, place: usize, deed: Deed) -> Result<(), OutOfMemory> {
+        self.add(place, deed)?;
         self.end()
     }
 
-    /// One choice more for the candidate that ends next.
-    pub(crate) fn add(&mut self, choice: Choice) -> Result<(), OutOfMemory> {
-        self.choices.push(choice)?;
+    /// Adds a choice to the candidate that ends next.
+    pub(crate) fn add(&mut self, place: usize, deed: Deed) -> Result<(), OutOfMemory> {
+        self.choices.push(Choice { place, deed })?;
         Ok(())
     }
 

@@ -1,16 +1,13 @@
-//! Going back: if a line can't be explained, something before it is chosen otherwise.
+//! If a line can't be explained, other choices are tried before it, within a budget.
 //!
-//! A search goes over all lines anew with what is chosen, so it depends on the choices alone, and the same budget gives
-//! the same case. First single candidates are tried, the nearest to the line first, and those that explain a further
-//! line are kept. If none does, two candidates are tried at once.
+//! Each attempt goes over all lines anew, so its result depends on the choices alone, and the same budget gives the
+//! same case. Single candidates are tried first, the nearest to the line first, and those that explain a further line
+//! are kept. If none does, two candidates are tried at once.
 
-use crate::alternatives::{Failure, Known, push_candidates};
+use crate::alternatives::{Known, push_candidates};
 use crate::candidates::Candidates;
-use crate::choices::Choices;
-use crate::search::{Added, MeantCall, Search, Sought};
-use case_forms::{Line, OutOfMemory, Steps};
-use endpoint_state::StepFault;
-use std::alloc::{AllocError, Global};
+use case_forms::OutOfMemory;
+use forward_pass::{Attempt, Choices, Sought};
 use std::collections::BTreeMap;
 use std::mem::swap;
 
@@ -23,96 +20,13 @@ const PAIRED: usize = 40;
 // How many looks at a line count as one step.
 const LOOKS: u64 = 4;
 
-/// What one pass over the lines came to.
-#[derive(Drop)]
-pub(crate) struct Attempt {
-    pub added: Vec<Added>,
-    pub steps: Steps,
-    /// Where it failed. None: all lines are explained.
-    pub failure: Option<Failure>,
-    meant: Vec<MeantCall>,
-    beyond: Vec<usize>,
-    /// How many steps it took.
-    cost: u64,
-}
-
-impl Attempt {
-    fn new(alloc: Global) -> Attempt {
-        Attempt {
-            added: Vec::new(alloc),
-            steps: Steps::new(alloc),
-            failure: None,
-            meant: Vec::new(alloc),
-            beyond: Vec::new(alloc),
-            cost: 0,
-        }
-    }
-
-    // One pass over the lines with these choices.
-    fn search(&mut self, sought: Sought<'_>, choices: &Choices) -> Result<(), OutOfMemory> {
-        let mut search = Search::new(sought, choices);
-        let ran = search.run();
-        self.failure = failure_of(ran, &search);
-        self.exchange(&mut search);
-        drop(search);
-        match ran {
-            Err(StepFault::OutOfMemory) => Err(AllocError),
-            _ => Ok(()),
-        }
-    }
-
-    // Takes what a search found, and gives it what was found before.
-    fn exchange(&mut self, search: &mut Search<'_>) {
-        swap(&mut self.added, &mut search.added);
-        swap(&mut self.steps, &mut search.steps);
-        swap(&mut self.meant, &mut search.meant);
-        swap(&mut self.beyond, &mut search.beyond);
-        self.cost = search.world.steps().saturating_add(1);
-    }
-
-    // What is known of where it failed. None: it didn't.
-    fn known<'a>(&'a self, lines: &'a [Line]) -> Option<Known<'a>> {
-        Some(Known {
-            lines,
-            meant: self.meant.as_slice(),
-            beyond: self.beyond.as_slice(),
-            failure: self.failure?,
-        })
-    }
-
-    // Whether this one explains more than another.
-    fn is_further(&self, other: &Attempt) -> bool {
-        match (self.failure, other.failure) {
-            (_, None) => false,
-            (None, Some(_)) => true,
-            (Some(own), Some(other)) => own.place > other.place,
-        }
-    }
-}
-
-// Where a search failed. None: it didn't, or memory ran out.
-fn failure_of(ran: Result<(), StepFault>, search: &Search<'_>) -> Option<Failure> {
-    let Err(StepFault::Broken(rule)) = ran else {
-        return None;
-    };
-    let key = match search.lines.get(search.place) {
-        Some(line) => search.key_of(line),
-        None => None,
-    };
-    Some(Failure {
-        place: search.place,
-        rule,
-        key,
-    })
-}
-
 // Choices that explain the lines before a place, and what can be chosen besides.
 #[derive(Clone, Copy)]
 struct Level {
     /// How many choices these are.
     chosen: usize,
     place: usize,
-    /// The next candidate, and the first one that is another level's.
+    /// The next candidate, and the first one of another level.
     next: usize,
     stop: usize,
 }
@@ -125,7 +39,7 @@ pub(crate) struct Retries<'t> {
     /// The attempt that explains most, and its choices.
     pub best: Attempt,
     chosen: Choices,
-    /// The attempt that was made last, and its choices.
+    /// The last attempt, and its choices.
     last: Attempt,
     choices: Choices,
     /// The levels that led there, and the candidates of all of them.
@@ -136,14 +50,14 @@ pub(crate) struct Retries<'t> {
     before_pairs: Choices,
     /// For the place of a line, how many times candidates were listed for it.
     listed: BTreeMap<usize, u32>,
-    /// How many passes were made after the first one.
+    /// How many attempts followed the first one.
     pub tried: u64,
     /// How many steps they took.
     cost: u64,
 }
 
 impl<'t> Retries<'t> {
-    /// A search that spends no more than so many steps on going back.
+    /// A search that spends at most this many steps on going back.
     pub(crate) fn new(sought: Sought<'t>, budget: u64) -> Retries<'t> {
         let alloc = sought.alloc;
         Retries {
@@ -163,7 +77,8 @@ impl<'t> Retries<'t> {
         }
     }
 
-    /// Finds a witness, and goes back while there is something to explain and the budget isn't spent.
+    /// Finds a witness, and goes back until every line is explained, the budget is spent, or a case can't have more
+    /// steps.
     pub(crate) fn run(&mut self) -> Result<(), OutOfMemory> {
         self.best.search(self.sought, &self.chosen)?;
         for _ in 0..self.budget {
@@ -181,10 +96,14 @@ impl<'t> Retries<'t> {
 
     // Whether there is nothing more to do.
     fn is_over(&self) -> bool {
-        self.best.failure.is_none() || self.is_spent()
+        self.best.failure().is_none() || self.is_spent()
     }
 
-    // Tries single candidates, then pairs, and then the single ones that are left. The answer is whether a further line
+    fn spend(&mut self, steps: u64) {
+        self.cost = self.cost.saturating_add(steps);
+    }
+
+    // Tries single candidates, then pairs, and then the single ones that are left. The result is whether a further line
     // was explained at last.
     fn go_further(&mut self) -> Result<bool, OutOfMemory> {
         if self.is_over() {
@@ -201,23 +120,23 @@ impl<'t> Retries<'t> {
             return Ok(true);
         }
         self.choices.set(&self.before_pairs)?;
-        let tried = self.best.failure;
+        let tried = self.best.failure();
         self.try_singles(u64::MAX)?;
-        Ok(match (tried, self.best.failure) {
+        Ok(match (tried, self.best.failure()) {
             (Some(before), Some(now)) => now.place > before.place,
             _ => false,
         })
     }
 
-    // Tries two candidates of the best attempt at once. The answer is whether they explain a further line.
+    // Tries two candidates of the best attempt at once. The result is whether they explain a further line.
     fn try_pairs(&mut self) -> Result<bool, OutOfMemory> {
-        let Some(known) = self.best.known(self.sought.lines) else {
+        let Some(known) = Known::of(&self.best, self.sought.lines) else {
             return Ok(false);
         };
         let place = known.failure.place;
         self.pairs.truncate(0);
         let looks = push_candidates(&mut self.pairs, &known)?;
-        self.cost = self.cost.saturating_add(looks / LOOKS);
+        self.spend(looks / LOOKS);
         for second in 1..self.pairs.len().min(PAIRED) {
             if self.try_pairs_with(place, second)? {
                 return Ok(true);
@@ -256,31 +175,30 @@ impl<'t> Retries<'t> {
         listed
     }
 
-    // Makes one pass with the choices. The answer is whether it fails further than at a place; the path goes on there.
+    // Makes one attempt with the choices. The result is whether it explains the line at a place; the path goes on then.
     fn try_once(&mut self, place: usize) -> Result<bool, OutOfMemory> {
         self.last.search(self.sought, &self.choices)?;
         self.tried = self.tried.saturating_add(1);
-        self.cost = self
-            .cost
-            .saturating_add(self.last.cost)
-            .saturating_add(self.choices.len() as u64);
-        let is_further = match self.last.failure {
-            Some(failure) => failure.place > place,
-            None => true,
-        };
+        self.spend(self.last.cost);
+        self.spend(self.choices.len() as u64);
+        let is_further = self.last.explains(place);
         if is_further {
             self.go_on_from_last(LISTS)?;
         }
-        if self.last.is_further(&self.best) {
+        let is_best = match self.best.failure() {
+            Some(failure) => self.last.explains(failure.place),
+            None => false,
+        };
+        if is_best {
             swap(&mut self.best, &mut self.last);
             self.chosen.set(&self.choices)?;
         }
         Ok(is_further)
     }
 
-    // Puts the level of the last attempt on the path, unless candidates were listed often enough for its line.
+    // Puts the level of the last attempt on the path, unless candidates were listed this often for its line.
     fn go_on_from_last(&mut self, lists: u32) -> Result<(), OutOfMemory> {
-        let Some(known) = self.last.known(self.sought.lines) else {
+        let Some(known) = Known::of(&self.last, self.sought.lines) else {
             return Ok(());
         };
         let place = known.failure.place;
@@ -291,7 +209,7 @@ impl<'t> Retries<'t> {
         self.listed.insert(place, count.saturating_add(1))?;
         let next = self.candidates.len();
         let looks = push_candidates(&mut self.candidates, &known)?;
-        self.cost = self.cost.saturating_add(looks / LOOKS);
+        self.spend(looks / LOOKS);
         self.path.push(Level {
             chosen: self.choices.len(),
             place,
@@ -301,7 +219,7 @@ impl<'t> Retries<'t> {
         Ok(())
     }
 
-    // Adds one candidate after the other, and goes back if no further one helps. It ends at so many steps.
+    // Adds one candidate after the other, and goes back if no further one helps. It ends at this many steps.
     fn try_singles(&mut self, most: u64) -> Result<(), OutOfMemory> {
         for _ in 0..self.budget {
             if self.is_over() || self.cost >= most {
@@ -315,7 +233,7 @@ impl<'t> Retries<'t> {
         Ok(())
     }
 
-    // Tries the next candidate of a level, which is on the path no more. It comes back if there is one.
+    // Tries the next candidate of a level that was just removed from the path, and puts the level back if there is one.
     fn try_single(&mut self, level: Level) -> Result<(), OutOfMemory> {
         self.candidates.truncate(level.stop);
         if level.next >= level.stop {

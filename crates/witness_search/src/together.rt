@@ -1,17 +1,16 @@
 //! Several choices at once before a line that no step explains.
 
-use crate::alternatives::{Known, NEAR, REACH, key_of, place_of};
+use crate::alternatives::{Known, NEAR, REACH};
 use crate::candidates::Candidates;
-use crate::chains::ConnectionKey;
-use crate::choices::{Choice, Fate, Remedy};
 use case_forms::{Event, OutOfMemory, Wire};
+use forward_pass::{Deed, EndpointKey, Fate, Remedy};
 use segment::Flag;
 use verdict::Rule;
 
 // How many choices are made at once before a failure, at most, and how many after it.
 const TOGETHER: usize = 256;
 
-// Half of all sequence numbers: so far ahead a number may be.
+// Half of all sequence numbers: the farthest that a number may be ahead.
 const HALF: u32 = 0x8000_0000;
 
 /// Which arrivals are chosen at once.
@@ -38,6 +37,11 @@ fn length_of(wire: &Wire) -> u32 {
     len.saturating_add(u32::from(wire.seg.has(Flag::Fin)))
 }
 
+// The number after those of a segment.
+fn end_of(wire: &Wire) -> u32 {
+    wire.seg.seq.0.wrapping_add(length_of(wire))
+}
+
 // Whether a segment carries the byte, or the FIN, of this number.
 fn covers(wire: &Wire, number: u32) -> bool {
     number.wrapping_sub(wire.seg.seq.0) < length_of(wire)
@@ -45,21 +49,12 @@ fn covers(wire: &Wire, number: u32) -> bool {
 
 // Whether a segment carries bytes, or a FIN, at this number or after it.
 fn ends_beyond(wire: &Wire, number: u32) -> bool {
-    let len = length_of(wire);
-    let ahead = wire.seg.seq.0.wrapping_add(len).wrapping_sub(number);
-    len > 0 && ahead > 0 && ahead < HALF
-}
-
-// Whether a segment carries bytes, or a FIN, that were sent before. `end` is the number after all that was sent.
-fn is_again(end: Option<u32>, wire: &Wire) -> bool {
-    match end {
-        Some(end) => length_of(wire) > 0 && HALF <= wire.seg.seq.0.wrapping_sub(end),
-        None => false,
-    }
+    let ahead = end_of(wire).wrapping_sub(number);
+    length_of(wire) > 0 && ahead > 0 && ahead < HALF
 }
 
 impl Known<'_> {
-    // The acknowledgment number that the failing line shows. None: it shows none.
+    // The acknowledgment number of the failing line. None: it has none.
     fn shown_ack(&self) -> Option<u32> {
         match &self.lines.get(self.failure.place)?.event {
             Event::Sent(_, wire) if wire.seg.has(Flag::Ack) => Some(wire.seg.ack.0),
@@ -67,7 +62,7 @@ impl Known<'_> {
         }
     }
 
-    /// Adds what bears on the failure and is chosen at several lines at once, and arrivals beyond the window.
+    /// Adds choices at several lines at once, and arrivals beyond the window.
     pub(crate) fn together(&self, out: &mut Candidates) -> Result<(), OutOfMemory> {
         if self.failure.rule == Rule::BytesDiffer {
             self.gather(out, Kind::Covers, Fate::NotKept)?;
@@ -76,8 +71,10 @@ impl Known<'_> {
         }
         self.widen(out)?;
         self.drop_all(out)?;
-        match self.failure.rule {
-            Rule::CallAnswer | Rule::OldData | Rule::TimerOff => self.expire_each(out),
+        match (self.failure.rule, self.failure.key) {
+            (Rule::CallAnswer | Rule::OldData | Rule::TimerOff, Some(key)) => {
+                self.expire_each(out, key)
+            }
             _ => Ok(()),
         }
     }
@@ -85,15 +82,12 @@ impl Known<'_> {
     // The last arrivals that end beyond the window: an unseen segment advertised a larger one.
     fn widen(&self, out: &mut Candidates) -> Result<(), OutOfMemory> {
         let mut left = NEAR;
-        for place in self.beyond.iter().rev().take(REACH) {
-            if left == 0 || !self.bears_on_failure(*place) {
+        for place in self.findings.beyond.iter().rev().take(REACH) {
+            if left == 0 || !self.is_at_failing_endpoint(*place) {
                 continue;
             }
             left = left.saturating_sub(1);
-            out.push(Choice::Fate {
-                place: *place,
-                fate: Fate::Widened,
-            })?;
+            out.push(*place, Deed::Fate(Fate::Widened))?;
         }
         Ok(())
     }
@@ -110,34 +104,28 @@ impl Known<'_> {
     }
 
     // One candidate: the retransmission timer expires before each retransmission, if it may.
-    fn expire_each(&self, out: &mut Candidates) -> Result<(), OutOfMemory> {
-        let Some(key) = self.failure.key else {
-            return Ok(());
-        };
-        let mut end = None;
+    fn expire_each(&self, out: &mut Candidates, at: EndpointKey) -> Result<(), OutOfMemory> {
+        let mut end: Option<u32> = None;
         let first = self.failure.place.saturating_sub(REACH);
         for place in first..=self.failure.place {
-            let Some(wire) = self.sent_by(key, place) else {
+            let Some(wire) = self.sent_by(at, place) else {
                 continue;
             };
-            if is_again(end, wire) {
-                out.add(Choice::Before {
-                    place,
-                    at: place_of(key),
-                    remedy: Remedy::Rto,
-                })?;
-            } else if length_of(wire) > 0 {
-                end = Some(wire.seg.seq.0.wrapping_add(length_of(wire)));
+            match end {
+                Some(end) if HALF <= wire.seg.seq.0.wrapping_sub(end) => {
+                    out.add(place, Deed::Before(at, Remedy::Rto))?
+                }
+                _ => end = Some(end_of(wire)),
             }
         }
         out.end()
     }
 
-    // The segment that an endpoint sends with the line at a place.
-    fn sent_by(&self, key: ConnectionKey, place: usize) -> Option<&Wire> {
-        let line = self.lines.get(place)?;
-        match &line.event {
-            Event::Sent(_, wire) if key_of(line) == Some(key) => Some(wire),
+    // The segment with bytes or a FIN that an endpoint sends with the line at a place.
+    fn sent_by(&self, key: EndpointKey, place: usize) -> Option<&Wire> {
+        match &self.lines.get(place)?.event {
+            Event::Sent(host, wire)
+                if EndpointKey::sender(*host, wire) == key && length_of(wire) > 0 => { Some(wire) }
             _ => None,
         }
     }
@@ -165,7 +153,7 @@ impl Known<'_> {
                 continue;
             }
             left = left.saturating_sub(1);
-            out.add(Choice::Fate { place, fate })?;
+            out.add(place, Deed::Fate(fate))?;
         }
         Ok(())
     }
@@ -178,10 +166,12 @@ impl Known<'_> {
         }
     }
 
-    // Whether a line shows the endpoint of the failure, or that isn't known.
-    fn bears_on_failure(&self, place: usize) -> bool {
+    // Whether a line applies to the endpoint of the failure, or that endpoint isn't known.
+    fn is_at_failing_endpoint(&self, place: usize) -> bool {
         match self.lines.get(place) {
-            Some(line) => self.failure.key.is_none() || key_of(line) == self.failure.key,
+            Some(line) => {
+                self.failure.key.is_none() || EndpointKey::of_line(line) == self.failure.key
+            }
             None => false,
         }
     }
@@ -194,7 +184,7 @@ impl Known<'_> {
         let Event::Came(_, wire) = &line.event else {
             return false;
         };
-        if !self.bears_on_failure(place) {
+        if !self.is_at_failing_endpoint(place) {
             return false;
         }
         match (kind, self.shown_ack()) {

@@ -1,18 +1,16 @@
-//! Places that follow one another, for each endpoint.
+//! Lines in order, for each endpoint.
 
+use crate::key::EndpointKey;
 use case_forms::OutOfMemory;
 use std::alloc::Global;
 use std::collections::BTreeMap;
-
-/// An endpoint: its host, its own port and the peer's.
-pub(crate) type ConnectionKey = (u8, u16, u16);
 
 /// For each endpoint, places in ascending order.
 #[derive(Drop)]
 pub(crate) struct Chains {
     alloc: Global,
     /// The places of each endpoint that has any, the first one last.
-    places: BTreeMap<ConnectionKey, Vec<usize>>,
+    places: BTreeMap<EndpointKey, Vec<usize>>,
 }
 
 impl Chains {
@@ -24,11 +22,7 @@ impl Chains {
     }
 
     /// Adds a place that precedes all others of its endpoint.
-    pub(crate) fn put_first(
-        &mut self,
-        key: ConnectionKey,
-        place: usize,
-    ) -> Result<(), OutOfMemory> {
+    pub(crate) fn put_first(&mut self, key: EndpointKey, place: usize) -> Result<(), OutOfMemory> {
         let alloc = self.alloc;
         self.places
             .entry(key)?
@@ -38,7 +32,7 @@ impl Chains {
     }
 
     // The places of an endpoint, the first one last.
-    fn of(&self, key: ConnectionKey) -> &[usize] {
+    fn of(&self, key: EndpointKey) -> &[usize] {
         match self.places.get(&key) {
             Some(places) => places.as_slice(),
             None => &[],
@@ -50,8 +44,8 @@ impl Chains {
 #[derive(Drop)]
 pub(crate) struct Left<'t> {
     chains: &'t Chains,
-    /// For each endpoint of which places were passed, how many are left.
-    counts: BTreeMap<ConnectionKey, usize>,
+    /// How many are left, for each endpoint of which any were removed.
+    counts: BTreeMap<EndpointKey, usize>,
 }
 
 impl<'t> Left<'t> {
@@ -64,7 +58,7 @@ impl<'t> Left<'t> {
     }
 
     // The places of an endpoint that are left, the first one last.
-    fn of(&self, key: ConnectionKey) -> &'t [usize] {
+    fn of(&self, key: EndpointKey) -> &'t [usize] {
         let places = self.chains.of(key);
         match self.counts.get(&key) {
             Some(count) => places.get(..*count).unwrap_or(&[]),
@@ -73,20 +67,19 @@ impl<'t> Left<'t> {
     }
 
     /// The first place of an endpoint that is left.
-    pub(crate) fn first(&self, key: ConnectionKey) -> Option<usize> {
+    pub(crate) fn first(&self, key: EndpointKey) -> Option<usize> {
         self.of(key).last().copied()
     }
 
     /// Removes the places of an endpoint up to and including this one.
-    pub(crate) fn pass(&mut self, key: ConnectionKey, place: usize) -> Result<(), OutOfMemory> {
+    pub(crate) fn pass(&mut self, key: EndpointKey, place: usize) -> Result<(), OutOfMemory> {
         let places = self.of(key);
         let mut left = places.len();
-        for _ in 0..places.len() {
-            let last = left.saturating_sub(1);
-            match places.get(last) {
-                Some(first) if *first <= place && left > 0 => left = last,
-                _ => break,
+        for first in places.iter().rev() {
+            if *first > place {
+                break;
             }
+            left = left.saturating_sub(1);
         }
         if left < places.len() {
             self.counts.insert(key, left)?;

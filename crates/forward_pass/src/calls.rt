@@ -1,0 +1,184 @@
+//! Calls that had no effect yet.
+
+use crate::key::{EndpointKey, number_of};
+use case_forms::{Answer, Call, Host, OutOfMemory};
+use endpoint_state::World;
+use spec_tcp::SocketTarget;
+use std::alloc::Global;
+use std::collections::{BTreeMap, VecDeque};
+
+/// What a call means: a host, whether it's an endpoint or a listener, and its place there.
+pub(crate) type Meant = (u8, bool, u32);
+
+/// The endpoint of a host at a place.
+pub(crate) fn endpoint_at(host: Host, place: u32) -> Meant {
+    (number_of(host), true, place)
+}
+
+/// The listener of a host at a place.
+pub(crate) fn listener_at(host: Host, place: u32) -> Meant {
+    (number_of(host), false, place)
+}
+
+/// A call that began.
+#[derive(Clone, Copy)]
+pub(crate) struct Pending {
+    pub thread: u32,
+    /// The place of its beginning among the event lines.
+    pub begin: usize,
+    /// The place of its end. None: it is open at the end of the trace.
+    pub end: Option<usize>,
+}
+
+/// For each listener and endpoint, calls that wait there. Some of them may have had their effect.
+#[derive(Drop)]
+pub(crate) struct Waiting {
+    alloc: Global,
+    queues: BTreeMap<Meant, VecDeque<Pending>>,
+}
+
+impl Waiting {
+    fn new(alloc: Global) -> Waiting {
+        Waiting {
+            alloc,
+            queues: BTreeMap::new(alloc),
+        }
+    }
+
+    // Adds a call after all others.
+    fn put(&mut self, meant: Meant, pending: Pending) -> Result<(), OutOfMemory> {
+        let alloc = self.alloc;
+        self.queues
+            .entry(meant)?
+            .or_insert_with(|| VecDeque::new(alloc))
+            .push_back(pending)?;
+        Ok(())
+    }
+
+    /// Puts a call back that was the first.
+    pub(crate) fn put_back(&mut self, meant: Meant, pending: Pending) -> Result<(), OutOfMemory> {
+        if let Some(queue) = self.queues.get_mut(&meant) {
+            queue.push_front(pending)?;
+        }
+        Ok(())
+    }
+
+    /// Removes the call that has waited longest.
+    pub(crate) fn pop(&mut self, meant: Meant) -> Option<Pending> {
+        self.queues.get_mut(&meant)?.pop_front()
+    }
+}
+
+/// The calls that had no effect yet.
+#[derive(Drop)]
+pub(crate) struct Calls {
+    /// For each thread, the place at which such a call began.
+    open: BTreeMap<u32, usize>,
+    /// The calls whose end is known, in the order of their beginnings.
+    pub ended: Waiting,
+    /// The calls that are open at the end of the trace.
+    pub unended: Waiting,
+    /// For an endpoint whose ports are in use, the call that would open it.
+    pub opens: BTreeMap<EndpointKey, Pending>,
+}
+
+impl Calls {
+    pub(crate) fn new(alloc: Global) -> Calls {
+        Calls {
+            open: BTreeMap::new(alloc),
+            ended: Waiting::new(alloc),
+            unended: Waiting::new(alloc),
+            opens: BTreeMap::new(alloc),
+        }
+    }
+
+    /// A thread's call begins at a place.
+    pub(crate) fn begin(&mut self, thread: u32, place: usize) -> Result<(), OutOfMemory> {
+        self.open.insert(thread, place)?;
+        Ok(())
+    }
+
+    /// Whether a thread has a call that had no effect yet.
+    pub(crate) fn has_open(&self, thread: u32) -> bool {
+        self.open.contains_key(&thread)
+    }
+
+    /// Whether a thread's call that began at a place had no effect yet.
+    pub(crate) fn is_open(&self, thread: u32, begin: usize) -> bool {
+        self.open.get(&thread).copied() == Some(begin)
+    }
+
+    /// A thread's call had its effect.
+    pub(crate) fn close(&mut self, thread: u32) {
+        self.open.remove(&thread);
+    }
+
+    /// A call waits at a listener or an endpoint.
+    pub(crate) fn put(&mut self, meant: Meant, pending: Pending) -> Result<(), OutOfMemory> {
+        match pending.end {
+            Some(_) => self.ended.put(meant, pending),
+            None => self.unended.put(meant, pending),
+        }
+    }
+}
+
+// The socket number that a call names.
+fn socket_of(call: &Call) -> Option<u32> {
+    match call {
+        Call::Listen(_, _, _) | Call::Connect(_, _, _) => None,
+        Call::Await(socket)
+        | Call::Accept(socket)
+        | Call::Send(socket, _)
+        | Call::Recv(socket, _)
+        | Call::Shut(socket)
+        | Call::Close(socket)
+        | Call::Abort(socket)
+        | Call::Status(socket) => Some(*socket),
+    }
+}
+
+// The host that has a socket, and what it is there.
+fn target_of(world: &World, socket: u32) -> Option<(Host, SocketTarget)> {
+    match world.body(Host::Zero).thing(socket) {
+        Some(target) => Some((Host::Zero, target)),
+        None => Some((Host::One, world.body(Host::One).thing(socket)?)),
+    }
+}
+
+/// What a call means. None: it opens something, or its socket number is not live.
+pub(crate) fn meant_by(world: &World, call: &Call) -> Option<Meant> {
+    match target_of(world, socket_of(call)?)? {
+        (host, SocketTarget::ListenerAt(place)) => Some(listener_at(host, place)),
+        (host, SocketTarget::EndpointAt(place)) => Some(endpoint_at(host, place)),
+    }
+}
+
+/// The endpoint that a thread's open call means. None: it means none.
+pub(crate) fn key_of_call(world: &World, thread: u32) -> Option<EndpointKey> {
+    let call = world.pending_call(thread)?;
+    if let Call::Connect(host, lport, rport) = call {
+        return Some(EndpointKey::new(*host, *lport, *rport));
+    }
+    match target_of(world, socket_of(call)?)? {
+        (host, SocketTarget::EndpointAt(place)) => {
+            let endpoint = world.body(host).endpoint_at(place)?;
+            Some(EndpointKey::new(host, endpoint.lport, endpoint.rport))
+        }
+        (_, SocketTarget::ListenerAt(_)) => None,
+    }
+}
+
+/// The answer that a call is supposed to have had that is open at the end of the trace. None: it is supposed to have
+/// had no effect.
+pub(crate) fn supposed(call: &Call) -> Option<Answer> {
+    match call {
+        Call::Send(_, bytes) => Some(Answer::Given(u32::try_from(bytes.len()).ok()?)),
+        Call::Shut(_) | Call::Close(_) | Call::Abort(_) => Some(Answer::Done),
+        Call::Listen(_, _, _)
+        | Call::Connect(_, _, _)
+        | Call::Await(_)
+        | Call::Accept(_)
+        | Call::Recv(_, _)
+        | Call::Status(_) => None,
+    }
+}

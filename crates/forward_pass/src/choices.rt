@@ -1,0 +1,233 @@
+//! What is chosen at lines where more than one step is possible.
+//!
+//! Lines are named by their places among the event lines, from 0. If nothing is chosen for a line, the pass does what
+//! is usual.
+
+use crate::key::EndpointKey;
+use case_forms::OutOfMemory;
+use std::alloc::Global;
+use std::collections::BTreeMap;
+
+/// What becomes of an arrival.
+#[derive(Clone, Copy, PartialEq, Eq)]
+pub enum Fate {
+    /// What is usual, whatever was chosen before.
+    Usual,
+    /// It is processed, and its bytes and its FIN are not kept.
+    NotKept,
+    /// It is dropped.
+    Dropped,
+    /// It is processed, and no round trip is measured.
+    Unmeasured,
+    /// It is processed, and the congestion window doesn't grow.
+    NotGrown,
+    /// It copies the last of several equal segments.
+    OfLast,
+    /// It is processed after a segment that no line shows advertised a window that reaches to its end.
+    Widened,
+}
+
+/// What happens at an endpoint before a line.
+#[derive(Clone, Copy, PartialEq, Eq)]
+pub enum Remedy {
+    Rto,
+    Persist,
+    TimeWaitOver,
+    Recovery,
+}
+
+/// A segment that no line shows.
+#[derive(Clone, Copy, PartialEq, Eq)]
+pub enum Unseen {
+    /// All that can be built now.
+    All,
+    /// One segment.
+    One,
+    /// A reset.
+    Reset,
+}
+
+/// What is done otherwise at a line.
+#[derive(Clone, Copy, PartialEq, Eq)]
+pub enum Deed {
+    /// This becomes of its arrival.
+    Fate(Fate),
+    /// Its arrival or its call waits until after this line.
+    WaitUntil(usize),
+    /// After it, the segment of this later line is built.
+    Build(usize),
+    /// After it, an endpoint builds what no line shows.
+    BuildUnseen(EndpointKey, Unseen),
+    /// Before it, this happens at an endpoint.
+    Before(EndpointKey, Remedy),
+}
+
+/// One choice.
+#[derive(Clone, Copy, PartialEq, Eq)]
+pub struct Choice {
+    /// The place of the line.
+    pub place: usize,
+    pub deed: Deed,
+}
+
+/// What was chosen for an arrival.
+#[derive(Clone, Copy)]
+pub(crate) struct Arrival {
+    pub is_dropped: bool,
+    pub is_kept: bool,
+    pub is_measured: bool,
+    pub grows: bool,
+    pub is_of_last: bool,
+    pub is_widened: bool,
+    pub waits: bool,
+}
+
+const USUAL: Arrival = Arrival {
+    is_dropped: false,
+    is_kept: true,
+    is_measured: true,
+    grows: true,
+    is_of_last: false,
+    is_widened: false,
+    waits: false,
+};
+
+impl Arrival {
+    // The same, with one choice more. Of keeping and dropping, the last choice counts.
+    fn with(self, fate: Fate) -> Arrival {
+        let mut arrival = self;
+        match fate {
+            Fate::Usual => arrival = USUAL,
+            Fate::NotKept => {
+                arrival.is_kept = false;
+                arrival.is_dropped = false;
+            }
+            Fate::Dropped => arrival.is_dropped = true,
+            Fate::Unmeasured => arrival.is_measured = false,
+            Fate::NotGrown => arrival.grows = false,
+            Fate::OfLast => arrival.is_of_last = true,
+            Fate::Widened => arrival.is_widened = true,
+        }
+        arrival
+    }
+}
+
+/// Choices, in the order in which they were chosen.
+#[derive(Drop)]
+pub struct Choices {
+    alloc: Global,
+    all: Vec<Choice>,
+    /// For the place of a line, the choices that change what happens there.
+    by_place: BTreeMap<usize, Vec<Choice>>,
+}
+
+impl Choices {
+    /// Nothing is chosen.
+    pub fn new(alloc: Global) -> Choices {
+        Choices {
+            alloc,
+            all: Vec::new(alloc),
+            by_place: BTreeMap::new(alloc),
+        }
+    }
+
+    /// Adds choices, without those that are the last of their lines already.
+    pub fn push_all(&mut self, choices: &[Choice]) -> Result<(), OutOfMemory> {
+        for choice in choices {
+            if self.at(choice.place).last().copied() != Some(*choice) {
+                self.all.push(*choice)?;
+                self.put(*choice)?;
+            }
+        }
+        Ok(())
+    }
+
+    // Puts a choice at its lines.
+    fn put(&mut self, choice: Choice) -> Result<(), OutOfMemory> {
+        self.put_at(choice.place, choice)?;
+        match choice.deed {
+            Deed::WaitUntil(after) => self.put_at(after, choice),
+            _ => Ok(()),
+        }
+    }
+
+    fn put_at(&mut self, place: usize, choice: Choice) -> Result<(), OutOfMemory> {
+        let alloc = self.alloc;
+        self.by_place
+            .entry(place)?
+            .or_insert_with(|| Vec::new(alloc))
+            .push(choice)?;
+        Ok(())
+    }
+
+    /// Replaces all by other choices.
+    pub fn set(&mut self, other: &Choices) -> Result<(), OutOfMemory> {
+        self.all.clear();
+        self.all.extend_from_slice(other.all.as_slice())?;
+        self.put_all()
+    }
+
+    /// Keeps only the first choices, so many of them.
+    pub fn truncate(&mut self, count: usize) -> Result<(), OutOfMemory> {
+        if count >= self.all.len() {
+            return Ok(());
+        }
+        self.all.truncate(count);
+        self.put_all()
+    }
+
+    // Puts all choices at their lines anew.
+    fn put_all(&mut self) -> Result<(), OutOfMemory> {
+        self.by_place = BTreeMap::new(self.alloc);
+        for index in 0..self.all.len() {
+            if let Some(choice) = self.all.get(index).copied() {
+                self.put(choice)?;
+            }
+        }
+        Ok(())
+    }
+
+    /// How many there are.
+    pub fn len(&self) -> usize {
+        self.all.len()
+    }
+
+    /// Whether nothing is chosen.
+    pub fn is_empty(&self) -> bool {
+        self.all.is_empty()
+    }
+
+    /// The choices at a line, in the order in which they were chosen.
+    pub(crate) fn at(&self, place: usize) -> &[Choice] {
+        if self.is_empty() {
+            return &[];
+        }
+        match self.by_place.get(&place) {
+            Some(choices) => choices.as_slice(),
+            None => &[],
+        }
+    }
+
+    /// What was chosen for the arrival of a line.
+    pub(crate) fn arrival(&self, place: usize) -> Arrival {
+        let mut arrival = USUAL;
+        for choice in self.at(place) {
+            if let Deed::Fate(fate) = choice.deed {
+                arrival = arrival.with(fate);
+            }
+        }
+        arrival.waits = self.waits(place);
+        arrival
+    }
+
+    /// Whether the arrival or the call of a line waits for a later one.
+    pub(crate) fn waits(&self, place: usize) -> bool {
+        for choice in self.at(place) {
+            match choice.deed {
+                Deed::WaitUntil(after) if choice.place == place => return after > place,
+                _ => {}
+            }
+        }
+        false
+    }
+}

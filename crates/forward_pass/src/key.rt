@@ -1,0 +1,73 @@
+//! Endpoints, by their host and ports.
+
+use case_forms::{Event, Host, Line, Ports, Wire};
+use spec_tcp::Emission;
+
+/// An endpoint of a host.
+#[derive(Clone, Copy, PartialEq, Eq, PartialOrd, Ord)]
+pub struct EndpointKey {
+    host: u8,
+    pub lport: u16,
+    pub rport: u16,
+}
+
+/// The number of a host.
+pub(crate) fn number_of(host: Host) -> u8 {
+    match host {
+        Host::Zero => 0,
+        Host::One => 1,
+    }
+}
+
+impl EndpointKey {
+    /// The endpoint of a host with these ports.
+    pub fn new(host: Host, lport: u16, rport: u16) -> EndpointKey {
+        EndpointKey {
+            host: number_of(host),
+            lport,
+            rport,
+        }
+    }
+
+    /// The endpoint of a host that sends a segment.
+    pub fn sender(host: Host, wire: &Wire) -> EndpointKey {
+        EndpointKey::new(host, wire.seg.src, wire.seg.dst)
+    }
+
+    /// The endpoint of a host for which a segment is meant.
+    pub(crate) fn receiver(host: Host, m: &Emission) -> EndpointKey {
+        EndpointKey::new(host, m.rport, m.lport)
+    }
+
+    /// The endpoint whose segment or timer a line shows. None: the line shows a call.
+    pub fn of_line(line: &Line) -> Option<EndpointKey> {
+        match &line.event {
+            Event::Sent(host, wire) => Some(EndpointKey::sender(*host, wire)),
+            Event::Came(host, wire) => Some(EndpointKey::new(*host, wire.seg.dst, wire.seg.src)),
+            Event::Expired(host, lport, rport, _) => Some(EndpointKey::new(*host, *lport, *rport)),
+            Event::CallBegin(_) | Event::CallEnd(_) => None,
+        }
+    }
+
+    /// Its host.
+    pub fn host(self) -> Host {
+        if self.host == 0 {
+            Host::Zero
+        } else {
+            Host::One
+        }
+    }
+
+    /// Its ports.
+    pub fn ports(self) -> Ports {
+        Ports {
+            lport: self.lport,
+            rport: self.rport,
+        }
+    }
+
+    /// The other host's endpoint of the same connection.
+    pub fn peer(self) -> EndpointKey {
+        EndpointKey::new(self.host().other(), self.rport, self.lport)
+    }
+}

@@ -1,0 +1,80 @@
+//! Expiries that the trace shows, and lines that are added for others.
+
+use super::Pass;
+use crate::calls::endpoint_at;
+use crate::key::EndpointKey;
+use crate::progress::saturated;
+use crate::stop::{Stop, permitted};
+use case_forms::{Expired, Recovery, RtoChoice, Timer};
+use endpoint::{greatest_at_recovery, greatest_values};
+
+impl Pass<'_> {
+    /// The current line shows that a timer expired.
+    pub(crate) fn expire_shown(&mut self, key: EndpointKey, timer: Timer) -> Result<(), Stop> {
+        let expired = self.greatest_expiry(key, timer);
+        self.progress.expire(key, expired)?;
+        self.wake_endpoint(key)
+    }
+
+    // The expiry of a timer, with the greatest values that may be chosen then.
+    fn greatest_expiry(&self, key: EndpointKey, timer: Timer) -> Expired {
+        let (cwnd, ssthresh) = match (timer, self.progress.endpoint(key)) {
+            (Timer::Rto, Some(endpoint)) => greatest_values(endpoint, self.progress.moment()),
+            _ => (0, 0),
+        };
+        match timer {
+            Timer::Rto => Expired::Rto(RtoChoice {
+                cwnd: saturated(cwnd),
+                ssthresh: saturated(ssthresh),
+            }),
+            Timer::Persist => Expired::Persist,
+            Timer::Msl2 => Expired::Msl2,
+            Timer::Giveup => Expired::Giveup,
+        }
+    }
+
+    /// Calls on an endpoint are tried, and one that waits for its ports.
+    pub(crate) fn wake_endpoint(&mut self, key: EndpointKey) -> Result<(), Stop> {
+        if let Some(place) = self.place_of(key) {
+            self.wake(endpoint_at(key.host(), place))?;
+        }
+        self.open_again(key)?;
+        Ok(())
+    }
+
+    /// The place of an endpoint at its host.
+    pub(crate) fn place_of(&self, key: EndpointKey) -> Option<u32> {
+        let body = self.progress.world().body(key.host());
+        body.place_of(key.lport, key.rport)
+    }
+
+    /// Adds a line for an expiry, if the timer may expire now: before the current line, or after it if its step was
+    /// written. The result is whether the line was added.
+    pub(crate) fn add_expiry(&mut self, key: EndpointKey, timer: Timer) -> Result<bool, Stop> {
+        let expired = self.greatest_expiry(key, timer);
+        Ok(permitted(self.progress.add_expiry(key, expired))?.is_some())
+    }
+
+    /// Adds a line for an expiry, if that's permitted now, and tries the calls on the endpoint.
+    pub(crate) fn try_expiry(&mut self, key: EndpointKey, timer: Timer) -> Result<(), Stop> {
+        if self.add_expiry(key, timer)? {
+            self.wake_endpoint(key)?;
+        }
+        Ok(())
+    }
+
+    /// Fast recovery begins with the greatest values, if that's permitted. The result is whether it did.
+    pub(crate) fn try_recovery(&mut self, key: EndpointKey) -> Result<bool, Stop> {
+        let Some(endpoint) = self.progress.endpoint(key) else {
+            return Ok(false);
+        };
+        let (cwnd, ssthresh) = greatest_at_recovery(endpoint, self.progress.moment());
+        let recovery = Recovery {
+            lport: key.lport,
+            rport: key.rport,
+            cwnd: saturated(cwnd),
+            ssthresh: saturated(ssthresh),
+        };
+        Ok(permitted(self.progress.recover(key.host(), recovery))?.is_some())
+    }
+}

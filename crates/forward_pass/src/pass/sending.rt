@@ -1,0 +1,173 @@
+//! A segment is built when its line shows that it was sent.
+
+use super::Pass;
+use crate::calls::endpoint_at;
+use crate::choices::Unseen;
+use crate::copies::Sending;
+use crate::key::EndpointKey;
+use crate::stop::Stop;
+use case_forms::{Flags, Host, Label, POSITIONS, SegmentPlan, Timer, Wire};
+use endpoint_state::{Endpoint, World};
+use segment::Flag;
+use seqno::{Word, read_near};
+use verdict::Rule;
+
+// How many remedies are tried so that a segment may be built.
+const REMEDIES: usize = 20;
+
+/// The position at which a segment of an endpoint begins, near what it built.
+pub(crate) fn position_of(endpoint: &Endpoint, seq: Word) -> Option<u64> {
+    let near = endpoint.snd_max();
+    if near >= POSITIONS {
+        return None;
+    }
+    read_near(near, endpoint.iss?, seq)
+}
+
+/// The segment that a line shows, as its host has to build it.
+pub(crate) fn plan_of(world: &World, host: Host, wire: &Wire) -> SegmentPlan {
+    let seg = &wire.seg;
+    let flags = Flags {
+        ack: seg.has(Flag::Ack),
+        rst: seg.has(Flag::Rst),
+        syn: seg.has(Flag::Syn),
+        fin: seg.has(Flag::Fin),
+    };
+    let (pos, is_known) = match world.body(host).endpoint_of(seg.src, seg.dst) {
+        Some(endpoint) => (position_of(endpoint, seg.seq), endpoint.iss.is_some()),
+        None => (None, false),
+    };
+    let is_first = flags.syn && !is_known;
+    let is_scaled = is_first && world.header().version.scales();
+    SegmentPlan {
+        lport: seg.src,
+        rport: seg.dst,
+        pos: if flags.syn { 0 } else { pos.unwrap_or(0) },
+        len: u16::try_from(seg.payload.len()).unwrap_or(u16::MAX),
+        flags,
+        window: seg.window,
+        iss: if is_first { Some(seg.seq) } else { None },
+        shift: match seg.scale {
+            Some(shift) if is_scaled => Some(shift.min(14)),
+            _ => None,
+        },
+    }
+}
+
+impl<'t> Pass<'t> {
+    /// The current line shows a segment sent: it is built, unless it was before.
+    pub(crate) fn send(&mut self, host: Host, wire: &'t Wire) -> Result<(), Stop> {
+        let key = EndpointKey::sender(host, wire);
+        let place = self.progress.place();
+        let made = match self.outgoing.start_sending(key, place)? {
+            Some(made) => made,
+            None => self.make_shown(key, wire)?,
+        };
+        let line = self.progress.send(host, made, wire)?;
+        let moment = self.progress.moment();
+        let sent = self.copies.of(host);
+        sent.add(wire.bytes.as_slice(), Sending { line, moment })?;
+        if wire.seg.has(Flag::Syn) {
+            self.outgoing.sent_syn(key, wire.seg.seq)?;
+        }
+        Ok(())
+    }
+
+    // Builds the segment that a line shows. If that isn't permitted yet, remedies come first.
+    fn make_shown(&mut self, key: EndpointKey, wire: &Wire) -> Result<u32, Stop> {
+        let host = key.host();
+        if wire.seg.has(Flag::Syn) {
+            self.expire_before_syn(key)?;
+        }
+        for _ in 0..REMEDIES {
+            let plan = plan_of(self.progress.world(), host, wire);
+            match self.progress.make(host, plan) {
+                Err(Stop::Broken(rule)) => {
+                    if !self.remedy(key, plan, rule)? {
+                        break;
+                    }
+                }
+                Ok(made) => {
+                    // A reset closes its endpoint, for which calls may wait.
+                    if plan.flags.rst {
+                        self.wake_endpoint(key)?;
+                    }
+                    return Ok(made);
+                }
+                Err(stop) => return Err(stop),
+            }
+        }
+        let plan = plan_of(self.progress.world(), host, wire);
+        let made = self.progress.make(host, plan);
+        if let Err(Stop::Broken(_)) = made {
+            self.progress.push_step(Label::M { host, plan })?;
+        }
+        made
+    }
+
+    // Does what may permit a segment that breaks this rule. The result is whether something was done.
+    fn remedy(&mut self, key: EndpointKey, plan: SegmentPlan, rule: Rule) -> Result<bool, Stop> {
+        match rule {
+            Rule::OldData if self.is_gap_before(key, plan) => {
+                self.make_unseen(key, Unseen::One, plan.pos)
+            }
+            Rule::OldData => self.permit_old_data(key),
+            Rule::Offered => self.add_expiry(key, Timer::Persist),
+            Rule::State | Rule::NoEndpoint if plan.flags.syn && !plan.flags.ack => self.reopen(key),
+            Rule::PayloadRange | Rule::State | Rule::NoEndpoint => self.suppose_at(key),
+            _ => Ok(false),
+        }
+    }
+
+    // Whether positions before a segment weren't built yet: they were, and no line shows it.
+    fn is_gap_before(&self, key: EndpointKey, plan: SegmentPlan) -> bool {
+        match self.progress.endpoint(key) {
+            Some(endpoint) => endpoint.snd_max() < plan.pos,
+            None => false,
+        }
+    }
+
+    // A SYN is sent: the TIME-WAIT of an older endpoint is over, or a call opens the ports again.
+    fn reopen(&mut self, key: EndpointKey) -> Result<bool, Stop> {
+        let is_over = self.add_expiry(key, Timer::Msl2)?;
+        let is_opened = self.open_again(key)?;
+        if is_over || is_opened {
+            return Ok(true);
+        }
+        self.suppose_at(key)
+    }
+
+    // After one expiry, or if retransmissions aren't judged, a SYN may be built again without another expiry. Its timer
+    // may have expired all the same.
+    fn expire_before_syn(&mut self, key: EndpointKey) -> Result<(), Stop> {
+        let is_again = match self.progress.endpoint(key) {
+            Some(endpoint) => endpoint.iss.is_some() && endpoint.snd_max() > 0,
+            None => false,
+        };
+        if is_again {
+            self.add_expiry(key, Timer::Rto)?;
+        }
+        Ok(())
+    }
+
+    // Does what permits old data to be sent again.
+    fn permit_old_data(&mut self, key: EndpointKey) -> Result<bool, Stop> {
+        let is_closed = match self.progress.endpoint(key) {
+            Some(endpoint) => endpoint.window.snd_wnd == 0,
+            None => false,
+        };
+        Ok(
+            (is_closed && self.add_expiry(key, Timer::Persist)?)
+                || self.try_recovery(key)?
+                || self.add_expiry(key, Timer::Rto)?
+                || self.add_expiry(key, Timer::Persist)?,
+        )
+    }
+
+    fn suppose_at(&mut self, key: EndpointKey) -> Result<bool, Stop> {
+        match self.place_of(key) {
+            Some(place) => self.suppose(endpoint_at(key.host(), place)),
+            None => Ok(false),
+        }
+    }
+}
