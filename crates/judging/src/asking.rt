@@ -48,16 +48,16 @@ pub fn judge(alloc: Global, text: &[u8], budget: u64) -> Result<Judgement, Judge
         first = first.or(tried.refused);
         if tried.refused.is_none() {
             say_conclusion(alloc, &mut said, &tried, &header, first)?;
-            return Ok(judgement(said, tried));
+            return Ok(concluded(said, tried));
         }
     }
     let tried = try_level(alloc, text, &header, Judged::Nothing, budget)?;
     say_row(&mut said, &tried)?;
     say_conclusion(alloc, &mut said, &tried, &header, first)?;
-    Ok(judgement(said, tried))
+    Ok(concluded(said, tried))
 }
 
-fn judgement(text: String, tried: Tried) -> Judgement {
+fn concluded(text: String, tried: Tried) -> Judgement {
     let level = match tried.verdict {
         Verdict::Yes { .. } => Some(tried.level),
         Verdict::No { .. } => None,
