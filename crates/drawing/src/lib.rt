@@ -7,17 +7,18 @@
 //!
 //! Private modules:
 //!
-//! - `whole`: a case that is shown; `showing`: a case as text
-//! - `diagram`: a case as a picture; `picture`: its parts; `fates`: what became of its lines; `callers`: hosts and
-//!   columns of threads
+//! - `showing`: a case as text
+//! - `diagram`: a case as a picture; `range`: the lines that are drawn; `picture`: parts in SVG; `fates`: what became
+//!   of the lines; `callers`: hosts and columns of threads
 #![tactic(auto)]
 
 mod callers;
 mod diagram;
 mod fates;
 mod picture;
+mod range;
 mod showing;
-mod whole;
 
-pub use diagram::{Range, draw};
+pub use diagram::draw;
+pub use range::Range;
 pub use showing::show;

@@ -1,7 +1,7 @@
-//! Parts of a picture in SVG. Lengths are pixels, and y grows downward.
+//! Parts of a picture in SVG, a line each. Lengths are pixels, and y grows downward.
 
 use case_forms::OutOfMemory;
-use why::text::{Piece, add, say};
+use std::fmt;
 
 /// A point.
 #[derive(Clone, Copy)]
@@ -10,24 +10,25 @@ pub(crate) struct Point {
     pub y: u64,
 }
 
+/// The point at these two distances, from the left and from the top.
+pub(crate) fn at(x: u64, y: u64) -> Point {
+    Point { x, y }
+}
+
+impl fmt::Display for Point {
+    fn fmt<W: fmt::Write>(&self, f: &mut fmt::Formatter<W>) -> fmt::Result {
+        write!(f, "x=\"{}\" y=\"{}\"", self.x, self.y)
+    }
+}
+
 /// Begins a picture of this size.
-pub(crate) fn begin(out: &mut Vec<u8>, width: u64, height: u64) -> Result<(), OutOfMemory> {
-    use Piece::{Number, Word};
-    say(
+pub(crate) fn begin(out: &mut String, width: u64, height: u64) -> Result<(), OutOfMemory> {
+    write!(
         out,
-        &[
-            Word("<svg xmlns=\"http://www.w3.org/2000/svg\" width=\""),
-            Number(width),
-            Word("\" height=\""),
-            Number(height),
-            Word("\" viewBox=\"0 0 "),
-            Number(width),
-            Word(" "),
-            Number(height),
-            Word("\">"),
-        ],
+        "<svg xmlns=\"http://www.w3.org/2000/svg\" width=\"{width}\" height=\"{height}\""
     )?;
-    say(out, &[Word(STYLE)])
+    writeln!(out, " viewBox=\"0 0 {width} {height}\">")?;
+    writeln!(out, "{STYLE}")
 }
 
 const STYLE: &str =
@@ -52,92 +53,56 @@ const STYLE: &str =
 <path d=\"M0 0L9 4L0 8z\" fill=\"#555\"/></marker></defs>";
 
 /// Ends a picture.
-pub(crate) fn end(out: &mut Vec<u8>) -> Result<(), OutOfMemory> {
-    say(out, &[Piece::Word("</svg>")])
+pub(crate) fn end(out: &mut String) -> Result<(), OutOfMemory> {
+    writeln!(out, "</svg>")
 }
 
 /// A line of a class.
 pub(crate) fn line(
-    out: &mut Vec<u8>,
+    out: &mut String,
     class: &str,
     from: Point,
     to: Point,
 ) -> Result<(), OutOfMemory> {
     stroke(out, class, from, to)?;
-    say(out, &[Piece::Word("/>")])
+    writeln!(out, "/>")
 }
 
 /// An arrow of a class.
 pub(crate) fn arrow(
-    out: &mut Vec<u8>,
+    out: &mut String,
     class: &str,
     from: Point,
     to: Point,
 ) -> Result<(), OutOfMemory> {
     stroke(out, class, from, to)?;
-    say(
-        out,
-        &[
-            Piece::Word(" marker-end=\"url(#m-"),
-            Piece::Word(class),
-            Piece::Word(")\"/>"),
-        ],
-    )
+    writeln!(out, " marker-end=\"url(#m-{class})\"/>")
 }
 
-fn stroke(out: &mut Vec<u8>, class: &str, from: Point, to: Point) -> Result<(), OutOfMemory> {
-    use Piece::{Number, Word};
-    add(
+fn stroke(out: &mut String, class: &str, from: Point, to: Point) -> Result<(), OutOfMemory> {
+    write!(
         out,
-        &[
-            Word("<line class=\""),
-            Word(class),
-            Word("\" x1=\""),
-            Number(from.x),
-            Word("\" y1=\""),
-            Number(from.y),
-            Word("\" x2=\""),
-            Number(to.x),
-            Word("\" y2=\""),
-            Number(to.y),
-            Word("\""),
-        ],
-    )
+        "<line class=\"{class}\" x1=\"{}\" y1=\"{}\"",
+        from.x, from.y
+    )?;
+    write!(out, " x2=\"{}\" y2=\"{}\"", to.x, to.y)
 }
 
 /// A filled circle.
-pub(crate) fn dot(out: &mut Vec<u8>, at: Point) -> Result<(), OutOfMemory> {
-    use Piece::{Number, Word};
-    say(
+pub(crate) fn dot(out: &mut String, at: Point) -> Result<(), OutOfMemory> {
+    writeln!(
         out,
-        &[
-            Word("<circle r=\"4\" fill=\"#337\" cx=\""),
-            Number(at.x),
-            Word("\" cy=\""),
-            Number(at.y),
-            Word("\"/>"),
-        ],
+        "<circle r=\"4\" fill=\"#337\" cx=\"{}\" cy=\"{}\"/>",
+        at.x, at.y
     )
 }
 
-/// A text of a class begins at a point. Its words follow, and then `end_text`.
-pub(crate) fn begin_text(out: &mut Vec<u8>, class: &str, at: Point) -> Result<(), OutOfMemory> {
-    use Piece::{Number, Word};
-    add(
-        out,
-        &[
-            Word("<text class=\""),
-            Word(class),
-            Word("\" x=\""),
-            Number(at.x),
-            Word("\" y=\""),
-            Number(at.y),
-            Word("\">"),
-        ],
-    )
-}
-
-/// Ends a text.
-pub(crate) fn end_text(out: &mut Vec<u8>) -> Result<(), OutOfMemory> {
-    say(out, &[Piece::Word("</text>")])
+/// A text of a class, from a point on.
+pub(crate) fn text(
+    out: &mut String,
+    class: &str,
+    at: Point,
+    words: &impl fmt::Display,
+) -> Result<(), OutOfMemory> {
+    writeln!(out, "<text class=\"{class}\" {at}>{words}</text>")
 }

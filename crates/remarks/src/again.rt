@@ -1,15 +1,17 @@
 //! Retransmissions that are counted, and the remarks on them. Moments and times are microseconds.
 
 use crate::clocks::{is_short, required_wait};
-use crate::found::Found;
+use crate::found::{Done, Found};
+use crate::waits::Now;
 use crate::words::{Position, Time, Times, Who};
-use case_forms::OutOfMemory;
+use plain_words::word_if;
 use std::fmt;
 
 /// What let an endpoint retransmit.
-#[derive(Clone, Copy)]
+#[derive(Clone, Copy, Default)]
 pub(crate) enum Permit {
     /// Nothing did.
+    #[default]
     Nothing,
     /// An expiry of the retransmission timer, in this line.
     Rto(u64),
@@ -34,7 +36,7 @@ impl fmt::Display for Permit {
 }
 
 /// How many retransmissions there are, and the lines of the first and the last.
-#[derive(Clone, Copy)]
+#[derive(Clone, Copy, Default)]
 pub(crate) struct Count {
     times: u64,
     first: u64,
@@ -42,15 +44,6 @@ pub(crate) struct Count {
 }
 
 impl Count {
-    /// None yet.
-    pub(crate) fn none() -> Count {
-        Count {
-            times: 0,
-            first: 0,
-            last: 0,
-        }
-    }
-
     /// One more, in this line.
     pub(crate) fn and(&self, line: u64) -> Count {
         Count {
@@ -76,16 +69,20 @@ pub(crate) struct Again {
 
 impl Again {
     /// Remarks on them, unless there is one alone.
-    pub(crate) fn say(&self, found: &mut Found) -> Result<(), OutOfMemory> {
+    pub(crate) fn say(&self, found: &mut Found) -> Done {
         let Count { times, first, last } = self.count;
         if times < 2 {
             return Ok(());
         }
-        let who = self.who;
-        let what = Position(self.position);
-        let permit = self.permit;
-        let text = format!(in found.alloc; "{who} retransmits {what}{} {permit}", Times(times))?;
-        found.add_lines((first, last), text)
+        found.add_lines((first, last), self)
+    }
+}
+
+impl fmt::Display for Again {
+    fn fmt<W: fmt::Write>(&self, f: &mut fmt::Formatter<W>) -> fmt::Result {
+        let (position, times) = (Position(self.position), Times(self.count.times));
+        write!(f, "{} retransmits {position}", self.who)?;
+        write!(f, "{times} {}", self.permit)
     }
 }
 
@@ -109,17 +106,15 @@ pub(crate) struct Chain {
 }
 
 impl Chain {
-    /// The chain with one more retransmission, after so many permits, at a moment and with a line.
-    pub(crate) fn longer(&self, permits: u64, moment: u64, line: u64, grain: u64) -> Chain {
-        let wait = moment.saturating_sub(self.moment);
-        let mut next = Chain {
-            moment,
-            wait: wait.max(self.wait),
-            permits,
-            ..*self
-        };
+    /// The chain with one more retransmission, after so many permits.
+    pub(crate) fn longer(&self, permits: u64, now: Now, grain: u64) -> Chain {
+        let wait = now.moment.saturating_sub(self.moment);
+        let mut next = *self;
+        next.moment = now.moment;
+        next.wait = wait.max(self.wait);
+        next.permits = permits;
         if is_short(wait, self.wait, grain) {
-            next.early = self.early.and(line);
+            next.early = self.early.and(now.line);
             if self.early.times == 0 {
                 next.waits = (wait, self.wait);
             }
@@ -128,20 +123,22 @@ impl Chain {
     }
 
     /// Remarks on those that came too early, if any did.
-    pub(crate) fn say(&self, found: &mut Found) -> Result<(), OutOfMemory> {
+    pub(crate) fn say(&self, found: &mut Found) -> Done {
         let Count { times, first, last } = self.early;
         if times == 0 {
             return Ok(());
         }
-        let who = self.who;
-        let what = Position(self.position);
-        let at_first = if times == 1 { "" } else { "first " };
-        let wait = Time(self.waits.0);
-        let required = Time(required_wait(self.waits.1));
-        let text = format!(in found.alloc;
-            "{who} retransmits {what}{} without back-off: {at_first}after {wait} instead of {required} (RFC 6298, 5.5)",
-            Times(times),
-        )?;
-        found.add_lines((first, last), text)
+        found.add_lines((first, last), self)
+    }
+}
+
+impl fmt::Display for Chain {
+    fn fmt<W: fmt::Write>(&self, f: &mut fmt::Formatter<W>) -> fmt::Result {
+        let (position, times) = (Position(self.position), Times(self.early.times));
+        write!(f, "{} retransmits {position}", self.who)?;
+        let at_first = word_if(1 < self.early.times, "first ");
+        write!(f, "{times} without back-off: {at_first}after ")?;
+        let (wait, required) = (Time(self.waits.0), Time(required_wait(self.waits.1)));
+        write!(f, "{wait} instead of {required} (RFC 6298, 5.5)")
     }
 }

@@ -1,7 +1,8 @@
 //! The effects of calls.
 
-use crate::replay::Replay;
-use case_forms::{Call, Host, OutOfMemory, Step};
+use crate::review::Review;
+use case_forms::{Call, Host, Step};
+use replayed::ReplayFault;
 use spec_tcp::{EndpointId, SocketTarget};
 
 // What a call means.
@@ -15,10 +16,10 @@ enum Meant {
     Nothing,
 }
 
-impl<'t> Replay<'t> {
+impl Review<'_> {
     /// A thread's call has its effect.
-    pub(crate) fn effect(&mut self, step: &Step, thread: u32) -> Result<(), OutOfMemory> {
-        let meant = match self.world.pending_call(thread) {
+    pub(crate) fn effect(&mut self, step: &Step, thread: u32) -> Result<(), ReplayFault> {
+        let meant = match self.replay.world().pending_call(thread) {
             Some(call) => meant_by(call),
             None => Meant::Nothing,
         };
@@ -29,7 +30,7 @@ impl<'t> Replay<'t> {
                 .or(self.endpoint_named(Host::One, socket)),
             Meant::Opened(..) | Meant::Nothing => None,
         };
-        self.apply(step, None)?;
+        self.replay.apply(step)?;
         let opened = match meant {
             Meant::Opened(host, lport, rport) => self.endpoint_of(host, lport, rport),
             Meant::Socket(..) | Meant::Nothing => None,
@@ -37,21 +38,21 @@ impl<'t> Replay<'t> {
         let Some(id) = named.or(opened) else {
             return Ok(());
         };
+        let mut note = self.note(id);
         if let Meant::Socket(_, true) = meant {
-            let mut note = self.note(id);
             note.aborted = match self.endpoint(id) {
                 Some(endpoint) => endpoint.state.is_closed(),
                 None => false,
             };
-            self.put(note)?;
         }
         let line = self.calls.get(&thread).copied().unwrap_or(0);
-        self.touch(id, line)
+        self.touch(id, note, line)?;
+        Ok(())
     }
 
     // The endpoint that a socket number names at a host.
     fn endpoint_named(&self, host: Host, socket: u32) -> Option<EndpointId> {
-        match self.world.body(host).thing(socket)? {
+        match self.replay.world().body(host).thing(socket)? {
             SocketTarget::EndpointAt(number) => Some(EndpointId { host, number }),
             SocketTarget::ListenerAt(_) => None,
         }

@@ -1,7 +1,10 @@
 //! An endpoint's timers, and its waits with nothing sent. Times and moments are microseconds.
 
+use crate::words::Time;
 use case_forms::{State, Timer};
+use line_fields::timer_name;
 use spec_tcp::Endpoint;
+use std::fmt;
 
 // No stack needs to expire earlier than after a second (RFC 6298, 2.4).
 const SHORTEST: u64 = 1_000_000;
@@ -22,6 +25,13 @@ pub(crate) struct Clock {
     pub since: u64,
     /// After how long it is due.
     pub time: u64,
+}
+
+impl fmt::Display for Clock {
+    fn fmt<W: fmt::Write>(&self, f: &mut fmt::Formatter<W>) -> fmt::Result {
+        let timer = timer_name(self.timer);
+        write!(f, "its {timer} timer ({})", Time(self.time))
+    }
 }
 
 /// The retransmission timer after so many expiries, of which the last `unseen` are in no line. None: it is off, or the
@@ -91,6 +101,16 @@ pub(crate) struct Stall {
     pub room: u64,
 }
 
+impl fmt::Display for Stall {
+    fn fmt<W: fmt::Write>(&self, f: &mut fmt::Formatter<W>) -> fmt::Result {
+        match self.bytes {
+            1 => write!(f, "1 byte waits")?,
+            bytes => write!(f, "{bytes} bytes wait")?,
+        }
+        write!(f, ", the window is {}", self.room)
+    }
+}
+
 /// The stall of an endpoint; `before` is the one that lasted until now.
 pub(crate) fn stall_of(endpoint: &Endpoint, before: Option<Stall>, moment: u64) -> Option<Stall> {
     let bytes = waiting_bytes(endpoint);
@@ -107,16 +127,11 @@ pub(crate) fn stall_of(endpoint: &Endpoint, before: Option<Stall>, moment: u64) 
 
 // Whether bytes may be sent in a state.
 fn may_send(state: State) -> bool {
-    match state {
-        State::Established | State::FinWait1 | State::CloseWait | State::Closing | State::LastAck =>
-            true,
-        State::Closed
-        | State::Listen
-        | State::SynSent
-        | State::SynReceived
-        | State::FinWait2
-        | State::TimeWait => false,
-    }
+    use State::{CloseWait, Closing, Established, FinWait1, LastAck};
+    matches!(
+        state,
+        Established | FinWait1 | CloseWait | Closing | LastAck
+    )
 }
 
 /// The wait that back-off requires after one of `before` (RFC 6298, 5.5). A minute is always enough.

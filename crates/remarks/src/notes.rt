@@ -21,10 +21,15 @@ pub(crate) fn key_of(id: EndpointId) -> EndpointKey {
     (number_of(id.host), id.number)
 }
 
+/// The endpoint with a key.
+pub(crate) fn id_of((host, number): EndpointKey) -> EndpointId {
+    let host = if host == 0 { Host::Zero } else { Host::One };
+    EndpointId { host, number }
+}
+
 /// What is remembered of an endpoint. Moments are microseconds.
-#[derive(Clone, Copy)]
+#[derive(Clone, Copy, Default)]
 pub(crate) struct Note {
-    pub id: EndpointId,
     /// The position after all that was sent.
     pub sent_end: u64,
     /// The position after the windows of the segments that lines show.
@@ -55,36 +60,10 @@ pub(crate) struct Note {
 }
 
 impl Note {
-    /// That of a new endpoint.
-    pub(crate) fn new(id: EndpointId) -> Note {
-        Note {
-            id,
-            sent_end: 0,
-            edge: 0,
-            last_sent: 0,
-            rto: None,
-            persist: None,
-            probes: 0,
-            probed_at: 0,
-            stall: None,
-            permit: Permit::Nothing,
-            permits: 0,
-            waited_from: 0,
-            chain: None,
-            expiries: 0,
-            unseen: 0,
-            heard: false,
-            aborted: false,
-        }
-    }
-
-    /// With this permit from now on.
-    pub(crate) fn permitted(&self, permit: Permit) -> Note {
-        Note {
-            permit,
-            permits: self.permits.saturating_add(1),
-            ..*self
-        }
+    /// Something lets it retransmit.
+    pub(crate) fn allow(&mut self, permit: Permit) {
+        self.permit = permit;
+        self.permits = self.permits.saturating_add(1);
     }
 
     /// With the timers and the stall that the endpoint has at a moment.
@@ -96,12 +75,10 @@ impl Note {
         if endpoint.timers.persist_armed.is_none() {
             note.probes = 0;
         }
-        Note {
-            rto: rto_clock(endpoint, note.unseen, note.expiries),
-            persist: persist_clock(endpoint, self.persist, note.probes, moment),
-            stall: stall_of(endpoint, self.stall, moment),
-            ..note
-        }
+        note.rto = rto_clock(endpoint, note.unseen, note.expiries);
+        note.persist = persist_clock(endpoint, self.persist, note.probes, moment);
+        note.stall = stall_of(endpoint, self.stall, moment);
+        note
     }
 
     // Whether the retransmission timer is armed since then, as it was.

@@ -1,11 +1,13 @@
 //! What is made and sent, and what is sent again.
 
 use crate::again::{Again, Chain, Count, Permit};
-use crate::notes::key_of;
-use crate::replay::Replay;
+use crate::found::{Done, Found};
+use crate::notes::{Note, key_of, number_of};
+use crate::review::Review;
 use crate::waits::{Now, say_waits};
 use crate::words::Who;
-use case_forms::{Host, OutOfMemory, SegmentPlan, Step, Timer};
+use case_forms::{Host, Recovery, SegmentPlan, Step, Timer};
+use replayed::ReplayFault;
 use spec_tcp::{Endpoint, EndpointId, window_in};
 
 /// A segment that an endpoint made.
@@ -32,39 +34,47 @@ pub(crate) struct Sending {
     rto: u64,
 }
 
+impl Sending {
+    // Whether a timeout, less a clock's granularity, went by since a moment.
+    fn is_late(&self, since: u64, moment: u64, grain: u64) -> bool {
+        self.rto.saturating_sub(grain) <= moment.saturating_sub(since)
+    }
+}
+
 // The position after the window that a segment advertises; 0 without ACK.
 fn edge_of(endpoint: &Endpoint, plan: &SegmentPlan) -> u64 {
     if !plan.flags.ack {
         return 0;
     }
-    let window = window_in(
-        endpoint.is_scaling(),
-        plan.flags.syn,
-        endpoint.shift,
-        plan.window,
-    );
+    let scaling = endpoint.is_scaling();
+    let window = window_in(scaling, plan.flags.syn, endpoint.shift, plan.window);
     endpoint.rcv_nxt().saturating_add(u64::from(window))
 }
 
-impl<'t> Replay<'t> {
+impl Review<'_> {
     /// A host makes a segment.
     pub(crate) fn make(
         &mut self,
         step: &Step,
         host: Host,
         plan: &SegmentPlan,
-    ) -> Result<(), OutOfMemory> {
+    ) -> Result<(), ReplayFault> {
         let sending = self.sending_of(host, plan);
-        self.apply(step, None)?;
-        let Some(sending) = sending else {
-            return Ok(());
-        };
-        let number = self.world.count();
+        self.replay.apply(step)?;
+        if let Some(sending) = sending {
+            self.add_made(sending)?;
+        }
+        Ok(())
+    }
+
+    // Remembers the last segment that was made.
+    fn add_made(&mut self, sending: Sending) -> Done {
+        let number = self.replay.world().count();
         self.made.insert(number, sending)?;
         if self.shown.contains(&number) {
             let mut note = self.note(sending.id);
             note.edge = note.edge.max(sending.edge);
-            self.put(note)?;
+            self.put(sending.id, note)?;
         }
         Ok(())
     }
@@ -100,62 +110,51 @@ impl<'t> Replay<'t> {
     }
 
     /// The made segment of this number is sent with a line.
-    pub(crate) fn send(&mut self, number: u32, line: u64) -> Result<(), OutOfMemory> {
+    pub(crate) fn send(&mut self, number: u32, line: u64) -> Done {
         let Some(sending) = self.made.get(&number).copied() else {
             return Ok(());
         };
+        let mut note = self.note(sending.id);
+        let now = Now {
+            line,
+            moment: self.moment,
+            who: sending.who,
+        };
         if sending.position < sending.end {
-            let mut note = self.note(sending.id);
-            let moment = self.moment;
-            let who = sending.who;
-            let now = Now { line, moment, who };
-            say_waits(&mut self.found, now, &note)?;
+            say_waits(self.found, now, &note)?;
             note.sent_end = note.sent_end.max(sending.end);
-            note.last_sent = moment;
+            note.last_sent = now.moment;
             note.heard = false;
-            self.put(note)?;
         }
         if sending.is_again {
-            self.count_probe(&sending)?;
+            note.count_probe(&sending);
             self.count_again(&sending, line)?;
-            self.follow_chain(&sending, line)?;
+            let grain = self.case.trace.header.grain;
+            note.follow_chain(self.found, &sending, now, grain)?;
         }
         if sending.is_reset {
-            self.say_reset(&sending, line)?;
+            self.say_reset(sending.who, line)?;
         }
-        self.touch(sending.id, line)
+        self.touch(sending.id, note, line)
     }
 
     // An endpoint sends a reset.
-    fn say_reset(&mut self, sending: &Sending, line: u64) -> Result<(), OutOfMemory> {
-        let who = sending.who;
+    fn say_reset(&mut self, who: Who, line: u64) -> Done {
         let Who::Endpoint { host, lport, rport } = who else {
             return Ok(());
         };
-        let Some((reset, true)) = self.arrived.get(&(host, lport, rport)).copied() else {
-            return Ok(());
-        };
-        let text = format!(in self.found.alloc;
-            "{who} sends a reset after the reset of line {reset}"
-        )?;
-        self.found.add(line, text)
-    }
-
-    // Counts a probe that is sent again although nothing allowed it since the last one.
-    fn count_probe(&mut self, sending: &Sending) -> Result<(), OutOfMemory> {
-        let mut note = self.note(sending.id);
-        if note.persist.is_none() {
-            return Ok(());
+        match self.arrived.get(&(number_of(host), lport, rport)) {
+            Some((reset, true)) => {
+                let words = &format_args!("{who} sends a reset after the reset of line {reset}");
+                self.found.add(line, words)
+            }
+            Some((_, false)) | None => Ok(()),
         }
-        let unseen = u32::from(note.probed_at == sending.permits);
-        note.probes = note.probes.saturating_add(unseen);
-        note.probed_at = sending.permits;
-        self.put(note)
     }
 
     // Counts the retransmissions from a position. A SYN may be sent again for each one that arrives. After a whole
     // timeout, the timer may have expired with no line.
-    fn count_again(&mut self, sending: &Sending, line: u64) -> Result<(), OutOfMemory> {
+    fn count_again(&mut self, sending: &Sending, line: u64) -> Done {
         if sending.position == 0 && sending.answers {
             return Ok(());
         }
@@ -167,14 +166,15 @@ impl<'t> Replay<'t> {
             permit: sending.permit,
             permits: sending.permits,
             moment: self.moment,
-            count: Count::none(),
+            count: Count::default(),
         };
-        if let Some(before) = self.again.get(&key).copied() {
-            if before.permits == sending.permits && !self.is_late(before.moment, sending.rto) {
+        if let Some(before) = self.again.get(&key) {
+            let is_late = sending.is_late(before.moment, self.moment, self.case.trace.header.grain);
+            if before.permits == sending.permits && !is_late {
                 again.permit = before.permit;
                 again.count = before.count;
             } else {
-                before.say(&mut self.found)?;
+                before.say(self.found)?;
             }
         }
         again.count = again.count.and(line);
@@ -182,71 +182,8 @@ impl<'t> Replay<'t> {
         Ok(())
     }
 
-    // Whether a timeout, less a clock's granularity, went by since a moment.
-    fn is_late(&self, since: u64, rto: u64) -> bool {
-        let wait = self.moment.saturating_sub(since);
-        rto.saturating_sub(self.whole.trace.header.grain) <= wait
-    }
-
-    // Compares the waits before retransmissions of the oldest segment.
-    fn follow_chain(&mut self, sending: &Sending, line: u64) -> Result<(), OutOfMemory> {
-        if sending.una < sending.position || sending.end <= sending.una {
-            return Ok(());
-        }
-        let mut note = self.note(sending.id);
-        let before = note.chain;
-        let going_on = match before {
-            Some(chain) if chain.una == sending.una => Some(chain),
-            _ => None,
-        };
-        if let Some(chain) = going_on {
-            if chain.permits == sending.permits {
-                if sending.answers {
-                    return Ok(());
-                }
-                let unseen = u32::from(self.is_late(chain.moment, sending.rto));
-                note.unseen = note.unseen.saturating_add(unseen);
-                note.expiries = note.expiries.saturating_add(unseen);
-            }
-        }
-        let grain = self.whole.trace.header.grain;
-        note.chain = match (sending.permit, going_on) {
-            (Permit::Rto(_), Some(chain)) => {
-                Some(chain.longer(sending.permits, self.moment, line, grain))
-            }
-            (Permit::Rto(_), None) => Some(self.begun(sending, note.waited_from)),
-            _ => None,
-        };
-        self.put(note)?;
-        match before {
-            Some(before) if going_on.is_none() || note.chain.is_none() => {
-                before.say(&mut self.found)
-            }
-            _ => Ok(()),
-        }
-    }
-
-    // The chain that a retransmission begins.
-    fn begun(&self, sending: &Sending, waited_from: u64) -> Chain {
-        Chain {
-            who: sending.who,
-            una: sending.una,
-            position: sending.position,
-            moment: self.moment,
-            wait: self.moment.saturating_sub(waited_from),
-            permits: sending.permits,
-            early: Count::none(),
-            waits: (0, 0),
-        }
-    }
-
     /// A timer of an endpoint expires with a line.
-    pub(crate) fn expire(
-        &mut self,
-        id: EndpointId,
-        timer: Timer,
-        line: u64,
-    ) -> Result<(), OutOfMemory> {
+    pub(crate) fn expire(&mut self, id: EndpointId, timer: Timer, line: u64) -> Done {
         let mut note = self.note(id);
         match timer {
             Timer::Rto => {
@@ -255,31 +192,81 @@ impl<'t> Replay<'t> {
                     None => note.last_sent,
                 };
                 note.expiries = note.expiries.saturating_add(1);
-                note = note.permitted(Permit::Rto(line));
+                note.allow(Permit::Rto(line));
             }
             Timer::Persist => {
                 note.probes = note.probes.saturating_add(1);
-                note = note.permitted(Permit::Persist(line));
+                note.allow(Permit::Persist(line));
             }
             Timer::Msl2 | Timer::Giveup => {}
         }
-        self.put(note)?;
-        self.touch(id, line)
+        self.touch(id, note, line)
     }
 
     /// The endpoint of a host with these ports entered fast recovery.
-    pub(crate) fn recover(
-        &mut self,
-        host: Host,
-        lport: u16,
-        rport: u16,
-    ) -> Result<(), OutOfMemory> {
-        match self.endpoint_of(host, lport, rport) {
-            Some(id) => {
-                let note = self.note(id).permitted(Permit::Recovery);
-                self.put(note)
-            }
-            None => Ok(()),
+    pub(crate) fn recover(&mut self, host: Host, recovery: &Recovery) -> Done {
+        let Some(id) = self.endpoint_of(host, recovery.lport, recovery.rport) else {
+            return Ok(());
+        };
+        let mut note = self.note(id);
+        note.allow(Permit::Recovery);
+        self.put(id, note)
+    }
+}
+
+impl Note {
+    // Counts a probe that is sent again although nothing allowed it since the last one.
+    fn count_probe(&mut self, sending: &Sending) {
+        if self.persist.is_some() {
+            let unseen = u32::from(self.probed_at == sending.permits);
+            self.probes = self.probes.saturating_add(unseen);
+            self.probed_at = sending.permits;
         }
+    }
+
+    // Compares the waits before retransmissions of the oldest segment.
+    fn follow_chain(&mut self, found: &mut Found, sending: &Sending, now: Now, grain: u64) -> Done {
+        if sending.una < sending.position || sending.end <= sending.una {
+            return Ok(());
+        }
+        let Some(chain) = self.chain else {
+            self.chain = self.begun(sending, now);
+            return Ok(());
+        };
+        if chain.una != sending.una {
+            self.chain = self.begun(sending, now);
+            return chain.say(found);
+        }
+        if chain.permits == sending.permits {
+            if sending.answers {
+                return Ok(());
+            }
+            let unseen = u32::from(sending.is_late(chain.moment, now.moment, grain));
+            self.unseen = self.unseen.saturating_add(unseen);
+            self.expiries = self.expiries.saturating_add(unseen);
+        }
+        if let Permit::Rto(_) = sending.permit {
+            self.chain = Some(chain.longer(sending.permits, now, grain));
+            return Ok(());
+        }
+        self.chain = None;
+        chain.say(found)
+    }
+
+    // The chain that a retransmission begins. None: no expiry allowed it.
+    fn begun(&self, sending: &Sending, now: Now) -> Option<Chain> {
+        let Permit::Rto(_) = sending.permit else {
+            return None;
+        };
+        Some(Chain {
+            who: sending.who,
+            una: sending.una,
+            position: sending.position,
+            moment: now.moment,
+            wait: now.moment.saturating_sub(self.waited_from),
+            permits: sending.permits,
+            early: Count::default(),
+            waits: (0, 0),
+        })
     }
 }

@@ -1,22 +1,22 @@
 //! Parts of remarks in words. Bytes and FINs are named by their positions.
 
-use crate::notes::number_of;
 use case_forms::Host;
+use plain_words::HostName;
 use spec_tcp::Endpoint;
 use std::fmt;
 
 /// Who is meant.
 #[derive(Clone, Copy)]
 pub(crate) enum Who {
-    Endpoint { host: u8, lport: u16, rport: u16 },
-    Listener { host: u8, port: u16 },
+    Endpoint { host: Host, lport: u16, rport: u16 },
+    Listener { host: Host, port: u16 },
 }
 
 impl Who {
     /// An endpoint of a host.
     pub(crate) fn of(host: Host, endpoint: &Endpoint) -> Who {
         Who::Endpoint {
-            host: number_of(host),
+            host,
             lport: endpoint.lport,
             rport: endpoint.rport,
         }
@@ -27,34 +27,41 @@ impl fmt::Display for Who {
     fn fmt<W: fmt::Write>(&self, f: &mut fmt::Formatter<W>) -> fmt::Result {
         match self {
             Who::Endpoint { host, lport, rport } => {
-                write!(f, "host {host}'s endpoint {lport} -> {rport}")
+                write!(f, "{}'s endpoint {lport} -> {rport}", HostName(*host))
             }
-            Who::Listener { host, port } => write!(f, "host {host}'s listener on port {port}"),
+            Who::Listener { host, port } => {
+                write!(f, "{}'s listener on port {port}", HostName(*host))
+            }
         }
     }
 }
 
-/// Bytes that follow each other, by the positions of the first and the last.
+/// Bytes that follow each other, by the position of the first and the position after the last.
 #[derive(Clone, Copy)]
 pub(crate) struct Stretch {
     pub first: u64,
-    pub last: u64,
+    pub end: u64,
 }
 
 impl Stretch {
     /// The bytes from one position up to another, which is none of them. None: there are none.
     pub(crate) fn up_to(first: u64, end: u64) -> Option<Stretch> {
-        if end <= first {
-            return None;
+        if first < end {
+            Some(Stretch { first, end })
+        } else {
+            None
         }
-        let last = end.saturating_sub(1);
-        Some(Stretch { first, last })
+    }
+
+    /// Those of the bytes that are in this range. None: there are none.
+    pub(crate) fn within(self, first: u64, end: u64) -> Option<Stretch> {
+        Stretch::up_to(self.first.max(first), self.end.min(end))
     }
 }
 
 impl fmt::Display for Stretch {
     fn fmt<W: fmt::Write>(&self, f: &mut fmt::Formatter<W>) -> fmt::Result {
-        let Stretch { first, last } = *self;
+        let (first, last) = (self.first, self.end.saturating_sub(1));
         if first == last {
             write!(f, "byte {first}")
         } else {
@@ -69,10 +76,10 @@ pub(crate) struct Position(pub u64);
 
 impl fmt::Display for Position {
     fn fmt<W: fmt::Write>(&self, f: &mut fmt::Formatter<W>) -> fmt::Result {
-        match self.0 {
-            0 => write!(f, "its SYN"),
-            position => write!(f, "position {position}"),
+        if self.0 == 0 {
+            return write!(f, "its SYN");
         }
+        write!(f, "position {}", self.0)
     }
 }
 

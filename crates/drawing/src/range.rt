@@ -1,0 +1,80 @@
+//! Which lines of a trace are drawn.
+
+use crate::fates::Fates;
+use case_forms::Label;
+use replayed::{Case, Refusal};
+
+// How many lines are drawn if one end of the range is not named.
+const LINES: u64 = 400;
+
+// How many of them follow the refusal, if the trace has so many and no end of the range is named.
+const AFTER: u64 = 50;
+
+/// Which lines of the trace are drawn, by their numbers, both ends with them. If one end is None, at most 400 lines are
+/// drawn, from the other end on. If both are None, the first 400 are drawn. If a case is refused further on, the 400
+/// end 50 lines after the refusal instead.
+#[derive(Clone, Copy)]
+pub struct Range {
+    pub from: Option<u64>,
+    pub to: Option<u64>,
+}
+
+/// The lines that are drawn.
+#[derive(Clone, Copy)]
+pub(crate) struct Drawn {
+    pub from: u64,
+    pub to: u64,
+}
+
+impl Drawn {
+    /// The lines of a case that are in a range.
+    pub(crate) fn of(range: Range, case: &Case<'_>, fates: &Fates) -> Drawn {
+        let first = case.trace.header.first_event_line();
+        let count = case.trace.lines.as_slice().len() as u64;
+        let last = first.saturating_add(count).saturating_sub(1);
+        match (range.from, range.to, line_refused(case, fates)) {
+            (None, Some(to), _) => Drawn::up_to(to.min(last), first),
+            (None, None, Some(line)) => {
+                let earliest = first.saturating_add(LINES - 1);
+                let to = line.saturating_add(AFTER).max(earliest);
+                Drawn::up_to(to.min(last), first)
+            }
+            (from, to, _) => {
+                let from = from.unwrap_or(first).max(first);
+                let to = to.unwrap_or(from.saturating_add(LINES - 1));
+                Drawn {
+                    from,
+                    to: to.min(last),
+                }
+            }
+        }
+    }
+
+    // The last lines up to and including this one, of those from `first` on.
+    fn up_to(to: u64, first: u64) -> Drawn {
+        Drawn {
+            from: to.saturating_sub(LINES - 1).max(first),
+            to,
+        }
+    }
+
+    /// Whether the line with this number is drawn.
+    pub(crate) fn has(self, number: u64) -> bool {
+        self.from <= number && number <= self.to
+    }
+}
+
+// The line at which a case is refused: that of the refused step or, if the step is hidden or its line was used before,
+// the line before the step. None: the case is not refused.
+fn line_refused(case: &Case<'_>, fates: &Fates) -> Option<u64> {
+    if let Refusal::Unplaced(number) = case.refusal() {
+        return Some(number);
+    }
+    let step = case.refused_step()?;
+    if let Label::L(named) = &step.label {
+        if case.line(named.number).is_some() {
+            return Some(named.number.max(fates.last));
+        }
+    }
+    Some(fates.last)
+}
