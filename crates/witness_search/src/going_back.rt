@@ -179,8 +179,8 @@ impl<'t> Retries<'t> {
     fn try_once(&mut self, place: usize) -> Result<bool, OutOfMemory> {
         self.last.search(self.sought, &self.choices)?;
         self.tried = self.tried.saturating_add(1);
-        self.spend(self.last.cost);
-        self.spend(self.choices.len() as u64);
+        let steps = self.last.cost.saturating_add(self.choices.len() as u64);
+        self.spend(steps);
         let is_further = self.last.explains(place);
         if is_further {
             self.go_on_from_last(LISTS)?;
