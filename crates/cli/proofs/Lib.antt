@@ -1,14 +1,12 @@
 pub mod Appended
-pub mod CheckAlone
 pub mod CutCases
 pub mod FileWords
-pub mod FirstWord
 pub mod ManyAnswers
 pub mod ManyLaw
 pub mod ManyWords
+pub mod Numbers
+pub mod OptionWords
 pub mod PlainHex
 pub mod RecordOptions
-pub mod RecordWords
-pub mod Recordings
-pub mod SegmentWords
+pub mod RequestLemmas
 pub mod TwoTexts

@@ -1,257 +1,339 @@
--- What `clap` reads of an option of a recording.
-use Rattle.std.proofs.Common.{◌≡◌, ◌==◌, ◌≤◌, ◌<◌, ◌&&◌, ℕ, Bool, true, false, List, [], ◌∷◌, ◌++◌, Option, None, Some}
-use Rattle.std.proofs.Common.{Result, Ok, Err, codes, drop, take, length, refl, sym, ap, ◌∙◌, subst, inl, inr, arith}
-use Rattle.std.proofs.Common.{rules, nat_eq, if◌then◌else◌}
-use Rattle.std.specs.Prelude.{MatchOption}
-use Rattle.std.specs.List.{starts_with}
-use Rattle.std.specs.Str.{bytes_eq}
-use Rattle.std.specs.Str.Parse.{IsNumeral, ParsesUnsigned, digits_value, without_leading_plus}
-use Rattle.std.proofs.lemmas.Bool.{eqb-true}
-use Rattle.std.proofs.lemmas.List.{take-append-drop}
-use Rattle.std.proofs.lemmas.Slice.Eq.{bytes_eq-Decides}
-use Rattle.clap.specs.Words.{Text, HasKind, IsUnsignedIn, ReadsOne, fault_of, kind_of, matches_of, one_of, one_text, rows_of}
-use Rattle.clap.specs.ValueTests.{accepts}
-use Rattle.clap.specs.declared.builder.value_parser.ValueParser.TheVariants.{Unsigned}
-use Rattle.clap.specs.declared.error.Error.{Error}
-use Rattle.clap.specs.declared.error.kind.ErrorKind.TheVariants.{OutOfMemory}
-use Rattle.clap.specs.declared.parser.matches.Found.{Found}
-use Rattle.clap.proofs.OnLiterals.{clap_on_literals}
-use Rattle.clap.proofs.ValueTestLemmas.{accepts-Accepts, Accepts-accepts}
-use Rattle.clap.proofs.WalkLemmas.{one_text-rows}
+-- The options of a recording, one after the other.
+use Rattle.std.proofs.Common.{◌≡◌, ◌++◌, ℕ, Bool, true, false, List, [], ◌∷◌, Option, None, Some, codes}
+use Rattle.std.proofs.Common.{append_assoc, drop, get_or, length, refl, sym, ap, ◌∙◌, subst, inl, inr, arith}
+use Rattle.std.specs.Prelude.{MatchOption, if◌then◌else◌}
+use Rattle.std.specs.Str.Parse.{digits_value, without_leading_plus}
+use Rattle.std.proofs.lemmas.List.{append-nil}
+use Rattle.clap.specs.Words.{Text}
+use Rattle.two_hosts.specs.declared.plan.Plan.{Plan}
+use Rattle.case_forms.specs.Versions.{is_half}
+use Rattle.case_forms.specs.declared.version.Version.{Version}
+use Rattle.case_forms.specs.declared.version.Version.TheVariants as versions
 use Rattle.cli.specs.declared.record_words.Setting.{Setting}
 use Rattle.cli.specs.declared.record_words.Setting.TheVariants.{Rounds, Lose, Format}
-use Rattle.cli.specs.RecordReading.{app, apart, first_option, joined, named, or_else, with_count}
-use Rattle.cli.specs.RecordWords.{AreOption, Spells, TellsNumber, dashed, equals, least, most, name_of}
+use Rattle.cli.specs.declared.record_words.Given.TheVariants.{Never, Once}
+use Rattle.cli.specs.declared.record_words.Settings.{Settings}
+use Rattle.cli.specs.FileWords.{BeginsWith}
+use Rattle.cli.specs.Options.{IsNumberIn}
+use Rattle.cli.specs.RecordReading.{AsksPlan, GivesVersion, given, settings_of, with_number, with_setting}
+use Rattle.cli.specs.RecordWords.{AsksRecord, IsVersion, Spells, TellEach, TellsNumber, dashed, equals, least, most, numbers_of, same}
+use Rattle.cli.proofs.Numbers.{not_dashed}
+use Rattle.cli.proofs.OptionWords.{begins_once, begins_third}
 
--- the option with a text behind an equals sign, and with a text as a word of its own
-abbrev behind_sign : Setting → Text → List Text
-behind_sign s text = (equals s ++ text) ∷ []
+-- `MatchOption` of `None`, and of `Some`
+pub unmatched : {A : Type 0} (N : Type 0) (S : A → Type 0) (o : Option A) → MatchOption o N S → ((x : A) → o ≡ Some x → ⊥) → N
+unmatched N S None is other = is
+unmatched N S (Some x) is other = absurd (other x refl)
 
-abbrev two_words : Setting → Text → List Text
-two_words s text = dashed s ∷ text ∷ []
+pub matched : {A : Type 0} (N : Type 0) (S : A → Type 0) (o : Option A) (x : A) → MatchOption o N S → o ≡ Some x → S x
+matched N S None x is e = cc
+matched N S (Some y) x is e = let same : y ≡ x = cc in subst S same is
 
--- the text passes the option's reader of numbers
-abbrev passes : Setting → Text → Bool
-passes s text = accepts false (Unsigned (least s) (most s)) text
+-- ---- the option that comes first
 
-joined_taken : (s : Setting) (text : Text) → passes s text ≡ true → fault_of (app s) (behind_sign s text) ≡ []
-unfolding clap_on_literals
-joined_taken Rounds text may = simp may
-joined_taken Lose text may = simp may
-joined_taken Format text may = simp may
+pub spells : (s : Setting) (text : Text) (n : ℕ) → IsNumberIn (least s) (most s) text n → Spells s text n
+spells s text n is = record { numeral = is.numeral; number = is.number; low = is.low; high = is.high }
 
-joined_passes : (s : Setting) (text : Text) → passes s text ≡ false → fault_of (app s) (behind_sign s text) ≡ [] → ⊥
-unfolding clap_on_literals
-joined_passes Rounds text may none = let bad = simp may at none in cc
-joined_passes Lose text may none = let bad = simp may at none in cc
-joined_passes Format text may none = let bad = simp may at none in cc
+pub is_spelled : (s : Setting) (text : Text) (n : ℕ) → Spells s text n → IsNumberIn (least s) (most s) text n
+is_spelled s text n is = record { numeral = is.numeral; number = is.number; low = is.low; high = is.high }
 
-joined_value : (s : Setting) (text : Text) → one_of (name_of s) (matches_of (app s) (behind_sign s text)) ≡ Some text
-unfolding clap_on_literals
-joined_value Rounds text = refl
-joined_value Lose text = refl
-joined_value Format text = refl
+joined_word : (s : Setting) (text : Text) → dashed s ++ codes "=" ++ text ≡ equals s ++ text
+joined_word Rounds text = refl
+joined_word Lose text = refl
+joined_word Format text = refl
 
-apart_taken : (s : Setting) (x : ℕ) (xs : Text) → (x == 45) ≡ false → passes s (x ∷ xs) ≡ true → fault_of (app s) (two_words s (x ∷ xs)) ≡ []
-unfolding clap_on_literals
-apart_taken Rounds x xs other may = simp (other, may)
-apart_taken Lose x xs other may = simp (other, may)
-apart_taken Format x xs other may = simp (other, may)
+-- the option, its text and its number come first
+record Begins (s : Setting) (n : ℕ) (rest words : List Text) : Type 0 where
+  text : Text
+  begins : BeginsWith (dashed s) text rest words
+  is : Spells s text n
 
-apart_passes : (s : Setting) (x : ℕ) (xs : Text) → (x == 45) ≡ false → passes s (x ∷ xs) ≡ false → fault_of (app s) (two_words s (x ∷ xs)) ≡ [] → ⊥
-unfolding clap_on_literals
-apart_passes Rounds x xs other may none = let bad = simp (other, may) at none in cc
-apart_passes Lose x xs other may none = let bad = simp (other, may) at none in cc
-apart_passes Format x xs other may none = let bad = simp (other, may) at none in cc
+first_of : (s : Setting) (n : ℕ) (first rest words : List Text) → words ≡ first ++ rest → TellsNumber s first n → Begins s n rest words
+first_of s n first rest words whole (text, inl form, is) = record {
+  text = text;
+  begins = inl (whole ∙ ap (λ (ws : List Text). ws ++ rest) form, not_dashed text is.numeral);
+  is = is;
+}
+first_of s n first rest words whole (text, inr form, is) = record {
+  text = text;
+  begins = inr (whole ∙ ap (λ (ws : List Text). ws ++ rest) form ∙ ap (λ (w : Text). w ∷ rest) (sym (joined_word s text)));
+  is = is;
+}
 
-apart_value : (s : Setting) (x : ℕ) (xs : Text) → (x == 45) ≡ false → one_of (name_of s) (matches_of (app s) (two_words s (x ∷ xs))) ≡ Some (x ∷ xs)
-unfolding clap_on_literals
-apart_value Rounds x xs other = simp other
-apart_value Lose x xs other = simp other
-apart_value Format x xs other = simp other
+tells_first : (s : Setting) (n : ℕ) (options : List (Setting × ℕ)) (text : Text) (rest words : List Text)
+    → BeginsWith (dashed s) text rest words → Spells s text n → TellEach options rest → TellEach ((s, n) ∷ options) words
+tells_first s n options text rest words (inl (e, plain)) is each = (dashed s ∷ text ∷ [], rest, e, (text, inl refl, is), each)
+tells_first s n options text rest words (inr e) is each =
+    ((equals s ++ text) ∷ [], rest, e ∙ ap (λ (w : Text). w ∷ rest) (joined_word s text), (text, inr refl, is), each)
 
-nothing_passes : (s : Setting) → fault_of (app s) (two_words s []) ≡ [] → ⊥
-unfolding clap_on_literals
-nothing_passes Rounds none = cc
-nothing_passes Lose none = cc
-nothing_passes Format none = cc
+-- the third byte of an option's word tells which option it is
+same_setting : (s t : Setting) → get_or (dashed s) 2 0 ≡ get_or (dashed t) 2 0 → s ≡ t
+same_setting Rounds Rounds e = refl
+same_setting Rounds Lose e = absurd (omega (e, arith))
+same_setting Rounds Format e = absurd (omega (e, arith))
+same_setting Lose Rounds e = absurd (omega (e, arith))
+same_setting Lose Lose e = refl
+same_setting Lose Format e = absurd (omega (e, arith))
+same_setting Format Rounds e = absurd (omega (e, arith))
+same_setting Format Lose e = absurd (omega (e, arith))
+same_setting Format Format e = refl
 
-apart_nothing : (s : Setting) → one_of (name_of s) (matches_of (app s) (two_words s [])) ≡ Some []
-unfolding clap_on_literals
-apart_nothing Rounds = refl
-apart_nothing Lose = refl
-apart_nothing Format = refl
+third_joined : (s : Setting) (text : Text) → get_or (dashed s ++ codes "=" ++ text) 2 0 ≡ get_or (dashed s) 2 0
+third_joined Rounds text = refl
+third_joined Lose text = refl
+third_joined Format text = refl
 
--- ---- the forms
+-- words begin with only one option, with one text and one rest
+record AreSame (s t : Setting) (one two : Text) (front back : List Text) : Type 0 where
+  setting : s ≡ t
+  text : one ≡ two
+  rest : front ≡ back
 
--- equal bytes are one text
-pub same_text : (xs ys : Text) → bytes_eq xs ys ≡ true → xs ≡ ys
-same_text xs ys e = search (rules, bytes_eq-Decides)
+alike : (s t : Setting) (one two : Text) (front back words : List Text) → BeginsWith (dashed s) one front words → BeginsWith (dashed t) two back words
+    → AreSame s t one two front back
+alike s t one two front back words a b =
+    let setting : s ≡ t =
+    same_setting s t (sym (begins_third (dashed s) one front words (third_joined s one) a) ∙ begins_third (dashed t) two back words (third_joined t two) b) in
+    let same = begins_once (dashed t) one two front back words (subst (λ (u : Setting). BeginsWith (dashed u) one front words) setting a) b in
+    record { setting = setting; text = same.0; rest = same.1 }
 
--- what is read of words of one of the two forms
-pub record IsRead (s : Setting) (words : List Text) (text : Text) : Type 0 where
-  pub form : AreOption s text words
-  pub taken : fault_of (app s) words ≡ [] → passes s text ≡ true
-  pub value : one_of (name_of s) (matches_of (app s) words) ≡ Some text
+same_number : (s t : Setting) (one two : Text) (m n : ℕ) → one ≡ two → Spells s one m → Spells t two n → m ≡ n
+same_number s t one two m n e a b = a.number ∙ ap (λ (text : Text). digits_value 10 (without_leading_plus text)) e ∙ sym b.number
 
-passes_by : (s : Setting) (text : Text) (words : List Text) → (passes s text ≡ false → fault_of (app s) words ≡ [] → ⊥)
-    → fault_of (app s) words ≡ [] → passes s text ≡ true
-passes_by s text words refused none = by_case (passes s text) refl
+-- the options of words that begin with this one
+pub record BeginWith (s : Setting) (text : Text) (rest : List Text) (options : List (Setting × ℕ)) : Type 0 where
+  pub number : ℕ
+  pub more : List (Setting × ℕ)
+  pub is : Spells s text number
+  pub whole : options ≡ (s, number) ∷ more
+  pub each : TellEach more rest
+
+pub begin_with : (s : Setting) (text : Text) (rest words : List Text) (options : List (Setting × ℕ)) → BeginsWith (dashed s) text rest words
+    → TellEach options words → BeginWith s text rest options
+begin_with s text rest words [] (inl (e, plain)) none = let bad = sym e ∙ none in cc
+begin_with s text rest words [] (inr e) none = let bad = sym e ∙ none in cc
+begin_with s text rest words ((t, n) ∷ more) begins (first, back, whole, tells, each) =
+    let b = first_of t n first back words whole tells in
+    let same = alike t s b.text text back rest words b.begins begins in
+    record {
+      number = n;
+      more = more;
+      is = subst (λ (u : Setting). Spells u text n) same.setting (subst (λ (xs : Text). Spells t xs n) same.text b.is);
+      whole = ap (λ (u : Setting). (u, n) ∷ more) same.setting;
+      each = subst (λ (ws : List Text). TellEach more ws) same.rest each;
+    }
+
+-- words are one list of options
+pub told_alike : (options others : List (Setting × ℕ)) (words : List Text) → TellEach options words → TellEach others words → options ≡ others
+told_alike [] [] words none again = refl
+told_alike ((s, m) ∷ options) others words (first, rest, whole, tells, each) again =
+    let b = first_of s m first rest words whole tells in
+    let o = begin_with s b.text rest words others b.begins again in
+    ap (λ (n : ℕ). (s, n) ∷ options) (same_number s s b.text b.text m o.number refl b.is o.is)
+    ∙ ap (λ (os : List (Setting × ℕ)). (s, o.number) ∷ os) (told_alike options o.more rest each o.each) ∙ sym o.whole
+told_alike [] ((t, n) ∷ others) words none (first, rest, whole, tells, each) =
+    let b = first_of t n first rest words whole tells in
+    let bad = begin_with t b.text rest words [] b.begins none in cc (bad.whole)
+
+-- ---- the options so far
+
+-- these settings are those of the words before the rest
+pub record AreSoFar (settings : Settings) (words rest : List Text) : Type 0 where
+  pub options : List (Setting × ℕ)
+  pub is : settings ≡ settings_of options
+  pub on : (more : List (Setting × ℕ)) → TellEach more rest → TellEach (options ++ more) words
+  pub only : (all : List (Setting × ℕ)) → TellEach all words → (more : List (Setting × ℕ)) × (all ≡ options ++ more) × TellEach more rest
+
+pub so_far_start : (words : List Text) → AreSoFar (record { rounds = Never; lose = Never; format = Never }) words words
+so_far_start words = record { options = []; is = refl; on = λ more each. each; only = λ all each. (all, refl, each) }
+
+numbers_append : (s : Setting) (options more : List (Setting × ℕ)) → numbers_of s (options ++ more) ≡ numbers_of s options ++ numbers_of s more
+numbers_append s [] more = refl
+numbers_append s (option ∷ options) more = by_case (same s option.0) (numbers_of s (options ++ more)) (numbers_of s options) (numbers_append s options more)
   where
-    by_case : (b : Bool) → passes s text ≡ b → passes s text ≡ true
-    by_case true e = e
-    by_case false e = absurd (refused e none)
+    by_case : (b : Bool) (all ns : List ℕ) → all ≡ ns ++ numbers_of s more
+        → (if b then option.1 ∷ all else all) ≡ (if b then option.1 ∷ ns else ns) ++ numbers_of s more
+    by_case true all ns e = ap (λ (is : List ℕ). option.1 ∷ is) e
+    by_case false all ns e = e
 
-minus_not : (x : ℕ) (xs : Text) → starts_with nat_eq (x ∷ xs) (codes "-") ≡ false → (x == 45) ≡ false
-minus_not x xs other = by_case (x == 45) refl
+given_more : (ns : List ℕ) (n : ℕ) → given (ns ++ n ∷ []) ≡ with_number n (given ns)
+given_more [] n = refl
+given_more (x ∷ []) n = refl
+given_more (x ∷ y ∷ ns) n = refl
+
+-- an option with its number is one more
+given_own : (s : Setting) (options : List (Setting × ℕ)) (n : ℕ) → numbers_of s ((s, n) ∷ []) ≡ n ∷ []
+    → given (numbers_of s (options ++ (s, n) ∷ [])) ≡ with_number n (given (numbers_of s options))
+given_own s options n own =
+    ap given (numbers_append s options ((s, n) ∷ []) ∙ ap (λ (ns : List ℕ). numbers_of s options ++ ns) own) ∙ given_more (numbers_of s options) n
+
+given_other : (s t : Setting) (options : List (Setting × ℕ)) (n : ℕ) → numbers_of s ((t, n) ∷ []) ≡ []
+    → given (numbers_of s (options ++ (t, n) ∷ [])) ≡ given (numbers_of s options)
+given_other s t options n other =
+    ap given (numbers_append s options ((t, n) ∷ []) ∙ ap (λ (ns : List ℕ). numbers_of s options ++ ns) other ∙ append-nil (numbers_of s options))
+
+settings_more : (s : Setting) (n : ℕ) (options : List (Setting × ℕ)) → settings_of (options ++ (s, n) ∷ []) ≡ with_setting s n (settings_of options)
+settings_more Rounds n options =
+    rw (given_own Rounds options n refl, given_other Lose Rounds options n refl, given_other Format Rounds options n refl) refl
+settings_more Lose n options =
+    rw (given_other Rounds Lose options n refl, given_own Lose options n refl, given_other Format Lose options n refl) refl
+settings_more Format n options =
+    rw (given_other Rounds Format options n refl, given_other Lose Format options n refl, given_own Format options n refl) refl
+
+-- one more option
+pub so_far_more : (settings : Settings) (words rest behind : List Text) (s : Setting) (text : Text) (n : ℕ) → AreSoFar settings words rest
+    → BeginsWith (dashed s) text behind rest → IsNumberIn (least s) (most s) text n → AreSoFar (with_setting s n settings) words behind
+so_far_more settings words rest behind s text n so begins is = record {
+  options = so.options ++ (s, n) ∷ [];
+  is = ap (with_setting s n) so.is ∙ sym (settings_more s n so.options);
+  on = λ more each.
+      subst (λ (os : List (Setting × ℕ)). TellEach os words) (sym (append_assoc so.options ((s, n) ∷ []) more))
+      (so.on ((s, n) ∷ more) (tells_first s n more text behind rest begins (spells s text n is) each));
+  only = λ all each.
+      let (more, whole, left) = so.only all each in
+      let b = begin_with s text behind rest more begins left in
+      let number = same_number s s text text b.number n refl b.is (spells s text n is) in (
+        b.more,
+        whole ∙ ap (λ (os : List (Setting × ℕ)). so.options ++ os) (b.whole ∙ ap (λ (k : ℕ). (s, k) ∷ b.more) number)
+            ∙ sym (append_assoc so.options ((s, n) ∷ []) b.more),
+        b.each,
+      );
+}
+
+-- a word that is no option
+pub none_first : (settings : Settings) (words rest : List Text) (all : List (Setting × ℕ)) → AreSoFar settings words rest → (rest ≡ [] → ⊥)
+    → ((s : Setting) (text : Text) (behind : List Text) → ¬ BeginsWith (dashed s) text behind rest) → TellEach all words → ⊥
+none_first settings words rest all so some none each = let (more, whole, left) = so.only all each in by_case more left
   where
-    by_case : (b : Bool) → (x == 45) ≡ b → (x == 45) ≡ false
-    by_case false e = e
-    by_case true e =
-        let same : x ≡ 45 = eqb-true _ _ e in
-        let bad : true ≡ false = subst (λ (y : ℕ). starts_with nat_eq (y ∷ xs) (codes "-") ≡ false) same other in cc
+    by_case : (more : List (Setting × ℕ)) → TellEach more rest → ⊥
+    by_case [] empty = some empty
+    by_case ((s, n) ∷ more) (first, behind, whole, tells, left) =
+        let b = first_of s n first behind rest whole tells in none s b.text behind b.begins
 
-read_joined : (s : Setting) (text : Text) → IsRead s (behind_sign s text) text
-read_joined s text = record { form = inr refl; taken = passes_by s text (behind_sign s text) (joined_passes s text); value = joined_value s text }
+-- an option with a text that spells no number
+pub none_spelled : (settings : Settings) (words rest behind : List Text) (s : Setting) (text : Text) (all : List (Setting × ℕ))
+    → AreSoFar settings words rest → BeginsWith (dashed s) text behind rest → ((n : ℕ) → ¬ IsNumberIn (least s) (most s) text n)
+    → TellEach all words → ⊥
+none_spelled settings words rest behind s text all so begins none each =
+    let (more, whole, left) = so.only all each in
+    let b = begin_with s text behind rest more begins left in
+    none b.number (is_spelled s text b.number b.is)
 
-read_apart : (s : Setting) (text : Text) → starts_with nat_eq text (codes "-") ≡ false → IsRead s (two_words s text) text
-read_apart s [] other = record { form = inl refl; taken = λ none. absurd (nothing_passes s none); value = apart_nothing s }
-read_apart s (x ∷ xs) other =
-    let not_minus : (x == 45) ≡ false = minus_not x xs other in
-    record { form = inl refl; taken = passes_by s (x ∷ xs) (two_words s (x ∷ xs)) (apart_passes s x xs not_minus); value = apart_value s x xs not_minus }
+-- the end of the words
+pub all_told : (settings : Settings) (words rest : List Text) → AreSoFar settings words rest → rest ≡ []
+    → (options : List (Setting × ℕ)) × TellEach options words × (settings ≡ settings_of options)
+all_told settings words rest so end =
+    (so.options, subst (λ (os : List (Setting × ℕ)). TellEach os words) (append-nil so.options) (so.on [] end), so.is)
 
--- which of three tests passed
-three : (P : Setting → Type 0) (a b c : Bool) → (a ≡ true → P Rounds) → (b ≡ true → P Lose) → (c ≡ true → P Format) → (s : Setting)
-    → (if a then Some Rounds else if b then Some Lose else if c then Some Format else None) ≡ Some s → P s
-three P true b c x y z s is = let e : Rounds ≡ s = cc in subst P e (x refl)
-three P false true c x y z s is = let e : Lose ≡ s = cc in subst P e (y refl)
-three P false false true x y z s is = let e : Format ≡ s = cc in subst P e (z refl)
-three P false false false x y z s is = cc
+-- ---- the plan
 
-named_is : (word : Text) (s : Setting) → named word ≡ Some s → word ≡ dashed s
-named_is word s is =
-    three (λ t. word ≡ dashed t) (bytes_eq word (codes "--rounds")) (bytes_eq word (codes "--lose")) (bytes_eq word (codes "--format"))
-    (same_text word _) (same_text word _) (same_text word _) s is
+once : (ns : List ℕ) (n : ℕ) → given ns ≡ Once n → ns ≡ n ∷ []
+once [] n e = cc
+once (x ∷ []) n e = let same : x ≡ n = cc in ap (λ (i : ℕ). i ∷ []) same
+once (x ∷ y ∷ ns) n e = cc
 
-behind_front : (n : ℕ) (front word : Text) → front ≡ take n word → front ++ drop n word ≡ word
-behind_front n front word e = ap (λ (xs : Text). xs ++ drop n word) e ∙ take-append-drop n word
+never : (ns : List ℕ) → given ns ≡ Never → ns ≡ []
+never [] e = refl
+never (x ∷ []) e = cc
+never (x ∷ y ∷ ns) e = cc
 
-joined_is : (word : Text) (s : Setting) → joined word ≡ Some s → (text : Text) × (equals s ++ text ≡ word)
-joined_is word s is =
-    three (λ t. (text : Text) × (equals t ++ text ≡ word)) (starts_with nat_eq word (codes "--rounds="))
-    (starts_with nat_eq word (codes "--lose=")) (starts_with nat_eq word (codes "--format="))
-    (λ e. (drop 9 word, behind_front 9 (codes "--rounds=") word (same_text _ _ e)))
-    (λ e. (drop 7 word, behind_front 7 (codes "--lose=") word (same_text _ _ e)))
-    (λ e. (drop 9 word, behind_front 9 (codes "--format=") word (same_text _ _ e))) s is
+version_is : (ns : List ℕ) (v : Version) → GivesVersion (given ns) v → IsVersion ns v
+version_is ns versions.One (inl e) = inl (never ns e)
+version_is ns versions.One (inr e) = inr (once ns 1 e)
+version_is ns versions.Two e = once ns 2 e
+version_is ns versions.Three e = e
+version_is ns versions.Four e = e
+version_is ns versions.FourHalf e = e
 
--- a word that is an option with its text
-one_word : (word : Text) (s : Setting) → joined word ≡ Some s → (text : Text) × IsRead s (word ∷ []) text
-one_word word s is =
-    let (text, whole) = joined_is word s is in
-    (text, subst (λ (w : Text). IsRead s (w ∷ []) text) whole (read_joined s text))
+gives_version : (ns : List ℕ) (v : Version) → IsVersion ns v → GivesVersion (given ns) v
+gives_version ns versions.One (inl e) = inl (ap given e)
+gives_version ns versions.One (inr e) = inr (ap given e)
+gives_version ns versions.Two e = ap given e
+gives_version ns versions.Three e = e
+gives_version ns versions.Four e = e
+gives_version ns versions.FourHalf e = e
 
--- two words
-word_pair : (word text : Text) (s : Setting) → starts_with nat_eq text (codes "-") ≡ false → named word ≡ Some s → (t : Text) × IsRead s (word ∷ text ∷ []) t
-word_pair word text s other is = (text, subst (λ (w : Text). IsRead s (w ∷ text ∷ []) text) (sym (named_is word s is)) (read_apart s text other))
-
-pub counted : (n k : ℕ) (o : Option Setting) (s : Setting) → with_count n o ≡ Some (s, k) → (o ≡ Some s) × (n ≡ k)
-counted n k None s is = cc
-counted n k (Some t) s is = let e : (t, n) ≡ (s, k) = cc in (ap (λ (p : Setting × ℕ). Some p.0) e, ap (λ (p : Setting × ℕ). p.1) e)
-
--- what stands first is one word or two
-one_first : (word : Text) (o : Option Setting) (s : Setting) → (o ≡ Some s → (text : Text) × IsRead s (word ∷ []) text)
-    → or_else (with_count 1 o) None ≡ Some (s, 1) → (text : Text) × IsRead s (word ∷ []) text
-one_first word None s reads is = cc
-one_first word (Some t) s reads is = let e : (t, 1) ≡ (s, 1) = cc in reads (ap (λ (p : Setting × ℕ). Some p.0) e)
-
-two_first : (word text : Text) (o : Option Setting) (s : Setting)
-    → or_else (with_count 1 o) (apart (word ∷ text ∷ [])) ≡ Some (s, 2) → (t : Text) × IsRead s (word ∷ text ∷ []) t
-two_first word text (Some t) s is = let bad : 1 ≡ 2 = (counted 1 2 (Some t) s is).1 in absurd (omega (bad, arith))
-two_first word text None s is = by_case (starts_with nat_eq text (codes "-")) refl
+-- the words after `record` request the plan that their numbers request
+pub asked_plan : (words : List Text) (options : List (Setting × ℕ)) (settings : Settings) (asked : Option Plan) → TellEach options words
+    → settings ≡ settings_of options → MatchOption asked ((plan : Plan) → ¬ AsksPlan settings plan) (AsksPlan settings)
+    → MatchOption asked ((plan : Plan) → ¬ AsksRecord (codes "record" ∷ words) plan) (AsksRecord (codes "record" ∷ words))
+asked_plan words options settings (Some plan) each is asks = record {
+  behind = words;
+  words_are = refl;
+  options = options;
+  told = each;
+  rounds = once (numbers_of Rounds options) plan.rounds (ap (λ (s : Settings). s.rounds) (sym is) ∙ asks.rounds);
+  lose = once (numbers_of Lose options) plan.lose (ap (λ (s : Settings). s.lose) (sym is) ∙ asks.lose);
+  not_each = asks.not_each;
+  version = version_is (numbers_of Format options) plan.version (subst (λ (s : Settings). GivesVersion s.format plan.version) is asks.version);
+}
+asked_plan words options settings None each is none = λ plan asks. none plan (requested plan asks)
   where
-    by_case : (b : Bool) → starts_with nat_eq text (codes "-") ≡ b → (t : Text) × IsRead s (word ∷ text ∷ []) t
-    by_case true e = let bad = rw e at is in cc
-    by_case false e =
-        let found : with_count 2 (named word) ≡ Some (s, 2) = rw e at is in
-        word_pair word text s e (counted 2 2 (named word) s found).0
+    requested : (plan : Plan) → AsksRecord (codes "record" ∷ words) plan → AsksPlan settings plan
+    requested plan asks =
+        let behind : asks.behind ≡ words = ap (λ (ws : List Text). drop 1 ws) (sym asks.words_are) in
+        let same : asks.options ≡ options =
+        told_alike asks.options options words (subst (λ (ws : List Text). TellEach asks.options ws) behind asks.told) each in
+        let settings_are : settings_of asks.options ≡ settings = ap settings_of same ∙ sym is in
+        record {
+          rounds = ap (λ (s : Settings). s.rounds) (sym settings_are) ∙ ap given asks.rounds;
+          lose = ap (λ (s : Settings). s.lose) (sym settings_are) ∙ ap given asks.lose;
+          not_each = asks.not_each;
+          version =
+              subst (λ (s : Settings). GivesVersion s.format plan.version) settings_are
+              (gives_version (numbers_of Format asks.options) plan.version asks.version);
+        }
 
--- words that are an option as a whole are read
-pub read_of : (s : Setting) (words : List Text) → first_option words ≡ Some (s, length words) → (text : Text) × IsRead s words text
-read_of s [] formed = cc
-read_of s (word ∷ []) formed = one_first word (joined word) s (one_word word s) formed
-read_of s (word ∷ text ∷ []) formed = two_first word text (joined word) s formed
-read_of s (a ∷ b ∷ c ∷ rest) formed = absurd (too_few (joined a) formed)
+-- words that are no options request none
+pub none_asked : (words : List Text) → ((options : List (Setting × ℕ)) → ¬ TellEach options words) → (plan : Plan) → ¬ AsksRecord (codes "record" ∷ words) plan
+none_asked words none plan asks =
+    let behind : asks.behind ≡ words = ap (λ (ws : List Text). drop 1 ws) (sym asks.words_are) in
+    none asks.options (subst (λ (ws : List Text). TellEach asks.options ws) behind asks.told)
+
+-- ---- words request one plan
+
+one_number : (ns : List ℕ) (m n : ℕ) → ns ≡ m ∷ [] → ns ≡ n ∷ [] → m ≡ n
+one_number ns m n a b = ap (λ (is : List ℕ). get_or is 0 0) (sym a ∙ b)
+
+none_and_one : (ns : List ℕ) (n : ℕ) → ns ≡ [] → ns ≡ n ∷ [] → ⊥
+none_and_one ns n none one = let bad : 0 ≡ 1 = ap (λ (is : List ℕ). length is) (sym none ∙ one) in absurd (omega (bad, arith))
+
+same_version : (ns : List ℕ) (v w : Version) → IsVersion ns v → IsVersion ns w → v ≡ w
+same_version ns versions.One versions.One a b = refl
+same_version ns versions.One versions.Two (inl a) b = absurd (none_and_one ns 2 a b)
+same_version ns versions.One versions.Two (inr a) b = let bad = one_number ns 1 2 a b in absurd (omega (bad, arith))
+same_version ns versions.One versions.Three a b = absurd b
+same_version ns versions.One versions.Four a b = absurd b
+same_version ns versions.One versions.FourHalf a b = absurd b
+same_version ns versions.Two versions.One a (inl b) = absurd (none_and_one ns 2 b a)
+same_version ns versions.Two versions.One a (inr b) = let bad = one_number ns 1 2 b a in absurd (omega (bad, arith))
+same_version ns versions.Two versions.Two a b = refl
+same_version ns versions.Two versions.Three a b = absurd b
+same_version ns versions.Two versions.Four a b = absurd b
+same_version ns versions.Two versions.FourHalf a b = absurd b
+same_version ns versions.Three w a b = absurd a
+same_version ns versions.Four w a b = absurd a
+same_version ns versions.FourHalf w a b = absurd a
+
+pub one_plan : (words : List Text) (p q : Plan) → AsksRecord words p → AsksRecord words q → p ≡ q
+one_plan words p q a b =
+    let behind : a.behind ≡ b.behind = ap (λ (ws : List Text). drop 1 ws) (sym a.words_are ∙ b.words_are) in
+    let same : a.options ≡ b.options =
+    told_alike a.options b.options b.behind (subst (λ (ws : List Text). TellEach a.options ws) behind a.told) b.told in
+    let rounds = one_number (numbers_of Rounds b.options) p.rounds q.rounds (ap (numbers_of Rounds) (sym same) ∙ a.rounds) b.rounds in
+    let lose = one_number (numbers_of Lose b.options) p.lose q.lose (ap (numbers_of Lose) (sym same) ∙ a.lose) b.lose in
+    let version =
+    same_version (numbers_of Format b.options) p.version q.version
+    (subst (λ (os : List (Setting × ℕ)). IsVersion (numbers_of Format os) p.version) same a.version) b.version in
+    ap (λ (n : ℕ). record p { rounds = n }) rounds ∙ ap (λ (n : ℕ). record q { lose = n; version = p.version }) lose
+    ∙ ap (λ (v : Version). record q { version = v }) version
+
+pub asks_whole : (words : List Text) (plan : Plan) → AsksRecord words plan → is_half plan.version ≡ false
+asks_whole words plan asks = whole (numbers_of Format asks.options) plan.version asks.version
   where
-    few : (n : ℕ) (o : Option Setting) → with_count n o ≡ Some (s, length (a ∷ b ∷ c ∷ rest)) → n ≤ 2 → ⊥
-    few n o is le = let e = (counted n _ o s is).1 in omega arith
-
-    by_case : (x : Bool) → (if x then None else with_count 2 (named a)) ≡ Some (s, length (a ∷ b ∷ c ∷ rest)) → ⊥
-    by_case true is = cc
-    by_case false is = few 2 (named a) is (omega arith)
-
-    too_few : (o : Option Setting) → or_else (with_count 1 o) (apart (a ∷ b ∷ c ∷ rest)) ≡ Some (s, length (a ∷ b ∷ c ∷ rest)) → ⊥
-    too_few (Some t) is = few 1 (Some t) is (omega arith)
-    too_few None is = by_case (starts_with nat_eq b (codes "-")) is
-
--- ---- the texts that spell a number
-
-pub no_minus : (text : Text) → IsNumeral 10 (without_leading_plus text) → starts_with nat_eq text (codes "-") ≡ false
-no_minus [] numeral = refl
-no_minus (x ∷ xs) numeral = by_case (nat_eq 45 x) refl
-  where
-    by_case : (b : Bool) → nat_eq 45 x ≡ b → (nat_eq 45 x && true) ≡ false
-    by_case false e = rw e refl
-    by_case true e =
-        let same : x ≡ 45 = sym (eqb-true _ _ e) in
-        let bad : IsNumeral 10 (45 ∷ xs) = subst (λ (y : ℕ). IsNumeral 10 (without_leading_plus (y ∷ xs))) same numeral in
-        absurd (omega (bad.1.0, arith))
-
-most_small : (s : Setting) → most s < 65536
-most_small Rounds = omega arith
-most_small Lose = omega arith
-most_small Format = omega arith
-
-pub told_small : (s : Setting) (words : List Text) (n : ℕ) → TellsNumber s words n → n < 65536
-told_small s words n (text, form, is) = let high = is.high in let small = most_small s in omega arith
-
--- such a text passes
-spelled_passes : (s : Setting) (text : Text) (n : ℕ) → Spells s text n → passes s text ≡ true
-spelled_passes s text n is =
-    let e = is.number in let low = is.low in let high = is.high in let small = most_small s in
-    Accepts-accepts false (Unsigned (least s) (most s)) text (is.numeral, omega arith, omega arith, omega arith)
-
--- and is taken
-told_taken : (s : Setting) (words : List Text) (n : ℕ) → TellsNumber s words n → fault_of (app s) words ≡ []
-told_taken s words n (text, inr form, is) = rw form (joined_taken s text (spelled_passes s text n is))
-told_taken s words n ([], inl form, is) = absurd (omega (is.numeral.0, arith))
-told_taken s words n (x ∷ xs, inl form, is) = rw form (apart_taken s x xs (minus_not x xs (no_minus (x ∷ xs) is.numeral)) (spelled_passes s (x ∷ xs) n is))
-
--- words that are refused for another cause than memory tell no number
-pub refused_option : (s : Setting) (words : List Text) (error : Error) (n : ℕ) → HasKind (fault_of (app s) words) error
-    → (kind_of error ≡ OutOfMemory → ⊥) → TellsNumber s words n → ⊥
-refused_option s words error n has other told = by_kind (subst (λ kinds. HasKind kinds error) (told_taken s words n told) has)
-  where
-    by_kind : HasKind [] error → ⊥
-    by_kind (inl memory) = other memory
-    by_kind (inr among) = among
-
--- words that are taken tell the number that is read
-pub told_number : (E : Type 0) (G : Text → Result ℕ E → Type 0) (s : Setting) (words : List Text) (found : Found) (told : Option ℕ)
-    → ((u : Text) (x : Result ℕ E) → G u x → ParsesUnsigned 64 10 u x)
-    → (n : ℕ) → first_option words ≡ Some (s, n) → n ≡ length words → fault_of (app s) words ≡ [] → rows_of found ≡ matches_of (app s) words
-    → ((t : Text) → one_text found (name_of s) ≡ Some t → ReadsOne G t told)
-    → MatchOption told ((n : ℕ) → ¬ TellsNumber s words n) (TellsNumber s words)
-told_number E G s words found told only k formed whole none rows reads =
-    let (text, is) = read_of s words (formed ∙ ap (λ (i : ℕ). Some (s, i)) whole) in
-    let passed = accepts-Accepts false (Unsigned (least s) (most s)) text (is.taken none) in
-    by_case told text is passed (reads text (one_text-rows found (name_of s) ∙ ap (one_of (name_of s)) rows ∙ is.value))
-  where
-    by_case : (o : Option ℕ) (text : Text) → IsRead s words text → IsUnsignedIn (least s) (most s) text
-        → ReadsOne G text o → MatchOption o ((n : ℕ) → ¬ TellsNumber s words n) (TellsNumber s words)
-    by_case (Some n) text is passed read =
-        let parsed = only text (Ok n) read in
-        let low = passed.2 in
-        let high = passed.3 in
-        let number : n ≡ digits_value 10 (without_leading_plus text) = parsed.1 in
-        (text, is.form, record { numeral = passed.0; number = number; low = rw number low; high = rw number high })
-    by_case None text is passed read = absurd (only text (Err read.0) read.1 (passed.0, passed.1))
+    whole : (ns : List ℕ) (v : Version) → IsVersion ns v → is_half v ≡ false
+    whole ns versions.One is = refl
+    whole ns versions.Two is = refl
+    whole ns versions.Three is = absurd is
+    whole ns versions.Four is = absurd is
+    whole ns versions.FourHalf is = absurd is

@@ -1,12 +1,15 @@
 pub mod CommandLine
+pub mod Endings
 pub mod FileWords
 pub mod GivenWords
 pub mod HexText
 pub mod Many
 pub mod ManyLaw
 pub mod ManyWords
+pub mod Options
 pub mod Output
 pub mod RecordReading
 pub mod RecordWords
 pub mod Recorded
+pub mod Requests
 pub mod SegmentText

@@ -1,10 +1,10 @@
 //! The command line for a case in two files.
 
-ghost use Rattle.std.specs.Prelude.{◌≡◌, ◌≢◌, ◌++◌, ◌↔◌, ℕ, List, IfOk, MatchOption, codes, map, option_map};
-ghost use Rattle.std.specs.Prelude.{string_bytes};
-ghost use Rattle.cli.specs.FileWords.{has_nul, AreBoth, AreNamed, AsksFiles, BeginsWith};
+ghost use Rattle.std.specs.Prelude.{◌≡◌, ◌∷◌, ◌↔◌, ℕ, List, IfOk, MatchOption, codes, map, option_map, string_bytes};
+ghost use Rattle.cli.specs.FileWords.{has_nul, AreBoth, AreNamed, AsksFiles};
 
-use crate::words::is_dashed;
+use crate::options::take_option;
+use crate::request::{Request, request_of};
 use case_forms::OutOfMemory;
 use std::alloc::Global;
 
@@ -24,15 +24,25 @@ pub fn file_names(alloc: Global, words: &[&str]) -> Result<Option<(String, Strin
         ≡ Some (trace, witness)
         ↔ AsksFiles (map (λ word. word.now) words.now) trace witness) }
 {
-    let Some((trace, witness)) = named_files(words) else {
+    let Request::Files(trace, witness) = request_of(alloc, words)? else {
         return Ok(None);
     };
-    if has_nul(trace) || has_nul(witness) {
-        return Ok(None);
-    }
     let trace = String::from_str(alloc, trace)?;
     let witness = String::from_str(alloc, witness)?;
     Ok(Some((trace, witness)))
+}
+
+/// The names that the options after `check` give to the trace's file and to the witness's.
+pub(crate) fn files_in<'w>(options: &[&'w str]) -> Option<(&'w str, &'w str)>
+    ensures { MatchOption result
+        ((trace witness : List ℕ) → ¬ AsksFiles (codes "check" ∷ map (λ word. word.now) options.now) trace witness)
+        (λ names. AsksFiles (codes "check" ∷ map (λ word. word.now) options.now) names.0.now names.1.now) }
+{
+    let (trace, witness) = named_files(options)?;
+    if has_nul(trace) || has_nul(witness) {
+        return None;
+    }
+    Some((trace, witness))
 }
 
 // Whether a name has a NUL.
@@ -42,18 +52,12 @@ fn has_nul(name: &str) -> bool
     name.as_bytes().contains(&0)
 }
 
-// The two names as they are in the words.
-fn named_files<'a>(words: &[&'a str]) -> Option<(&'a str, &'a str)>
+// The two names as they are in the options.
+fn named_files<'w>(options: &[&'w str]) -> Option<(&'w str, &'w str)>
     ensures { MatchOption result
-        ((trace witness : List ℕ) → ¬ AreNamed (map (λ word. word.now) words.now) trace witness)
-        (λ names. AreNamed (map (λ word. word.now) words.now) names.0.now names.1.now) }
+        ((trace witness : List ℕ) → ¬ AreNamed (codes "check" ∷ map (λ word. word.now) options.now) trace witness)
+        (λ names. AreNamed (codes "check" ∷ map (λ word. word.now) options.now) names.0.now names.1.now) }
 {
-    let [command, options @ ..] = words else {
-        return None;
-    };
-    if *command != "check" {
-        return None;
-    }
     if let Some(names) = both(options, TRACE, WITNESS) {
         return Some(names);
     }
@@ -62,7 +66,7 @@ fn named_files<'a>(words: &[&'a str]) -> Option<(&'a str, &'a str)>
 }
 
 // The values of two options, if the words are these in this order and nothing else.
-fn both<'a>(words: &[&'a str], first: &str, second: &str) -> Option<(&'a str, &'a str)>
+fn both<'w>(words: &[&'w str], first: &str, second: &str) -> Option<(&'w str, &'w str)>
     ensures { MatchOption result
         ((one two : List ℕ) → ¬ AreBoth first.now one second.now two (map (λ word. word.now) words.now))
         (λ values. AreBoth first.now values.0.now second.now values.1.now (map (λ word. word.now) words.now)) }
@@ -70,36 +74,4 @@ fn both<'a>(words: &[&'a str], first: &str, second: &str) -> Option<(&'a str, &'
     let (one, rest) = take_option(words, first)?;
     let (two, rest) = take_option(rest, second)?;
     rest.is_empty().then_some((one, two))
-}
-
-// The value of an option that comes first, and the words after it.
-fn take_option<'a, 'w>(words: &'w [&'a str], option: &str) -> Option<(&'a str, &'w [&'a str])>
-    ensures { MatchOption result
-        ((value : List ℕ) (behind : List (List ℕ))
-        → ¬ BeginsWith option.now value behind (map (λ word. word.now) words.entry.now))
-        (λ found. BeginsWith option.now found.0.now (map (λ word. word.now) found.1.now)
-        (map (λ word. word.now) words.entry.now)) }
-{
-    let [first, rest @ ..] = words else {
-        return None;
-    };
-    if let Some(value) = joined_value(first, option) {
-        return Some((value, rest));
-    }
-    let [value, rest @ ..] = rest else {
-        return None;
-    };
-    if *first != option || is_dashed(value) {
-        return None;
-    }
-    Some((value, rest))
-}
-
-// What follows an option and an equals sign in one word.
-fn joined_value<'a>(word: &'a str, option: &str) -> Option<&'a str>
-    ensures { MatchOption result
-        ((value : List ℕ) → word.entry.now ≢ option.now ++ codes "=" ++ value)
-        (λ value. word.entry.now ≡ option.now ++ codes "=" ++ value.now) }
-{
-    word.strip_prefix(option)?.strip_prefix("=")
 }

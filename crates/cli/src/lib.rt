@@ -4,16 +4,18 @@
 //! one line of output.
 //!
 //! - `given`: the words of the command line, as text (`specs/GivenWords`)
-//! - `words`: what the words request, parsed by `clap` (`specs/CommandLine`)
+//! - `request`: what the words request (`specs/Requests`); each command's words have a definition of their own
+//!   (`specs/CommandLine`, `specs/FileWords`, `specs/ManyWords`, `specs/RecordWords`)
+//! - `options`: an option that comes first, and its number, which `clap` reads (`specs/Options`)
+//! - `file_words`: the options for a case in two files
+//! - `record_words`: the options of a recording, and its plan (`specs/RecordReading`)
 //! - `lines`: the line and the status of a case's answer (`specs/Output`)
 //! - `argument`: the segment that a hex text encodes (`specs/HexText`)
 //! - `segment_line`: the line and the status of a segment (`specs/SegmentText`)
-//! - `running`: the whole run, and the answer if memory runs out before it
-//! - `file_words`, `files`: the command line for a case in two files (`specs/FileWords`), and the run on them
-//! - `many_words`, `many`: the command line for many cases, and the run that also handles it (`specs/ManyWords`,
-//!   `specs/Many`); only `many` and `record` start threads
-//! - `record_words`, `record`: the command line for a recording, and the case that is recorded and printed
-//!   (`specs/RecordWords`)
+//! - `running`: the whole run, by request (`specs/Endings`), and the answer if memory runs out before it
+//! - `files`: the run on a case in two files
+//! - `many`: the run on many cases (`specs/Many`); only `many` and `record` start threads
+//! - `record`: the case that is recorded and printed (`specs/Recorded`)
 //! - `many_laws`: how an input is split into cases (`specs/ManyLaw`)
 //!
 //! `checker` defines which answer a case has, and `counted` what counts as a failure.
@@ -26,16 +28,15 @@ mod given;
 mod lines;
 mod many;
 mod many_laws;
-mod many_words;
+mod options;
 mod record;
 mod record_words;
+mod request;
 mod running;
 mod segment_line;
-mod words;
 
 pub use file_words::file_names;
 pub use files::{answer_bad_device, run_files};
 pub use given::given_words;
-pub use many::run_all;
 pub use many_laws::cases_are_cut_back;
-pub use running::{answer_bad_memory, run};
+pub use running::{answer_bad_memory, run, run_all};

@@ -1,24 +1,13 @@
 //! Many cases in one input, checked by several threads.
 
-ghost use Rattle.std.specs.Prelude.{◌≡◌, ◌≢◌, ◌⊎◌, ◌<◌, ◌^◌, ℕ, List, IfOk, IfSome, codes, map};
+ghost use Rattle.std.specs.Prelude.{◌≡◌, ◌≢◌, ◌⊎◌, ◌<◌, ◌^◌, IfOk, IfSome, codes, map};
 ghost use Rattle.std.specs.Io.KnownBytes.{Appends};
-ghost use Rattle.checker.specs.Cases.{case_result};
 ghost use Rattle.parallel_check.specs.Answers.{AnswersEach};
 ghost use Rattle.counted.specs.Counting.{left_of, failures_of};
-ghost use Rattle.cli.specs.CommandLine.{AsksCheck, AsksNothing, AsksSegment};
-ghost use Rattle.cli.specs.HexText.{segment_in};
-ghost use Rattle.cli.specs.ManyWords.{AsksMany};
-ghost use Rattle.cli.specs.RecordWords.{AsksRecord};
-ghost use Rattle.cli.specs.Recorded.{EndsRecord};
-ghost use Rattle.two_hosts.specs.declared.plan.Plan.{Plan};
-ghost use Rattle.cli.specs.Output.{Ends, line_of, status_of};
-ghost use Rattle.cli.specs.SegmentText.{segment_line, segment_status};
 ghost use Rattle.cli.specs.Many.{cases_of, ends_case, greatest_status, lines_of_all, EndsMany};
 
 use crate::files::answer_bad_device;
 use crate::lines::{YES, line_of, say, status_of};
-use crate::many_words::asked_workers;
-use crate::record::record_or_run;
 use crate::running::answer_bad_memory;
 use bstr::ByteSlice;
 use case_forms::OutOfMemory;
@@ -30,55 +19,8 @@ use std::io::{BufRead, Write};
 use std::sync::Wait;
 use std::thread::Threads;
 
-/// Does what the words after the program's name request. For `many`, the cases of the input are checked by so many
-/// threads, a line is written for each in their order, and the result is the greatest of their statuses, or 0 if there
-/// are none. For `record`, two hosts talk, and what was recorded is written as a case; the status is 0 if all rounds
-/// ended, and 1 if a limit was met. All other words are passed to `run`. Both counts of failures must be below 2^50
-/// before the call; those of new ends are.
-pub fn run_all<R: BufRead, W: Write, H: Threads + Wait + Sync>(
-    rt: &H,
-    alloc: Global,
-    words: &[&str],
-    r: &mut Counted<R>,
-    w: &mut Counted<W>,
-) -> u8
-    requires { (failures_of r.old < 2 ^ 50) × (failures_of w.old < 2 ^ 50) }
-    ensures many { (n : ℕ) → AsksMany (map (λ word. word.now) words.now) n → result ≢ 5 →
-        IfSome (left_of R.remaining r.old) (λ text. EndsMany (cases_of text) result (left_of W.contents w.old)
-        (left_of W.contents w.new)) }
-    ensures check { AsksCheck (map (λ word. word.now) words.now) → result ≢ 5 →
-        IfSome (left_of R.remaining r.old) (λ text.
-        Ends (status_of (case_result text)) (line_of (case_result text)) result (left_of W.contents w.old)
-        (left_of W.contents w.new)) }
-    ensures segment { (text : List ℕ) → AsksSegment (map (λ word. word.now) words.now) text → result ≢ 5 →
-        Ends (segment_status (segment_in text)) (segment_line (segment_in text)) result (left_of W.contents w.old)
-        (left_of W.contents w.new) }
-    ensures recorded { (plan : Plan) → AsksRecord (map (λ word. word.now) words.now) plan → result ≢ 5 →
-        EndsRecord plan result (left_of W.contents w.old) (left_of W.contents w.new) }
-    ensures usage { AsksNothing (map (λ word. word.now) words.now)
-        → ((n : ℕ) → ¬ AsksMany (map (λ word. word.now) words.now) n) →
-        ((plan : Plan) → ¬ AsksRecord (map (λ word. word.now) words.now) plan) → result ≢ 5 →
-        Ends 3 (codes "bad usage\n") result (left_of W.contents w.old) (left_of W.contents w.new) }
-    ensures unread { ¬ AsksCheck (map (λ word. word.now) words.now)
-        → ((n : ℕ) → ¬ AsksMany (map (λ word. word.now) words.now) n) → r.new ≡ r.old }
-
-    // Except for a recording, for which a thread may also be refused, the status is 5 only if a count of failures grew.
-    // The line says so if no write failed.
-    ensures device { ((plan : Plan) → ¬ AsksRecord (map (λ word. word.now) words.now) plan) → result ≡ 5 →
-        (failures_of r.old < failures_of r.new) ⊎ (failures_of w.old < failures_of w.new) }
-    ensures told { result ≡ 5 → failures_of w.new ≡ failures_of w.old →
-        Appends (left_of W.contents w.old) (left_of W.contents w.new) (codes "bad device\n") }
-    ensures quiet { result ≢ 5 → (failures_of r.new ≡ failures_of r.old) × (failures_of w.new ≡ failures_of w.old) }
-{
-    match asked_workers(alloc, words) {
-        Ok(Some(workers)) => many(rt, alloc, workers, r, w),
-        Ok(None) => record_or_run(rt, alloc, words, r, w),
-        Err(_) => answer_bad_memory(w),
-    }
-}
-
-// Reads the cases to the end of the input, and answers them.
-fn many<R: BufRead, W: Write, H: Threads + Wait + Sync>(
+/// Reads the cases to the end of the input, and answers them.
+pub(crate) fn many<R: BufRead, W: Write, H: Threads + Wait + Sync>(
     rt: &H,
     alloc: Global,
     workers: usize,

@@ -1,6 +1,6 @@
 use Rattle.std.proofs.Common.{[], sym, ◌∙◌}
-use Rattle.cli.proofs.FileWords.{apart, not_other}
-use Rattle.cli.proofs.file_words.take_option.Goals as goal
+use Rattle.cli.proofs.OptionWords.{apart, not_other}
+use Rattle.cli.proofs.options.take_option.Goals as goal
 
 pub returns : goal.returns
 returns c =

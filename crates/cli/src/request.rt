@@ -1,0 +1,93 @@
+//! What the words request.
+
+ghost use Rattle.std.specs.Prelude.{◌≡◌, ◌∷◌, IfOk, codes, map};
+ghost use Rattle.cli.specs.Requests.{IsRequested};
+
+use crate::file_words::files_in;
+use crate::options::{is_dashed, number_in, take_option};
+use crate::record_words::plan_in;
+use case_forms::OutOfMemory;
+use std::alloc::Global;
+use two_hosts::Plan;
+
+/// What the words after the program's name request.
+#[derive(Clone, Copy)]
+pub(crate) enum Request<'w> {
+    /// To check a case.
+    Check,
+    /// To check a case in two files: the name of the trace's file and of the witness's.
+    Files(&'w str, &'w str),
+    /// To check many cases with so many workers.
+    Many(usize),
+    /// To record two hosts.
+    Record(Plan),
+    /// To print the segment of this hex text.
+    Segment(&'w str),
+    /// No command of the program.
+    Unknown,
+}
+
+/// What the words request. The error is that memory ran out.
+pub(crate) fn request_of<'w>(alloc: Global, words: &[&'w str]) -> Result<Request<'w>, OutOfMemory>
+    ensures { IfOk result (λ request. IsRequested request (map (λ word. word.now) words.now)) }
+{
+    let [command, options @ ..] = words else {
+        return Ok(Request::Unknown);
+    };
+    match *command {
+        "check" => Ok(check_with(options)),
+        "many" => many_with(alloc, options),
+        "record" => record_with(alloc, options),
+        "segment" => Ok(segment_with(options)),
+        _ => Ok(Request::Unknown),
+    }
+}
+
+// What `check` requests with these options.
+fn check_with<'w>(options: &[&'w str]) -> Request<'w>
+    ensures { IsRequested result (codes "check" ∷ map (λ word. word.now) options.now) }
+{
+    if options.is_empty() {
+        return Request::Check;
+    }
+    match files_in(options) {
+        Some((trace, witness)) => Request::Files(trace, witness),
+        None => Request::Unknown,
+    }
+}
+
+// What `many` requests with these options.
+fn many_with<'w>(alloc: Global, options: &[&'w str]) -> Result<Request<'w>, OutOfMemory>
+    ensures { IfOk result (λ request. IsRequested request (codes "many" ∷ map (λ word. word.now) options.now)) }
+{
+    let Some((workers, rest)) = take_option(options, "--workers") else {
+        return Ok(Request::Unknown);
+    };
+    if !rest.is_empty() {
+        return Ok(Request::Unknown);
+    }
+    match number_in(alloc, workers, 1, 64)? {
+        Some(workers) => Ok(Request::Many(workers as usize)),
+        None => Ok(Request::Unknown),
+    }
+}
+
+// What `record` requests with these options.
+fn record_with<'w>(alloc: Global, options: &[&'w str]) -> Result<Request<'w>, OutOfMemory>
+    ensures { IfOk result (λ request. IsRequested request (codes "record" ∷ map (λ word. word.now) options.now)) }
+{
+    match plan_in(alloc, options)? {
+        Some(plan) => Ok(Request::Record(plan)),
+        None => Ok(Request::Unknown),
+    }
+}
+
+// What `segment` requests with these words.
+fn segment_with<'w>(words: &[&'w str]) -> Request<'w>
+    ensures { IsRequested result (codes "segment" ∷ map (λ word. word.now) words.now) }
+{
+    match words {
+        [text] if !is_dashed(text) => Request::Segment(text),
+        _ => Request::Unknown,
+    }
+}
