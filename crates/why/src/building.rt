@@ -2,7 +2,7 @@
 
 use crate::Done;
 use crate::scene::{Building, Scene};
-use case_forms::{Flags, Host, POSITIONS, SegmentPlan};
+use case_forms::{Flags, POSITIONS, SegmentPlan};
 use endpoint_state::{Endpoint, World};
 use plain_words::{FlagWords, word_if};
 use replayed::{Reason, end_of, has_room, misplaced};
@@ -188,31 +188,35 @@ const KINDS: [(&str, [bool; 4], u16); 6] = [
 // Writes which kinds of segments may be built at these ports.
 fn may_build(out: &mut String, scene: &Scene, it: Building) -> Done {
     write!(out, "allowed there:")?;
-    let mut separator = "";
-    for (name, [syn, ack, fin, rst], len) in KINDS {
-        let flags = Flags { ack, rst, syn, fin };
-        let plan = SegmentPlan {
-            pos: 0,
-            len,
-            flags,
-            ..*it.plan
-        };
-        if allows(scene.world(), it.host, &plan) {
-            write!(out, "{separator}{name}")?;
-            separator = " or";
+    let start = out.len();
+    for (name, flags, len) in &KINDS {
+        if allows(scene.world(), it, flags, *len) {
+            if out.len() != start {
+                write!(out, " or")?;
+            }
+            write!(out, "{name}")?;
         }
     }
-    if separator.is_empty() {
+    if out.len() == start {
         write!(out, " no segment")?;
     }
     writeln!(out)
 }
 
-// Whether the state of the endpoint at a segment's ports lets it build a segment of this kind.
-fn allows(world: &World, host: Host, plan: &SegmentPlan) -> bool {
-    has_room(world)
-        && !matches!(
-            world.admits_making(host, plan),
-            Err(Rule::NoEndpoint | Rule::State)
-        )
+// Whether the state of the endpoint lets it build a segment of this kind.
+fn allows(world: &World, it: Building, flags: &[bool; 4], len: u16) -> bool {
+    let [syn, ack, fin, rst] = *flags;
+    let plan = SegmentPlan {
+        pos: 0,
+        len,
+        flags: Flags { ack, rst, syn, fin },
+        ..*it.plan
+    };
+    if !has_room(world) {
+        return false;
+    }
+    !matches!(
+        world.admits_making(it.host, &plan),
+        Err(Rule::NoEndpoint | Rule::State)
+    )
 }
