@@ -1,59 +1,48 @@
-//! What `tcpwit_lab judge` prints for a trace, and the expected text and status.
+//! What `tcpwit_lab judge` prints for a trace, and its status.
 
 use checker::{CaseFault, check_case};
 use judging::{Judgement, Options, judge, options_of};
 use std::alloc::{AllocError, Global};
-use std::{fs, io};
 use why::fault_line;
 
-/// Checks each text of a table: a line `== STATUS NAME WORDS` with the name of a trace and the words after `judge`,
-/// followed by the expected text. The result is the number of texts.
-pub fn ask_judged(
-    rt: &HostRuntime,
-    alloc: Global,
-    table: &str,
-    differing: &mut Vec<String>,
-) -> io::Result<u64> {
-    let mut count: u64 = 0;
-    for block in table.split("== ") {
-        let Some((head, wanted)) = block.split_once('\n') else {
-            continue;
-        };
-        let wanted = format!(in alloc; "{} {wanted}", head.split(' ').next().unwrap_or(""))?;
-        let name = head.split(' ').nth(1).unwrap_or("");
-        let mut words = Vec::new(alloc);
-        for word in head.split(' ').skip(2) {
-            words.push(word)?;
-        }
-        let trace = fs::read(rt, format!(in alloc; "{name}.trace")?.as_str())?;
-        let found = answered(alloc, words.as_slice(), trace.as_slice())?;
-        if found != wanted {
-            differing.push(format!(in alloc;
-                "judge {head:?}: wanted {wanted:?}, found {found:?}"
-            )?)?;
-        }
-        count = count.saturating_add(1);
+/// The block of `judged.txt` with this head: the status, the name of a trace, and the words after `judge`.
+pub fn block(alloc: Global, head: &str, trace: &[u8]) -> Result<String, AllocError> {
+    let asked = head.split_once(' ').map_or("", |(_status, asked)| asked);
+    let mut words = Vec::new(alloc);
+    for word in asked.split(' ').skip(1) {
+        words.push(word)?;
     }
-    Ok(count)
+    match options_of(words.as_slice()) {
+        Some(options) => answered(alloc, asked, options, trace),
+        None => format!(in alloc; "3 {asked}\nbad usage\n"),
+    }
 }
 
-// The status and what is printed.
-fn answered(alloc: Global, words: &[&str], trace: &[u8]) -> Result<String, AllocError> {
-    let Some(options) = options_of(words) else {
-        return String::from_str(alloc, "3 bad usage\n");
-    };
+// The block of these words: the status, the words, and what is printed.
+fn answered(
+    alloc: Global,
+    asked: &str,
+    options: Options<'_>,
+    trace: &[u8],
+) -> Result<String, AllocError> {
     match judge(alloc, trace, options.budget) {
-        Ok(judgement) => said(alloc, options, &judgement),
+        Ok(judgement) => said(alloc, asked, options, &judgement),
         Err(CaseFault::Trace(fault)) => {
-            let line = fault_line(alloc, "2 bad trace ", &fault)?;
-            String::from_utf8_lossy(alloc, line.as_slice())
+            let line = fault_line(alloc, "bad trace ", &fault)?;
+            let text = String::from_utf8_lossy(alloc, line.as_slice())?;
+            format!(in alloc; "2 {asked}\n{text}")
         }
         Err(fault) => format!(in alloc; "{fault}"),
     }
 }
 
-// The status and the text, if the case is the one of the last level: its verdict is there.
-fn said(alloc: Global, options: Options<'_>, judgement: &Judgement) -> Result<String, AllocError> {
+// The block, if the case is the one of the last level: its verdict is there.
+fn said(
+    alloc: Global,
+    asked: &str,
+    options: Options<'_>,
+    judgement: &Judgement,
+) -> Result<String, AllocError> {
     let text = String::from_utf8_lossy(alloc, judgement.text.as_slice())?;
     let verdict = match check_case(alloc, judgement.case.as_slice()) {
         Ok(verdict) => format!(in alloc; " {verdict}\n")?,
@@ -64,5 +53,5 @@ fn said(alloc: Global, options: Options<'_>, judgement: &Judgement) -> Result<St
         return format!(in alloc; "the case has another verdict: {verdict}");
     }
     let status = if judgement.meets(options.least) { 0 } else { 1 };
-    format!(in alloc; "{status} {rows}")
+    format!(in alloc; "{status} {asked}\n{rows}")
 }

@@ -40,17 +40,22 @@ fn ask_text(
         from: None,
         to: None,
     };
-    let printed = [
-        ("find", printed(alloc, find(alloc, trace_of(case)))?),
-        ("show", printed(alloc, show(alloc, case))?),
-        ("draw", printed(alloc, draw(alloc, case, range))?),
-    ];
-    for (word, text) in &printed {
-        if !text.as_slice().iter().all(|byte| is_printable(*byte)) {
-            differing.push(format!(in alloc;
-                "ESC at byte {place}: {word} prints a control byte"
-            )?)?;
-        }
+    look(alloc, place, "find", find(alloc, trace_of(case)), differing)?;
+    look(alloc, place, "show", show(alloc, case), differing)?;
+    look(alloc, place, "draw", draw(alloc, case, range), differing)
+}
+
+// Adds a line if a command prints a control byte.
+fn look(
+    alloc: Global,
+    place: usize,
+    word: &str,
+    answer: Result<Vec<u8>, TextFault>,
+    differing: &mut Vec<String>,
+) -> Result<(), AllocError> {
+    let text = printed(alloc, answer)?;
+    if !text.as_slice().iter().all(|byte| is_printable(*byte)) {
+        differing.push(format!(in alloc; "ESC at byte {place}: {word} prints a control byte")?)?;
     }
     Ok(())
 }
