@@ -69,9 +69,11 @@ class Help(unittest.TestCase):
                 self.assertEqual(self.help_of(program, word), f"{name} {version}\n")
 
     def test_other_words_are_bad_usage(self):
-        for program, subcommands in WORDS.values():
-            rest = (["--help", subcommands[0]], ["--help", "--help"], [subcommands[0], "--help", "-h"], ["help", "help"], ["help", "nothing"],
-                    ["--Help"], ["-?"], ["nothing", "--help"], [subcommands[0], "--version"], [""], [])
+        for name, (program, subcommands) in WORDS.items():
+            strange = WORDS["tcpwit" if name == "tcpwit_lab" else "tcpwit_lab"][1][0]
+            rest = (["--help", subcommands[0]], ["--help", "--help"], [subcommands[0], "--help", "-h"], [subcommands[0], "--help", "--help"],
+                    ["help", "help"], ["help", "nothing"], ["--Help"], ["-?"], ["nothing", "--help"], [strange, "--help"], ["help", strange],
+                    [subcommands[0], "--version"], [""], [])
             for words in rest:
                 self.assertEqual(run(program, *words), ("bad usage\n", "", 3), words)
 

@@ -1,6 +1,6 @@
 //! The words that ask for help, and whose help it is.
 
-ghost use Rattle.std.specs.Prelude.{◌≡◌, map};
+ghost use Rattle.std.specs.Prelude.{◌≡◌, is_some, map};
 ghost use Rattle.help.specs.AskedHelp.{asks_help, is_help_option, is_subcommand, is_version_option};
 
 /// A program that has help.
@@ -12,17 +12,31 @@ pub enum Program {
     TcpwitLab,
 }
 
-/// Whether these words, which follow the program's name, ask for its help or its version.
-pub(crate) fn asks_help(program: Program, words: &[&str]) -> bool
-    ensures { result ≡ asks_help program (map (λ word. word.now) words.now) }
+/// What words ask for.
+#[derive(Clone, Copy)]
+pub(crate) enum Topic<'a> {
+    /// The version of the program.
+    Version,
+    /// The help of the program.
+    Program,
+    /// The help of this subcommand.
+    Subcommand(&'a str),
+}
+
+/// What these words, which follow the program's name, ask for; None if for neither help nor the version.
+pub(crate) fn topic_of<'a>(program: Program, words: &[&'a str]) -> Option<Topic<'a>>
+    ensures { is_some result ≡ asks_help program (map (λ word. word.now) words.now) }
 {
     match words {
-        [word] => *word == "help" || is_help_option(word) || is_version_option(word),
-        [first, second] => {
-            (is_subcommand(program, first) && is_help_option(second))
-                || (*first == "help" && is_subcommand(program, second))
+        [word] if is_version_option(word) => Some(Topic::Version),
+        [word] if *word == "help" || is_help_option(word) => Some(Topic::Program),
+        [name, option] if is_subcommand(program, name) && is_help_option(option) => {
+            Some(Topic::Subcommand(name))
         }
-        _ => false,
+        [help, name] if *help == "help" && is_subcommand(program, name) => {
+            Some(Topic::Subcommand(name))
+        }
+        _ => None,
     }
 }
 
@@ -42,16 +56,12 @@ fn is_subcommand(program: Program, word: &str) -> bool
     ensures { result ≡ is_subcommand program word.now }
 {
     match program {
-        Program::Tcpwit => {
-            word == "check" || word == "many" || word == "segment" || word == "record"
-        }
+        Program::Tcpwit => matches!(word, "check" | "many" | "segment" | "record"),
         Program::TcpwitLab => {
-            word == "find"
-                || word == "explain"
-                || word == "show"
-                || word == "draw"
-                || word == "judge"
-                || word == "remark"
+            matches!(
+                word,
+                "find" | "explain" | "show" | "draw" | "judge" | "remark"
+            )
         }
     }
 }

@@ -1,8 +1,78 @@
 //! The command line of `tcpwit`, as its help shows it.
 
-use crate::texts::VERSION;
-use clap::{Arg, ArgAction, Command};
-use std::alloc::{AllocError, Global};
+use crate::command_line::{Argument, CommandLine, Form, Subcommand};
+
+/// The whole command line.
+pub(crate) static TCPWIT: CommandLine = CommandLine {
+    name: "tcpwit",
+    about: "Checks a recorded run of one or two TCP hosts against RFC 9293, 6298 and 5681",
+    subcommands: &[
+        Subcommand {
+            name: "check",
+            about: "Judges a case: a trace and its witness",
+            usage: "tcpwit check < CASE\n       tcpwit check --trace F --witness G",
+            arguments: &[
+                Argument {
+                    name: "trace",
+                    form: Form::Option("F"),
+                    help: "The file or pipe of the trace; only together with --witness",
+                },
+                Argument {
+                    name: "witness",
+                    form: Form::Option("G"),
+                    help: "The file or pipe of the witness",
+                },
+            ],
+            after: CHECK,
+        },
+        Subcommand {
+            name: "many",
+            about: "Judges many cases with several threads",
+            usage: "tcpwit many --workers N < CASES",
+            arguments: &[Argument {
+                name: "workers",
+                form: Form::Option("N"),
+                help: "How many threads check, 1 to 64",
+            }],
+            after: MANY,
+        },
+        Subcommand {
+            name: "segment",
+            about: "Prints the fields of a segment",
+            usage: "tcpwit segment HEX",
+            arguments: &[Argument {
+                name: "hex",
+                form: Form::Word("HEX"),
+                help: "The segment from its TCP header on, two hex digits for each byte",
+            }],
+            after: SEGMENT,
+        },
+        Subcommand {
+            name: "record",
+            about: "Records two TCP hosts that talk, and prints the case",
+            usage: "tcpwit record --rounds N --lose K [--format V] > CASE",
+            arguments: &[
+                Argument {
+                    name: "rounds",
+                    form: Form::Option("N"),
+                    help: "How many rounds, 1 to 1000; in each, host 0 sends 64 bytes to host 1",
+                },
+                Argument {
+                    name: "lose",
+                    form: Form::Option("K"),
+                    help: "Each K-th segment of a host is lost, 2 to 1000; 0: none is",
+                },
+                Argument {
+                    name: "format",
+                    form: Form::Option("V"),
+                    help: "The version of the texts, 1 or 2 [default: 1]",
+                },
+            ],
+            after: RECORD,
+        },
+    ],
+    after: AFTER,
+};
 
 const AFTER: &str = "\
 Each answer is one line on standard output. Nothing is written on standard error.
@@ -69,91 +139,3 @@ numbers keep to the limits of the texts.
 Status:
   0  all rounds ended
   1  a limit was met first";
-
-/// The whole command line.
-pub(crate) fn tcpwit<'a>(alloc: Global) -> Result<Command<'a>, AllocError> {
-    let command = Command::new(alloc, "tcpwit")
-        .no_binary_name(true)
-        .version(VERSION)
-        .about("Checks a recorded run of one or two TCP hosts against RFC 9293, 6298 and 5681")
-        .subcommand_required(true)
-        .subcommand(check(alloc)?)?
-        .subcommand(many(alloc)?)?
-        .subcommand(segment(alloc)?)?
-        .subcommand(record(alloc)?)?;
-    Ok(command.after_help(AFTER))
-}
-
-fn check<'a>(alloc: Global) -> Result<Command<'a>, AllocError> {
-    let trace = Arg::new(alloc, "trace").long("trace").value_name("F").help(
-        "The file or pipe of the trace; only together with --witness",
-    );
-    let witness = Arg::new(alloc, "witness")
-        .long("witness")
-        .value_name("G")
-        .help("The file or pipe of the witness");
-    Ok(
-        Command::new(alloc, "check")
-            .about("Judges a case: a trace and its witness")
-            .override_usage("tcpwit check < CASE\n       tcpwit check --trace F --witness G")
-            .after_help(CHECK)
-            .arg(trace)?
-            .arg(witness)?,
-    )
-}
-
-fn many<'a>(alloc: Global) -> Result<Command<'a>, AllocError> {
-    let workers = Arg::new(alloc, "workers")
-        .long("workers")
-        .value_name("N")
-        .required(true)
-        .help("How many threads check, 1 to 64");
-    Ok(
-        Command::new(alloc, "many")
-            .about("Judges many cases with several threads")
-            .override_usage("tcpwit many --workers N < CASES")
-            .after_help(MANY)
-            .arg(workers)?,
-    )
-}
-
-fn segment<'a>(alloc: Global) -> Result<Command<'a>, AllocError> {
-    let hex = Arg::new(alloc, "hex")
-        .value_name("HEX")
-        .required(true)
-        .action(ArgAction::Set)
-        .help("The segment from its TCP header on, two hex digits for each byte");
-    Ok(
-        Command::new(alloc, "segment")
-            .about("Prints the fields of a segment")
-            .override_usage("tcpwit segment HEX")
-            .after_help(SEGMENT)
-            .arg(hex)?,
-    )
-}
-
-fn record<'a>(alloc: Global) -> Result<Command<'a>, AllocError> {
-    let rounds = Arg::new(alloc, "rounds")
-        .long("rounds")
-        .value_name("N")
-        .required(true)
-        .help("How many rounds, 1 to 1000; in each, host 0 sends 64 bytes to host 1");
-    let lose = Arg::new(alloc, "lose")
-        .long("lose")
-        .value_name("K")
-        .required(true)
-        .help("Each K-th segment of a host is lost, 2 to 1000; 0: none is");
-    let format = Arg::new(alloc, "format")
-        .long("format")
-        .value_name("V")
-        .help("The version of the texts, 1 or 2 [default: 1]");
-    Ok(
-        Command::new(alloc, "record")
-            .about("Records two TCP hosts that talk, and prints the case")
-            .override_usage("tcpwit record --rounds N --lose K [--format V] > CASE")
-            .after_help(RECORD)
-            .arg(rounds)?
-            .arg(lose)?
-            .arg(format)?,
-    )
-}

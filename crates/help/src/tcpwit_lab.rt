@@ -1,8 +1,92 @@
 //! The command line of `tcpwit_lab`, as its help shows it.
 
-use crate::texts::VERSION;
-use clap::{Arg, ArgAction, Command};
-use std::alloc::{AllocError, Global};
+use crate::command_line::{Argument, CommandLine, Form, Subcommand};
+
+/// The whole command line.
+pub(crate) static TCPWIT_LAB: CommandLine = CommandLine {
+    name: "tcpwit_lab",
+    about: "Finds witnesses, judges traces, explains and draws cases",
+    subcommands: &[
+        Subcommand {
+            name: "find",
+            about: "Looks for a witness of a trace, and prints the case",
+            usage: "tcpwit_lab find [--budget N] < TRACE > CASE",
+            arguments: &[Argument {
+                name: "budget",
+                form: Form::Option("N"),
+                help: "How many steps are spent on going back [default: 500000]",
+            }],
+            after: FIND,
+        },
+        Subcommand {
+            name: "explain",
+            about: "Explains the verdict on a case in plain words",
+            usage: "tcpwit_lab explain [--simulated] < CASE",
+            arguments: &[Argument {
+                name: "simulated",
+                form: Form::Flag,
+                help: "The segments crossed a simulated wire: name no cause that only captures have",
+            }],
+            after: EXPLAIN,
+        },
+        Subcommand {
+            name: "show",
+            about: "Prints a case or a trace with words for its numbers",
+            usage: "tcpwit_lab show < CASE",
+            arguments: &[],
+            after: SHOW,
+        },
+        Subcommand {
+            name: "draw",
+            about: "Draws a case or a trace as a picture",
+            usage: "tcpwit_lab draw [--from N] [--to M] < CASE > PICTURE",
+            arguments: &[
+                Argument {
+                    name: "from",
+                    form: Form::Option("N"),
+                    help: "The first trace line drawn",
+                },
+                Argument {
+                    name: "to",
+                    form: Form::Option("M"),
+                    help: "The last trace line drawn",
+                },
+            ],
+            after: DRAW,
+        },
+        Subcommand {
+            name: "judge",
+            about: "Finds the strictest level that gets a yes for a trace",
+            usage: "tcpwit_lab judge [--least LEVEL] [--budget N] [--case FILE] < TRACE",
+            arguments: &[
+                Argument {
+                    name: "least",
+                    form: Form::Option("LEVEL"),
+                    help: "The weakest level that gives status 0: full, recovery, none [default: full]",
+                },
+                Argument {
+                    name: "budget",
+                    form: Form::Option("N"),
+                    help: "How many steps are spent on going back at each level [default: 500000]",
+                },
+                Argument {
+                    name: "case",
+                    form: Form::Option("FILE"),
+                    help: "Writes the case of the last level tried to FILE",
+                },
+            ],
+            after: JUDGE,
+        },
+        Subcommand {
+            name: "remark",
+            about: "Lists what breaks no rule of a case and is worth a look",
+            usage: "tcpwit_lab remark < CASE",
+            arguments: &[],
+            after: REMARK,
+        },
+    ],
+    after: AFTER,
+};
 
 const AFTER: &str = "\
 Each subcommand reads its text from standard input and writes to standard output. If a file or a
@@ -54,104 +138,3 @@ the steps before the refused one count. Remarks are about acceptable segments th
 not kept, retransmissions, timers and open windows with nothing sent, and what is left at the end.
 
 Status: 0 if there is no remark, 1 if there is any.";
-
-/// The whole command line.
-pub(crate) fn tcpwit_lab<'a>(alloc: Global) -> Result<Command<'a>, AllocError> {
-    let command = Command::new(alloc, "tcpwit_lab")
-        .no_binary_name(true)
-        .version(VERSION)
-        .about("Finds witnesses, judges traces, explains and draws cases")
-        .subcommand_required(true)
-        .subcommand(find(alloc)?)?
-        .subcommand(explain(alloc)?)?
-        .subcommand(show(alloc))?
-        .subcommand(draw(alloc)?)?
-        .subcommand(judge(alloc)?)?
-        .subcommand(remark(alloc))?;
-    Ok(command.after_help(AFTER))
-}
-
-fn find<'a>(alloc: Global) -> Result<Command<'a>, AllocError> {
-    let budget = Arg::new(alloc, "budget")
-        .long("budget")
-        .value_name("N")
-        .help("How many steps are spent on going back [default: 500000]");
-    Ok(
-        Command::new(alloc, "find")
-            .about("Looks for a witness of a trace, and prints the case")
-            .override_usage("tcpwit_lab find [--budget N] < TRACE > CASE")
-            .after_help(FIND)
-            .arg(budget)?,
-    )
-}
-
-fn explain<'a>(alloc: Global) -> Result<Command<'a>, AllocError> {
-    let simulated = Arg::new(alloc, "simulated")
-        .long("simulated")
-        .action(ArgAction::SetTrue)
-        .help("The segments crossed a simulated wire: name no cause that only captures have");
-    Ok(
-        Command::new(alloc, "explain")
-            .about("Explains the verdict on a case in plain words")
-            .override_usage("tcpwit_lab explain [--simulated] < CASE")
-            .after_help(EXPLAIN)
-            .arg(simulated)?,
-    )
-}
-
-fn show<'a>(alloc: Global) -> Command<'a> {
-    Command::new(alloc, "show")
-        .about("Prints a case or a trace with words for its numbers")
-        .override_usage("tcpwit_lab show < CASE")
-        .after_help(SHOW)
-}
-
-fn draw<'a>(alloc: Global) -> Result<Command<'a>, AllocError> {
-    let from = Arg::new(alloc, "from")
-        .long("from")
-        .value_name("N")
-        .help("The first trace line drawn");
-    let to = Arg::new(alloc, "to")
-        .long("to")
-        .value_name("M")
-        .help("The last trace line drawn");
-    Ok(
-        Command::new(alloc, "draw")
-            .about("Draws a case or a trace as a picture")
-            .override_usage("tcpwit_lab draw [--from N] [--to M] < CASE > PICTURE")
-            .after_help(DRAW)
-            .arg(from)?
-            .arg(to)?,
-    )
-}
-
-fn judge<'a>(alloc: Global) -> Result<Command<'a>, AllocError> {
-    let least = Arg::new(alloc, "least")
-        .long("least")
-        .value_name("LEVEL")
-        .help("The weakest level that gives status 0: full, recovery, none [default: full]");
-    let case = Arg::new(alloc, "case")
-        .long("case")
-        .value_name("FILE")
-        .help("Writes the case of the last level tried to FILE");
-    let budget = Arg::new(alloc, "budget")
-        .long("budget")
-        .value_name("N")
-        .help("How many steps are spent on going back at each level [default: 500000]");
-    Ok(
-        Command::new(alloc, "judge")
-            .about("Finds the strictest level that gets a yes for a trace")
-            .override_usage("tcpwit_lab judge [--least LEVEL] [--budget N] [--case FILE] < TRACE")
-            .after_help(JUDGE)
-            .arg(least)?
-            .arg(budget)?
-            .arg(case)?,
-    )
-}
-
-fn remark<'a>(alloc: Global) -> Command<'a> {
-    Command::new(alloc, "remark")
-        .about("Lists what breaks no rule of a case and is worth a look")
-        .override_usage("tcpwit_lab remark < CASE")
-        .after_help(REMARK)
-}

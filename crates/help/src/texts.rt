@@ -5,14 +5,13 @@ ghost use Rattle.std.specs.Io.KnownBytes.{Appends};
 ghost use Rattle.counted.specs.Counting.{left_of, failures_of};
 ghost use Rattle.help.specs.AskedHelp.{asks_help};
 
-use crate::asking::{Program, asks_help};
-use crate::tcpwit::tcpwit;
-use crate::tcpwit_lab::tcpwit_lab;
+use crate::asking::{Program, Topic, topic_of};
+use crate::command_line::CommandLine;
+use crate::tcpwit::TCPWIT;
+use crate::tcpwit_lab::TCPWIT_LAB;
 use case_forms::OutOfMemory;
-use clap::Command;
-use clap::error::ErrorKind;
 use counted::Counted;
-use std::alloc::{AllocError, Global};
+use std::alloc::Global;
 use std::io::Write;
 
 /// The version of the programs, which the head of README.md names too.
@@ -33,38 +32,34 @@ pub fn help_text<'a>(
 ) -> Result<Option<String>, OutOfMemory>
     ensures { IfOk result (λ text. is_some text ≡ asks_help program (map (λ word. word.now) words.now)) }
 {
-    if !asks_help(program, words) {
+    let Some(topic) = topic_of(program, words) else {
         return Ok(None);
-    }
-    let text = clap_text(alloc, program, words)?;
+    };
+    let text = text_about(alloc, command_line(program), topic)?;
     Ok(Some(text))
 }
 
-// What clap prints for words that ask for help.
-fn clap_text<'a>(
-    alloc: Global,
-    program: Program,
-    words: &'a [&'a str],
-) -> Result<String, OutOfMemory> {
-    let command = command_line(alloc, program)?;
-    match command.try_get_matches_from(words) {
-        Ok(_matches) => whole_help(alloc, program),
-        Err(error) => match error.kind() {
-            ErrorKind::OutOfMemory => Err(AllocError),
-            _ => format!(in alloc; "{error}"),
-        },
+// The text about a topic.
+fn text_about(alloc: Global, line: &CommandLine, topic: Topic<'_>) -> Result<String, OutOfMemory> {
+    let name = match topic {
+        Topic::Version => return format!(in alloc; "{} {VERSION}\n", line.name),
+        Topic::Program => return line.help(alloc, VERSION),
+        Topic::Subcommand(name) => name,
+    };
+    match line
+        .subcommands
+        .iter()
+        .find(|subcommand| subcommand.name == name)
+    {
+        Some(subcommand) => subcommand.help(alloc),
+        None => line.help(alloc, VERSION),
     }
 }
 
-fn whole_help(alloc: Global, program: Program) -> Result<String, OutOfMemory> {
-    let mut command = command_line(alloc, program)?;
-    command.render_help()
-}
-
-fn command_line<'a>(alloc: Global, program: Program) -> Result<Command<'a>, AllocError> {
+fn command_line(program: Program) -> &'static CommandLine {
     match program {
-        Program::Tcpwit => tcpwit(alloc),
-        Program::TcpwitLab => tcpwit_lab(alloc),
+        Program::Tcpwit => &TCPWIT,
+        Program::TcpwitLab => &TCPWIT_LAB,
     }
 }
 

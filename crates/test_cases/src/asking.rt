@@ -53,16 +53,32 @@ pub fn ask_each(
     differing: &mut Vec<String>,
 ) -> Result<(), AllocError> {
     for case in cases {
-        let found = by_check_case(alloc, case.text.as_slice())?;
-        compare(alloc, case, "check_case", found.as_str(), differing)?;
-        let found = by_check(alloc, case.text.as_slice())?;
-        compare(alloc, case, "check", found.as_str(), differing)?;
+        ask_alone(alloc, case, differing)?;
         for size in PIECES {
             let found = by_two_texts(alloc, case.text.as_slice(), size)?;
             compare(alloc, case, "two texts", found.as_str(), differing)?;
         }
     }
     Ok(())
+}
+
+// Checks a case by `check_case` and by the command `check`.
+fn ask_alone(alloc: Global, case: &Case, differing: &mut Vec<String>) -> Result<(), AllocError> {
+    let text = case.text.as_slice();
+    compare(
+        alloc,
+        case,
+        "check_case",
+        by_check_case(alloc, text)?.as_str(),
+        differing,
+    )?;
+    compare(
+        alloc,
+        case,
+        "check",
+        by_check(alloc, text)?.as_str(),
+        differing,
+    )
 }
 
 /// Checks all cases in one input of `many`, except those whose text is cut off: no line `end` can follow them, so each
@@ -125,9 +141,18 @@ fn ask_together<H: Threads + Wait + Sync>(
     cases: &[Case],
     differing: &mut Vec<String>,
 ) -> Result<(), AllocError> {
-    let input = join(alloc, cases)?;
-    let answer = by_many(rt, alloc, WORKERS, input.as_slice())?;
-    let mut lines = answer.as_str().lines();
+    let answer = by_many(rt, alloc, WORKERS, join(alloc, cases)?.as_slice())?;
+    compare_lines(alloc, cases, answer.as_str(), differing)
+}
+
+// Compares the lines that `many` printed for these cases, and then the status.
+fn compare_lines(
+    alloc: Global,
+    cases: &[Case],
+    answer: &str,
+    differing: &mut Vec<String>,
+) -> Result<(), AllocError> {
+    let mut lines = answer.lines();
     let mut greatest = 0;
     for case in cases.iter().filter(|case| case.is_ended()) {
         let line = lines.next().unwrap_or("");
@@ -136,8 +161,16 @@ fn ask_together<H: Threads + Wait + Sync>(
         compare(alloc, case, "many", found.as_str(), differing)?;
         greatest = status.max(greatest);
     }
-    let wanted = format!(in alloc; "{greatest}")?;
-    let found = lines.next().unwrap_or("");
+    compare_status(alloc, greatest, lines.next().unwrap_or(""), differing)
+}
+
+fn compare_status(
+    alloc: Global,
+    wanted: u8,
+    found: &str,
+    differing: &mut Vec<String>,
+) -> Result<(), AllocError> {
+    let wanted = format!(in alloc; "{wanted}")?;
     if found != wanted.as_str() {
         differing.push(format!(in alloc; "many ends with {found:?}, not with status {wanted}")?)?;
     }
@@ -194,14 +227,19 @@ fn shown(alloc: Global, text: &str, fault: &TextFault) -> Result<String, AllocEr
     )
 }
 
+/// What was printed, then the status.
+pub fn printed_then_status(alloc: Global, output: &[u8], status: u8) -> Result<String, AllocError> {
+    let printed = String::from_utf8_lossy(alloc, output)?;
+    format!(in alloc; "{printed}{status}")
+}
+
 // What the command `check` prints, then the status.
 fn by_check(alloc: Global, text: &[u8]) -> Result<String, AllocError> {
     let mut output = Vec::new(alloc);
     let mut reader = Counted::new(text);
     let mut writer = Counted::new(&mut output);
     let status = run(alloc, &["check"], &mut reader, &mut writer);
-    let printed = String::from_utf8_lossy(alloc, output.as_slice())?;
-    format!(in alloc; "{printed}{status}")
+    printed_then_status(alloc, output.as_slice(), status)
 }
 
 // What is printed for the trace and the witness of a case as two texts, which are read in pieces, then the status.
@@ -231,8 +269,7 @@ pub fn by_pair(
         Counted::new(witness),
         &mut writer,
     );
-    let printed = String::from_utf8_lossy(alloc, output.as_slice())?;
-    format!(in alloc; "{printed}{status}")
+    printed_then_status(alloc, output.as_slice(), status)
 }
 
 /// How many bytes of a case come before its witness.
@@ -262,6 +299,5 @@ fn by_many<H: Threads + Wait + Sync>(
     let mut writer = Counted::new(&mut output);
     let words = ["many", "--workers", workers];
     let status = run_all(rt, alloc, &words, &mut reader, &mut writer);
-    let printed = String::from_utf8_lossy(alloc, output.as_slice())?;
-    format!(in alloc; "{printed}{status}")
+    printed_then_status(alloc, output.as_slice(), status)
 }

@@ -37,14 +37,25 @@ pub fn push_beginnings(rt: &HostRuntime, name: &str, cases: &mut Vec<Case>) -> i
     let alloc = rt.alloc();
     let case = fs::read_to_string(rt, format!(in alloc; "examples/{name}.case")?.as_str())?;
     let answers = fs::read_to_string(rt, format!(in alloc; "beginnings/{name}.txt")?.as_str())?;
-    let mut answers = answers.as_str().lines();
+    Ok(push_all(alloc, name, case.as_str(), answers.as_str(), cases)?)
+}
+
+// Adds each beginning of a case, with the answers to those that end after whole lines.
+fn push_all(
+    alloc: Global,
+    name: &str,
+    case: &str,
+    answers: &str,
+    cases: &mut Vec<Case>,
+) -> Result<(), AllocError> {
+    let mut answers = answers.lines();
     let mut beginning = Vec::new(alloc);
     let mut place = Place {
         text: "trace",
         number: 1,
     };
     cases.push(begin(alloc, name, &beginning, answers.next().unwrap_or(""))?)?;
-    for line in case.as_str().lines() {
+    for line in case.lines() {
         push_inside(alloc, name, &mut beginning, place, line, cases)?;
         beginning.push(b'\n')?;
         place = place.next(line);

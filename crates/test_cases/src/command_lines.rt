@@ -2,10 +2,11 @@
 
 ghost use Rattle.std.specs.Io.{WritesAtMost};
 
+use crate::asking::printed_then_status;
 use cli::{given_words, run_all};
 use counted::Counted;
 use std::alloc::{AllocError, Global};
-use std::env::{Env, FillError};
+use std::env::{Args, Env, FillError};
 use std::io;
 use std::sync::Wait;
 use std::thread::Threads;
@@ -61,20 +62,47 @@ pub fn ask_rows<H: Threads + Wait + Sync>(
 ) -> io::Result<usize> {
     let mut count = 0usize;
     for row in table.lines() {
-        let mut fields = row.split('\t');
-        let line = fields.next().unwrap_or("");
-        let mut words = Vec::new(alloc);
-        for word in fields {
-            words.push(bytes_of(alloc, word)?)?;
-        }
-        let wanted = format!(in alloc; "{line}\n{}", status_of(line))?;
-        let found = by_words(rt, alloc, words.as_slice())?;
-        if found != wanted {
-            differing.push(format!(in alloc; "{row:?}: wanted {wanted:?}, found {found:?}")?)?;
-        }
+        let found = by_row(rt, alloc, row)?;
+        compare(alloc, row, found.as_str(), differing)?;
         count = count.saturating_add(1);
     }
     Ok(count)
+}
+
+fn compare(
+    alloc: Global,
+    row: &str,
+    found: &str,
+    differing: &mut Vec<String>,
+) -> Result<(), AllocError> {
+    let line = row.split('\t').next().unwrap_or("");
+    let wanted = format!(in alloc; "{line}\n{}", status_of(line))?;
+    if found != wanted.as_str() {
+        differing.push(format!(in alloc; "{row:?}: wanted {wanted:?}, found {found:?}")?)?;
+    }
+    Ok(())
+}
+
+// What the words of a row print, then the status.
+fn by_row<H: Threads + Wait + Sync>(rt: &H, alloc: Global, row: &str) -> io::Result<String> {
+    let words = words_of(alloc, row)?;
+    let given = given_words(
+        &Words {
+            words: words.as_slice(),
+        },
+        alloc,
+    )?;
+    drop(words);
+    by_words(rt, alloc, given)
+}
+
+// The words of a row, as bytes.
+fn words_of(alloc: Global, row: &str) -> Result<Vec<Vec<u8>>, AllocError> {
+    let mut words = Vec::new(alloc);
+    for word in row.split('\t').skip(1) {
+        words.push(bytes_of(alloc, word)?)?;
+    }
+    Ok(words)
 }
 
 // The status that belongs to a printed line.
@@ -98,20 +126,23 @@ fn bytes_of(alloc: Global, word: &str) -> Result<Vec<u8>, AllocError> {
 }
 
 // What the words print, then the status.
-fn by_words<H: Threads + Wait + Sync>(
-    rt: &H,
-    alloc: Global,
-    words: &[Vec<u8>],
-) -> io::Result<String> {
-    let given: Vec<String> = given_words(&Words { words }, alloc)?.collect(alloc)?;
+fn by_words<H: Threads + Wait + Sync>(rt: &H, alloc: Global, given: Args) -> io::Result<String> {
+    let given: Vec<String> = given.collect(alloc)?;
     let mut texts = Vec::new(alloc);
     for word in given.iter().skip(1) {
         texts.push(word.as_str())?;
     }
+    Ok(by_texts(rt, alloc, texts.as_slice())?)
+}
+
+fn by_texts<H: Threads + Wait + Sync>(
+    rt: &H,
+    alloc: Global,
+    words: &[&str],
+) -> Result<String, AllocError> {
     let mut output = Vec::new(alloc);
     let mut reader = Counted::new(INPUT);
     let mut writer = Counted::new(&mut output);
-    let status = run_all(rt, alloc, texts.as_slice(), &mut reader, &mut writer);
-    let printed = String::from_utf8_lossy(alloc, output.as_slice())?;
-    Ok(format!(in alloc; "{printed}{status}")?)
+    let status = run_all(rt, alloc, words, &mut reader, &mut writer);
+    printed_then_status(alloc, output.as_slice(), status)
 }

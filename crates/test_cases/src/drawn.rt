@@ -46,15 +46,11 @@ const PICTURES: [(Fault, Option<u64>, Option<u64>, &str); 13] = [
 /// Draws the case with each fault. The result is the number of pictures.
 pub fn ask_drawn(alloc: Global, differing: &mut Vec<String>) -> Result<usize, AllocError> {
     for (fault, from, to, wanted) in &PICTURES {
-        let case = case_with(alloc, *fault)?;
         let range = Range {
             from: *from,
             to: *to,
         };
-        let found = match Case::read(alloc, case.as_slice()) {
-            Ok(case) => lines_drawn(alloc, draw(alloc, &case, range)?.as_str())?,
-            Err(_) => String::from_str(alloc, "no picture")?,
-        };
+        let found = found_in(alloc, *fault, range)?;
         if found.as_str() != *wanted {
             differing.push(format!(in alloc;
                 "a picture of {fault:?}, {from:?} to {to:?}: wanted lines {wanted:?}, found {found:?}"
@@ -62,6 +58,15 @@ pub fn ask_drawn(alloc: Global, differing: &mut Vec<String>) -> Result<usize, Al
         }
     }
     Ok(PICTURES.len())
+}
+
+// The first and the last line that the picture of a case with a fault shows.
+fn found_in(alloc: Global, fault: Fault, range: Range) -> Result<String, AllocError> {
+    let text = case_with(alloc, fault)?;
+    match Case::read(alloc, text.as_slice()) {
+        Ok(case) => lines_drawn(alloc, draw(alloc, &case, range)?.as_str()),
+        Err(_) => String::from_str(alloc, "no picture"),
+    }
 }
 
 // The case with a fault.

@@ -20,16 +20,32 @@ pub fn ask_folder(
         let Some((name, wanted)) = row.split_once('\t') else {
             return Err(io::Error::new(ErrorKind::InvalidData, "a line without a tab"));
         };
-        let trace = fs::read(rt, format!(in alloc; "{folder}/{name}.trace")?.as_str())?;
-        let found = verdict_found(alloc, trace.as_slice())?;
-        if found.as_str() != wanted {
-            differing.push(format!(in alloc;
-                "{folder}/{name}: wanted {wanted:?}, found {found:?}"
-            )?)?;
-        }
+        ask_trace(
+            rt,
+            format!(in alloc; "{folder}/{name}")?.as_str(),
+            wanted,
+            differing,
+        )?;
         count = count.saturating_add(1);
     }
     Ok(count)
+}
+
+// Finds a witness for the trace at a path.
+fn ask_trace(
+    rt: &HostRuntime,
+    path: &str,
+    wanted: &str,
+    differing: &mut Vec<String>,
+) -> io::Result<()> {
+    let alloc = rt.alloc();
+    let trace = fs::read(rt, format!(in alloc; "{path}.trace")?.as_str())?;
+    let found = verdict_found(alloc, trace.as_slice())?;
+    drop(trace);
+    if found.as_str() != wanted {
+        differing.push(format!(in alloc; "{path}: wanted {wanted:?}, found {found:?}")?)?;
+    }
+    Ok(())
 }
 
 // The verdict on the case that is found for a trace.

@@ -129,19 +129,25 @@ const LONG: [Long; 18] = [
 /// Adds a case for each.
 pub fn push_long_lines(alloc: Global, cases: &mut Vec<Case>) -> Result<(), AllocError> {
     for long in &LONG {
-        let letters = vec![in alloc; b'a'; long.letters]?;
-        let mut text = Vec::from_slice(alloc, HEADER.as_bytes())?;
-        text.extend_from_slice(long.before.as_bytes())?;
-        text.extend_from_slice(letters.as_slice())?;
-        text.extend_from_slice(long.after.as_bytes())?;
         cases.push(Case {
             name: format!(in alloc;
                 "a line of {} letters behind {:?} and before {:?}",
                 long.letters, long.before, long.after
             )?,
-            text,
+            text: long.text(alloc)?,
             wanted: String::from_str(alloc, long.wanted)?,
         })?;
     }
     Ok(())
+}
+
+impl Long {
+    fn text(&self, alloc: Global) -> Result<Vec<u8>, AllocError> {
+        let letters = vec![in alloc; b'a'; self.letters]?;
+        let mut text = Vec::from_slice(alloc, HEADER.as_bytes())?;
+        text.extend_from_slice(self.before.as_bytes())?;
+        text.extend_from_slice(letters.as_slice())?;
+        text.extend_from_slice(self.after.as_bytes())?;
+        Ok(text)
+    }
 }

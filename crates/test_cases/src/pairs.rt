@@ -85,7 +85,17 @@ pub fn ask_pairs(rt: &HostRuntime, name: &str, differing: &mut Vec<String>) -> i
         )?;
     }
     let case = fs::read(rt, format!(in alloc; "examples/{name}.case")?.as_str())?;
-    let (trace, witness) = case.as_slice().split_at(witness_begins(case.as_slice()));
+    let beginnings = ask_beginnings(alloc, case.as_slice(), differing)?;
+    Ok(PAIRS.len().saturating_add(beginnings))
+}
+
+// Checks the trace of a case with each beginning of its witness's first line. The result is the number of beginnings.
+fn ask_beginnings(
+    alloc: Global,
+    case: &[u8],
+    differing: &mut Vec<String>,
+) -> Result<usize, AllocError> {
+    let (trace, witness) = case.split_at(witness_begins(case));
     let line = witness.split(|byte| *byte == b'\n').next().unwrap_or(&[]);
     for length in 0..=line.len() {
         let kind = if length == 0 { "header" } else { "cut" };
@@ -98,7 +108,7 @@ pub fn ask_pairs(rt: &HostRuntime, name: &str, differing: &mut Vec<String>) -> i
             differing,
         )?;
     }
-    Ok(PAIRS.len().saturating_add(line.len()).saturating_add(1))
+    Ok(line.len().saturating_add(1))
 }
 
 // Checks two texts, in pieces of several sizes.

@@ -1,47 +1,19 @@
-//! What `explain`, `show` and `draw` of `tcpwit_lab` print for a case, and the expected text.
+//! What `explain`, `show` and `draw` of `tcpwit_lab` print for a case.
 
 use drawing::{Range, draw, show};
 use replayed::Case;
 use std::alloc::{AllocError, Global};
-use std::{fs, io};
 use why::{Origin, explain};
 
-/// Checks each text of a table: a line `== WORD NAME` with the command of `tcpwit_lab` and the name of a case, followed
-/// by the expected text. The word `simulated` means `explain --simulated`. The result is the number of texts.
-pub fn ask_told(
-    rt: &HostRuntime,
-    alloc: Global,
-    table: &str,
-    differing: &mut Vec<String>,
-) -> io::Result<u64> {
-    let mut count: u64 = 0;
-    for block in table.split("== ") {
-        let Some((head, wanted)) = block.split_once('\n') else {
-            continue;
-        };
-        let Some((word, name)) = head.split_once(' ') else {
-            continue;
-        };
-        let case = fs::read(rt, format!(in alloc; "{name}.case")?.as_str())?;
-        let told = told(alloc, word, case.as_slice())?;
-        if told.as_str() != wanted {
-            differing.push(format!(in alloc; "{name}: {word} says something else")?)?;
-        }
-        count = count.saturating_add(1);
-    }
-    Ok(count)
-}
-
-// What a command prints for a case; nothing if the word is another one, or the trace can't be read.
-fn told(alloc: Global, word: &str, case: &[u8]) -> Result<String, AllocError> {
-    match word {
-        "explain" => explained(alloc, case, Origin::Captured),
-        "simulated" => explained(alloc, case, Origin::Simulated),
-        _ => match Case::read(alloc, case) {
-            Ok(case) => shown(alloc, word, &case),
-            Err(_) => Ok(String::new(alloc)),
-        },
-    }
+/// The block of `told.txt` with this head: a command of `tcpwit_lab` and the name of a case. The word `simulated` means
+/// `explain --simulated`.
+pub fn block(alloc: Global, head: &str, case: &[u8]) -> Result<String, AllocError> {
+    let text = match head.split(' ').next() {
+        Some("explain") => explained(alloc, case, Origin::Captured)?,
+        Some("simulated") => explained(alloc, case, Origin::Simulated)?,
+        word => shown(alloc, word.unwrap_or(""), case)?,
+    };
+    format!(in alloc; "{head}\n{text}")
 }
 
 fn explained(alloc: Global, case: &[u8], origin: Origin) -> Result<String, AllocError> {
@@ -51,14 +23,15 @@ fn explained(alloc: Global, case: &[u8], origin: Origin) -> Result<String, Alloc
     }
 }
 
-fn shown(alloc: Global, word: &str, case: &Case<'_>) -> Result<String, AllocError> {
+// What `show` or `draw` prints; nothing if the word is another one, or the trace can't be read.
+fn shown(alloc: Global, word: &str, case: &[u8]) -> Result<String, AllocError> {
     let range = Range {
         from: None,
         to: None,
     };
-    match word {
-        "show" => show(alloc, case),
-        "draw" => draw(alloc, case, range),
+    match (word, Case::read(alloc, case)) {
+        ("show", Ok(case)) => show(alloc, &case),
+        ("draw", Ok(case)) => draw(alloc, &case, range),
         _ => Ok(String::new(alloc)),
     }
 }
