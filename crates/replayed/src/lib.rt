@@ -1,8 +1,8 @@
 //! A case, read once, and replayed step by step.
 //!
-//! The programs around the checker need more than a verdict: the values of a case, and the world before and after each
-//! step. The verdict is `checker`'s, and the verdicts don't depend on this crate. Each function is proved only to be safe
-//! and to return.
+//! The programs around the checker need more than a verdict: the values of a case, and the world before and after
+//! each step. The verdict is `checker`'s, and the verdicts don't depend on this crate. Each function is proved only to
+//! be safe and to return.
 //!
 //! - `texts`: the two texts of a case, and their lines
 //! - `case`: the values of a case and its verdict; where the verdict refuses it
