@@ -30,6 +30,23 @@ pub struct Special {
     pub captured: &'static str,
 }
 
+/// What of congestion control a rule judges.
+#[derive(Clone, Copy)]
+pub enum Control {
+    /// Windows: only `full` judges them.
+    Windows,
+    /// When outstanding data may be retransmitted: `none` doesn't judge it.
+    Retransmission,
+}
+
+/// The rules that a laxer level may leave unjudged. All others are the same at each level.
+pub const LEVEL_RULES: [(Rule, Control); 4] = [
+    (Rule::OldData, Control::Retransmission),
+    (Rule::Congestion, Control::Windows),
+    (Rule::Growth, Control::Windows),
+    (Rule::Recovery, Control::Retransmission),
+];
+
 const CUT_TIME_WAIT: &str = "the stack skips TIME-WAIT, or ends it before 2 `msl`";
 
 const IGNORED_MSS: &str = "the stack ignores the peer's MSS, which is 536 if its SYN has none";

@@ -4,7 +4,7 @@ use crate::Done;
 use crate::scene::{Object, Scene};
 use case_forms::{Judged, Version};
 use endpoint_state::Endpoint;
-use plain_words::word_if;
+use plain_words::{Control, LEVEL_RULES, word_if};
 use replayed::{Reason, misplaced};
 use verdict::Rule;
 
@@ -34,58 +34,19 @@ fn say_level(out: &mut String, scene: &Scene, rule: Rule, level: &str) -> Done {
 
 // The strictest level at which the step doesn't break the rule. None: it breaks it at every level.
 fn lenient_level(scene: &Scene, rule: Rule) -> Option<Judged> {
-    match (rule, scene.object()) {
-        (Rule::Congestion, Object::Building(_)) => Some(Judged::Recovery),
-        // Outstanding data may be retransmitted once fast recovery began, which it may only after the handshake.
-        (Rule::OldData, Object::Building(it)) => match misplaced(it.endpoint, it.plan) {
+    let (_, control) = LEVEL_RULES.iter().find(|(of_level, _)| *of_level == rule)?;
+    match (control, scene.object()) {
+        // A child begins with a window of 0 at every level.
+        (Control::Windows, Object::Building(_) | Object::Processing(_) | Object::Expiring(_)) => {
+            Some(Judged::Recovery)
+        }
+        // Fast recovery, which permits retransmitting outstanding data, begins only after the handshake.
+        (Control::Retransmission, Object::Building(it)) => match misplaced(it.endpoint, it.plan) {
             Reason::Again { .. } if it.endpoint.is_up() => Some(Judged::Nothing),
             _ => None,
         },
-        // A child begins with a window of 0 at every level.
-        (Rule::Growth, Object::Processing(_) | Object::Expiring(_)) => Some(Judged::Recovery),
-        (Rule::Recovery, Object::Recovering(endpoint, _)) => at_recovery(endpoint),
-        (
-            Rule::LineRange
-            | Rule::LineAgain
-            | Rule::ThreadOrder
-            | Rule::MomentFalls
-            | Rule::MomentOff
-            | Rule::Overdue
-            | Rule::ThreadBusy
-            | Rule::NoCall
-            | Rule::DoneTwice
-            | Rule::AnswerDiffers
-            | Rule::Socket
-            | Rule::CallAnswer
-            | Rule::NoEndpoint
-            | Rule::State
-            | Rule::Iss
-            | Rule::BytesDiffer
-            | Rule::NotMade
-            | Rule::PayloadRange
-            | Rule::AckField
-            | Rule::OldData
-            | Rule::Offered
-            | Rule::Congestion
-            | Rule::Size
-            | Rule::NoEmission
-            | Rule::CopyDiffers
-            | Rule::Lifetime
-            | Rule::Inbox
-            | Rule::NotPeer
-            | Rule::Number
-            | Rule::Unacceptable
-            | Rule::AckRange
-            | Rule::QueueFull
-            | Rule::Growth
-            | Rule::Sample
-            | Rule::TimerOff
-            | Rule::TimerEarly
-            | Rule::Recovery
-            | Rule::ScaleUnread
-            | Rule::Unplaced,
-            _,
-        ) => None,
+        (Control::Retransmission, Object::Recovering(endpoint, _)) => at_recovery(endpoint),
+        _ => None,
     }
 }
 
