@@ -36,7 +36,7 @@ pub(crate) fn asked_by<'w>(words: &[&'w str]) -> Option<Asked<'w>> {
     };
     match (*subcommand, options) {
         ("find", _) => Some(Asked::Find(find_budget(options)?)),
-        ("judge", _) => Some(Asked::Judge(judging(options)?)),
+        ("judge", _) => Some(Asked::Judge(judging_of(options)?)),
         ("draw", _) => Some(Asked::Draw(range_of(options)?)),
         ("explain", ["--simulated"]) => Some(Asked::Explain(Origin::Simulated)),
         ("explain", []) => Some(Asked::Explain(Origin::Captured)),
@@ -56,7 +56,7 @@ fn find_budget(options: &[&str]) -> Option<u64> {
 
 // What `--least LEVEL`, `--case FILE` and `--budget N` ask for, in any order and each at most once. LEVEL is `full`,
 // `recovery` or `none`; `full` if it isn't given. FILE isn't empty. None: other words.
-fn judging<'w>(options: &[&'w str]) -> Option<Judging<'w>> {
+fn judging_of<'w>(options: &[&'w str]) -> Option<Judging<'w>> {
     if !are_options(options, &["--least", "--case", "--budget"]) {
         return None;
     }
