@@ -70,6 +70,6 @@ pub enum Judged {
     /// When outstanding data may be retransmitted: after a timeout or three duplicate acknowledgments (RFC 5681, 3.2;
     /// RFC 6298, 5).
     Recovery,
-    /// Neither of them.
-    Nothing,
+    /// No part of congestion control.
+    NoControl,
 }

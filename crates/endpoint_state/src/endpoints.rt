@@ -138,12 +138,10 @@ impl Endpoints {
         ensures ok { OnOk result (self.new ≡ changed self.old me.number (λ e. after_making e making.now moment)) }
         ensures err { OnErr result (self.new ≡ self.old) }
     {
-        let place = me.number as usize;
-        if place < self.all.len() {
-            let emission = make_one(alloc, &mut self.all[place], me, making, moment)?;
-            return Ok(emission);
+        match self.all.get_mut(me.number as usize) {
+            Some(endpoint) => make_one(alloc, endpoint, me, making, moment),
+            None => unreachable!(),
         }
-        unreachable!()
     }
 
     /// A timer of the endpoint at a place expires, at a moment in microseconds.
@@ -151,9 +149,8 @@ impl Endpoints {
         requires { All HasRoom self.old }
         ensures { self.new ≡ changed self.old place (λ e. after_expiry e expired moment) }
     {
-        let place = place as usize;
-        if place < self.all.len() {
-            endpoint::expire(&mut self.all[place], expired, moment);
+        if let Some(endpoint) = self.all.get_mut(place as usize) {
+            endpoint::expire(endpoint, expired, moment);
         }
     }
 
@@ -163,9 +160,8 @@ impl Endpoints {
         requires { All HasRoom self.old }
         ensures { self.new ≡ changed self.old place (λ e. after_recovery e cwnd ssthresh moment) }
     {
-        let place = place as usize;
-        if place < self.all.len() {
-            endpoint::recover(&mut self.all[place], cwnd, ssthresh, moment);
+        if let Some(endpoint) = self.all.get_mut(place as usize) {
+            endpoint::recover(endpoint, cwnd, ssthresh, moment);
         }
     }
 
@@ -174,9 +170,8 @@ impl Endpoints {
         requires { All HasRoom self.old }
         ensures { self.new ≡ changed self.old place after_shut }
     {
-        let place = place as usize;
-        if place < self.all.len() {
-            endpoint::shut(&mut self.all[place]);
+        if let Some(endpoint) = self.all.get_mut(place as usize) {
+            endpoint::shut(endpoint);
         }
     }
 
@@ -185,9 +180,8 @@ impl Endpoints {
         requires { All HasRoom self.old }
         ensures { self.new ≡ changed self.old place after_close }
     {
-        let place = place as usize;
-        if place < self.all.len() {
-            endpoint::close(&mut self.all[place]);
+        if let Some(endpoint) = self.all.get_mut(place as usize) {
+            endpoint::close(endpoint);
         }
     }
 
@@ -196,9 +190,8 @@ impl Endpoints {
         requires { All HasRoom self.old }
         ensures { self.new ≡ changed self.old place after_abort }
     {
-        let place = place as usize;
-        if place < self.all.len() {
-            endpoint::abort(&mut self.all[place]);
+        if let Some(endpoint) = self.all.get_mut(place as usize) {
+            endpoint::abort(endpoint);
         }
     }
 
@@ -207,9 +200,8 @@ impl Endpoints {
         requires { All HasRoom self.old }
         ensures { self.new ≡ changed self.old place (λ e. record e { listener = None }) }
     {
-        let place = place as usize;
-        if place < self.all.len() {
-            endpoint::accept(&mut self.all[place]);
+        if let Some(endpoint) = self.all.get_mut(place as usize) {
+            endpoint::accept(endpoint);
         }
     }
 
@@ -230,12 +222,10 @@ impl Endpoints {
             (λ e. endpoint_taken header.now e how m.now moment)) }
         ensures err { OnErr result (self.new ≡ self.old) }
     {
-        let place = place as usize;
-        if place < self.all.len() {
-            take_segment(header, &mut self.all[place], how, m, moment)?;
-            return Ok(());
+        match self.all.get_mut(place as usize) {
+            Some(endpoint) => take_segment(header, endpoint, how, m, moment),
+            None => Ok(()),
         }
-        Ok(())
     }
 
     /// The endpoint at a place accepts the first `count` bytes of a `send`. If memory runs out, nothing is changed.
@@ -244,12 +234,10 @@ impl Endpoints {
         ensures ok { OnOk result (self.new ≡ changed self.old place (after_send bytes.now count)) }
         ensures err { OnErr result (self.new ≡ self.old) }
     {
-        let place = place as usize;
-        if place < self.all.len() {
-            endpoint::send(&mut self.all[place], bytes, count)?;
-            return Ok(());
+        match self.all.get_mut(place as usize) {
+            Some(endpoint) => endpoint::send(endpoint, bytes, count),
+            None => Ok(()),
         }
-        Ok(())
     }
 
     /// The endpoint at a place delivers the bytes of a `recv`, if at least as many wait.
@@ -259,9 +247,8 @@ impl Endpoints {
             (λ e. length bytes.now ≤ length (waiting e.stream.receive)) }
         ensures { self.new ≡ changed self.old place (after_recv bytes.now) }
     {
-        let place = place as usize;
-        if place < self.all.len() {
-            endpoint::deliver(&mut self.all[place], bytes);
+        if let Some(endpoint) = self.all.get_mut(place as usize) {
+            endpoint::deliver(endpoint, bytes);
         }
     }
 }

@@ -32,7 +32,7 @@ fn strictness(level: Judged) -> u8 {
     match level {
         Judged::Full => 2,
         Judged::Recovery => 1,
-        Judged::Nothing => 0,
+        Judged::NoControl => 0,
     }
 }
 
@@ -51,7 +51,7 @@ pub fn judge(alloc: Global, text: &[u8], budget: u64) -> Result<Judgement, Judge
             return Ok(concluded(said, tried));
         }
     }
-    let tried = try_level(alloc, text, &header, Judged::Nothing, budget)?;
+    let tried = try_level(alloc, text, &header, Judged::NoControl, budget)?;
     say_row(&mut said, &tried)?;
     say_conclusion(alloc, &mut said, &tried, &header, first)?;
     Ok(concluded(said, tried))

@@ -14,7 +14,7 @@ fn level_name(level: Judged) -> &'static str {
     match level {
         Judged::Full => "full",
         Judged::Recovery => "recovery",
-        Judged::Nothing => "none",
+        Judged::NoControl => "none",
     }
 }
 
@@ -59,7 +59,7 @@ fn meaning(level: Judged) -> &'static str {
         Judged::Recovery => "The run follows RFC 9293 and 6298 as this profile reads them.\n\
 Data is retransmitted only if a timer expired, fast recovery began, or a closed window opened.\n\
 The congestion window isn't judged.\n",
-        Judged::Nothing => "The run follows RFC 9293 and 6298 as this profile reads them.\n\
+        Judged::NoControl => "The run follows RFC 9293 and 6298 as this profile reads them.\n\
 The congestion window isn't judged.\n\
 The choice of when to retransmit data isn't judged either.\n",
     }

@@ -8,7 +8,7 @@ use Rattle.case_forms.specs.declared.trace.Header.{Header}
 use Rattle.case_forms.specs.declared.trace.Line as lines
 use Rattle.case_forms.specs.declared.version.Initial.TheVariants as initials
 use Rattle.case_forms.specs.declared.version.Judged.{Judged}
-use Rattle.case_forms.specs.declared.version.Judged.TheVariants.{Full, Recovery, Nothing}
+use Rattle.case_forms.specs.declared.version.Judged.TheVariants.{Full, Recovery, NoControl}
 use Rattle.verdict.specs.declared.rule.Rule.TheVariants as rules
 use Rattle.window_rules.specs.declared.control.Profile.TheVariants as profiles
 use Rattle.spec_tcp.specs.Signals.{profile_of}
@@ -27,7 +27,7 @@ all_is_judged = refl
 pub recovery_is_judged : profile_of (judging Recovery) ≡ profiles.Unbounded
 recovery_is_judged = refl
 
-pub nothing_is_judged : profile_of (judging Nothing) ≡ profiles.Unjudged
+pub nothing_is_judged : profile_of (judging NoControl) ≡ profiles.NoControl
 nothing_is_judged = refl
 
 -- a fifth segment in a congestion window of four
@@ -49,20 +49,20 @@ growth_is_not_bounded = refl
 pub two_are_too_few : first_broken_step (judging Recovery) limits.duplicates_begin_anew_lines limits.duplicates_begin_anew_steps ≡ Some (46, rules.Recovery)
 two_are_too_few = refl
 
-pub two_are_enough : first_broken_step (judging Nothing) limits.duplicates_begin_anew_lines limits.duplicates_begin_anew_steps ≡ None
+pub two_are_enough : first_broken_step (judging NoControl) limits.duplicates_begin_anew_lines limits.duplicates_begin_anew_steps ≡ None
 two_are_enough = refl
 
 -- what stays where nothing of congestion control is judged: the offered window
-pub the_offered_window_ends : first_broken_step (judging Nothing) limits.offered_window_holds_lines limits.offered_window_holds_steps ≡ Some (29, rules.Offered)
+pub the_offered_window_ends : first_broken_step (judging NoControl) limits.offered_window_holds_lines limits.offered_window_holds_steps ≡ Some (29, rules.Offered)
 the_offered_window_ends = refl
 
 -- no window at a listener
-pub no_window_at_a_listener : first_broken_step (judging Nothing) (opening_lines None) (take 9 (opening_steps 0) ++ (consumes 15 One 12 1 false false ∷ []))
+pub no_window_at_a_listener : first_broken_step (judging NoControl) (opening_lines None) (take 9 (opening_steps 0) ++ (consumes 15 One 12 1 false false ∷ []))
     ≡ Some (11, rules.Growth)
 no_window_at_a_listener = refl
 
 -- no fast recovery while nothing is outstanding
-pub something_is_outstanding : first_broken_step (judging Nothing) (opening_lines None) (opening_steps 0 ++ (recovers 20 Zero 4000 80 0 0 ∷ []))
+pub something_is_outstanding : first_broken_step (judging NoControl) (opening_lines None) (opening_steps 0 ++ (recovers 20 Zero 4000 80 0 0 ∷ []))
     ≡ Some (20, rules.Recovery)
 something_is_outstanding = refl
 
@@ -76,8 +76,8 @@ sent_once_steps = opening_steps 0 ++ (takes 20 17 ∷ effects 20 2 (answers.Give
 abbrev again : witness.Step
 again = makes 22 Zero 4000 80 1 50 ack 65535 None
 
-pub not_without_recovery : first_broken_step (judging Nothing) again_lines (sent_once_steps ++ (again ∷ [])) ≡ Some (24, rules.OldData)
+pub not_without_recovery : first_broken_step (judging NoControl) again_lines (sent_once_steps ++ (again ∷ [])) ≡ Some (24, rules.OldData)
 not_without_recovery = refl
 
-pub again_in_recovery : first_broken_step (judging Nothing) again_lines (sent_once_steps ++ (recovers 22 Zero 4000 80 0 0 ∷ again ∷ [])) ≡ None
+pub again_in_recovery : first_broken_step (judging NoControl) again_lines (sent_once_steps ++ (recovers 22 Zero 4000 80 0 0 ∷ again ∷ [])) ≡ None
 again_in_recovery = refl

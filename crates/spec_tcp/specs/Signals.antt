@@ -22,7 +22,7 @@ abbrev pub profile_named : Initial → Judged → Profile
 profile_named initials.Rfc5681 judged.Full = profiles.Rfc5681
 profile_named initials.Rfc6928 judged.Full = profiles.Rfc6928
 profile_named initial judged.Recovery = profiles.Unbounded
-profile_named initial judged.Nothing = profiles.Unjudged
+profile_named initial judged.NoControl = profiles.NoControl
 
 -- the profile that the header names
 abbrev pub profile_of : Header → Profile

@@ -14,7 +14,7 @@ pub fn profile_of(header: &Header) -> Profile
     match header.congestion {
         Judged::Full => full_profile(header.initial),
         Judged::Recovery => Profile::Unbounded,
-        Judged::Nothing => Profile::Unjudged,
+        Judged::NoControl => Profile::NoControl,
     }
 }
 

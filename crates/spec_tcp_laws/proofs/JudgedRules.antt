@@ -42,12 +42,12 @@ use Rattle.spec_tcp_laws.proofs.Rules.{at_most_from, neither, not_false}
 pub judges_at_most : (i : Initial) (j k : Judged) → extent j ≤ extent k → JudgesAtMost (profile_named i j) (profile_named i k)
 judges_at_most i judged.Full judged.Full le = record { windows = λ is. refl; duplicates = λ is. is }
 judges_at_most i judged.Full judged.Recovery le = absurd (omega (le, arith))
-judges_at_most i judged.Full judged.Nothing le = absurd (omega (le, arith))
+judges_at_most i judged.Full judged.NoControl le = absurd (omega (le, arith))
 judges_at_most initials.Rfc5681 judged.Recovery judged.Full le = record { windows = λ is. absurd cc; duplicates = λ is. refl }
 judges_at_most initials.Rfc6928 judged.Recovery judged.Full le = record { windows = λ is. absurd cc; duplicates = λ is. refl }
 judges_at_most i judged.Recovery judged.Recovery le = record { windows = λ is. refl; duplicates = λ is. is }
-judges_at_most i judged.Recovery judged.Nothing le = absurd (omega (le, arith))
-judges_at_most i judged.Nothing k le = record { windows = λ is. absurd cc; duplicates = λ is. absurd cc }
+judges_at_most i judged.Recovery judged.NoControl le = absurd (omega (le, arith))
+judges_at_most i judged.NoControl k le = record { windows = λ is. absurd cc; duplicates = λ is. absurd cc }
 
 -- by this profile less of the endpoint is judged, and its values are such as it allows
 pub record MayJudge (p : Profile) (e : Endpoint) : Type 0 where

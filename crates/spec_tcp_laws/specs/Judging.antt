@@ -4,7 +4,7 @@ use Rattle.case_forms.specs.declared.steps.Step as witness
 use Rattle.case_forms.specs.declared.trace.Header.{Header}
 use Rattle.case_forms.specs.declared.trace.Line as lines
 use Rattle.case_forms.specs.declared.version.Judged.{Judged}
-use Rattle.case_forms.specs.declared.version.Judged.TheVariants.{Full, Recovery, Nothing}
+use Rattle.case_forms.specs.declared.version.Judged.TheVariants.{Full, Recovery, NoControl}
 use Rattle.window_rules.specs.ControlLaws.{IsLimited}
 use Rattle.window_rules.specs.Judging.{with_profile}
 use Rattle.window_rules.specs.declared.control.Profile.{Profile}
@@ -24,7 +24,7 @@ use Rattle.spec_tcp_laws.specs.Consequences.{find}
 abbrev pub extent : Judged → ℕ
 extent Full = 2
 extent Recovery = 1
-extent Nothing = 0
+extent NoControl = 0
 
 -- the same header with another extent of congestion control
 abbrev pub header_by : Judged → Header → Header

@@ -63,7 +63,7 @@ fn judging_of<'w>(options: &[&'w str]) -> Option<Judging<'w>> {
     let least = match value_of(options, "--least") {
         None | Some("full") => Judged::Full,
         Some("recovery") => Judged::Recovery,
-        Some("none") => Judged::Nothing,
+        Some("none") => Judged::NoControl,
         Some(_) => return None,
     };
     let budget = budget_of(value_of(options, "--budget"))?;

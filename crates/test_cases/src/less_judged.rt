@@ -79,7 +79,7 @@ fn ask_words(
     };
     let full = answer(alloc, &mut rewritten, Judged::Full)?;
     let recovery = answer(alloc, &mut rewritten, Judged::Recovery)?;
-    let nothing = answer(alloc, &mut rewritten, Judged::Nothing)?;
+    let nothing = answer(alloc, &mut rewritten, Judged::NoControl)?;
     if is_same(&rewritten) {
         let wanted = Ok(moved_verdict(verdict, rewritten.moved_by));
         compare(alloc, case, "with `full`", wanted, full, differing)?;

@@ -14,7 +14,7 @@ use Rattle.case_forms.specs.declared.version.Version.TheVariants.{One, Two, Thre
 use Rattle.case_forms.specs.declared.version.Initial.{Initial}
 use Rattle.case_forms.specs.declared.version.Initial.TheVariants.{Rfc5681, Rfc6928}
 use Rattle.case_forms.specs.declared.version.Judged.{Judged}
-use Rattle.case_forms.specs.declared.version.Judged.TheVariants.{Full, Recovery, Nothing}
+use Rattle.case_forms.specs.declared.version.Judged.TheVariants.{Full, Recovery, NoControl}
 use Rattle.case_forms.specs.Versions.{says_congestion, named_as}
 use Rattle.line_fields.specs.Choice.{kind_value, kind_field}
 use Rattle.line_fields.specs.declared.fault.FaultKind.TheVariants as kinds
@@ -272,7 +272,7 @@ IsJudged j text = text ≡ judged_name j
 judged_known : AreNamed judged_name all_judged
 judged_known Full = refl
 judged_known Recovery = refl
-judged_known Nothing = refl
+judged_known NoControl = refl
 
 reads_judged : IsReader (kind_field judged_name all_judged) (λ j ws. (t : List ℕ) × IsJudged j t × (ws ≡ t ∷ []))
 reads_judged = reads_field (kind_value judged_name all_judged) IsJudged (is_kind_value judged_name all_judged judged_known)
@@ -280,7 +280,7 @@ reads_judged = reads_field (kind_value judged_name all_judged) IsJudged (is_kind
 judged_clean : (j : Judged) → IsClean (judged_name j)
 judged_clean Full = clean_by (codes "full") refl
 judged_clean Recovery = clean_by (codes "recovery") refl
-judged_clean Nothing = clean_by (codes "none") refl
+judged_clean NoControl = clean_by (codes "none") refl
 
 -- what was read of the line that says it
 record IsNamedJudged (raws : Raws) (x : Judged × Raws) : Type 0 where

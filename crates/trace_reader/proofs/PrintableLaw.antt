@@ -26,7 +26,7 @@ use Rattle.case_forms.specs.declared.version.Version.TheVariants as versions
 use Rattle.case_forms.specs.declared.version.Initial.{Initial}
 use Rattle.case_forms.specs.declared.version.Initial.TheVariants.{Rfc5681, Rfc6928}
 use Rattle.case_forms.specs.declared.version.Judged.{Judged}
-use Rattle.case_forms.specs.declared.version.Judged.TheVariants.{Full, Recovery, Nothing}
+use Rattle.case_forms.specs.declared.version.Judged.TheVariants.{Full, Recovery, NoControl}
 use Rattle.case_forms.specs.Versions.{first_line_of}
 use Rattle.trace_reader.specs.Headers.{IsHeader, AreLines, header_words, first_words, initial_words, initial_number, hosts_words, congestion_words, late_words}
 use Rattle.trace_reader.specs.Calls.{IsCall}
@@ -66,7 +66,7 @@ initial_printed i = number_fed 7 (codes "initial") (initial_number i) (omega ari
 congestion_printed : (j : Judged) → IsLine 9 (joined (congestion_words j)) (printed (congestion_words j))
 congestion_printed Full = fed 9 (congestion_words Full) (omega arith) (omega arith)
 congestion_printed Recovery = fed 9 (congestion_words Recovery) (omega arith) (omega arith)
-congestion_printed Nothing = fed 9 (congestion_words Nothing) (omega arith) (omega arith)
+congestion_printed NoControl = fed 9 (congestion_words NoControl) (omega arith) (omega arith)
 
 hosts_printed : (n : ℕ) → n ≤ 2 → IsLine 8 (joined (hosts_words n)) (printed (hosts_words n))
 hosts_printed n few = number_fed 8 (codes "hosts") n (omega arith) (omega arith) (omega arith) (omega arith)

@@ -10,7 +10,7 @@ use Rattle.case_forms.specs.declared.version.Version.TheVariants.{One, Two, Thre
 use Rattle.case_forms.specs.declared.version.Initial.{Initial}
 use Rattle.case_forms.specs.declared.version.Initial.TheVariants.{Rfc5681, Rfc6928}
 use Rattle.case_forms.specs.declared.version.Judged.{Judged}
-use Rattle.case_forms.specs.declared.version.Judged.TheVariants.{Full, Recovery, Nothing}
+use Rattle.case_forms.specs.declared.version.Judged.TheVariants.{Full, Recovery, NoControl}
 use Rattle.case_forms.specs.Versions.{says_congestion}
 use Rattle.line_fields.specs.declared.fault.FaultKind.TheVariants as kinds
 use Rattle.line_fields.specs.declared.fault.TextFault.{TextFault}
@@ -67,11 +67,11 @@ hosts_words count = codes "hosts" ∷ decimal count ∷ []
 abbrev pub judged_name : Judged → List ℕ
 judged_name Full = codes "full"
 judged_name Recovery = codes "recovery"
-judged_name Nothing = codes "none"
+judged_name NoControl = codes "none"
 
 -- all of these words
 abbrev pub all_judged : List Judged
-all_judged = Full ∷ Recovery ∷ Nothing ∷ []
+all_judged = Full ∷ Recovery ∷ NoControl ∷ []
 
 -- the fields of the line with that word
 abbrev pub congestion_words : Judged → List (List ℕ)

@@ -38,7 +38,7 @@ fn judged_name(congestion: Judged) -> &'static str
     match congestion {
         Judged::Full => "full",
         Judged::Recovery => "recovery",
-        Judged::Nothing => "none",
+        Judged::NoControl => "none",
     }
 }
 

@@ -87,7 +87,7 @@ fn judged(fields: &mut Fields) -> Result<Judged, TextFault>
     } else if name.is("recovery") {
         Ok(Judged::Recovery)
     } else if name.is("none") {
-        Ok(Judged::Nothing)
+        Ok(Judged::NoControl)
     } else {
         Err(name.fault(FaultKind::Field))
     }

@@ -12,7 +12,7 @@ use verdict::Rule;
 pub(crate) fn say_unjudged(out: &mut String, scene: &Scene, rule: Rule) -> Done {
     match (scene.header().congestion, lenient_level(scene, rule)) {
         (Judged::Full, Some(Judged::Recovery)) => say_level(out, scene, rule, "recovery"),
-        (Judged::Full | Judged::Recovery, Some(Judged::Nothing)) => {
+        (Judged::Full | Judged::Recovery, Some(Judged::NoControl)) => {
             say_level(out, scene, rule, "none")
         }
         _ => Ok(()),
@@ -42,7 +42,7 @@ fn lenient_level(scene: &Scene, rule: Rule) -> Option<Judged> {
         }
         // Fast recovery, which permits retransmitting outstanding data, begins only after the handshake.
         (Control::Retransmission, Object::Building(it)) => match misplaced(it.endpoint, it.plan) {
-            Reason::Again { .. } if it.endpoint.is_up() => Some(Judged::Nothing),
+            Reason::Again { .. } if it.endpoint.is_up() => Some(Judged::NoControl),
             _ => None,
         },
         (Control::Retransmission, Object::Recovering(endpoint, _)) => at_recovery(endpoint),
@@ -57,6 +57,6 @@ fn at_recovery(endpoint: &Endpoint) -> Option<Judged> {
     } else if endpoint.control.may_recover() {
         Some(Judged::Recovery)
     } else {
-        Some(Judged::Nothing)
+        Some(Judged::NoControl)
     }
 }

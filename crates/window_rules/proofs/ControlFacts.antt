@@ -1,7 +1,7 @@
 -- Values of RFC 5681 and RFC 6928 at each signal, said of the boundary, so that a slip in it does not check.
 use Rattle.std.proofs.Common.{◌≡◌, ℕ, true, false, None, refl}
 use Rattle.window_rules.specs.declared.control.Profile.{Profile}
-use Rattle.window_rules.specs.declared.control.Profile.TheVariants.{Rfc5681, Rfc6928, Unbounded, Unjudged}
+use Rattle.window_rules.specs.declared.control.Profile.TheVariants.{Rfc5681, Rfc6928, Unbounded, NoControl}
 use Rattle.window_rules.specs.declared.control.Signal.TheVariants.{Syn, SynAcked, NewAck, Duplicate, Other, Timeout, Recovery}
 use Rattle.window_rules.specs.declared.control.At.{At}
 use Rattle.window_rules.specs.declared.control.Control.{Control}
@@ -126,13 +126,13 @@ by_profile p c = record c { profile = p }
 pub no_bound_on_growth : greatest (by_profile Unbounded (sending 4000 10000 0)) (NewAck 3000) now ≡ (4294967295, 4294967295)
 no_bound_on_growth = refl
 
-pub no_bound_on_growth_unjudged : greatest (by_profile Unjudged (sending 4000 10000 0)) (NewAck 3000) now ≡ (4294967295, 4294967295)
+pub no_bound_on_growth_unjudged : greatest (by_profile NoControl (sending 4000 10000 0)) (NewAck 3000) now ≡ (4294967295, 4294967295)
 no_bound_on_growth_unjudged = refl
 
 pub no_bound_on_the_first_window : greatest (began Unbounded) (SynAcked 1460 true) now ≡ (4294967295, 4294967295)
 no_bound_on_the_first_window = refl
 
-pub no_bound_at_a_timeout : greatest (by_profile Unjudged (sending 8000 4000 0)) (Timeout 5000 false false) now ≡ (4294967295, 4294967295)
+pub no_bound_at_a_timeout : greatest (by_profile NoControl (sending 8000 4000 0)) (Timeout 5000 false false) now ≡ (4294967295, 4294967295)
 no_bound_at_a_timeout = refl
 
 pub no_bound_at_recovery : greatest (by_profile Unbounded (doubting 3)) (Recovery 5000 2500) now ≡ (4294967295, 4294967295)
@@ -141,7 +141,7 @@ no_bound_at_recovery = refl
 pub the_window_ends_nothing : control_edge 1 (by_profile Unbounded (sending 4000 10000 0)) ≡ 1099511631777
 the_window_ends_nothing = refl
 
-pub nor_where_nothing_is_judged : control_edge 1 (by_profile Unjudged (sending 0 10000 0)) ≡ 1099511627777
+pub nor_where_nothing_is_judged : control_edge 1 (by_profile NoControl (sending 0 10000 0)) ≡ 1099511627777
 nor_where_nothing_is_judged = refl
 
 pub two_are_too_few_unbounded : may_recover (by_profile Unbounded (doubting 2)) ≡ false
@@ -153,11 +153,11 @@ three_are_enough_unbounded = refl
 pub not_within_it_unbounded : may_recover (by_profile Unbounded (recovering 5500 2500)) ≡ false
 not_within_it_unbounded = refl
 
-pub none_are_needed_unjudged : may_recover (by_profile Unjudged (doubting 0)) ≡ true
+pub none_are_needed_unjudged : may_recover (by_profile NoControl (doubting 0)) ≡ true
 none_are_needed_unjudged = refl
 
-pub again_within_it_unjudged : may_recover (by_profile Unjudged (recovering 5500 2500)) ≡ true
+pub again_within_it_unjudged : may_recover (by_profile NoControl (recovering 5500 2500)) ≡ true
 again_within_it_unjudged = refl
 
-pub the_same_values_follow : after (by_profile Unjudged (sending 10000 5000 9500)) (NewAck 800) now 10500 7 ≡ by_profile Unjudged (sending 10500 5000 300)
+pub the_same_values_follow : after (by_profile NoControl (sending 10000 5000 9500)) (NewAck 800) now 10500 7 ≡ by_profile NoControl (sending 10500 5000 300)
 the_same_values_follow = refl

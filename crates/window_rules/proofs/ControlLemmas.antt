@@ -4,7 +4,7 @@ use Rattle.std.specs.Prelude.{⊤}
 use Rattle.std.proofs.lemmas.Bool.Decides.{nat_tests}
 use Rattle.window_rules.specs.declared.congestion.Congestion.{Congestion}
 use Rattle.window_rules.specs.declared.control.Profile.{Profile}
-use Rattle.window_rules.specs.declared.control.Profile.TheVariants.{Rfc5681, Rfc6928, Unbounded, Unjudged}
+use Rattle.window_rules.specs.declared.control.Profile.TheVariants.{Rfc5681, Rfc6928, Unbounded, NoControl}
 use Rattle.window_rules.specs.declared.control.Signal.{Signal}
 use Rattle.window_rules.specs.declared.control.Signal.TheVariants.{Syn, SynAcked, NewAck, Duplicate, Other, Timeout, Recovery}
 use Rattle.window_rules.specs.declared.control.At.{At}
@@ -41,7 +41,7 @@ first_greatest Rfc6928 smss syn_lost = ten_greatest smss
     ten_greatest : (smss : ℕ) → IsGreatest (MayBegin6928 smss) (initial_window_6928 smss)
     ten_greatest = search rules
 first_greatest Unbounded smss syn_lost = all_up_to
-first_greatest Unjudged smss syn_lost = all_up_to
+first_greatest NoControl smss syn_lost = all_up_to
 
 inflate_greatest : (c : Congestion) → IsGreatest (MayInflate c) (on_duplicate c)
 inflate_greatest = search rules

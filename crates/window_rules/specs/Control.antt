@@ -1,7 +1,7 @@
 -- Congestion control at its boundary: what a signal allows at most, and the values after it, by the endpoint's profile.
 use Rattle.std.specs.Prelude.{ℕ, ◌+◌, ◌^◌, Bool, true, false, not, ◌&&◌, ◌||◌, nat_le, if◌then◌else◌}
 use Rattle.window_rules.specs.declared.control.Profile.{Profile}
-use Rattle.window_rules.specs.declared.control.Profile.TheVariants.{Rfc5681, Rfc6928, Unbounded, Unjudged}
+use Rattle.window_rules.specs.declared.control.Profile.TheVariants.{Rfc5681, Rfc6928, Unbounded, NoControl}
 use Rattle.window_rules.specs.declared.control.Signal.{Signal}
 use Rattle.window_rules.specs.declared.control.Signal.TheVariants.{Syn, SynAcked, NewAck}
 use Rattle.window_rules.specs.declared.control.Signal.TheVariants.{Duplicate, Other, Timeout, Recovery}
@@ -20,21 +20,21 @@ abbrev pub bounds_windows : Profile → Bool
 bounds_windows Rfc5681 = true
 bounds_windows Rfc6928 = true
 bounds_windows Unbounded = false
-bounds_windows Unjudged = false
+bounds_windows NoControl = false
 
 -- fast recovery needs duplicate acknowledgments (RFC 5681, 3.2, step 2)
 abbrev pub counts_duplicates : Profile → Bool
 counts_duplicates Rfc5681 = true
 counts_duplicates Rfc6928 = true
 counts_duplicates Unbounded = true
-counts_duplicates Unjudged = false
+counts_duplicates NoControl = false
 
 -- the greatest window once the SYN is acknowledged (RFC 5681, 3.1; RFC 6928, 2)
 abbrev pub first_window : Profile → (smss : ℕ) (syn_lost : Bool) → ℕ
 first_window Rfc5681 smss syn_lost = initial_window smss syn_lost
 first_window Rfc6928 smss syn_lost = initial_window_6928 smss
 first_window Unbounded smss syn_lost = greatest_window
-first_window Unjudged smss syn_lost = greatest_window
+first_window NoControl smss syn_lost = greatest_window
 
 -- the greatest cwnd and ssthresh that a signal allows if they are bounded (RFC 5681, 3.1 and 3.2); if a segment is
 -- processed, ssthresh stays

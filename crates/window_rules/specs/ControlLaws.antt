@@ -2,7 +2,7 @@
 -- profile.
 use Rattle.std.specs.Prelude.{◌≡◌, ℕ, ◌+◌, ◌*◌, ◌^◌, ◌≤◌, ◌<◌, ◌↔◌, Bool, true, false, suc, ⊤}
 use Rattle.window_rules.specs.declared.control.Profile.{Profile}
-use Rattle.window_rules.specs.declared.control.Profile.TheVariants.{Rfc5681, Rfc6928, Unbounded, Unjudged}
+use Rattle.window_rules.specs.declared.control.Profile.TheVariants.{Rfc5681, Rfc6928, Unbounded, NoControl}
 use Rattle.window_rules.specs.declared.control.Signal.{Signal}
 use Rattle.window_rules.specs.declared.control.Signal.TheVariants.{Syn, SynAcked, NewAck}
 use Rattle.window_rules.specs.declared.control.Signal.TheVariants.{Duplicate, Other, Timeout, Recovery}
@@ -19,7 +19,7 @@ abbrev pub MayFirst : Profile → (smss : ℕ) (syn_lost : Bool) → ℕ → Typ
 MayFirst Rfc5681 smss syn_lost cwnd = MayBegin smss syn_lost cwnd
 MayFirst Rfc6928 smss syn_lost cwnd = MayBegin6928 smss cwnd
 MayFirst Unbounded smss syn_lost cwnd = ⊤
-MayFirst Unjudged smss syn_lost cwnd = ⊤
+MayFirst NoControl smss syn_lost cwnd = ⊤
 
 -- the windows that a signal allows if they are bounded (RFC 5681, 3.1 and 3.2)
 abbrev pub MayChooseBounded : Control → Signal → ℕ → Type 0

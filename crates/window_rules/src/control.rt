@@ -22,7 +22,7 @@ pub enum Profile {
     /// No window and no threshold is bounded. Fast recovery begins as in RFC 5681, 3.2.
     Unbounded,
     /// No window and no threshold is bounded, and fast recovery may begin at any time.
-    Unjudged,
+    NoControl,
 }
 
 impl Profile {
@@ -32,7 +32,7 @@ impl Profile {
     {
         match self {
             Profile::Rfc5681 | Profile::Rfc6928 => true,
-            Profile::Unbounded | Profile::Unjudged => false,
+            Profile::Unbounded | Profile::NoControl => false,
         }
     }
 
@@ -42,7 +42,7 @@ impl Profile {
     {
         match self {
             Profile::Rfc5681 | Profile::Rfc6928 | Profile::Unbounded => true,
-            Profile::Unjudged => false,
+            Profile::NoControl => false,
         }
     }
 }
@@ -226,6 +226,6 @@ fn first_window(profile: Profile, smss: u32, syn_lost: bool) -> u64
     match profile {
         Profile::Rfc5681 => initial_window(smss, syn_lost),
         Profile::Rfc6928 => initial_window_6928(smss),
-        Profile::Unbounded | Profile::Unjudged => GREATEST_WINDOW,
+        Profile::Unbounded | Profile::NoControl => GREATEST_WINDOW,
     }
 }
