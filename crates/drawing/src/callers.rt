@@ -3,6 +3,7 @@
 ghost use Rattle.std.specs.Prelude.{◌<◌};
 
 use case_forms::{Answer, Call, Host, OutOfMemory};
+use replayed::socket_of;
 use std::alloc::Global;
 use std::collections::BTreeMap;
 
@@ -53,17 +54,11 @@ impl Callers {
     }
 
     fn host_of(&self, call: &Call) -> Host {
-        match call {
-            Call::Listen(host, _, _) | Call::Connect(host, _, _) => *host,
-            Call::Await(socket)
-            | Call::Accept(socket)
-            | Call::Send(socket, _)
-            | Call::Recv(socket, _)
-            | Call::Shut(socket)
-            | Call::Close(socket)
-            | Call::Abort(socket)
-            | Call::Status(socket) => self.sockets.get(socket).copied().unwrap_or(Host::Zero),
-        }
+        let known = match call {
+            Call::Listen(host, _, _) | Call::Connect(host, _, _) => Some(host),
+            _ => socket_of(call).and_then(|socket| self.sockets.get(&socket)),
+        };
+        known.copied().unwrap_or(Host::Zero)
     }
 
     /// A thread's call ends. The answer is the call.

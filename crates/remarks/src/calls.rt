@@ -2,7 +2,7 @@
 
 use crate::review::Review;
 use case_forms::{Call, Host, Step};
-use replayed::ReplayFault;
+use replayed::{ReplayFault, socket_of};
 use spec_tcp::{EndpointId, SocketTarget};
 
 // What a call means.
@@ -63,13 +63,9 @@ fn meant_by(call: &Call) -> Meant {
     match call {
         Call::Connect(host, lport, rport) => Meant::Opened(*host, *lport, *rport),
         Call::Abort(socket) => Meant::Socket(*socket, true),
-        Call::Await(socket)
-        | Call::Accept(socket)
-        | Call::Send(socket, _)
-        | Call::Recv(socket, _)
-        | Call::Shut(socket)
-        | Call::Close(socket)
-        | Call::Status(socket) => Meant::Socket(*socket, false),
-        Call::Listen(_, _, _) => Meant::Nothing,
+        _ => match socket_of(call) {
+            Some(socket) => Meant::Socket(socket, false),
+            None => Meant::Nothing,
+        },
     }
 }

@@ -8,14 +8,17 @@
 //! - `case`: the values of a case and its verdict; where the verdict refuses it
 //! - `replay`: the world before and after each step
 //! - `refusal`: what a verdict refuses, as values; `reasons`: what two rules of sending compare
+//! - `calls`: what a call names
 #![tactic(auto)]
 
+mod calls;
 mod case;
 mod reasons;
 mod refusal;
 mod replay;
 mod texts;
 
+pub use calls::socket_of;
 pub use case::{Case, Refusal};
 pub use reasons::{Reason, beyond, end_of, misplaced};
 pub use refusal::{Refused, refused_by};

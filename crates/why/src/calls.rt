@@ -8,6 +8,7 @@ use crate::wire::first_difference;
 use case_forms::{Answer, Call, Event, Host, Label};
 use endpoint_state::World;
 use plain_words::{AnswerFields, AnswerWords, CallWords, HostName};
+use replayed::socket_of;
 use spec_tcp::SocketTarget;
 use std::alloc::Global;
 
@@ -139,14 +140,10 @@ fn describe_object(out: &mut String, world: &World, call: &Call) -> Done {
             Some(endpoint) => describe(out, *host, endpoint),
             None => Ok(()),
         },
-        Call::Await(socket)
-        | Call::Accept(socket)
-        | Call::Send(socket, _)
-        | Call::Recv(socket, _)
-        | Call::Shut(socket)
-        | Call::Close(socket)
-        | Call::Abort(socket)
-        | Call::Status(socket) => describe_named(out, world, *socket),
+        _ => match socket_of(call) {
+            Some(socket) => describe_named(out, world, socket),
+            None => Ok(()),
+        },
     }
 }
 
