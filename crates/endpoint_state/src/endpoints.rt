@@ -138,10 +138,12 @@ impl Endpoints {
         ensures ok { OnOk result (self.new ≡ changed self.old me.number (λ e. after_making e making.now moment)) }
         ensures err { OnErr result (self.new ≡ self.old) }
     {
-        match self.all.get_mut(me.number as usize) {
-            Some(endpoint) => make_one(alloc, endpoint, me, making, moment),
-            None => unreachable!(),
+        let place = me.number as usize;
+        if place < self.all.len() {
+            let emission = make_one(alloc, &mut self.all[place], me, making, moment)?;
+            return Ok(emission);
         }
+        unreachable!()
     }
 
     /// A timer of the endpoint at a place expires, at a moment in microseconds.
@@ -149,8 +151,9 @@ impl Endpoints {
         requires { All HasRoom self.old }
         ensures { self.new ≡ changed self.old place (λ e. after_expiry e expired moment) }
     {
-        if let Some(endpoint) = self.all.get_mut(place as usize) {
-            endpoint::expire(endpoint, expired, moment);
+        let place = place as usize;
+        if place < self.all.len() {
+            endpoint::expire(&mut self.all[place], expired, moment);
         }
     }
 
@@ -160,8 +163,9 @@ impl Endpoints {
         requires { All HasRoom self.old }
         ensures { self.new ≡ changed self.old place (λ e. after_recovery e cwnd ssthresh moment) }
     {
-        if let Some(endpoint) = self.all.get_mut(place as usize) {
-            endpoint::recover(endpoint, cwnd, ssthresh, moment);
+        let place = place as usize;
+        if place < self.all.len() {
+            endpoint::recover(&mut self.all[place], cwnd, ssthresh, moment);
         }
     }
 
@@ -170,8 +174,9 @@ impl Endpoints {
         requires { All HasRoom self.old }
         ensures { self.new ≡ changed self.old place after_shut }
     {
-        if let Some(endpoint) = self.all.get_mut(place as usize) {
-            endpoint::shut(endpoint);
+        let place = place as usize;
+        if place < self.all.len() {
+            endpoint::shut(&mut self.all[place]);
         }
     }
 
@@ -180,8 +185,9 @@ impl Endpoints {
         requires { All HasRoom self.old }
         ensures { self.new ≡ changed self.old place after_close }
     {
-        if let Some(endpoint) = self.all.get_mut(place as usize) {
-            endpoint::close(endpoint);
+        let place = place as usize;
+        if place < self.all.len() {
+            endpoint::close(&mut self.all[place]);
         }
     }
 
@@ -190,8 +196,9 @@ impl Endpoints {
         requires { All HasRoom self.old }
         ensures { self.new ≡ changed self.old place after_abort }
     {
-        if let Some(endpoint) = self.all.get_mut(place as usize) {
-            endpoint::abort(endpoint);
+        let place = place as usize;
+        if place < self.all.len() {
+            endpoint::abort(&mut self.all[place]);
         }
     }
 
@@ -200,8 +207,9 @@ impl Endpoints {
         requires { All HasRoom self.old }
         ensures { self.new ≡ changed self.old place (λ e. record e { listener = None }) }
     {
-        if let Some(endpoint) = self.all.get_mut(place as usize) {
-            endpoint::accept(endpoint);
+        let place = place as usize;
+        if place < self.all.len() {
+            endpoint::accept(&mut self.all[place]);
         }
     }
 
@@ -222,10 +230,12 @@ impl Endpoints {
             (λ e. endpoint_taken header.now e how m.now moment)) }
         ensures err { OnErr result (self.new ≡ self.old) }
     {
-        match self.all.get_mut(place as usize) {
-            Some(endpoint) => take_segment(header, endpoint, how, m, moment),
-            None => Ok(()),
+        let place = place as usize;
+        if place < self.all.len() {
+            take_segment(header, &mut self.all[place], how, m, moment)?;
+            return Ok(());
         }
+        Ok(())
     }
 
     /// The endpoint at a place accepts the first `count` bytes of a `send`. If memory runs out, nothing is changed.
@@ -234,10 +244,12 @@ impl Endpoints {
         ensures ok { OnOk result (self.new ≡ changed self.old place (after_send bytes.now count)) }
         ensures err { OnErr result (self.new ≡ self.old) }
     {
-        match self.all.get_mut(place as usize) {
-            Some(endpoint) => endpoint::send(endpoint, bytes, count),
-            None => Ok(()),
+        let place = place as usize;
+        if place < self.all.len() {
+            endpoint::send(&mut self.all[place], bytes, count)?;
+            return Ok(());
         }
+        Ok(())
     }
 
     /// The endpoint at a place delivers the bytes of a `recv`, if at least as many wait.
@@ -247,8 +259,9 @@ impl Endpoints {
             (λ e. length bytes.now ≤ length (waiting e.stream.receive)) }
         ensures { self.new ≡ changed self.old place (after_recv bytes.now) }
     {
-        if let Some(endpoint) = self.all.get_mut(place as usize) {
-            endpoint::deliver(endpoint, bytes);
+        let place = place as usize;
+        if place < self.all.len() {
+            endpoint::deliver(&mut self.all[place], bytes);
         }
     }
 }
