@@ -7,11 +7,16 @@ import unittest
 TOP = os.path.dirname(os.path.dirname(os.path.abspath(__file__)))
 NAMES = "crates/verdict/src/rule.rt"
 TABLE = "crates/plain_words/src/rules.rt"
+CAUSES = "crates/plain_words/src/causes.rt"
 PAGE = "docs/reference/rules.md"
 
 STRING = r'"((?:[^"\\]|\\.)*)"'
-# A field of an arm: its value is a string, a constant, or what is known at the step.
-FIELD = re.compile(rf"\b(refused|usual|captured|known|rfc):\s*(?:{STRING}|([\w:]+))", re.S)
+# A text in the code is a string or a constant.
+TEXT = rf"(?:{STRING}|([A-Z_]+))"
+# The beginning of an arm of the table, what may follow it, and an arm of the causes.
+MEANING = re.compile(rf"Meaning::of\(\s*{TEXT},\s*{TEXT},?\s*\)", re.S)
+FURTHER = re.compile(rf"\.(captured|rfc)\(\s*{TEXT},?\s*\)", re.S)
+CAUSE = re.compile(rf"((?:\|?\s*Known::\w+\s*)+)=>\s*{TEXT}", re.S)
 CAPTURED = ". In a capture: "
 
 
@@ -38,25 +43,37 @@ def numbered(code):
     return {variant: f"{number} {names.get(variant)}" for number, variant in enumerate(variants, 1)}
 
 
-def in_table(code, headings):
+def text_in(string, constant, constants):
+    """The text of a string literal or of a constant."""
+    return plain(constants[constant] if constant else value_of(string))
+
+
+def special_causes(code, constants):
+    """The causes for what may be known at a step, by variant of `Known`: a usual text, and one for captures, which may be empty."""
+    texts = []
+    for part in code[code.index("pub fn usual(") :].split("pub fn captured("):
+        arms = [(re.findall(r"Known::(\w+)", names), text_in(*text, constants)) for names, *text in CAUSE.findall(part)]
+        texts.append({name: text for names, text in arms for name in names})
+    usual, captured = texts
+    return {name: (text, captured.get(name, "")) for name, text in usual.items()}
+
+
+def in_table(code, causes, headings):
     """What the code says of each rule, by heading. Causes are pairs of a usual text and one for captures, which may be empty."""
-    constants = {name: value_of(text) for name, text in re.findall(rf"const (\w+): &str =\s*{STRING};", code, re.S)}
+    constants = {name: value_of(text) for name, text in re.findall(rf"const (\w+): &str =\s*{STRING};", causes, re.S)}
+    special = special_causes(causes, constants)
     arms = re.split(r"Rule::(\w+) =>", code)
     rules = {}
     for variant, arm in zip(arms[1::2], arms[2::2]):
-        said, causes = {}, [{}]
-        for field, string, constant in FIELD.findall(arm):
-            text = plain(constants[constant] if constant in constants else value_of(string))
-            if field == "known":
-                causes.append({})
-            elif field in ("refused", "rfc"):
-                said[field] = text
-            else:
-                causes[-1][field] = text
+        words = MEANING.search(arm).groups()
+        further = {name: text_in(*text, constants) for name, *text in FURTHER.findall(arm)}
         rules[headings.get(variant, variant)] = {
-            "words": said["refused"],
-            "causes": [(cause["usual"], cause["captured"]) for cause in causes],
-            "RFC sections": said["rfc"],
+            "words": text_in(*words[:2], constants),
+            "causes": [
+                (text_in(*words[2:], constants), further.get("captured", "")),
+                *(special[name] for name in re.findall(r"Known::(\w+)", arm)),
+            ],
+            "RFC sections": further.get("rfc", ""),
         }
     return rules
 
@@ -91,11 +108,11 @@ def in_page(page):
     return rules
 
 
-def faults(names, table, page):
-    """A line for each difference between these three texts."""
+def faults(names, table, causes, page):
+    """A line for each difference between these texts."""
     headings = numbered(names)
     wanted = list(headings.values())
-    code, told = in_table(table, headings), in_page(page)
+    code, told = in_table(table, causes, headings), in_page(page)
     found = []
     for name, rules in ((TABLE, code), (PAGE, told)):
         found += [f"{heading}: {name} doesn't have it" for heading in wanted if heading not in rules]
@@ -111,7 +128,7 @@ def faults(names, table, page):
 
 class Rules(unittest.TestCase):
     def setUp(self):
-        self.texts = {name: read(name) for name in (NAMES, TABLE, PAGE)}
+        self.texts = {name: read(name) for name in (NAMES, TABLE, CAUSES, PAGE)}
 
     def faults_with(self, name, old, new):
         """The faults if one text has other words in the place of these."""
@@ -125,8 +142,12 @@ class Rules(unittest.TestCase):
     def test_what_differs_is_found(self):
         for name, old, new, fault in (
             (TABLE, "the listen queue is full", "the listen queue was full", "32 queue-full: the words differ"),
-            (TABLE, "skips positions that it", "skips what it", "20 old-data: the causes differ"),
-            (TABLE, "coarser than `grain`", "finer than `grain`", "36 timer-early: the causes differ"),
+            (TABLE, "a round trip was measured", "no round trip was measured", "34 sample: the causes differ"),
+            (TABLE, '.captured("the capture lost', '.rfc("the capture lost', "31 ack-range: the causes differ"),
+            (TABLE, "&[Known::NothingOutstanding]", "&[]", "37 recovery: the causes differ"),
+            (CAUSES, "skips positions that it", "skips what it", "20 old-data: the causes differ"),
+            (CAUSES, "lost the segments before", "lost some segments before", "20 old-data: the causes differ"),
+            (CAUSES, "coarser than `grain`", "finer than `grain`", "36 timer-early: the causes differ"),
             (TABLE, '"6298, 3"', '"6298, 4"', "34 sample: the RFC sections differ"),
             (TABLE, "Rule::Sample =>", "Rule::Samples =>", f"34 sample: {TABLE} doesn't have it"),
             (PAGE, "*The listen queue is full.*", "*The listen queue is empty.*", "32 queue-full: the words differ"),

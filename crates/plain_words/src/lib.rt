@@ -19,6 +19,6 @@ mod words;
 pub use causes::Known;
 pub use events::{EventWords, SegmentWords, StepWords};
 pub use numbers::Numbers;
-pub use rules::{Control, LEVEL_RULES, Meaning, Special, about};
+pub use rules::{Control, LEVEL_RULES, Meaning, about};
 pub use shown::{Shown, fault_line, is_shown};
 pub use words::{AnswerFields, AnswerWords, CallWords, FlagWords, HostName, word_if};

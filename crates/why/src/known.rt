@@ -22,8 +22,8 @@ pub enum Origin {
 pub(crate) fn say_cause(out: &mut String, scene: &Scene, rule: Rule, origin: Origin) -> Done {
     say_fitting(out, scene, rule)?;
     let about = about(rule);
-    let (usual, captured) = match about.special.iter().find(|it| is_known(scene, it.known)) {
-        Some(special) => (special.usual, special.captured),
+    let (usual, captured) = match about.special.iter().find(|known| is_known(scene, **known)) {
+        Some(known) => (known.usual(), known.captured()),
         None => (about.usual, about.captured),
     };
     writeln!(out, "usually: {usual}")?;
@@ -45,9 +45,9 @@ fn is_known(scene: &Scene, known: Known) -> bool {
         },
         Object::Expiring(it) => match it.timer {
             Timer::Rto => false,
-            Timer::Persist => known == Known::Persist,
-            Timer::Msl2 => known == Known::Msl2,
-            Timer::Giveup => known == Known::Giveup,
+            Timer::Persist => matches!(known, Known::PersistOff | Known::PersistEarly),
+            Timer::Msl2 => matches!(known, Known::Msl2Off | Known::Msl2Early),
+            Timer::Giveup => known == Known::GiveupOff,
         },
         Object::Processing(_) | Object::Listening(_, _, _) => known == Known::Processing,
         Object::Recovering(_, _) => known == Known::NothingOutstanding && is_none,
