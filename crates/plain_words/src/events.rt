@@ -24,12 +24,8 @@ impl fmt::Display for SegmentWords<'_> {
             syn: seg.has(Flag::Syn),
             fin: seg.has(Flag::Fin),
         };
-        write!(
-            f,
-            "{}{}",
-            FlagWords(flags),
-            self.numbers.position(self.sender, seg)
-        )?;
+        let position = self.numbers.position(self.sender, seg);
+        write!(f, "{}{position}", FlagWords(flags))?;
         if !seg.payload.is_empty() {
             write!(f, " +{}", seg.payload.len())?;
         }
@@ -61,13 +57,8 @@ impl EventWords<'_> {
             sender,
             seg,
         };
-        write!(
-            f,
-            "{} {verb} {} to {}: {words}",
-            HostName(host),
-            seg.src,
-            seg.dst
-        )
+        let (host, src, dst) = (HostName(host), seg.src, seg.dst);
+        write!(f, "{host} {verb} {src} to {dst}: {words}")
     }
 }
 
@@ -98,34 +89,25 @@ impl fmt::Display for StepWords<'_> {
         match self.0 {
             Label::L(named) => write!(f, "line {}", named.number),
             Label::D { thread, answer } => {
-                write!(
-                    f,
-                    "the call of thread {thread} has its effect:{}",
-                    AnswerWords(answer)
-                )
+                let answer = AnswerWords(answer);
+                write!(f, "the call of thread {thread} has its effect:{answer}")
             }
             Label::M { host, plan } => write!(f, "{} makes {}", HostName(*host), PlanWords(plan)),
             Label::T { host, line, choice } => {
                 let kept = if choice.keep { "kept" } else { "not kept" };
                 let measured = word_if(choice.sample, ", measured");
-                let (host, cwnd) = (HostName(*host), choice.cwnd);
-                write!(
-                    f,
-                    "{host} processes line {line}, cwnd {cwnd}, {kept}{measured}"
-                )
+                write!(f, "{} processes line {line}", HostName(*host))?;
+                write!(f, ", cwnd {}, {kept}{measured}", choice.cwnd)
             }
             Label::K { host, line } => write!(f, "{} drops line {line}", HostName(*host)),
             Label::R { host, line } => {
                 write!(f, "{} answers line {line} with a reset", HostName(*host))
             }
             Label::F { host, recovery } => {
-                let (lport, rport) = (recovery.lport, recovery.rport);
+                let (host, lport, rport) = (HostName(*host), recovery.lport, recovery.rport);
                 let (cwnd, ssthresh) = (recovery.cwnd, recovery.ssthresh);
-                write!(
-                    f,
-                    "{} begins fast recovery at {lport} to {rport}, cwnd {cwnd}, ssthresh {ssthresh}",
-                    HostName(*host),
-                )
+                write!(f, "{host} begins fast recovery at {lport} to {rport}")?;
+                write!(f, ", cwnd {cwnd}, ssthresh {ssthresh}")
             }
         }
     }

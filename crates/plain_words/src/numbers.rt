@@ -1,6 +1,6 @@
 //! Numbers on the wire as positions, counted from the initial sequence numbers that a trace shows.
 
-use case_forms::{Event, Host, Line, OutOfMemory, Version, Wire};
+use case_forms::{Event, Host, Line, OutOfMemory, Version};
 use segment::{Flag, Segment};
 use std::alloc::Global;
 use std::collections::BTreeMap;
@@ -26,18 +26,14 @@ impl Numbers {
     /// Reads a line. A SYN sent carries its host's initial sequence number; in a half case, a SYN received carries the
     /// other host's.
     pub fn read(&mut self, line: &Line) -> Result<(), OutOfMemory> {
-        match &line.event {
-            Event::Sent(host, wire) => self.see(*host, wire),
-            Event::Came(host, wire) if self.half => self.see(host.other(), wire),
-            _ => Ok(()),
-        }
-    }
-
-    fn see(&mut self, host: Host, wire: &Wire) -> Result<(), OutOfMemory> {
-        let seg = &wire.seg;
+        let (sender, seg) = match &line.event {
+            Event::Sent(host, wire) => (*host, &wire.seg),
+            Event::Came(host, wire) if self.half => (host.other(), &wire.seg),
+            _ => return Ok(()),
+        };
         if seg.has(Flag::Syn) {
-            self.first
-                .insert(connection_key(host, seg.src, seg.dst), seg.seq.0)?;
+            let key = connection_key(sender, seg.src, seg.dst);
+            self.first.insert(key, seg.seq.0)?;
         }
         Ok(())
     }
@@ -53,10 +49,7 @@ impl Numbers {
     }
 
     fn from(&self, key: ConnectionKey, number: u32) -> u32 {
-        match self.first.get(&key) {
-            Some(first) => number.wrapping_sub(*first),
-            None => number,
-        }
+        number.wrapping_sub(self.first.get(&key).copied().unwrap_or(0))
     }
 }
 

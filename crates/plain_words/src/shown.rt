@@ -38,12 +38,9 @@ pub fn is_shown(byte: u8) -> bool {
 
 /// The line that reports a text's fault.
 pub fn fault_line(alloc: Global, refusal: &str, fault: &TextFault) -> Result<String, OutOfMemory> {
-    let span = fault.span;
+    let (span, kind) = (fault.span, fault.kind.name());
     format!(in alloc;
-        "{refusal}{} {} {} {}\n",
-        span.line,
-        span.start,
-        span.stop,
-        fault.kind.name()
+        "{refusal}{} {} {} {kind}\n",
+        span.line, span.start, span.stop
     )
 }

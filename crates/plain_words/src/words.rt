@@ -44,11 +44,8 @@ impl fmt::Display for CallWords<'_> {
     fn fmt<W: fmt::Write>(&self, f: &mut fmt::Formatter<W>) -> fmt::Result {
         match self.0 {
             Call::Listen(host, port, backlog) => {
-                write!(
-                    f,
-                    "listen at {} on port {port}, backlog {backlog}",
-                    HostName(*host)
-                )
+                let host = HostName(*host);
+                write!(f, "listen at {host} on port {port}, backlog {backlog}")
             }
             Call::Connect(host, lport, rport) => {
                 write!(f, "open at {}, port {lport} to {rport}", HostName(*host))
