@@ -1,12 +1,13 @@
 //! A case as a picture: two hosts as lines, time downward, each segment an arrow.
 
+use crate::Done;
 use crate::callers::Callers;
 use crate::fates::{Fate, Fates};
 use crate::picture::{Point, arrow, at, begin, dot, end, line, text};
 use crate::range::{Drawn, Range};
 use case_forms::{Answer, Call, Event, Host, Line, OutOfMemory, Timer, Wire};
 use line_fields::timer_name;
-use plain_words::{AnswerWords, CallWords, HostName, Numbers, SegmentWords, StepWords};
+use plain_words::{AnswerWords, CallWords, HostName, Numbers, SegmentWords, StepWords, word_if};
 use replayed::{Case, Refusal};
 use std::alloc::Global;
 use std::fmt;
@@ -45,7 +46,7 @@ struct Drawing<'d> {
 }
 
 /// The case as a picture in SVG, of the lines in a range.
-pub fn draw(alloc: Global, case: &Case<'_>, range: Range) -> Result<String, OutOfMemory> {
+pub fn draw(alloc: Global, case: &Case, range: Range) -> Result<String, OutOfMemory> {
     let mut out = String::new(alloc);
     let fates = Fates::of(alloc, case)?;
     let mut drawing = Drawing {
@@ -77,7 +78,7 @@ fn outside(host: Host, pixels: u64) -> u64 {
 }
 
 impl Drawing<'_> {
-    fn all(&mut self, case: &Case<'_>) -> Result<(), OutOfMemory> {
+    fn all(&mut self, case: &Case) -> Done {
         self.frame(case.trace.header.version.is_half())?;
         for line in case.trace.lines.as_slice() {
             self.line(line)?;
@@ -89,14 +90,15 @@ impl Drawing<'_> {
     // The height of a line's row.
     fn row(&self, number: u64) -> u64 {
         let Drawn { from, to } = self.range;
-        let rows = number.max(from).min(to.saturating_add(1));
-        rows.saturating_sub(from)
-            .saturating_mul(ROW)
-            .saturating_add(TOP)
+        let rows = number
+            .max(from)
+            .min(to.saturating_add(1))
+            .saturating_sub(from);
+        rows.saturating_mul(ROW).saturating_add(TOP)
     }
 
     // The size, the hosts that are recorded, and the key.
-    fn frame(&mut self, half: bool) -> Result<(), OutOfMemory> {
+    fn frame(&mut self, half: bool) -> Done {
         let last = self.row(self.range.to.saturating_add(1));
         let bottom = last.saturating_add(ROW);
         begin(self.out, WIDTH, bottom.saturating_add(ROW))?;
@@ -111,7 +113,7 @@ impl Drawing<'_> {
     }
 
     // An arrow, and what it means.
-    fn key(&mut self, fate: Fate, x: u64, meaning: &str) -> Result<(), OutOfMemory> {
+    fn key(&mut self, fate: Fate, x: u64, meaning: &str) -> Done {
         let (from, to) = (at(x, 20), at(x.saturating_add(20), 20));
         match fate {
             Fate::Lost => line(self.out, fate.class(), from, to)?,
@@ -120,24 +122,19 @@ impl Drawing<'_> {
         text(self.out, "key", at(x.saturating_add(24), 23), &meaning)
     }
 
-    fn host(&mut self, host: Host, bottom: u64) -> Result<(), OutOfMemory> {
+    fn host(&mut self, host: Host, bottom: u64) -> Done {
         let x = inside(host, 0);
         text(self.out, "head mid", at(x, 24), &HostName(host))?;
         line(self.out, "host", at(x, 34), at(x, bottom))
     }
 
     // Draws what a line shows.
-    fn line(&mut self, line: &Line) -> Result<(), OutOfMemory> {
+    fn line(&mut self, line: &Line) -> Done {
         let number = line.number;
         let is_drawn = self.range.has(number);
         if is_drawn {
-            let at = at(6, self.row(number).saturating_add(4));
-            text(
-                self.out,
-                "when",
-                at,
-                &format_args!("{number}  {}", line.moment),
-            )?;
+            let (at, moment) = (at(6, self.row(number).saturating_add(4)), line.moment);
+            text(self.out, "when", at, &format_args!("{number}  {moment}"))?;
         }
         self.numbers.read(line)?;
         match &line.event {
@@ -151,61 +148,47 @@ impl Drawing<'_> {
     }
 
     // A call beside its host.
-    fn call(&mut self, number: u64, thread: u32, call: &Call) -> Result<(), OutOfMemory> {
+    fn call(&mut self, number: u64, thread: u32, call: &Call) -> Done {
         let host = self.callers.begin(thread, number, call)?;
         self.beside(number, host, &format_args!("{thread}: {}", CallWords(call)))
     }
 
     // The bar of a call, and its answer.
-    fn answer(&mut self, number: u64, thread: u32, answer: &Answer) -> Result<(), OutOfMemory> {
+    fn answer(&mut self, number: u64, thread: u32, answer: &Answer) -> Done {
         let Some(open) = self.callers.end(thread, answer)? else {
             return Ok(());
         };
         self.bar(thread, open.host, open.line, number)?;
-        self.beside(
-            number,
-            open.host,
-            &format_args!("{thread} ={}", AnswerWords(answer)),
-        )
+        let words = AnswerWords(answer);
+        self.beside(number, open.host, &format_args!("{thread} ={words}"))
     }
 
     // A text beside a host, outside, if its line is drawn.
-    fn beside(
-        &mut self,
-        number: u64,
-        host: Host,
-        words: &impl fmt::Display,
-    ) -> Result<(), OutOfMemory> {
+    fn beside(&mut self, number: u64, host: Host, words: &impl fmt::Display) -> Done {
         if !self.range.has(number) {
             return Ok(());
         }
-        let class = match host {
-            Host::Zero => "left",
-            Host::One => "",
-        };
-        let y = self.row(number).saturating_add(4);
-        text(self.out, class, at(outside(host, 80), y), words)
+        let at = at(outside(host, 80), self.row(number).saturating_add(4));
+        text(self.out, word_if(host == Host::Zero, "left"), at, words)
     }
 
     // The bar of a call, with the dot of its effect.
-    fn bar(&mut self, thread: u32, host: Host, from: u64, to: u64) -> Result<(), OutOfMemory> {
+    fn bar(&mut self, thread: u32, host: Host, from: u64, to: u64) -> Done {
         if to < self.range.from || self.range.to < from {
             return Ok(());
         }
         let x = outside(host, 10 + 11 * self.callers.column(thread));
         let (top, bottom) = (self.row(from), self.row(to));
         line(self.out, "bar", at(x, top), at(x, bottom))?;
-        match self.fates.effects.get(&from) {
-            Some(before) => {
-                let y = self.row(*before).saturating_add(ROW / 2);
-                dot(self.out, at(x, y.min(bottom)))
-            }
-            None => Ok(()),
+        if let Some(before) = self.fates.effects.get(&from) {
+            let y = self.row(*before).saturating_add(ROW / 2);
+            dot(self.out, at(x, y.min(bottom)))?;
         }
+        Ok(())
     }
 
     // The label of a segment that is sent, and its end if no line copies it.
-    fn sent(&mut self, number: u64, host: Host, wire: &Wire) -> Result<(), OutOfMemory> {
+    fn sent(&mut self, number: u64, host: Host, wire: &Wire) -> Done {
         let y = self.row(number);
         self.segment(host, at(inside(host, 8), y.saturating_sub(3)), host, wire)?;
         let from = at(inside(host, 0), y);
@@ -221,7 +204,7 @@ impl Drawing<'_> {
     }
 
     // The arrow of a segment that is received; if it copies no line, with its label.
-    fn came(&mut self, number: u64, host: Host, wire: &Wire) -> Result<(), OutOfMemory> {
+    fn came(&mut self, number: u64, host: Host, wire: &Wire) -> Done {
         let class = self.fates.received(number).class();
         let y = self.row(number);
         let to = at(inside(host, 0), y);
@@ -230,71 +213,48 @@ impl Drawing<'_> {
             return arrow(self.out, class, from, to);
         }
         arrow(self.out, class, at(inside(host, 120), y), to)?;
-        self.segment(
-            host,
-            at(inside(host, 124), y.saturating_add(4)),
-            host.other(),
-            wire,
-        )
+        let label = at(inside(host, 124), y.saturating_add(4));
+        self.segment(host, label, host.other(), wire)
     }
 
     // The label of a segment, inside of a host.
-    fn segment(
-        &mut self,
-        host: Host,
-        at: Point,
-        sender: Host,
-        wire: &Wire,
-    ) -> Result<(), OutOfMemory> {
-        let class = match host {
-            Host::Zero => "",
-            Host::One => "left",
-        };
+    fn segment(&mut self, host: Host, at: Point, sender: Host, wire: &Wire) -> Done {
         let words = SegmentWords {
             numbers: &self.numbers,
             sender,
             seg: &wire.seg,
         };
-        text(self.out, class, at, &words)
+        text(self.out, word_if(host == Host::One, "left"), at, &words)
     }
 
     // A timer at its host.
-    fn expired(&mut self, number: u64, host: Host, timer: Timer) -> Result<(), OutOfMemory> {
+    fn expired(&mut self, number: u64, host: Host, timer: Timer) -> Done {
         let class = match host {
             Host::Zero => "timer left",
             Host::One => "timer",
         };
         let at = at(outside(host, 80), self.row(number).saturating_add(4));
-        text(
-            self.out,
-            class,
-            at,
-            &format_args!("timer {} expires", timer_name(timer)),
-        )
+        let name = timer_name(timer);
+        text(self.out, class, at, &format_args!("timer {name} expires"))
     }
 
     // What is refused: a step with its rule, or a line that no step uses.
-    fn refusal(&mut self, case: &Case<'_>) -> Result<(), OutOfMemory> {
-        match (case.refusal(), case.refused_step()) {
-            (Refusal::At { rule, .. }, Some(step)) => {
+    fn refusal(&mut self, case: &Case) -> Done {
+        match case.refusal() {
+            Refusal::Nowhere => Ok(()),
+            Refusal::At { step, rule, .. } => {
                 let words = StepWords(&step.label);
-                self.mark(
-                    self.fates.last,
-                    &format_args!("refused ({}): {words}", rule.name()),
-                )
+                self.mark(self.fates.last, &format_args!("refused ({rule}): {words}"))
             }
-            (Refusal::Unplaced(number), _) => {
-                self.mark(
-                    number,
-                    &format_args!("refused (unplaced): no step uses line {number}"),
-                )
+            Refusal::Unplaced(line) => {
+                let words = format_args!("refused (unplaced): no step uses line {line}");
+                self.mark(line, &words)
             }
-            (Refusal::At { .. }, None) | (Refusal::Nowhere, _) => Ok(()),
         }
     }
 
     // A red line after this line, and its text.
-    fn mark(&mut self, number: u64, words: &impl fmt::Display) -> Result<(), OutOfMemory> {
+    fn mark(&mut self, number: u64, words: &impl fmt::Display) -> Done {
         let y = self.row(number).saturating_add(ROW / 2);
         line(self.out, "refused", at(120, y), at(WIDTH - 20, y))?;
         text(self.out, "no mid", at(MIDDLE, y.saturating_add(14)), words)

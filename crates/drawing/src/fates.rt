@@ -1,5 +1,6 @@
 //! What became of the lines of a case, by its witness.
 
+use crate::Done;
 use case_forms::{Event, Extras, Label, Line, NamedLine, OutOfMemory, Step};
 use replayed::Case;
 use std::alloc::Global;
@@ -54,7 +55,7 @@ pub(crate) struct Fates {
 
 impl Fates {
     /// What the witness of a case shows.
-    pub(crate) fn of(alloc: Global, case: &Case<'_>) -> Result<Fates, OutOfMemory> {
+    pub(crate) fn of(alloc: Global, case: &Case) -> Result<Fates, OutOfMemory> {
         let mut fates = Fates {
             copies: BTreeMap::new(alloc),
             copied: BTreeSet::new(alloc),
@@ -70,7 +71,7 @@ impl Fates {
     }
 
     // Reads the steps before the refused one.
-    fn read_all(&mut self, case: &Case<'_>) -> Result<(), OutOfMemory> {
+    fn read_all(&mut self, case: &Case) -> Done {
         for step in case.steps_before_refusal() {
             self.read(case, step)?;
         }
@@ -95,55 +96,49 @@ impl Fates {
         }
     }
 
-    fn read(&mut self, case: &Case<'_>, step: &Step) -> Result<(), OutOfMemory> {
+    fn read(&mut self, case: &Case, step: &Step) -> Done {
         match &step.label {
             Label::L(named) => {
                 self.last = named.number;
-                match case.line(named.number) {
-                    Some(line) => self.read_line(line, *named),
-                    None => Ok(()),
+                if let Some(line) = case.line(named.number) {
+                    self.read_line(line, *named)?;
                 }
             }
-            Label::D { thread, .. } => match self.begun.get(thread).copied() {
-                Some(begin) => self.put_effect(begin),
-                None => Ok(()),
-            },
-            Label::T { line, .. } => self.put(*line, Fate::Taken),
-            Label::K { line, .. } => self.put(*line, Fate::Dropped),
-            Label::R { line, .. } => self.put(*line, Fate::Reset),
-            Label::M { .. } | Label::F { .. } => Ok(()),
+            Label::D { thread, .. } => {
+                if let Some(begin) = self.begun.get(thread) {
+                    self.effects.insert(*begin, self.last)?;
+                }
+            }
+            Label::T { line, .. } => self.put(*line, Fate::Taken)?,
+            Label::K { line, .. } => self.put(*line, Fate::Dropped)?,
+            Label::R { line, .. } => self.put(*line, Fate::Reset)?,
+            Label::M { .. } | Label::F { .. } => {}
         }
+        Ok(())
     }
 
-    fn read_line(&mut self, line: &Line, named: NamedLine) -> Result<(), OutOfMemory> {
+    fn read_line(&mut self, line: &Line, named: NamedLine) -> Done {
         match &line.event {
             Event::Came(_, _) => {
                 if let Extras::One(copied) = named.extras {
                     self.copies.insert(named.number, u64::from(copied))?;
                     self.copied.insert(u64::from(copied))?;
                 }
-                self.put(named.number, Fate::Waits)
+                self.put(named.number, Fate::Waits)?;
             }
             Event::Sent(_, _) => {
                 self.sent.insert(named.number)?;
-                Ok(())
             }
             Event::CallBegin(_) => {
                 self.begun.insert(line.thread, named.number)?;
-                Ok(())
             }
-            Event::CallEnd(_) | Event::Expired(..) => Ok(()),
+            Event::CallEnd(_) | Event::Expired(..) => {}
         }
-    }
-
-    fn put(&mut self, line: u64, fate: Fate) -> Result<(), OutOfMemory> {
-        self.received.insert(line, fate)?;
         Ok(())
     }
 
-    // The call that this line begins has its effect.
-    fn put_effect(&mut self, begin: u64) -> Result<(), OutOfMemory> {
-        self.effects.insert(begin, self.last)?;
+    fn put(&mut self, line: u64, fate: Fate) -> Done {
+        self.received.insert(line, fate)?;
         Ok(())
     }
 }

@@ -22,3 +22,6 @@ mod showing;
 pub use diagram::draw;
 pub use range::Range;
 pub use showing::show;
+
+// What a function gives that writes or notes something.
+type Done = Result<(), case_forms::OutOfMemory>;

@@ -1,6 +1,6 @@
 //! Parts of a picture in SVG, a line each. Lengths are pixels, and y grows downward.
 
-use case_forms::OutOfMemory;
+use crate::Done;
 use std::fmt;
 
 /// A point.
@@ -22,13 +22,10 @@ impl fmt::Display for Point {
 }
 
 /// Begins a picture of this size.
-pub(crate) fn begin(out: &mut String, width: u64, height: u64) -> Result<(), OutOfMemory> {
-    write!(
-        out,
-        "<svg xmlns=\"http://www.w3.org/2000/svg\" width=\"{width}\" height=\"{height}\""
-    )?;
-    writeln!(out, " viewBox=\"0 0 {width} {height}\">")?;
-    writeln!(out, "{STYLE}")
+pub(crate) fn begin(out: &mut String, width: u64, height: u64) -> Done {
+    out.push_str("<svg xmlns=\"http://www.w3.org/2000/svg\"")?;
+    write!(out, " width=\"{width}\" height=\"{height}\"")?;
+    writeln!(out, " viewBox=\"0 0 {width} {height}\">\n{STYLE}")
 }
 
 const STYLE: &str =
@@ -53,56 +50,35 @@ const STYLE: &str =
 <path d=\"M0 0L9 4L0 8z\" fill=\"#555\"/></marker></defs>";
 
 /// Ends a picture.
-pub(crate) fn end(out: &mut String) -> Result<(), OutOfMemory> {
+pub(crate) fn end(out: &mut String) -> Done {
     writeln!(out, "</svg>")
 }
 
 /// A line of a class.
-pub(crate) fn line(
-    out: &mut String,
-    class: &str,
-    from: Point,
-    to: Point,
-) -> Result<(), OutOfMemory> {
+pub(crate) fn line(out: &mut String, class: &str, from: Point, to: Point) -> Done {
     stroke(out, class, from, to)?;
     writeln!(out, "/>")
 }
 
 /// An arrow of a class.
-pub(crate) fn arrow(
-    out: &mut String,
-    class: &str,
-    from: Point,
-    to: Point,
-) -> Result<(), OutOfMemory> {
+pub(crate) fn arrow(out: &mut String, class: &str, from: Point, to: Point) -> Done {
     stroke(out, class, from, to)?;
     writeln!(out, " marker-end=\"url(#m-{class})\"/>")
 }
 
-fn stroke(out: &mut String, class: &str, from: Point, to: Point) -> Result<(), OutOfMemory> {
-    write!(
-        out,
-        "<line class=\"{class}\" x1=\"{}\" y1=\"{}\"",
-        from.x, from.y
-    )?;
+fn stroke(out: &mut String, class: &str, from: Point, to: Point) -> Done {
+    let Point { x, y } = from;
+    write!(out, "<line class=\"{class}\" x1=\"{x}\" y1=\"{y}\"")?;
     write!(out, " x2=\"{}\" y2=\"{}\"", to.x, to.y)
 }
 
 /// A filled circle.
-pub(crate) fn dot(out: &mut String, at: Point) -> Result<(), OutOfMemory> {
-    writeln!(
-        out,
-        "<circle r=\"4\" fill=\"#337\" cx=\"{}\" cy=\"{}\"/>",
-        at.x, at.y
-    )
+pub(crate) fn dot(out: &mut String, at: Point) -> Done {
+    let Point { x, y } = at;
+    writeln!(out, "<circle r=\"4\" fill=\"#337\" cx=\"{x}\" cy=\"{y}\"/>")
 }
 
 /// A text of a class, from a point on.
-pub(crate) fn text(
-    out: &mut String,
-    class: &str,
-    at: Point,
-    words: &impl fmt::Display,
-) -> Result<(), OutOfMemory> {
+pub(crate) fn text(out: &mut String, class: &str, at: Point, words: &impl fmt::Display) -> Done {
     writeln!(out, "<text class=\"{class}\" {at}>{words}</text>")
 }

@@ -28,7 +28,7 @@ pub(crate) struct Drawn {
 
 impl Drawn {
     /// The lines of a case that are in a range.
-    pub(crate) fn of(range: Range, case: &Case<'_>, fates: &Fates) -> Drawn {
+    pub(crate) fn of(range: Range, case: &Case, fates: &Fates) -> Drawn {
         let first = case.trace.header.first_event_line();
         let count = case.trace.lines.as_slice().len() as u64;
         let last = first.saturating_add(count).saturating_sub(1);
@@ -41,21 +41,16 @@ impl Drawn {
             }
             (from, to, _) => {
                 let from = from.unwrap_or(first).max(first);
-                let to = to.unwrap_or(from.saturating_add(LINES - 1));
-                Drawn {
-                    from,
-                    to: to.min(last),
-                }
+                let to = to.unwrap_or(from.saturating_add(LINES - 1)).min(last);
+                Drawn { from, to }
             }
         }
     }
 
     // The last lines up to and including this one, of those from `first` on.
     fn up_to(to: u64, first: u64) -> Drawn {
-        Drawn {
-            from: to.saturating_sub(LINES - 1).max(first),
-            to,
-        }
+        let from = to.saturating_sub(LINES - 1).max(first);
+        Drawn { from, to }
     }
 
     /// Whether the line with this number is drawn.
@@ -66,15 +61,12 @@ impl Drawn {
 
 // The line at which a case is refused: that of the refused step or, if the step is hidden or its line was used before,
 // the line before the step. None: the case is not refused.
-fn line_refused(case: &Case<'_>, fates: &Fates) -> Option<u64> {
+fn line_refused(case: &Case, fates: &Fates) -> Option<u64> {
     if let Refusal::Unplaced(number) = case.refusal() {
         return Some(number);
     }
-    let step = case.refused_step()?;
-    if let Label::L(named) = &step.label {
-        if case.line(named.number).is_some() {
-            return Some(named.number.max(fates.last));
-        }
+    match &case.refused_step()?.label {
+        Label::L(named) if case.line(named.number).is_some() => Some(named.number.max(fates.last)),
+        _ => Some(fates.last),
     }
-    Some(fates.last)
 }

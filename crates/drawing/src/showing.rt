@@ -1,5 +1,6 @@
 //! A case as text: one event a line, with the steps of the witness between the lines.
 
+use crate::Done;
 use case_forms::{Label, Line, OutOfMemory, Step};
 use plain_words::{EventWords, Numbers, StepWords};
 use replayed::{Case, Refusal};
@@ -17,7 +18,7 @@ struct Showing<'s> {
 
 /// The case as text: each line of the trace at its step, and hidden steps indented between them. A refused step is
 /// marked, and lines that no step uses follow at the end.
-pub fn show(alloc: Global, case: &Case<'_>) -> Result<String, OutOfMemory> {
+pub fn show(alloc: Global, case: &Case) -> Result<String, OutOfMemory> {
     let mut out = String::new(alloc);
     let mut showing = Showing {
         out: &mut out,
@@ -32,7 +33,7 @@ pub fn show(alloc: Global, case: &Case<'_>) -> Result<String, OutOfMemory> {
 
 impl Showing<'_> {
     // Writes all steps.
-    fn steps(&mut self, case: &Case<'_>) -> Result<(), OutOfMemory> {
+    fn steps(&mut self, case: &Case) -> Done {
         let refusal = case.refusal();
         for (place, step) in case.steps.as_slice().iter().enumerate() {
             self.step(case, step)?;
@@ -42,7 +43,7 @@ impl Showing<'_> {
     }
 
     // Writes the lines that no step uses.
-    fn rest(&mut self, case: &Case<'_>) -> Result<(), OutOfMemory> {
+    fn rest(&mut self, case: &Case) -> Done {
         for line in case.trace.lines.as_slice() {
             if !self.shown.contains(&line.number) {
                 write!(self.out, "not used: ")?;
@@ -52,7 +53,7 @@ impl Showing<'_> {
         Ok(())
     }
 
-    fn step(&mut self, case: &Case<'_>, step: &Step) -> Result<(), OutOfMemory> {
+    fn step(&mut self, case: &Case, step: &Step) -> Done {
         if let Label::L(named) = &step.label {
             if let Some(line) = case.line(named.number) {
                 return self.line(line, step.moment);
@@ -61,7 +62,7 @@ impl Showing<'_> {
         writeln!(self.out, "        {}", StepWords(&step.label))
     }
 
-    fn line(&mut self, line: &Line, moment: u64) -> Result<(), OutOfMemory> {
+    fn line(&mut self, line: &Line, moment: u64) -> Done {
         self.numbers.read(line)?;
         self.shown.insert(line.number)?;
         let numbers = &self.numbers;
@@ -70,11 +71,13 @@ impl Showing<'_> {
     }
 
     // Marks the step at a place if it is the refused one.
-    fn mark(&mut self, place: usize, refusal: Refusal) -> Result<(), OutOfMemory> {
+    fn mark(&mut self, place: usize, refusal: Refusal) -> Done {
         match refusal {
-            Refusal::At { place: at, rule } if at == place => {
-                writeln!(self.out, "^^^^^^^ refused: {}", rule.name())
-            }
+            Refusal::At {
+                place: at,
+                rule,
+                ..
+            } if at == place => { writeln!(self.out, "^^^^^^^ refused: {rule}") }
             Refusal::At { .. } | Refusal::Nowhere | Refusal::Unplaced(_) => Ok(()),
         }
     }

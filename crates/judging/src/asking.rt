@@ -22,17 +22,11 @@ impl Judgement {
     /// Whether this level or a stricter one has a yes.
     pub fn meets(&self, least: Judged) -> bool {
         match self.level {
-            Some(level) => strictness(least) <= strictness(level),
+            Some(Judged::Full) => true,
+            Some(Judged::Recovery) => !matches!(least, Judged::Full),
+            Some(Judged::NoControl) => matches!(least, Judged::NoControl),
             None => false,
         }
-    }
-}
-
-fn strictness(level: Judged) -> u8 {
-    match level {
-        Judged::Full => 2,
-        Judged::Recovery => 1,
-        Judged::NoControl => 0,
     }
 }
 

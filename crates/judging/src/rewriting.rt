@@ -37,14 +37,10 @@ fn judged_by(header: &Header, level: Judged) -> Header {
 
 // The text from the line of this number on.
 fn events_of(text: &[u8], first: u64) -> &[u8] {
+    let above = usize::try_from(first.saturating_sub(1)).unwrap_or(usize::MAX);
     let mut at: usize = 0;
-    let mut number: u64 = 1;
-    for raw in text.lines_with_terminator() {
-        if first <= number {
-            break;
-        }
+    for raw in text.lines_with_terminator().take(above) {
         at = at.saturating_add(raw.len());
-        number = number.saturating_add(1);
     }
     text.get(at..).unwrap_or(&[])
 }

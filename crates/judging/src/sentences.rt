@@ -3,7 +3,7 @@
 use crate::trying::Tried;
 use case_forms::{Header, Judged, OutOfMemory};
 use itoa::Buffer;
-use plain_words::about;
+use plain_words::{about, word_if};
 use replayed::{Reason, Refused};
 use std::alloc::Global;
 use std::fmt;
@@ -36,10 +36,7 @@ pub(crate) fn say_conclusion(
         Verdict::No { .. } => say_none(out, tried.ending)?,
     }
     if header.version.is_half() {
-        writeln!(
-            out,
-            "Only host 0 was recorded; the other host isn't judged."
-        )?;
+        out.push_str("Only host 0 was recorded; the other host isn't judged.\n")?;
     }
     let last = sentence(alloc, tried.refused)?;
     let first = sentence(alloc, first)?;
@@ -67,21 +64,15 @@ The choice of when to retransmit data isn't judged either.\n",
 
 // Writes that no level has a yes, and why the search ended without one.
 fn say_none(out: &mut String, ending: Ending) -> Result<(), OutOfMemory> {
-    writeln!(
-        out,
-        "No witness was found, even without judging congestion control."
-    )?;
+    out.push_str("No witness was found, even without judging congestion control.\n")?;
     out.push_str(match ending {
         Ending::Whole => "",
-        Ending::Exhausted { .. } => {
-            "The search tried every choice that it knows. Another witness may still exist.\n"
-        }
-        Ending::BudgetSpent { .. } => {
-            "The search spent its budget. With a larger one (--budget), it may find a witness.\n"
-        }
-        Ending::TooManySteps { .. } => {
-            "The search stopped at 40,000,000 steps, the most that a case can have.\n"
-        }
+        Ending::Exhausted { .. } =>
+            "The search tried every choice that it knows. Another witness may still exist.\n",
+        Ending::BudgetSpent { .. } =>
+            "The search spent its budget. With a larger one (--budget), it may find a witness.\n",
+        Ending::TooManySteps { .. } =>
+            "The search stopped at 40,000,000 steps, the most that a case can have.\n",
     })
 }
 
@@ -98,37 +89,25 @@ fn sentence(alloc: Global, refused: Option<Refused>) -> Result<String, OutOfMemo
 fn say_reason(out: &mut String, refused: &Refused) -> Result<(), OutOfMemory> {
     match refused.reason {
         Reason::Beyond { bytes, cwnd } => {
-            let s = if bytes == 1 { "" } else { "s" };
-            write!(
-                out,
-                " sends {} byte{s} beyond the congestion window of ",
-                Grouped(bytes)
-            )?;
-            write!(out, "{} (RFC 5681, 3.1).", Grouped(cwnd))
+            let (s, bytes) = (word_if(bytes != 1, "s"), Grouped(bytes));
+            write!(out, " sends {bytes} byte{s} beyond the congestion window")?;
+            write!(out, " of {} (RFC 5681, 3.1).", Grouped(cwnd))
         }
         Reason::Gap { pos, sent } => {
-            write!(
-                out,
-                " begins at position {pos}, but only positions below {sent} "
-            )?;
-            write!(out, "were sent before (old-data).")
+            write!(out, " begins at position {pos}, but only positions")?;
+            write!(out, " below {sent} were sent before (old-data).")
         }
         Reason::Acknowledged { pos, una } => {
-            write!(
-                out,
-                " begins at position {pos}, and everything below {una} "
-            )?;
-            write!(out, "is acknowledged already (old-data).")
+            write!(out, " begins at position {pos}, and everything")?;
+            write!(out, " below {una} is acknowledged already (old-data).")
         }
         // Fast recovery begins after the handshake, so only a timeout permits retransmitting a SYN.
         Reason::Again { syn: true } => {
             write!(out, " retransmits a SYN before its timeout (RFC 6298, 5).")
         }
         Reason::Again { syn: false } => {
-            write!(
-                out,
-                " retransmits data without a timeout, fast recovery or a reopened window (old-data)."
-            )
+            write!(out, " retransmits data without a timeout, fast recovery")?;
+            write!(out, " or a reopened window (old-data).")
         }
         Reason::Other => {
             let rule = refused.rule;

@@ -19,18 +19,12 @@ pub enum JudgeFault {
     #[error("the witness: {0}")]
     Witness(TextFault),
     #[error("{0}")]
-    Replay(ReplayFault),
+    Replay(#[from] ReplayFault),
 }
 
 impl From<AllocError> for JudgeFault {
     fn from(e: AllocError) -> JudgeFault {
         JudgeFault::Replay(ReplayFault::from(e))
-    }
-}
-
-impl From<ReplayFault> for JudgeFault {
-    fn from(fault: ReplayFault) -> JudgeFault {
-        JudgeFault::Replay(fault)
     }
 }
 

@@ -22,11 +22,15 @@ pub struct Case<'t> {
 
 /// Where a case is refused.
 #[derive(Clone, Copy)]
-pub enum Refusal {
+pub enum Refusal<'c> {
     /// The verdict is yes, or the witness can't be read.
     Nowhere,
-    /// At the step of this place, counted from 0.
-    At { place: usize, rule: Rule },
+    /// At a step; its place is counted from 0.
+    At {
+        place: usize,
+        step: &'c Step,
+        rule: Rule,
+    },
     /// After the last step: no step uses this line of the trace.
     Unplaced(u64),
 }
@@ -36,35 +40,47 @@ impl<'t> Case<'t> {
     pub fn read(alloc: Global, text: &'t [u8]) -> Result<Case<'t>, TextFault> {
         let texts = Texts::of(text);
         let trace = read_trace(alloc, texts.trace)?;
-        let witness = match read_witness_for(alloc, trace.header.version, texts.witness) {
-            Ok(witness) => witness,
-            Err(fault) => return unread(alloc, texts, trace, fault),
+        let (steps, verdict) = match read_witness_for(alloc, trace.header.version, texts.witness) {
+            Ok(witness) => {
+                let verdict = check(alloc, &trace, &witness)?;
+                (witness.steps, Ok(verdict))
+            }
+            Err(fault) if fault.kind == FaultKind::OutOfMemory => return Err(fault),
+            Err(fault) => (Steps::new(alloc), Err(fault)),
         };
-        let verdict = check(alloc, &trace, &witness)?;
         Ok(Case {
             texts,
             trace,
-            steps: witness.steps,
-            verdict: Ok(verdict),
+            steps,
+            verdict,
         })
     }
 
     /// Where the case is refused.
-    pub fn refusal(&self) -> Refusal {
-        let Ok(
-            Verdict::No {
-                witness_line,
-                trace_line,
-                rule,
+    pub fn refusal(&self) -> Refusal<'_> {
+        match &self.verdict {
+            Ok(
+                Verdict::No {
+                    witness_line,
+                    trace_line,
+                    rule,
+                },
+            ) => match self.step_at(*witness_line) {
+                Some((place, step)) => Refusal::At {
+                    place,
+                    step,
+                    rule: *rule,
+                },
+                None => Refusal::Unplaced(*trace_line),
             },
-        ) = &self.verdict
-        else {
-            return Refusal::Nowhere;
-        };
-        match place_of(*witness_line) {
-            Some(place) => Refusal::At { place, rule: *rule },
-            None => Refusal::Unplaced(*trace_line),
+            Ok(Verdict::Yes { .. }) | Err(_) => Refusal::Nowhere,
         }
+    }
+
+    // The step in a line of the witness, and its place. None: that line has no step.
+    fn step_at(&self, witness_line: u64) -> Option<(usize, &Step)> {
+        let place = usize::try_from(witness_line.checked_sub(2)?).ok()?;
+        Some((place, self.steps.as_slice().get(place)?))
     }
 
     /// The steps before the refused one, or all of them.
@@ -79,7 +95,7 @@ impl<'t> Case<'t> {
     /// The refused step. None: no step is refused.
     pub fn refused_step(&self) -> Option<&Step> {
         match self.refusal() {
-            Refusal::At { place, .. } => self.steps.as_slice().get(place),
+            Refusal::At { step, .. } => Some(step),
             Refusal::Nowhere | Refusal::Unplaced(_) => None,
         }
     }
@@ -90,27 +106,4 @@ impl<'t> Case<'t> {
         let lines = self.trace.lines.as_slice();
         lines.get(usize::try_from(place).ok()?)
     }
-}
-
-// A case whose witness has a fault.
-fn unread<'t>(
-    alloc: Global,
-    texts: Texts<'t>,
-    trace: Trace,
-    fault: TextFault,
-) -> Result<Case<'t>, TextFault> {
-    match fault.kind {
-        FaultKind::OutOfMemory => Err(fault),
-        _ => Ok(Case {
-            texts,
-            trace,
-            steps: Steps::new(alloc),
-            verdict: Err(fault),
-        }),
-    }
-}
-
-// The place of the step in a line of the witness, from 0. None: that line has no step.
-fn place_of(witness_line: u64) -> Option<usize> {
-    usize::try_from(witness_line.checked_sub(2)?).ok()
 }

@@ -45,27 +45,20 @@ pub fn beyond(endpoint: &Endpoint, plan: &SegmentPlan) -> Reason {
     if snd_una >= POSITIONS {
         return Reason::Other;
     }
-    let edge = endpoint.control.send_edge(snd_una);
-    Reason::Beyond {
-        bytes: end_of(plan).saturating_sub(edge),
-        cwnd: u64::from(endpoint.control.values.cwnd),
-    }
+    let bytes = end_of(plan).saturating_sub(endpoint.control.send_edge(snd_una));
+    let cwnd = u64::from(endpoint.control.values.cwnd);
+    Reason::Beyond { bytes, cwnd }
 }
 
 /// Why a segment breaks `old-data`.
 pub fn misplaced(endpoint: &Endpoint, plan: &SegmentPlan) -> Reason {
-    let sent = endpoint.snd_max();
-    let una = endpoint.stream.snd_una;
-    if plan.pos > sent {
-        Reason::Gap {
-            pos: plan.pos,
-            sent,
-        }
-    } else if plan.pos < una {
-        Reason::Acknowledged { pos: plan.pos, una }
+    let (pos, syn) = (plan.pos, plan.flags.syn);
+    let (sent, una) = (endpoint.snd_max(), endpoint.stream.snd_una);
+    if pos > sent {
+        Reason::Gap { pos, sent }
+    } else if pos < una {
+        Reason::Acknowledged { pos, una }
     } else {
-        Reason::Again {
-            syn: plan.flags.syn,
-        }
+        Reason::Again { syn }
     }
 }

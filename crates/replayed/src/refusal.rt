@@ -19,30 +19,18 @@ pub struct Refused {
 }
 
 /// What the verdict on a case refuses. None: it is yes, or there is none.
-pub fn refused_by(alloc: Global, case: &Case<'_>) -> Result<Option<Refused>, ReplayFault> {
-    let (step, rule) = match case.refusal() {
-        Refusal::Nowhere => return Ok(None),
-        Refusal::At { place, rule } => (case.steps.as_slice().get(place), rule),
+pub fn refused_by(alloc: Global, case: &Case) -> Result<Option<Refused>, ReplayFault> {
+    match case.refusal() {
+        Refusal::Nowhere => Ok(None),
+        Refusal::At { step, rule, .. } => Ok(Some(refused_at(alloc, case, step, rule)?)),
         Refusal::Unplaced(line) => {
-            return Ok(Some(Refused {
-                line,
-                rule: Rule::Unplaced,
-                reason: Reason::Other,
-            }));
+            let (rule, reason) = (Rule::Unplaced, Reason::Other);
+            Ok(Some(Refused { line, rule, reason }))
         }
-    };
-    match step {
-        Some(step) => Ok(Some(refused_at(alloc, case, step, rule)?)),
-        None => Ok(None),
     }
 }
 
-fn refused_at(
-    alloc: Global,
-    case: &Case<'_>,
-    step: &Step,
-    rule: Rule,
-) -> Result<Refused, ReplayFault> {
+fn refused_at(alloc: Global, case: &Case, step: &Step, rule: Rule) -> Result<Refused, ReplayFault> {
     let line = line_of(case, step);
     let mut replay = Replay::new(alloc, case);
     let ran = replay.run();
@@ -53,7 +41,7 @@ fn refused_at(
 }
 
 // The line for `Refused`.
-fn line_of(case: &Case<'_>, step: &Step) -> u64 {
+fn line_of(case: &Case, step: &Step) -> u64 {
     match &step.label {
         Label::L(named) if named.number != 0 => named.number,
         Label::T { line, .. } | Label::K { line, .. } | Label::R { line, .. } => *line,
@@ -62,14 +50,13 @@ fn line_of(case: &Case<'_>, step: &Step) -> u64 {
 }
 
 // The line after the last one used.
-fn line_after(case: &Case<'_>) -> u64 {
-    let first = case.trace.header.first_event_line();
+fn line_after(case: &Case) -> u64 {
     for step in case.steps_before_refusal().iter().rev() {
         if let Label::L(named) = &step.label {
             return named.number.saturating_add(1);
         }
     }
-    first
+    case.trace.header.first_event_line()
 }
 
 // What the rule compares at the step.
@@ -77,9 +64,21 @@ fn reason_of(world: &World, step: &Step, rule: Rule) -> Reason {
     let Label::M { host, plan } = &step.label else {
         return Reason::Other;
     };
-    match (world.body(*host).endpoint_of(plan.lport, plan.rport), rule) {
-        (Some(endpoint), Rule::Congestion) => beyond(endpoint, plan),
-        (Some(endpoint), Rule::OldData) => misplaced(endpoint, plan),
-        _ => Reason::Other,
+    let Some(endpoint) = world.body(*host).endpoint_of(plan.lport, plan.rport) else {
+        return Reason::Other;
+    };
+    match rule {
+        Rule::Congestion => beyond(endpoint, plan),
+        Rule::OldData => misplaced(endpoint, plan),
+        Rule::LineRange | Rule::LineAgain | Rule::ThreadOrder | Rule::MomentFalls => Reason::Other,
+        Rule::MomentOff | Rule::Overdue | Rule::ThreadBusy | Rule::NoCall => Reason::Other,
+        Rule::DoneTwice | Rule::AnswerDiffers | Rule::Socket | Rule::CallAnswer => Reason::Other,
+        Rule::NoEndpoint | Rule::State | Rule::Iss | Rule::BytesDiffer => Reason::Other,
+        Rule::NotMade | Rule::PayloadRange | Rule::AckField | Rule::Offered => Reason::Other,
+        Rule::Size | Rule::NoEmission | Rule::CopyDiffers | Rule::Lifetime => Reason::Other,
+        Rule::Inbox | Rule::NotPeer | Rule::Number | Rule::Unacceptable => Reason::Other,
+        Rule::AckRange | Rule::QueueFull | Rule::Growth | Rule::Sample => Reason::Other,
+        Rule::TimerOff | Rule::TimerEarly | Rule::Recovery | Rule::ScaleUnread => Reason::Other,
+        Rule::Unplaced => Reason::Other,
     }
 }

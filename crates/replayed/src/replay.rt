@@ -83,7 +83,7 @@ impl<'c> Replay<'c> {
 // Uses a line, whose segment is copied once: into the world.
 fn apply_named(
     world: &mut World,
-    case: &Case<'_>,
+    case: &Case,
     moment: u64,
     named: NamedLine,
 ) -> Result<(), StepFault>
@@ -111,11 +111,6 @@ fn is_within_limits(label: &Label<NamedLine>) -> bool
 {
     match label {
         Label::M { plan, .. } => plan.pos <= GREATEST_POSITION,
-        Label::L(_)
-        | Label::D { .. }
-        | Label::T { .. }
-        | Label::K { .. }
-        | Label::R { .. }
-        | Label::F { .. } => true,
+        _ => true,
     }
 }
