@@ -2,7 +2,7 @@
 
 ghost use Rattle.std.specs.Prelude.{◌<◌};
 
-use case_forms::{Answer, Call, Host, OutOfMemory};
+use case_forms::{Answer, Call, Host, Line, OutOfMemory};
 use replayed::socket_of;
 use std::alloc::Global;
 use std::collections::BTreeMap;
@@ -34,16 +34,9 @@ impl Callers {
     }
 
     /// A thread begins a call. The answer is its host.
-    pub(crate) fn begin(
-        &mut self,
-        thread: u32,
-        line: u64,
-        call: &Call,
-    ) -> Result<Host, OutOfMemory> {
-        let opens = matches!(
-            call,
-            Call::Listen(_, _, _) | Call::Connect(_, _, _) | Call::Accept(_)
-        );
+    pub(crate) fn begin(&mut self, begun: &Line, call: &Call) -> Result<Host, OutOfMemory> {
+        let (thread, line) = (begun.thread, begun.number);
+        let opens = matches!(call, Call::Listen(..) | Call::Connect(..) | Call::Accept(_));
         let host = self.host_of(call);
         self.open.insert(thread, Open { host, line, opens })?;
         if !self.columns.contains_key(&thread) {
@@ -55,20 +48,16 @@ impl Callers {
 
     fn host_of(&self, call: &Call) -> Host {
         let known = match call {
-            Call::Listen(host, _, _) | Call::Connect(host, _, _) => Some(host),
+            Call::Listen(host, ..) | Call::Connect(host, ..) => Some(host),
             _ => socket_of(call).and_then(|socket| self.sockets.get(&socket)),
         };
         known.copied().unwrap_or(Host::Zero)
     }
 
     /// A thread's call ends. The answer is the call.
-    pub(crate) fn end(
-        &mut self,
-        thread: u32,
-        answer: &Answer,
-    ) -> Result<Option<Open>, OutOfMemory> {
+    pub(crate) fn end(&mut self, thread: u32, got: &Answer) -> Result<Option<Open>, OutOfMemory> {
         let open = self.open.get(&thread).copied();
-        if let (Some(open), Answer::Given(number)) = (open, answer) {
+        if let (Some(open), Answer::Given(number)) = (open, got) {
             if open.opens {
                 self.sockets.insert(*number, open.host)?;
             }

@@ -17,8 +17,6 @@ const ZERO: u64 = 400;
 
 const ONE: u64 = 900;
 
-const MIDDLE: u64 = 650;
-
 const WIDTH: u64 = 1300;
 
 const TOP: u64 = 60;
@@ -90,11 +88,9 @@ impl Drawing<'_> {
     // The height of a line's row.
     fn row(&self, number: u64) -> u64 {
         let Drawn { from, to } = self.range;
-        let rows = number
-            .max(from)
-            .min(to.saturating_add(1))
-            .saturating_sub(from);
-        rows.saturating_mul(ROW).saturating_add(TOP)
+        let drawn = number.max(from).min(to.saturating_add(1));
+        let above = drawn.saturating_sub(from).saturating_mul(ROW);
+        TOP.saturating_add(above)
     }
 
     // The size, the hosts that are recorded, and the key.
@@ -138,7 +134,7 @@ impl Drawing<'_> {
         }
         self.numbers.read(line)?;
         match &line.event {
-            Event::CallBegin(call) => self.call(number, line.thread, call),
+            Event::CallBegin(call) => self.call(line, call),
             Event::CallEnd(answer) => self.answer(number, line.thread, answer),
             Event::Sent(host, wire) if is_drawn => self.sent(number, *host, wire),
             Event::Came(host, wire) if is_drawn => self.came(number, *host, wire),
@@ -148,9 +144,10 @@ impl Drawing<'_> {
     }
 
     // A call beside its host.
-    fn call(&mut self, number: u64, thread: u32, call: &Call) -> Done {
-        let host = self.callers.begin(thread, number, call)?;
-        self.beside(number, host, &format_args!("{thread}: {}", CallWords(call)))
+    fn call(&mut self, line: &Line, call: &Call) -> Done {
+        let host = self.callers.begin(line, call)?;
+        let (thread, words) = (line.thread, CallWords(call));
+        self.beside(line.number, host, &format_args!("{thread}: {words}"))
     }
 
     // The bar of a call, and its answer.
@@ -217,14 +214,11 @@ impl Drawing<'_> {
         self.segment(host, label, host.other(), wire)
     }
 
-    // The label of a segment, inside of a host.
-    fn segment(&mut self, host: Host, at: Point, sender: Host, wire: &Wire) -> Done {
-        let words = SegmentWords {
-            numbers: &self.numbers,
-            sender,
-            seg: &wire.seg,
-        };
-        text(self.out, word_if(host == Host::One, "left"), at, &words)
+    // The label of a segment of a host, inside of the host at this side.
+    fn segment(&mut self, side: Host, at: Point, host: Host, wire: &Wire) -> Done {
+        let (numbers, seg) = (&self.numbers, &wire.seg);
+        let words = SegmentWords { numbers, host, seg };
+        text(self.out, word_if(side == Host::One, "left"), at, &words)
     }
 
     // A timer at its host.
@@ -242,7 +236,7 @@ impl Drawing<'_> {
     fn refusal(&mut self, case: &Case) -> Done {
         match case.refusal() {
             Refusal::Nowhere => Ok(()),
-            Refusal::At { step, rule, .. } => {
+            Refusal::At { step, rule } => {
                 let words = StepWords(&step.label);
                 self.mark(self.fates.last, &format_args!("refused ({rule}): {words}"))
             }
@@ -255,8 +249,8 @@ impl Drawing<'_> {
 
     // A red line after this line, and its text.
     fn mark(&mut self, number: u64, words: &impl fmt::Display) -> Done {
-        let y = self.row(number).saturating_add(ROW / 2);
+        let (middle, y) = ((ZERO + ONE) / 2, self.row(number).saturating_add(ROW / 2));
         line(self.out, "refused", at(120, y), at(WIDTH - 20, y))?;
-        text(self.out, "no mid", at(MIDDLE, y.saturating_add(14)), words)
+        text(self.out, "no mid", at(middle, y.saturating_add(14)), words)
     }
 }

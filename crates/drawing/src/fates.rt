@@ -40,9 +40,8 @@ pub(crate) struct Fates {
     pub copies: BTreeMap<u64, u64>,
     /// The lines that were copied.
     copied: BTreeSet<u64>,
-    received: BTreeMap<u64, Fate>,
-    /// The lines of sent segments.
-    sent: BTreeSet<u64>,
+    /// For each line that a step uses: of a received segment, its fate; of a sent one, that it is lost unless copied.
+    fates: BTreeMap<u64, Fate>,
     /// Every received segment was processed, and both hosts were recorded: a sent segment that wasn't copied is lost.
     are_whole: bool,
     /// For each line that begins a call, the line after which the call has its effect.
@@ -59,8 +58,7 @@ impl Fates {
         let mut fates = Fates {
             copies: BTreeMap::new(alloc),
             copied: BTreeSet::new(alloc),
-            received: BTreeMap::new(alloc),
-            sent: BTreeSet::new(alloc),
+            fates: BTreeMap::new(alloc),
             are_whole: false,
             effects: BTreeMap::new(alloc),
             begun: BTreeMap::new(alloc),
@@ -76,24 +74,22 @@ impl Fates {
             self.read(case, step)?;
         }
         let received = count_received(case.trace.lines.as_slice());
-        self.are_whole = !case.trace.header.version.is_half() && received == self.received.len();
+        self.are_whole = !case.trace.header.version.is_half() && received == self.copies.len();
         Ok(())
     }
 
     /// What became of the segment that a line received.
     pub(crate) fn received(&self, line: u64) -> Fate {
-        self.received.get(&line).copied().unwrap_or(Fate::Seen)
+        self.fates.get(&line).copied().unwrap_or(Fate::Seen)
     }
 
     /// What became of the segment that a line sent and no line copies. None: a line copies it.
     pub(crate) fn sent(&self, line: u64) -> Option<Fate> {
         if self.copied.contains(&line) {
-            None
-        } else if self.are_whole && self.sent.contains(&line) {
-            Some(Fate::Lost)
-        } else {
-            Some(Fate::Seen)
+            return None;
         }
+        let is_lost = self.are_whole && self.fates.contains_key(&line);
+        Some(if is_lost { Fate::Lost } else { Fate::Seen })
     }
 
     fn read(&mut self, case: &Case, step: &Step) -> Done {
@@ -126,9 +122,7 @@ impl Fates {
                 }
                 self.put(named.number, Fate::Waits)?;
             }
-            Event::Sent(_, _) => {
-                self.sent.insert(named.number)?;
-            }
+            Event::Sent(_, _) => self.put(named.number, Fate::Lost)?,
             Event::CallBegin(_) => {
                 self.begun.insert(line.thread, named.number)?;
             }
@@ -138,15 +132,15 @@ impl Fates {
     }
 
     fn put(&mut self, line: u64, fate: Fate) -> Done {
-        self.received.insert(line, fate)?;
+        self.fates.insert(line, fate)?;
         Ok(())
     }
 }
 
 // How many lines show a received segment.
 fn count_received(lines: &[Line]) -> usize {
-    lines
+    let received = lines
         .iter()
-        .filter(|line| matches!(line.event, Event::Came(..)))
-        .count()
+        .filter(|line| matches!(line.event, Event::Came(..)));
+    received.count()
 }

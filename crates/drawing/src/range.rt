@@ -32,24 +32,19 @@ impl Drawn {
         let first = case.trace.header.first_event_line();
         let count = case.trace.lines.as_slice().len() as u64;
         let last = first.saturating_add(count).saturating_sub(1);
-        match (range.from, range.to, line_refused(case, fates)) {
-            (None, Some(to), _) => Drawn::up_to(to.min(last), first),
+        let to = match (range.from, range.to, line_refused(case, fates)) {
             (None, None, Some(line)) => {
                 let earliest = first.saturating_add(LINES - 1);
-                let to = line.saturating_add(AFTER).max(earliest);
-                Drawn::up_to(to.min(last), first)
+                Some(line.saturating_add(AFTER).max(earliest))
             }
-            (from, to, _) => {
-                let from = from.unwrap_or(first).max(first);
-                let to = to.unwrap_or(from.saturating_add(LINES - 1)).min(last);
-                Drawn { from, to }
-            }
-        }
-    }
-
-    // The last lines up to and including this one, of those from `first` on.
-    fn up_to(to: u64, first: u64) -> Drawn {
-        let from = to.saturating_sub(LINES - 1).max(first);
+            (_, to, _) => to,
+        };
+        let from = match (range.from, to) {
+            (None, Some(to)) => to.min(last).saturating_sub(LINES - 1),
+            (from, _) => from.unwrap_or(first),
+        };
+        let from = from.max(first);
+        let to = to.unwrap_or(from.saturating_add(LINES - 1)).min(last);
         Drawn { from, to }
     }
 

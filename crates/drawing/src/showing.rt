@@ -34,10 +34,12 @@ pub fn show(alloc: Global, case: &Case) -> Result<String, OutOfMemory> {
 impl Showing<'_> {
     // Writes all steps.
     fn steps(&mut self, case: &Case) -> Done {
-        let refusal = case.refusal();
+        let (refusal, refused) = (case.refusal(), case.steps_before_refusal().len());
         for (place, step) in case.steps.as_slice().iter().enumerate() {
             self.step(case, step)?;
-            self.mark(place, refusal)?;
+            if place == refused {
+                self.mark(refusal)?;
+            }
         }
         Ok(())
     }
@@ -70,15 +72,11 @@ impl Showing<'_> {
         writeln!(self.out, "{}  {moment}  {event}", line.number)
     }
 
-    // Marks the step at a place if it is the refused one.
-    fn mark(&mut self, place: usize, refusal: Refusal) -> Done {
+    // Marks the step before as the refused one.
+    fn mark(&mut self, refusal: Refusal) -> Done {
         match refusal {
-            Refusal::At {
-                place: at,
-                rule,
-                ..
-            } if at == place => { writeln!(self.out, "^^^^^^^ refused: {rule}") }
-            Refusal::At { .. } | Refusal::Nowhere | Refusal::Unplaced(_) => Ok(()),
+            Refusal::At { rule, .. } => writeln!(self.out, "^^^^^^^ refused: {rule}"),
+            Refusal::Nowhere | Refusal::Unplaced(_) => Ok(()),
         }
     }
 }

@@ -56,9 +56,6 @@ fn concluded(text: String, tried: Tried) -> Judgement {
         Verdict::Yes { .. } => Some(tried.level),
         Verdict::No { .. } => None,
     };
-    Judgement {
-        text,
-        level,
-        case: tried.case,
-    }
+    let case = tried.case;
+    Judgement { text, level, case }
 }

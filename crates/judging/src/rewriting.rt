@@ -12,12 +12,10 @@ pub(crate) fn rewritten(
     header: &Header,
     level: Judged,
 ) -> Result<Vec<u8>, OutOfMemory> {
-    let trace = Trace {
-        header: judged_by(header, level),
-        lines: Lines::new(alloc),
-    };
-    let mut rewritten = print_trace(alloc, &trace)?;
-    rewritten.extend_from_slice(events_of(text, header.first_event_line()))?;
+    let events = events_of(text, header.first_event_line());
+    let (header, lines) = (judged_by(header, level), Lines::new(alloc));
+    let mut rewritten = print_trace(alloc, &Trace { header, lines })?;
+    rewritten.extend_from_slice(events)?;
     Ok(rewritten)
 }
 

@@ -11,7 +11,8 @@ use std::fmt;
 #[derive(Clone, Copy)]
 pub struct SegmentWords<'s> {
     pub numbers: &'s Numbers,
-    pub sender: Host,
+    /// The host that sends it.
+    pub host: Host,
     pub seg: &'s Segment,
 }
 
@@ -24,13 +25,13 @@ impl fmt::Display for SegmentWords<'_> {
             syn: seg.has(Flag::Syn),
             fin: seg.has(Flag::Fin),
         };
-        let position = self.numbers.position(self.sender, seg);
+        let position = self.numbers.position(self.host, seg);
         write!(f, "{}{position}", FlagWords(flags))?;
         if !seg.payload.is_empty() {
             write!(f, " +{}", seg.payload.len())?;
         }
         if flags.ack {
-            write!(f, " ack {}", self.numbers.acknowledged(self.sender, seg))?;
+            write!(f, " ack {}", self.numbers.acknowledged(self.host, seg))?;
         }
         write!(f, " win {}", seg.window)
     }
@@ -44,21 +45,18 @@ pub struct EventWords<'e> {
 }
 
 impl EventWords<'_> {
-    // A segment that a host sends or receives. The word is the verb.
+    // A segment of a host, at the host that sends or receives it.
     fn passing<W: fmt::Write>(
         &self,
         f: &mut fmt::Formatter<W>,
-        (host, verb, sender): (Host, &str, Host),
+        at: Host,
+        host: Host,
         seg: &Segment,
     ) -> fmt::Result {
-        let numbers = self.numbers;
-        let words = SegmentWords {
-            numbers,
-            sender,
-            seg,
-        };
-        let (host, src, dst) = (HostName(host), seg.src, seg.dst);
-        write!(f, "{host} {verb} {src} to {dst}: {words}")
+        let verb = if at == host { "sends" } else { "receives" };
+        let (numbers, src, dst) = (self.numbers, seg.src, seg.dst);
+        let words = SegmentWords { numbers, host, seg };
+        write!(f, "{} {verb} {src} to {dst}: {words}", HostName(at))
     }
 }
 
@@ -68,10 +66,8 @@ impl fmt::Display for EventWords<'_> {
         match &self.line.event {
             Event::CallBegin(call) => write!(f, "thread {thread} calls {}", CallWords(call)),
             Event::CallEnd(answer) => write!(f, "thread {thread} gets{}", AnswerWords(answer)),
-            Event::Sent(host, wire) => self.passing(f, (*host, "sends", *host), &wire.seg),
-            Event::Came(host, wire) => {
-                self.passing(f, (*host, "receives", host.other()), &wire.seg)
-            }
+            Event::Sent(host, wire) => self.passing(f, *host, *host, &wire.seg),
+            Event::Came(host, wire) => self.passing(f, *host, host.other(), &wire.seg),
             Event::Expired(host, lport, rport, timer) => {
                 let (host, timer) = (HostName(*host), timer_name(*timer));
                 write!(f, "{host}: timer {timer} expires at {lport} to {rport}")

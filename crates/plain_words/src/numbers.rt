@@ -17,10 +17,8 @@ pub struct Numbers {
 
 impl Numbers {
     pub fn new(alloc: Global, version: Version) -> Numbers {
-        Numbers {
-            first: BTreeMap::new(alloc),
-            half: version.is_half(),
-        }
+        let (first, half) = (BTreeMap::new(alloc), version.is_half());
+        Numbers { first, half }
     }
 
     /// Reads a line. A SYN sent carries its host's initial sequence number; in a half case, a SYN received carries the
@@ -54,8 +52,5 @@ impl Numbers {
 }
 
 fn connection_key(host: Host, lport: u16, rport: u16) -> ConnectionKey {
-    match host {
-        Host::Zero => (0, lport, rport),
-        Host::One => (1, lport, rport),
-    }
+    (host as u8, lport, rport)
 }

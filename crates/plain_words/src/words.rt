@@ -15,10 +15,7 @@ pub struct HostName(pub Host);
 
 impl fmt::Display for HostName {
     fn fmt<W: fmt::Write>(&self, f: &mut fmt::Formatter<W>) -> fmt::Result {
-        match self.0 {
-            Host::Zero => write!(f, "host 0"),
-            Host::One => write!(f, "host 1"),
-        }
+        write!(f, "host {}", self.0 as u8)
     }
 }
 

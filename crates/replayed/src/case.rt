@@ -25,12 +25,8 @@ pub struct Case<'t> {
 pub enum Refusal<'c> {
     /// The verdict is yes, or the witness can't be read.
     Nowhere,
-    /// At a step; its place is counted from 0.
-    At {
-        place: usize,
-        step: &'c Step,
-        rule: Rule,
-    },
+    /// At this step.
+    At { step: &'c Step, rule: Rule },
     /// After the last step: no step uses this line of the trace.
     Unplaced(u64),
 }
@@ -58,46 +54,26 @@ impl<'t> Case<'t> {
 
     /// Where the case is refused.
     pub fn refusal(&self) -> Refusal<'_> {
-        match &self.verdict {
-            Ok(
-                Verdict::No {
-                    witness_line,
-                    trace_line,
-                    rule,
-                },
-            ) => match self.step_at(*witness_line) {
-                Some((place, step)) => Refusal::At {
-                    place,
-                    step,
-                    rule: *rule,
-                },
-                None => Refusal::Unplaced(*trace_line),
-            },
-            Ok(Verdict::Yes { .. }) | Err(_) => Refusal::Nowhere,
+        match (&self.verdict, self.refused_step()) {
+            (Ok(Verdict::No { rule, .. }), Some(step)) => Refusal::At { step, rule: *rule },
+            (Ok(Verdict::No { trace_line, .. }), None) => Refusal::Unplaced(*trace_line),
+            (Ok(Verdict::Yes { .. }) | Err(_), _) => Refusal::Nowhere,
         }
-    }
-
-    // The step in a line of the witness, and its place. None: that line has no step.
-    fn step_at(&self, witness_line: u64) -> Option<(usize, &Step)> {
-        let place = usize::try_from(witness_line.checked_sub(2)?).ok()?;
-        Some((place, self.steps.as_slice().get(place)?))
     }
 
     /// The steps before the refused one, or all of them.
     pub fn steps_before_refusal(&self) -> &[Step] {
         let steps = self.steps.as_slice();
-        match self.refusal() {
-            Refusal::At { place, .. } => steps.get(..place).unwrap_or(steps),
-            Refusal::Nowhere | Refusal::Unplaced(_) => steps,
-        }
+        let count = match &self.verdict {
+            Ok(Verdict::No { witness_line, .. }) => place_of(*witness_line),
+            Ok(Verdict::Yes { .. }) | Err(_) => None,
+        };
+        count.and_then(|count| steps.get(..count)).unwrap_or(steps)
     }
 
     /// The refused step. None: no step is refused.
     pub fn refused_step(&self) -> Option<&Step> {
-        match self.refusal() {
-            Refusal::At { step, .. } => Some(step),
-            Refusal::Nowhere | Refusal::Unplaced(_) => None,
-        }
+        self.steps.as_slice().get(self.steps_before_refusal().len())
     }
 
     /// The event line of this number. None: the trace has no such event line.
@@ -106,4 +82,9 @@ impl<'t> Case<'t> {
         let lines = self.trace.lines.as_slice();
         lines.get(usize::try_from(place).ok()?)
     }
+}
+
+// The place of the step in a line of the witness, from 0. None: that line has no step.
+fn place_of(witness_line: u64) -> Option<usize> {
+    usize::try_from(witness_line.checked_sub(2)?).ok()
 }

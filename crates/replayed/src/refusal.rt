@@ -22,7 +22,7 @@ pub struct Refused {
 pub fn refused_by(alloc: Global, case: &Case) -> Result<Option<Refused>, ReplayFault> {
     match case.refusal() {
         Refusal::Nowhere => Ok(None),
-        Refusal::At { step, rule, .. } => Ok(Some(refused_at(alloc, case, step, rule)?)),
+        Refusal::At { step, rule } => Ok(Some(refused_at(alloc, case, step, rule)?)),
         Refusal::Unplaced(line) => {
             let (rule, reason) = (Rule::Unplaced, Reason::Other);
             Ok(Some(Refused { line, rule, reason }))

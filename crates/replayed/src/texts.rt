@@ -24,10 +24,9 @@ impl<'t> Texts<'t> {
             }
             at = at.saturating_add(raw.len());
         }
-        Texts {
-            trace: case.get(..at).unwrap_or(case),
-            witness: case.get(at..).unwrap_or(&[]),
-        }
+        let trace = case.get(..at).unwrap_or(case);
+        let witness = case.get(at..).unwrap_or(&[]);
+        Texts { trace, witness }
     }
 }
 
