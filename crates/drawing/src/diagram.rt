@@ -223,10 +223,8 @@ impl Drawing<'_> {
 
     // A timer at its host.
     fn expired(&mut self, number: u64, host: Host, timer: Timer) -> Done {
-        let class = match host {
-            Host::Zero => "timer left",
-            Host::One => "timer",
-        };
+        let is_left = host == Host::Zero;
+        let class = if is_left { "timer left" } else { "timer" };
         let at = at(outside(host, 80), self.row(number).saturating_add(4));
         let name = timer_name(timer);
         text(self.out, class, at, &format_args!("timer {name} expires"))

@@ -139,8 +139,8 @@ impl Fates {
 
 // How many lines show a received segment.
 fn count_received(lines: &[Line]) -> usize {
-    let received = lines
+    lines
         .iter()
-        .filter(|line| matches!(line.event, Event::Came(..)));
-    received.count()
+        .filter(|line| matches!(line.event, Event::Came(..)))
+        .count()
 }
