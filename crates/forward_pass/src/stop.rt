@@ -14,6 +14,9 @@ pub(crate) enum Stop {
     OutOfMemory,
 }
 
+/// Done, or why not.
+pub(crate) type Done = Result<(), Stop>;
+
 impl From<Rule> for Stop {
     fn from(rule: Rule) -> Stop {
         Stop::Broken(rule)

@@ -88,14 +88,17 @@ fn ending_of(retries: &Retries<'_>, first: u64) -> Ending {
     let line_at = |place: usize| first.saturating_add(place as u64);
     match retries.best.end {
         End::Whole => Ending::Whole,
-        End::TooManySteps { place } => Ending::TooManySteps {
-            line: line_at(place),
-        },
-        End::Refused(failure) if retries.is_spent() => Ending::BudgetSpent {
-            line: line_at(failure.place),
-        },
-        End::Refused(failure) => Ending::Exhausted {
-            line: line_at(failure.place),
-        },
+        End::TooManySteps { place } => {
+            let line = line_at(place);
+            Ending::TooManySteps { line }
+        }
+        End::Refused(failure) => {
+            let line = line_at(failure.place);
+            if retries.is_spent() {
+                Ending::BudgetSpent { line }
+            } else {
+                Ending::Exhausted { line }
+            }
+        }
     }
 }
