@@ -56,7 +56,7 @@ impl Waiting {
 #[derive(Drop)]
 pub(crate) struct Calls {
     /// For each thread, the place at which such a call began.
-    open: BTreeMap<u32, usize>,
+    pub open: BTreeMap<u32, usize>,
     /// The calls whose end is known, in the order of their beginnings.
     pub ended: Waiting,
     /// The calls that are open at the end of the trace.
@@ -75,25 +75,9 @@ impl Calls {
         }
     }
 
-    /// A thread's call begins at a place.
-    pub(crate) fn begin(&mut self, thread: u32, place: usize) -> Result<(), OutOfMemory> {
-        self.open.insert(thread, place)?;
-        Ok(())
-    }
-
-    /// Whether a thread has a call that had no effect yet.
-    pub(crate) fn has_open(&self, thread: u32) -> bool {
-        self.open.contains_key(&thread)
-    }
-
     /// Whether a thread's call that began at a place had no effect yet.
     pub(crate) fn is_open(&self, thread: u32, begin: usize) -> bool {
         self.open.get(&thread).copied() == Some(begin)
-    }
-
-    /// A thread's call had its effect.
-    pub(crate) fn close(&mut self, thread: u32) {
-        self.open.remove(&thread);
     }
 
     /// A call waits at a listener or an endpoint.

@@ -79,7 +79,6 @@ pub(crate) struct Arrival {
     pub is_not_grown: bool,
     pub is_of_last: bool,
     pub is_widened: bool,
-    pub waits: bool,
 }
 
 impl Arrival {
@@ -108,6 +107,15 @@ pub struct Choices {
     by_place: BTreeMap<usize, Vec<Choice>>,
 }
 
+// Puts a choice at its lines.
+fn put(by_place: &mut BTreeMap<usize, Vec<Choice>>, choice: Choice) -> Result<(), OutOfMemory> {
+    by_place.entry(choice.place)?.or_default().push(choice)?;
+    if let Deed::WaitUntil(after) = choice.deed {
+        by_place.entry(after)?.or_default().push(choice)?;
+    }
+    Ok(())
+}
+
 impl Choices {
     /// Nothing is chosen.
     pub fn new(alloc: Global) -> Choices {
@@ -122,18 +130,8 @@ impl Choices {
         for choice in choices {
             if self.at(choice.place).last() != Some(choice) {
                 self.all.push(*choice)?;
-                self.put(*choice)?;
+                put(&mut self.by_place, *choice)?;
             }
-        }
-        Ok(())
-    }
-
-    // Puts a choice at its lines.
-    fn put(&mut self, choice: Choice) -> Result<(), OutOfMemory> {
-        let by_place = &mut self.by_place;
-        by_place.entry(choice.place)?.or_default().push(choice)?;
-        if let Deed::WaitUntil(after) = choice.deed {
-            by_place.entry(after)?.or_default().push(choice)?;
         }
         Ok(())
     }
@@ -157,10 +155,8 @@ impl Choices {
     // Puts all choices at their lines anew.
     fn put_all(&mut self) -> Result<(), OutOfMemory> {
         self.by_place.clear();
-        for index in 0..self.all.len() {
-            if let Some(choice) = self.all.get(index).copied() {
-                self.put(choice)?;
-            }
+        for choice in &self.all {
+            put(&mut self.by_place, *choice)?;
         }
         Ok(())
     }
@@ -168,11 +164,6 @@ impl Choices {
     /// How many there are.
     pub fn len(&self) -> usize {
         self.all.len()
-    }
-
-    /// Whether nothing is chosen.
-    pub fn is_empty(&self) -> bool {
-        self.all.is_empty()
     }
 
     /// The choices at a line, in the order in which they were chosen.
@@ -191,7 +182,6 @@ impl Choices {
                 arrival.choose(fate);
             }
         }
-        arrival.waits = self.waits(place);
         arrival
     }
 

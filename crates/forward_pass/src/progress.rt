@@ -145,7 +145,6 @@ impl Progress {
 
     /// An endpoint, and a segment as the endpoint reads it. None: it doesn't exist, or is CLOSED or beyond all
     /// positions.
-    #[inline]
     pub(crate) fn read<'m>(
         &self,
         key: EndpointKey,
@@ -222,9 +221,8 @@ impl Progress {
     /// A copy of another line's segment arrives with the current line.
     pub(crate) fn arrive(&mut self, host: Host, copied: u64, wire: &Wire) -> Result<u64, Stop> {
         has_room(&self.world)?;
-        let done = self
-            .world
-            .arrive(host, self.number, copied, wire, self.moment);
+        let world = &mut self.world;
+        let done = world.arrive(host, self.number, copied, wire, self.moment);
         self.push_current(Extras::One(saturated(copied)), done)
     }
 
@@ -242,7 +240,8 @@ impl Progress {
     pub(crate) fn add_expiry(&mut self, key: EndpointKey, expired: Expired) -> Done {
         has_room(&self.world)?;
         self.world
-            .expire(key.host(), key.ports(), expired, self.moment)?;
+            .expire(key.host(), key.ports(), expired, self.moment)
+            .map_err(Stop::Broken)?;
         self.push_line(extras_of(expired))?;
         self.findings.added.push(Added {
             before: self.next,
@@ -282,7 +281,7 @@ impl Progress {
     /// A host drops the segment that arrived with a line.
     pub(crate) fn drop_arrival(&mut self, host: Host, line: u64) -> Done {
         has_room(&self.world)?;
-        self.world.drop_arrival(host, line)?;
+        self.world.drop_arrival(host, line).map_err(Stop::Broken)?;
         self.push_step(Label::K { host, line })
     }
 
@@ -297,7 +296,9 @@ impl Progress {
     /// An endpoint enters fast recovery.
     pub(crate) fn recover(&mut self, host: Host, recovery: Recovery) -> Done {
         has_room(&self.world)?;
-        self.world.recover(host, recovery, self.moment)?;
+        self.world
+            .recover(host, recovery, self.moment)
+            .map_err(Stop::Broken)?;
         self.push_step(Label::F { host, recovery })
     }
 }

@@ -17,12 +17,6 @@ pub(crate) enum Stop {
 /// Done, or why not.
 pub(crate) type Done = Result<(), Stop>;
 
-impl From<Rule> for Stop {
-    fn from(rule: Rule) -> Stop {
-        Stop::Broken(rule)
-    }
-}
-
 impl From<StepFault> for Stop {
     fn from(fault: StepFault) -> Stop {
         match fault {

@@ -181,13 +181,11 @@ impl<'t> Known<'t> {
         if after >= self.failure.place {
             return Ok(());
         }
-        match self.failure.rule {
-            Rule::TimerOff | Rule::TimerEarly | Rule::Growth if !spot.is_far =>
-                match self.timer_at() {
-                    Some(at) => push_unseen(out, after, at, [Unseen::All, Unseen::One]),
-                    None => Ok(()),
-                },
-            Rule::CallAnswer | Rule::State | Rule::NoEndpoint | Rule::Iss if spot.is_far => {
+        match (self.failure.rule, self.timer_at()) {
+            (Rule::TimerOff | Rule::TimerEarly | Rule::Growth, Some(at)) if !spot.is_far => {
+                push_unseen(out, after, at, [Unseen::All, Unseen::One])
+            }
+            (Rule::CallAnswer | Rule::State | Rule::NoEndpoint | Rule::Iss, _) if spot.is_far => {
                 push_unseen(out, after, key, [Unseen::Reset, Unseen::All])?;
                 push_unseen(out, after, key.peer(), [Unseen::Reset, Unseen::All])
             }

@@ -2,10 +2,9 @@
 
 use crate::candidates::Done;
 use bstr::ByteSlice;
-use case_forms::{Answer, Label, OutOfMemory, Step, Trace, Witness};
-use forward_pass::Added;
+use case_forms::{Answer, Label, OutOfMemory, Step, Witness};
+use forward_pass::{Added, Sought};
 use line_fields::{push_end, push_host, push_number, push_space, push_word, timer_name};
-use std::alloc::Global;
 use witness::push_witness;
 
 // About how many bytes the line of a step has, without bytes in hex.
@@ -13,16 +12,15 @@ const USUAL_STEP: usize = 40;
 
 /// The text of a case: a trace, whose text is given, with added lines, and a witness.
 pub(crate) fn case_text(
-    alloc: Global,
+    trace: Sought<'_>,
     text: &[u8],
-    trace: &Trace,
     added: &[Added],
     witness: &Witness,
 ) -> Result<Vec<u8>, OutOfMemory> {
     // Room for the witness is reserved at once.
     let steps = witness.steps.as_slice().iter();
     let len = steps.fold(text.len(), |len, step| len.saturating_add(usual_len(step)));
-    let mut case = Vec::with_capacity(alloc, len)?;
+    let mut case = Vec::with_capacity(trace.alloc, len)?;
     push_trace(&mut case, text, trace, added)?;
     push_witness(&mut case, witness)?;
     Ok(case)
@@ -40,9 +38,9 @@ fn usual_len(step: &Step) -> usize {
 }
 
 // Writes the text of the trace, with the added lines.
-fn push_trace(out: &mut Vec<u8>, text: &[u8], trace: &Trace, added: &[Added]) -> Done {
+fn push_trace(out: &mut Vec<u8>, text: &[u8], trace: Sought<'_>, added: &[Added]) -> Done {
     // A thread that no line has, if there is one above all others.
-    let threads = trace.lines.as_slice().iter().map(|line| line.thread);
+    let threads = trace.lines.iter().map(|line| line.thread);
     let thread = threads.max().unwrap_or(0).saturating_add(1);
     let header = trace.header.first_event_line().saturating_sub(1) as usize;
     let mut written: usize = 0;

@@ -34,7 +34,7 @@ struct Level {
 /// A search that goes back.
 #[derive(Drop)]
 pub(crate) struct Retries<'t> {
-    sought: Sought<'t>,
+    pub sought: Sought<'t>,
     budget: u64,
     /// The attempt that explains most, and its choices.
     pub best: Attempt,
@@ -122,10 +122,7 @@ impl<'t> Retries<'t> {
         self.choices.set(&self.before_pairs)?;
         let tried = self.best.failure();
         self.try_singles(u64::MAX)?;
-        Ok(match (tried, self.best.failure()) {
-            (Some(before), Some(now)) => now.place > before.place,
-            _ => false,
-        })
+        Ok(tried.is_some_and(|failure| self.best.explains(failure.place)))
     }
 
     // Tries two candidates of the best attempt at once. The result is whether they explain a further line.
@@ -185,11 +182,8 @@ impl<'t> Retries<'t> {
         if is_further {
             self.go_on_from_last(LISTS)?;
         }
-        let is_best = match self.best.failure() {
-            Some(failure) => self.last.explains(failure.place),
-            None => false,
-        };
-        if is_best {
+        let best = self.best.failure();
+        if best.is_some_and(|failure| self.last.explains(failure.place)) {
             swap(&mut self.best, &mut self.last);
             self.chosen.set(&self.choices)?;
         }

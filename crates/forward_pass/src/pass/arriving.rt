@@ -48,7 +48,7 @@ impl<'t> Pass<'t> {
         if self.widening(host, line).is_some() {
             self.progress.findings.beyond.push(place)?;
         }
-        if how.waits {
+        if self.choices.waits(place) {
             self.waiting.insert(place, line)?;
             return Ok(());
         }
@@ -77,12 +77,10 @@ impl<'t> Pass<'t> {
         let moment = self.progress.moment();
         let world = self.progress.world();
         let sent = self.copies.of(host.other());
-        let tries = if how.is_of_last {
-            0
-        } else {
-            self.sought.lines.len()
-        };
-        for _ in 0..tries {
+        if how.is_of_last {
+            return sent.last(place).unwrap_or(0);
+        }
+        for _ in 0..self.sought.lines.len() {
             let Some(line) = sent.first(place, moment) else {
                 break;
             };

@@ -24,7 +24,7 @@ impl Pass<'_> {
     pub(crate) fn begin(&mut self, thread: u32, call: &Call) -> Done {
         let place = self.progress.place();
         self.progress.begin(thread, call)?;
-        self.calls.begin(thread, place)?;
+        self.calls.open.insert(thread, place)?;
         if let Some(key) = key_of_call(self.progress.world(), thread) {
             self.progress.findings.meant.push(MeantCall { place, key })?;
         }
@@ -43,7 +43,11 @@ impl Pass<'_> {
         };
         let meant = meant_by(self.progress.world(), call);
         if self.has_effect(pending)? {
-            return self.wake_after(meant, call);
+            // What ends or closes something lets calls go on that wait for it.
+            return match (call, meant) {
+                (Call::Shut(_) | Call::Close(_) | Call::Abort(_), Some(meant)) => self.wake(meant),
+                _ => Ok(()),
+            };
         }
         match (call, meant) {
             (Call::Connect(host, lport, rport), _) => {
@@ -76,19 +80,11 @@ impl Pass<'_> {
         Ok(is_opened)
     }
 
-    // What ends or closes something lets calls go on that wait for it.
-    fn wake_after(&mut self, meant: Option<Meant>, call: &Call) -> Done {
-        match (meant, call) {
-            (Some(meant), Call::Shut(_) | Call::Close(_) | Call::Abort(_)) => self.wake(meant),
-            _ => Ok(()),
-        }
-    }
-
     /// The current line ends a call, which had its effect, or has it now.
     pub(crate) fn end(&mut self, thread: u32, answer: &Answer) -> Done {
-        if self.calls.has_open(thread) {
+        if self.calls.open.contains_key(&thread) {
             self.effect_now(thread, answer)?;
-            self.calls.close(thread);
+            self.calls.open.remove(&thread);
         }
         self.progress.finish(thread, answer)?;
         Ok(())
@@ -103,7 +99,7 @@ impl Pass<'_> {
         if let (Some(key), Some(timer)) = (key, timer_for(answer)) {
             self.try_expiry(key, timer)?;
         }
-        if !self.calls.has_open(thread) {
+        if !self.calls.open.contains_key(&thread) {
             return Ok(());
         }
         let done = self.progress.effect(thread, answer);
@@ -128,7 +124,7 @@ impl Pass<'_> {
     fn try_effect(&mut self, thread: u32, answer: &Answer) -> Result<bool, Stop> {
         let is_done = permitted(self.progress.effect(thread, answer))?.is_some();
         if is_done {
-            self.calls.close(thread);
+            self.calls.open.remove(&thread);
         }
         Ok(is_done)
     }

@@ -76,20 +76,16 @@ impl<'t> Pass<'t> {
         }
         for _ in 0..REMEDIES {
             let plan = self.plan_of(key, wire);
-            match self.progress.make(host, plan) {
-                Err(Stop::Broken(rule)) => {
-                    if !self.remedy(key, plan, rule)? {
-                        break;
-                    }
-                }
-                Ok(made) => {
-                    // A reset closes its endpoint, for which calls may wait.
-                    if plan.flags.rst {
-                        self.wake_endpoint(key)?;
-                    }
-                    return Ok(made);
-                }
-                Err(stop) => return Err(stop),
+            let made = self.progress.make(host, plan);
+            if made.is_ok() && plan.flags.rst {
+                // A reset closes its endpoint, for which calls may wait.
+                self.wake_endpoint(key)?;
+            }
+            let Err(Stop::Broken(rule)) = made else {
+                return made;
+            };
+            if !self.remedy(key, plan, rule)? {
+                break;
             }
         }
         let plan = self.plan_of(key, wire);
@@ -102,22 +98,17 @@ impl<'t> Pass<'t> {
 
     // Does what may permit a segment that breaks this rule. The result is whether something was done.
     fn remedy(&mut self, key: EndpointKey, plan: SegmentPlan, rule: Rule) -> Result<bool, Stop> {
+        let endpoint = self.progress.endpoint(key);
+        let is_after_gap = endpoint.is_some_and(|endpoint| endpoint.snd_max() < plan.pos);
         match rule {
-            Rule::OldData if self.is_gap_before(key, plan) => {
-                self.make_unseen(key, Unseen::One, plan.pos)
-            }
+            // What precedes the segment was built, and no line shows it.
+            Rule::OldData if is_after_gap => self.make_unseen(key, Unseen::One, plan.pos),
             Rule::OldData => self.permit_old_data(key),
             Rule::Offered => self.add_expiry(key, Timer::Persist),
             Rule::State | Rule::NoEndpoint if plan.flags.syn && !plan.flags.ack => self.reopen(key),
             Rule::PayloadRange | Rule::State | Rule::NoEndpoint => self.suppose_at(key),
             _ => Ok(false),
         }
-    }
-
-    // Whether positions before a segment weren't built yet: they were, and no line shows it.
-    fn is_gap_before(&self, key: EndpointKey, plan: SegmentPlan) -> bool {
-        let endpoint = self.progress.endpoint(key);
-        endpoint.is_some_and(|endpoint| endpoint.snd_max() < plan.pos)
     }
 
     // A SYN is sent: the TIME-WAIT of an older endpoint is over, or a call opens the ports again.

@@ -43,13 +43,6 @@ fn syn(endpoint: &Endpoint, number: Word) -> SegmentPlan {
     plan
 }
 
-// A reset.
-fn reset(endpoint: &Endpoint, window: u16) -> SegmentPlan {
-    let mut plan = bare(endpoint, window, endpoint.rcv_nxt() >= 1);
-    plan.flags.rst = true;
-    plan
-}
-
 // The next bytes that weren't built, at most up to a position, and the FIN if it follows them. None: there are none.
 fn new_bytes(endpoint: &Endpoint, window: u16, to: u64) -> Option<SegmentPlan> {
     let mut plan = bare(endpoint, window, true);
@@ -130,8 +123,12 @@ impl Pass<'_> {
         let endpoint = self.progress.endpoint(key)?;
         let next = self.outgoing.next(key);
         let window = next.map_or(u16::MAX, |shown| shown.wire.seg.window);
+        if unseen == Unseen::Reset {
+            let mut plan = bare(endpoint, window, endpoint.rcv_nxt() >= 1);
+            plan.flags.rst = true;
+            return Some(plan);
+        }
         match endpoint.state {
-            _ if unseen == Unseen::Reset => Some(reset(endpoint, window)),
             State::SynSent | State::SynReceived => Some(self.unseen_syn(key, endpoint)),
             _ => new_bytes(endpoint, window, to),
         }
