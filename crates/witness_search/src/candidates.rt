@@ -45,7 +45,8 @@ impl Candidates {
     /// Keeps only the first candidates, so many of them.
     pub(crate) fn truncate(&mut self, count: usize) {
         if count < self.stops.len() {
-            self.choices.truncate(self.start_of(count));
+            let start = self.start_of(count);
+            self.choices.truncate(start);
             self.stops.truncate(count);
         }
     }
