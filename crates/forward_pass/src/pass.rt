@@ -73,10 +73,9 @@ impl<'t> Pass<'t> {
     fn failure(&self, place: usize, rule: Rule) -> Failure {
         let world = self.progress.world();
         let line = self.sought.lines.get(place);
-        let key = line.and_then(|line| EndpointKey::of_line(line).or(key_of_call(
-            world,
-            line.thread,
-        )));
+        let key = line.and_then(|line| {
+            EndpointKey::of_line(line).or(key_of_call(world, line.thread))
+        });
         Failure { place, rule, key }
     }
 

@@ -72,9 +72,9 @@ impl Known<'_> {
         self.widen(out)?;
         self.drop_all(out)?;
         match (self.failure.rule, self.failure.key) {
-            (Rule::CallAnswer | Rule::OldData | Rule::TimerOff, Some(at)) => self.expire_each(
-                out, at,
-            ),
+            (Rule::CallAnswer | Rule::OldData | Rule::TimerOff, Some(at)) => {
+                self.expire_each(out, at)
+            }
             _ => Ok(()),
         }
     }
