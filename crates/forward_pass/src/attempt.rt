@@ -5,7 +5,7 @@ use crate::key::EndpointKey;
 use crate::pass::{Pass, Sought};
 use crate::progress::Findings;
 use case_forms::OutOfMemory;
-use std::alloc::{AllocError, Global};
+use std::alloc::Global;
 use verdict::Rule;
 
 /// A line that no step explains.
@@ -52,20 +52,11 @@ impl Attempt {
     /// Makes a pass over the lines with these choices. Its result replaces that of an earlier one.
     pub fn search(&mut self, sought: Sought<'_>, choices: &Choices) -> Result<(), OutOfMemory> {
         let mut pass = Pass::new(sought, choices);
-        let end = match pass.run() {
-            Ok(()) => Some(End::Whole),
-            Err(stop) => pass.end_at(stop),
-        };
-        let steps = pass.exchange(&mut self.findings);
+        let end = pass.run();
+        self.cost = pass.exchange(&mut self.findings).saturating_add(1);
         drop(pass);
-        self.cost = steps.saturating_add(1);
-        match end {
-            Some(end) => {
-                self.end = end;
-                Ok(())
-            }
-            None => Err(AllocError),
-        }
+        self.end = end?;
+        Ok(())
     }
 
     /// Where a step was refused. None: none was.
@@ -78,9 +69,6 @@ impl Attempt {
 
     /// Whether it explains the line at this place, and so all lines before it.
     pub fn explains(&self, place: usize) -> bool {
-        match self.failure() {
-            Some(failure) => failure.place > place,
-            None => true,
-        }
+        self.failure().is_none_or(|failure| failure.place > place)
     }
 }

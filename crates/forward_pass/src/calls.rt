@@ -32,40 +32,23 @@ pub(crate) struct Pending {
 
 /// For each listener and endpoint, calls that wait there. Some of them may have had their effect.
 #[derive(Drop)]
-pub(crate) struct Waiting {
-    alloc: Global,
-    queues: BTreeMap<Meant, VecDeque<Pending>>,
-}
+pub(crate) struct Waiting(BTreeMap<Meant, VecDeque<Pending>>);
 
 impl Waiting {
-    fn new(alloc: Global) -> Waiting {
-        Waiting {
-            alloc,
-            queues: BTreeMap::new(alloc),
-        }
-    }
-
     // Adds a call after all others.
     fn put(&mut self, meant: Meant, pending: Pending) -> Result<(), OutOfMemory> {
-        let alloc = self.alloc;
-        self.queues
-            .entry(meant)?
-            .or_insert_with(|| VecDeque::new(alloc))
-            .push_back(pending)?;
+        self.0.entry(meant)?.or_default().push_back(pending)?;
         Ok(())
     }
 
-    /// Puts a call back that was the first.
-    pub(crate) fn put_back(&mut self, meant: Meant, pending: Pending) -> Result<(), OutOfMemory> {
-        if let Some(queue) = self.queues.get_mut(&meant) {
-            queue.push_front(pending)?;
-        }
-        Ok(())
+    /// The call that so many others precede.
+    pub(crate) fn get(&self, meant: Meant, before: usize) -> Option<Pending> {
+        self.0.get(&meant)?.get(before).copied()
     }
 
-    /// Removes the call that has waited longest.
-    pub(crate) fn pop(&mut self, meant: Meant) -> Option<Pending> {
-        self.queues.get_mut(&meant)?.pop_front()
+    /// Removes the call that so many others precede.
+    pub(crate) fn remove(&mut self, meant: Meant, before: usize) -> Option<Pending> {
+        self.0.get_mut(&meant)?.remove(before)
     }
 }
 
@@ -73,7 +56,7 @@ impl Waiting {
 #[derive(Drop)]
 pub(crate) struct Calls {
     /// For each thread, the place at which such a call began.
-    open: BTreeMap<u32, usize>,
+    pub open: BTreeMap<u32, usize>,
     /// The calls whose end is known, in the order of their beginnings.
     pub ended: Waiting,
     /// The calls that are open at the end of the trace.
@@ -86,31 +69,15 @@ impl Calls {
     pub(crate) fn new(alloc: Global) -> Calls {
         Calls {
             open: BTreeMap::new(alloc),
-            ended: Waiting::new(alloc),
-            unended: Waiting::new(alloc),
+            ended: Waiting(BTreeMap::new(alloc)),
+            unended: Waiting(BTreeMap::new(alloc)),
             opens: BTreeMap::new(alloc),
         }
-    }
-
-    /// A thread's call begins at a place.
-    pub(crate) fn begin(&mut self, thread: u32, place: usize) -> Result<(), OutOfMemory> {
-        self.open.insert(thread, place)?;
-        Ok(())
-    }
-
-    /// Whether a thread has a call that had no effect yet.
-    pub(crate) fn has_open(&self, thread: u32) -> bool {
-        self.open.contains_key(&thread)
     }
 
     /// Whether a thread's call that began at a place had no effect yet.
     pub(crate) fn is_open(&self, thread: u32, begin: usize) -> bool {
         self.open.get(&thread).copied() == Some(begin)
-    }
-
-    /// A thread's call had its effect.
-    pub(crate) fn close(&mut self, thread: u32) {
-        self.open.remove(&thread);
     }
 
     /// A call waits at a listener or an endpoint.
@@ -125,7 +92,7 @@ impl Calls {
 // The socket number that a call names.
 fn socket_of(call: &Call) -> Option<u32> {
     match call {
-        Call::Listen(_, _, _) | Call::Connect(_, _, _) => None,
+        Call::Listen(..) | Call::Connect(..) => None,
         Call::Await(socket)
         | Call::Accept(socket)
         | Call::Send(socket, _)
@@ -137,8 +104,9 @@ fn socket_of(call: &Call) -> Option<u32> {
     }
 }
 
-// The host that has a socket, and what it is there.
-fn target_of(world: &World, socket: u32) -> Option<(Host, SocketTarget)> {
+// The host that has the socket of a call, and what it is there.
+fn target_of(world: &World, call: &Call) -> Option<(Host, SocketTarget)> {
+    let socket = socket_of(call)?;
     match world.body(Host::Zero).thing(socket) {
         Some(target) => Some((Host::Zero, target)),
         None => Some((Host::One, world.body(Host::One).thing(socket)?)),
@@ -147,7 +115,7 @@ fn target_of(world: &World, socket: u32) -> Option<(Host, SocketTarget)> {
 
 /// What a call means. None: it opens something, or its socket number is not live.
 pub(crate) fn meant_by(world: &World, call: &Call) -> Option<Meant> {
-    match target_of(world, socket_of(call)?)? {
+    match target_of(world, call)? {
         (host, SocketTarget::ListenerAt(place)) => Some(listener_at(host, place)),
         (host, SocketTarget::EndpointAt(place)) => Some(endpoint_at(host, place)),
     }
@@ -159,13 +127,11 @@ pub(crate) fn key_of_call(world: &World, thread: u32) -> Option<EndpointKey> {
     if let Call::Connect(host, lport, rport) = call {
         return Some(EndpointKey::new(*host, *lport, *rport));
     }
-    match target_of(world, socket_of(call)?)? {
-        (host, SocketTarget::EndpointAt(place)) => {
-            let endpoint = world.body(host).endpoint_at(place)?;
-            Some(EndpointKey::new(host, endpoint.lport, endpoint.rport))
-        }
-        (_, SocketTarget::ListenerAt(_)) => None,
-    }
+    let (host, SocketTarget::EndpointAt(place)) = target_of(world, call)? else {
+        return None;
+    };
+    let endpoint = world.body(host).endpoint_at(place)?;
+    Some(EndpointKey::new(host, endpoint.lport, endpoint.rport))
 }
 
 /// The answer that a call is supposed to have had that is open at the end of the trace. None: it is supposed to have
@@ -174,11 +140,6 @@ pub(crate) fn supposed(call: &Call) -> Option<Answer> {
     match call {
         Call::Send(_, bytes) => Some(Answer::Given(u32::try_from(bytes.len()).ok()?)),
         Call::Shut(_) | Call::Close(_) | Call::Abort(_) => Some(Answer::Done),
-        Call::Listen(_, _, _)
-        | Call::Connect(_, _, _)
-        | Call::Await(_)
-        | Call::Accept(_)
-        | Call::Recv(_, _)
-        | Call::Status(_) => None,
+        _ => None,
     }
 }

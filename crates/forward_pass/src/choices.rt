@@ -71,61 +71,55 @@ pub struct Choice {
 }
 
 /// What was chosen for an arrival.
-#[derive(Clone, Copy)]
+#[derive(Clone, Copy, Default)]
 pub(crate) struct Arrival {
     pub is_dropped: bool,
-    pub is_kept: bool,
-    pub is_measured: bool,
-    pub grows: bool,
+    pub is_not_kept: bool,
+    pub is_unmeasured: bool,
+    pub is_not_grown: bool,
     pub is_of_last: bool,
     pub is_widened: bool,
-    pub waits: bool,
 }
 
-const USUAL: Arrival = Arrival {
-    is_dropped: false,
-    is_kept: true,
-    is_measured: true,
-    grows: true,
-    is_of_last: false,
-    is_widened: false,
-    waits: false,
-};
-
 impl Arrival {
-    // The same, with one choice more. Of keeping and dropping, the last choice counts.
-    fn with(self, fate: Fate) -> Arrival {
-        let mut arrival = self;
+    // One choice more. Of keeping and dropping, the last choice counts.
+    fn choose(&mut self, fate: Fate) {
         match fate {
-            Fate::Usual => arrival = USUAL,
+            Fate::Usual => *self = Arrival::default(),
             Fate::NotKept => {
-                arrival.is_kept = false;
-                arrival.is_dropped = false;
+                self.is_not_kept = true;
+                self.is_dropped = false;
             }
-            Fate::Dropped => arrival.is_dropped = true,
-            Fate::Unmeasured => arrival.is_measured = false,
-            Fate::NotGrown => arrival.grows = false,
-            Fate::OfLast => arrival.is_of_last = true,
-            Fate::Widened => arrival.is_widened = true,
+            Fate::Dropped => self.is_dropped = true,
+            Fate::Unmeasured => self.is_unmeasured = true,
+            Fate::NotGrown => self.is_not_grown = true,
+            Fate::OfLast => self.is_of_last = true,
+            Fate::Widened => self.is_widened = true,
         }
-        arrival
     }
 }
 
 /// Choices, in the order in which they were chosen.
 #[derive(Drop)]
 pub struct Choices {
-    alloc: Global,
     all: Vec<Choice>,
     /// For the place of a line, the choices that change what happens there.
     by_place: BTreeMap<usize, Vec<Choice>>,
+}
+
+// Puts a choice at its lines.
+fn put(by_place: &mut BTreeMap<usize, Vec<Choice>>, choice: Choice) -> Result<(), OutOfMemory> {
+    by_place.entry(choice.place)?.or_default().push(choice)?;
+    if let Deed::WaitUntil(after) = choice.deed {
+        by_place.entry(after)?.or_default().push(choice)?;
+    }
+    Ok(())
 }
 
 impl Choices {
     /// Nothing is chosen.
     pub fn new(alloc: Global) -> Choices {
         Choices {
-            alloc,
             all: Vec::new(alloc),
             by_place: BTreeMap::new(alloc),
         }
@@ -134,29 +128,11 @@ impl Choices {
     /// Adds choices, without those that are the last of their lines already.
     pub fn push_all(&mut self, choices: &[Choice]) -> Result<(), OutOfMemory> {
         for choice in choices {
-            if self.at(choice.place).last().copied() != Some(*choice) {
+            if self.at(choice.place).last() != Some(choice) {
                 self.all.push(*choice)?;
-                self.put(*choice)?;
+                put(&mut self.by_place, *choice)?;
             }
         }
-        Ok(())
-    }
-
-    // Puts a choice at its lines.
-    fn put(&mut self, choice: Choice) -> Result<(), OutOfMemory> {
-        self.put_at(choice.place, choice)?;
-        match choice.deed {
-            Deed::WaitUntil(after) => self.put_at(after, choice),
-            _ => Ok(()),
-        }
-    }
-
-    fn put_at(&mut self, place: usize, choice: Choice) -> Result<(), OutOfMemory> {
-        let alloc = self.alloc;
-        self.by_place
-            .entry(place)?
-            .or_insert_with(|| Vec::new(alloc))
-            .push(choice)?;
         Ok(())
     }
 
@@ -178,11 +154,9 @@ impl Choices {
 
     // Puts all choices at their lines anew.
     fn put_all(&mut self) -> Result<(), OutOfMemory> {
-        self.by_place = BTreeMap::new(self.alloc);
-        for index in 0..self.all.len() {
-            if let Some(choice) = self.all.get(index).copied() {
-                self.put(choice)?;
-            }
+        self.by_place.clear();
+        for choice in &self.all {
+            put(&mut self.by_place, *choice)?;
         }
         Ok(())
     }
@@ -192,16 +166,8 @@ impl Choices {
         self.all.len()
     }
 
-    /// Whether nothing is chosen.
-    pub fn is_empty(&self) -> bool {
-        self.all.is_empty()
-    }
-
     /// The choices at a line, in the order in which they were chosen.
     pub(crate) fn at(&self, place: usize) -> &[Choice] {
-        if self.is_empty() {
-            return &[];
-        }
         match self.by_place.get(&place) {
             Some(choices) => choices.as_slice(),
             None => &[],
@@ -210,24 +176,18 @@ impl Choices {
 
     /// What was chosen for the arrival of a line.
     pub(crate) fn arrival(&self, place: usize) -> Arrival {
-        let mut arrival = USUAL;
+        let mut arrival = Arrival::default();
         for choice in self.at(place) {
             if let Deed::Fate(fate) = choice.deed {
-                arrival = arrival.with(fate);
+                arrival.choose(fate);
             }
         }
-        arrival.waits = self.waits(place);
         arrival
     }
 
     /// Whether the arrival or the call of a line waits for a later one.
     pub(crate) fn waits(&self, place: usize) -> bool {
-        for choice in self.at(place) {
-            match choice.deed {
-                Deed::WaitUntil(after) if choice.place == place => return after > place,
-                _ => {}
-            }
-        }
-        false
+        let mut choices = self.at(place).iter();
+        choices.any(|choice| choice.place == place && matches!(choice.deed, Deed::WaitUntil(_)))
     }
 }

@@ -15,18 +15,12 @@ const MULTIPLIER: u64 = 0x517c_c1b7_2722_0a95;
 
 // A digest of bytes, eight of them at a time: FxHash.
 fn digest(bytes: &[u8]) -> u64 {
-    let mut state = bytes.len() as u64;
-    let mut rest = bytes;
-    for _ in 0..bytes.len() / 8 {
-        if let Some((word, more)) = rest.split_first_chunk::<8>() {
-            state = mixed(state, u64::from_le_bytes(*word));
-            rest = more;
-        }
-    }
-    for byte in rest {
-        state = mixed(state, u64::from(*byte));
-    }
-    state
+    let (words, rest) = bytes.as_chunks::<8>();
+    let state = words.iter().fold(bytes.len() as u64, |state, word| {
+        mixed(state, u64::from_le_bytes(*word))
+    });
+    rest.iter()
+        .fold(state, |state, byte| mixed(state, u64::from(*byte)))
 }
 
 fn mixed(state: u64, word: u64) -> u64 {
@@ -124,9 +118,7 @@ impl<'t> Sent<'t> {
     /// The first line of this place that has no copy will get none.
     pub(crate) fn pass(&mut self, place: usize) {
         if let Some(known) = self.all.get_mut(place) {
-            if let Some(first) = known.open {
-                known.open = self.next.remove(&first.line);
-            }
+            known.open = known.open.and_then(|first| self.next.remove(&first.line));
         }
     }
 
@@ -154,9 +146,8 @@ impl<'t> Sent<'t> {
             let duration = moment.saturating_sub(known.last.moment);
             self.fastest = self.fastest.min(duration);
         }
-        match known.open {
-            Some(open) if open.line == line => self.pass(place),
-            _ => {}
+        if known.open.is_some_and(|open| open.line == line) {
+            self.pass(place);
         }
     }
 }

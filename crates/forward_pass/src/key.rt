@@ -13,10 +13,7 @@ pub struct EndpointKey {
 
 /// The number of a host.
 pub(crate) fn number_of(host: Host) -> u8 {
-    match host {
-        Host::Zero => 0,
-        Host::One => 1,
-    }
+    u8::from(host == Host::One)
 }
 
 impl EndpointKey {

@@ -11,20 +11,17 @@
 //!   - `arriving`: an arrival is processed at once, answered by a reset or dropped
 //!   - `calling`: a call has its effect as soon as the model permits the answer that its end shows
 //!   - `expiring`: expiries that the trace shows, and lines that are added for others
-//!   - `chosen`: what happens before or after a line because it was chosen
 //! - `choices`: what is chosen at lines where more than one step is possible
 //! - `progress`: the world after the steps so far, and these steps
 //! - `outgoing`: what later lines show: ends of calls, segments that are sent
 //! - `calls`: calls that had no effect yet
 //! - `copies`: sent segments that have no copy yet
-//! - `chains`: lines in order, for each endpoint
 //! - `key`: endpoints, by their host and ports
 //! - `stop`: why a step isn't done
 #![tactic(auto)]
 
 mod attempt;
 mod calls;
-mod chains;
 mod choices;
 mod copies;
 mod key;

@@ -1,13 +1,21 @@
 //! What later lines show: ends of calls, and segments that are sent. Lines are named by their places among the event
 //! lines, from 0.
 
-use crate::chains::{Chains, Left};
 use crate::key::EndpointKey;
 use case_forms::{Event, Line, OutOfMemory, Wire};
 use segment::Flag;
 use seqno::Word;
 use std::alloc::Global;
 use std::collections::BTreeMap;
+
+// For each endpoint that has any, places, the first one last.
+type Chains = BTreeMap<EndpointKey, Vec<usize>>;
+
+// Adds a place that precedes all others of its endpoint.
+fn put_first(chains: &mut Chains, key: EndpointKey, place: usize) -> Result<(), OutOfMemory> {
+    chains.entry(key)?.or_default().push(place)?;
+    Ok(())
+}
 
 /// What later lines show.
 #[derive(Drop)]
@@ -28,8 +36,8 @@ impl LaterLines {
         let mut later = LaterLines {
             ends: BTreeMap::new(alloc),
             ended: BTreeMap::new(alloc),
-            sent: Chains::new(alloc),
-            resets: Chains::new(alloc),
+            sent: BTreeMap::new(alloc),
+            resets: BTreeMap::new(alloc),
         };
         later.read_all(lines)?;
         Ok(later)
@@ -56,11 +64,11 @@ impl LaterLines {
             Event::Sent(host, wire) => {
                 let key = EndpointKey::sender(*host, wire);
                 if wire.seg.has(Flag::Rst) {
-                    self.resets.put_first(key, place)?;
+                    put_first(&mut self.resets, key, place)?;
                 }
-                self.sent.put_first(key, place)?;
+                put_first(&mut self.sent, key, place)?;
             }
-            Event::Came(_, _) | Event::Expired(_, _, _, _) => {}
+            Event::Came(..) | Event::Expired(..) => {}
         }
         Ok(())
     }
@@ -69,6 +77,47 @@ impl LaterLines {
     pub(crate) fn end_of(&self, begin: usize) -> Option<usize> {
         self.ends.get(&begin).copied()
     }
+}
+
+// The places that are left of chains.
+#[derive(Drop)]
+struct Left<'t> {
+    chains: &'t Chains,
+    /// How many are left, for each endpoint of which any were removed.
+    counts: BTreeMap<EndpointKey, usize>,
+}
+
+impl<'t> Left<'t> {
+    // The places of an endpoint that are left, the first one last.
+    fn of(&self, key: EndpointKey) -> &'t [usize] {
+        let Some(places) = self.chains.get(&key) else {
+            return &[];
+        };
+        match self.counts.get(&key) {
+            Some(count) => places.get(..*count).unwrap_or(&[]),
+            None => places.as_slice(),
+        }
+    }
+
+    // Removes the places of an endpoint up to and including this one.
+    fn pass(&mut self, key: EndpointKey, place: usize) -> Result<(), OutOfMemory> {
+        let places = self.of(key);
+        let passed = places.iter().rev().take_while(|first| **first <= place);
+        let left = places.len().saturating_sub(passed.count());
+        if left < places.len() {
+            self.counts.insert(key, left)?;
+        }
+        Ok(())
+    }
+}
+
+/// A line that shows a segment sent.
+#[derive(Clone, Copy)]
+pub(crate) struct Shown<'t> {
+    /// The endpoint that sends it.
+    pub key: EndpointKey,
+    pub place: usize,
+    pub wire: &'t Wire,
 }
 
 /// The segments that are sent from the current line on.
@@ -82,37 +131,41 @@ pub(crate) struct Outgoing<'t> {
     /// For the place of a line whose segment was built before, the number of the segment.
     built: BTreeMap<usize, u32>,
     /// For each endpoint, the number of the last SYN that it sent.
-    syns: BTreeMap<EndpointKey, Word>,
+    pub syns: BTreeMap<EndpointKey, Word>,
 }
 
 impl<'t> Outgoing<'t> {
     /// All segments of a trace.
     pub(crate) fn all(alloc: Global, lines: &'t [Line], later: &'t LaterLines) -> Outgoing<'t> {
+        let all = |chains| Left {
+            chains,
+            counts: BTreeMap::new(alloc),
+        };
         Outgoing {
             lines,
-            unbuilt: Left::new(alloc, &later.sent),
-            resets: Left::new(alloc, &later.resets),
+            unbuilt: all(&later.sent),
+            resets: all(&later.resets),
             built: BTreeMap::new(alloc),
             syns: BTreeMap::new(alloc),
         }
     }
 
-    // The first line of an endpoint that is left, and its segment.
-    fn first(&self, left: &Left<'_>, key: EndpointKey) -> Option<(usize, &'t Wire)> {
-        let place = left.first(key)?;
+    // The first line of an endpoint that is left.
+    fn first(&self, left: &Left<'_>, key: EndpointKey) -> Option<Shown<'t>> {
+        let place = *left.of(key).last()?;
         match &self.lines.get(place)?.event {
-            Event::Sent(_, wire) => Some((place, wire)),
+            Event::Sent(_, wire) => Some(Shown { key, place, wire }),
             _ => None,
         }
     }
 
-    /// The next segment that an endpoint sends and that wasn't built yet, and the place of its line.
-    pub(crate) fn next(&self, key: EndpointKey) -> Option<(usize, &'t Wire)> {
+    /// The next line of an endpoint whose segment wasn't built yet.
+    pub(crate) fn next(&self, key: EndpointKey) -> Option<Shown<'t>> {
         self.first(&self.unbuilt, key)
     }
 
-    /// The next reset that an endpoint sends and that wasn't built yet, and the place of its line.
-    pub(crate) fn next_reset(&self, key: EndpointKey) -> Option<(usize, &'t Wire)> {
+    /// The next line of an endpoint whose segment is a reset that wasn't built yet.
+    pub(crate) fn next_reset(&self, key: EndpointKey) -> Option<Shown<'t>> {
         self.first(&self.resets, key)
     }
 
@@ -121,52 +174,27 @@ impl<'t> Outgoing<'t> {
         self.built.contains_key(&place)
     }
 
-    /// The number of the last SYN that an endpoint sent.
-    pub(crate) fn last_syn(&self, key: EndpointKey) -> Option<Word> {
-        self.syns.get(&key).copied()
-    }
-
     /// The segment of a line was built, under this number.
-    pub(crate) fn build(
-        &mut self,
-        key: EndpointKey,
-        place: usize,
-        made: u32,
-    ) -> Result<(), OutOfMemory> {
-        self.built.insert(place, made)?;
-        self.pass(key, place)
+    pub(crate) fn build(&mut self, shown: Shown<'_>, made: u32) -> Result<(), OutOfMemory> {
+        self.built.insert(shown.place, made)?;
+        self.pass(shown)
     }
 
     /// The reset of a line was built, under this number, in answer to an arrival.
-    pub(crate) fn build_reset(
-        &mut self,
-        key: EndpointKey,
-        place: usize,
-        made: u32,
-    ) -> Result<(), OutOfMemory> {
-        self.built.insert(place, made)?;
-        self.resets.pass(key, place)
+    pub(crate) fn build_reset(&mut self, shown: Shown<'_>, made: u32) -> Result<(), OutOfMemory> {
+        self.built.insert(shown.place, made)?;
+        self.resets.pass(shown.key, shown.place)
     }
 
     /// The segment of a line is sent. The result is its number, if it was built before.
-    pub(crate) fn start_sending(
-        &mut self,
-        key: EndpointKey,
-        place: usize,
-    ) -> Result<Option<u32>, OutOfMemory> {
-        self.pass(key, place)?;
-        Ok(self.built.remove(&place))
-    }
-
-    /// A SYN with this number was sent.
-    pub(crate) fn sent_syn(&mut self, key: EndpointKey, number: Word) -> Result<(), OutOfMemory> {
-        self.syns.insert(key, number)?;
-        Ok(())
+    pub(crate) fn start_sending(&mut self, shown: Shown<'_>) -> Result<Option<u32>, OutOfMemory> {
+        self.pass(shown)?;
+        Ok(self.built.remove(&shown.place))
     }
 
     // The segments of an endpoint up to this line count as built.
-    fn pass(&mut self, key: EndpointKey, place: usize) -> Result<(), OutOfMemory> {
-        self.unbuilt.pass(key, place)?;
-        self.resets.pass(key, place)
+    fn pass(&mut self, shown: Shown<'_>) -> Result<(), OutOfMemory> {
+        self.unbuilt.pass(shown.key, shown.place)?;
+        self.resets.pass(shown.key, shown.place)
     }
 }

@@ -2,23 +2,23 @@
 
 mod arriving;
 mod calling;
-mod chosen;
 mod expiring;
 mod sending;
 mod unseen;
 
 use crate::attempt::{End, Failure};
 use crate::calls::{Calls, key_of_call};
-use crate::choices::Choices;
+use crate::choices::{Choices, Deed, Remedy};
 use crate::copies::Copies;
 use crate::key::EndpointKey;
 use crate::outgoing::{LaterLines, Outgoing};
 use crate::progress::{Findings, Progress};
-use crate::stop::Stop;
-use case_forms::{Event, Header, Line};
-use std::alloc::Global;
+use crate::stop::{Done, Stop};
+use case_forms::{Event, Header, Line, OutOfMemory, Timer};
+use std::alloc::{AllocError, Global};
 use std::collections::BTreeMap;
 use std::mem::swap;
+use verdict::Rule;
 
 /// A trace for which a witness is sought.
 #[derive(Clone, Copy)]
@@ -57,19 +57,41 @@ impl<'t> Pass<'t> {
         }
     }
 
-    /// Goes over all lines.
-    pub(crate) fn run(&mut self) -> Result<(), Stop> {
+    /// Goes over the lines. The result is how the pass ended.
+    pub(crate) fn run(&mut self) -> Result<End, OutOfMemory> {
+        let explained = self.explain_all();
+        let place = self.progress.place();
+        match explained {
+            Ok(()) => Ok(End::Whole),
+            Err(Stop::Broken(rule)) => Ok(End::Refused(self.failure(place, rule))),
+            Err(Stop::TooManySteps) => Ok(End::TooManySteps { place }),
+            Err(Stop::OutOfMemory) => Err(AllocError),
+        }
+    }
+
+    // The step of the line at a place breaks a rule.
+    fn failure(&self, place: usize, rule: Rule) -> Failure {
+        let world = self.progress.world();
+        let line = self.sought.lines.get(place);
+        let key = line.and_then(|line| {
+            EndpointKey::of_line(line).or(key_of_call(world, line.thread))
+        });
+        Failure { place, rule, key }
+    }
+
+    fn explain_all(&mut self) -> Done {
         let lines = self.sought.lines;
         for (place, line) in lines.iter().enumerate() {
             self.progress.go_to(place, line.moment);
             self.prepare(place)?;
             self.explain(line)?;
-            self.go_on(place)?;
+            self.build_chosen(place)?;
+            self.end_waits(place)?;
         }
         Ok(())
     }
 
-    fn explain(&mut self, line: &'t Line) -> Result<(), Stop> {
+    fn explain(&mut self, line: &'t Line) -> Done {
         match &line.event {
             Event::CallBegin(call) => self.begin(line.thread, call),
             Event::CallEnd(answer) => self.end(line.thread, answer),
@@ -81,28 +103,75 @@ impl<'t> Pass<'t> {
         }
     }
 
-    /// How the pass ended that stopped so. None: memory ran out.
-    pub(crate) fn end_at(&self, stop: Stop) -> Option<End> {
-        let place = self.progress.place();
-        match stop {
-            Stop::Broken(rule) => {
-                let line = self.sought.lines.get(place);
-                let key = line.and_then(|line| self.key_of(line));
-                Some(End::Refused(Failure { place, rule, key }))
+    // Does what was chosen to happen before the line at a place.
+    fn prepare(&mut self, place: usize) -> Done {
+        let choices = self.choices;
+        for choice in choices.at(place) {
+            if let Deed::Before(at, remedy) = choice.deed {
+                self.apply(at, remedy)?;
             }
-            Stop::TooManySteps => Some(End::TooManySteps { place }),
-            Stop::OutOfMemory => None,
+        }
+        Ok(())
+    }
+
+    fn apply(&mut self, at: EndpointKey, remedy: Remedy) -> Done {
+        match remedy {
+            Remedy::Rto => self.try_expiry(at, Timer::Rto),
+            Remedy::Persist => self.try_expiry(at, Timer::Persist),
+            Remedy::TimeWaitOver => self.try_expiry(at, Timer::Msl2),
+            Remedy::Recovery => {
+                self.try_recovery(at)?;
+                Ok(())
+            }
         }
     }
 
-    // The endpoint to which a line applies. None: it isn't known, or the line applies to a listener.
-    fn key_of(&self, line: &Line) -> Option<EndpointKey> {
-        EndpointKey::of_line(line).or(key_of_call(self.progress.world(), line.thread))
+    // Builds the segments that were chosen to be built after the line at a place.
+    fn build_chosen(&mut self, place: usize) -> Done {
+        let choices = self.choices;
+        for choice in choices.at(place) {
+            match choice.deed {
+                Deed::Build(later) => self.make_early(later)?,
+                Deed::BuildUnseen(at, unseen) => {
+                    self.make_unseen(at, unseen, u64::MAX)?;
+                }
+                Deed::Fate(_) | Deed::WaitUntil(_) | Deed::Before(..) => {}
+            }
+        }
+        Ok(())
+    }
+
+    // What waits until after the line at a place goes on.
+    fn end_waits(&mut self, place: usize) -> Done {
+        let choices = self.choices;
+        for choice in choices.at(place) {
+            if choice.deed == Deed::WaitUntil(place) {
+                self.end_wait(choice.place)?;
+            }
+        }
+        Ok(())
+    }
+
+    // The arrival or the call of the line at a place waits no longer.
+    fn end_wait(&mut self, waiting: usize) -> Done {
+        let lines = self.sought.lines;
+        let Some(line) = lines.get(waiting) else {
+            return Ok(());
+        };
+        match (&line.event, self.waiting.remove(&waiting)) {
+            (Event::Came(host, _), Some(number)) => {
+                self.resolve_arrival(*host, number, self.choices.arrival(waiting))
+            }
+            (Event::CallBegin(call), _) if self.calls.is_open(line.thread, waiting) => {
+                self.try_first(waiting, line.thread, call)
+            }
+            _ => Ok(()),
+        }
     }
 
     /// Exchanges what was found for something else. The result is how many steps were done.
     pub(crate) fn exchange(&mut self, findings: &mut Findings) -> u64 {
-        swap(findings, self.progress.findings());
+        swap(findings, &mut self.progress.findings);
         self.progress.world().steps()
     }
 }

@@ -4,12 +4,13 @@ ghost use Rattle.std.specs.Prelude.{◌<◌, OnOk};
 ghost use Rattle.spec_tcp.specs.Bounds.{most_steps};
 
 use crate::key::EndpointKey;
-use crate::stop::Stop;
+use crate::stop::{Done, Stop};
 use case_forms::{
     Answer, Call, Expired, Extras, GREATEST_POSITION, Header, Host, Label, MOST_STEPS, NamedLine,
     Recovery, SegmentPlan, Span, Step, Steps, TakeChoice, Timer, Wire,
 };
 use endpoint_state::{Endpoint, StepFault, World};
+use spec_tcp::{Arrived, Emission};
 use std::alloc::Global;
 
 /// An added line: a timer expires.
@@ -58,7 +59,7 @@ impl Findings {
 #[derive(Drop)]
 pub(crate) struct Progress {
     world: World,
-    findings: Findings,
+    pub findings: Findings,
     /// The place of the current line, from 0.
     place: usize,
     /// The place of the first line that has no step yet.
@@ -70,7 +71,7 @@ pub(crate) struct Progress {
 }
 
 // Whether the world may do one more step.
-fn has_room(world: &World) -> Result<(), Stop>
+fn has_room(world: &World) -> Done
     ensures { OnOk result (world.now.steps < most_steps) }
 {
     if world.steps() < MOST_STEPS {
@@ -117,10 +118,6 @@ impl Progress {
         &self.world
     }
 
-    pub(crate) fn findings(&mut self) -> &mut Findings {
-        &mut self.findings
-    }
-
     pub(crate) fn place(&self) -> usize {
         self.place
     }
@@ -140,8 +137,29 @@ impl Progress {
         body.endpoint_of(key.lport, key.rport)
     }
 
+    /// A segment that arrived with a line and waits, and the endpoint for which it is meant.
+    pub(crate) fn waiting(&self, host: Host, line: u64) -> Option<(EndpointKey, &Emission)> {
+        let m = self.world.waiting(host, line)?;
+        Some((EndpointKey::receiver(host, m), m))
+    }
+
+    /// An endpoint, and a segment as the endpoint reads it. None: it doesn't exist, or is CLOSED or beyond all
+    /// positions.
+    pub(crate) fn read<'m>(
+        &self,
+        key: EndpointKey,
+        m: &'m Emission,
+    ) -> Option<(&Endpoint, Arrived<'m>)> {
+        let endpoint = self.endpoint(key)?;
+        if endpoint.state.is_closed() {
+            return None;
+        }
+        let read = Arrived::checked_read(self.world.header().version, endpoint, m)?;
+        Some((endpoint, read))
+    }
+
     /// Writes a step down.
-    pub(crate) fn push_step(&mut self, label: Label<NamedLine>) -> Result<(), Stop> {
+    pub(crate) fn push_step(&mut self, label: Label<NamedLine>) -> Done {
         let span = Span {
             line: 0,
             start: 0,
@@ -203,9 +221,8 @@ impl Progress {
     /// A copy of another line's segment arrives with the current line.
     pub(crate) fn arrive(&mut self, host: Host, copied: u64, wire: &Wire) -> Result<u64, Stop> {
         has_room(&self.world)?;
-        let done = self
-            .world
-            .arrive(host, self.number, copied, wire, self.moment);
+        let world = &mut self.world;
+        let done = world.arrive(host, self.number, copied, wire, self.moment);
         self.push_current(Extras::One(saturated(copied)), done)
     }
 
@@ -220,10 +237,11 @@ impl Progress {
     }
 
     /// A timer expires with an added line, which precedes the first line that has no step yet.
-    pub(crate) fn add_expiry(&mut self, key: EndpointKey, expired: Expired) -> Result<(), Stop> {
+    pub(crate) fn add_expiry(&mut self, key: EndpointKey, expired: Expired) -> Done {
         has_room(&self.world)?;
         self.world
-            .expire(key.host(), key.ports(), expired, self.moment)?;
+            .expire(key.host(), key.ports(), expired, self.moment)
+            .map_err(Stop::Broken)?;
         self.push_line(extras_of(expired))?;
         self.findings.added.push(Added {
             before: self.next,
@@ -235,7 +253,7 @@ impl Progress {
     }
 
     /// A thread's open call has its effect, with this answer.
-    pub(crate) fn effect(&mut self, thread: u32, answer: &Answer) -> Result<(), Stop> {
+    pub(crate) fn effect(&mut self, thread: u32, answer: &Answer) -> Done {
         has_room(&self.world)?;
         self.world.effect(thread, answer)?;
         let answer = answer.copy()?;
@@ -254,16 +272,16 @@ impl Progress {
     }
 
     /// A host processes the segment that arrived with a line.
-    pub(crate) fn take(&mut self, host: Host, line: u64, choice: TakeChoice) -> Result<(), Stop> {
+    pub(crate) fn take(&mut self, host: Host, line: u64, choice: TakeChoice) -> Done {
         has_room(&self.world)?;
         self.world.take(host, line, choice, self.moment)?;
         self.push_step(Label::T { host, line, choice })
     }
 
     /// A host drops the segment that arrived with a line.
-    pub(crate) fn drop_arrival(&mut self, host: Host, line: u64) -> Result<(), Stop> {
+    pub(crate) fn drop_arrival(&mut self, host: Host, line: u64) -> Done {
         has_room(&self.world)?;
-        self.world.drop_arrival(host, line)?;
+        self.world.drop_arrival(host, line).map_err(Stop::Broken)?;
         self.push_step(Label::K { host, line })
     }
 
@@ -276,9 +294,11 @@ impl Progress {
     }
 
     /// An endpoint enters fast recovery.
-    pub(crate) fn recover(&mut self, host: Host, recovery: Recovery) -> Result<(), Stop> {
+    pub(crate) fn recover(&mut self, host: Host, recovery: Recovery) -> Done {
         has_room(&self.world)?;
-        self.world.recover(host, recovery, self.moment)?;
+        self.world
+            .recover(host, recovery, self.moment)
+            .map_err(Stop::Broken)?;
         self.push_step(Label::F { host, recovery })
     }
 }

@@ -14,11 +14,8 @@ pub(crate) enum Stop {
     OutOfMemory,
 }
 
-impl From<Rule> for Stop {
-    fn from(rule: Rule) -> Stop {
-        Stop::Broken(rule)
-    }
-}
+/// Done, or why not.
+pub(crate) type Done = Result<(), Stop>;
 
 impl From<StepFault> for Stop {
     fn from(fault: StepFault) -> Stop {

@@ -1,6 +1,6 @@
 //! What else could have been chosen before a line that no step explains.
 
-use crate::candidates::Candidates;
+use crate::candidates::{Candidates, Done};
 use crate::together::Kind;
 use case_forms::{Event, Line, OutOfMemory, Timer};
 use forward_pass::{Attempt, Deed, EndpointKey, Failure, Fate, Findings, Remedy, Unseen};
@@ -42,9 +42,9 @@ struct Spot {
 /// is how many times a line was examined, at most.
 pub(crate) fn push_candidates(out: &mut Candidates, known: &Known<'_>) -> Result<u64, OutOfMemory> {
     known.together(out)?;
-    let before = out.len();
-    known.look_back(out, before, false)?;
-    known.look_back(out, before, true)?;
+    let most = out.len().saturating_add(MOST);
+    known.look_back(out, most, false)?;
+    known.look_back(out, most, true)?;
     Ok(LOOKS.saturating_mul(known.failure.place.min(REACH) as u64))
 }
 
@@ -58,59 +58,42 @@ impl<'t> Known<'t> {
         })
     }
 
-    // Examines the lines before a failure, the nearest first.
-    fn look_back(
-        &self,
-        out: &mut Candidates,
-        before: usize,
-        is_far: bool,
-    ) -> Result<(), OutOfMemory> {
-        let mut calls = self.findings.meant.len();
+    // Examines the lines before a failure, the nearest first, up to so many candidates.
+    fn look_back(&self, out: &mut Candidates, most: usize, is_far: bool) -> Done {
         for back in 0..=self.failure.place.min(REACH) {
-            if out.len().saturating_sub(before) >= MOST {
+            if out.len() >= most {
                 break;
             }
             let place = self.failure.place.saturating_sub(back);
-            let (left, key) = self.call_at(calls, place);
-            calls = left;
-            self.look_at(out, Spot { place, is_far }, key)?;
+            self.look_at(out, Spot { place, is_far })?;
         }
         Ok(())
     }
 
-    // What the last of the first calls means, if it begins at a place, and how many calls are left before that place.
-    fn call_at(&self, calls: usize, place: usize) -> (usize, Option<EndpointKey>) {
-        let before = calls.saturating_sub(1);
-        match self.findings.meant.get(before) {
-            Some(call) if call.place == place => (before, Some(call.key)),
-            Some(call) if call.place > place => (before, None),
-            _ => (calls, None),
-        }
+    // The endpoint that the call means that begins at a place.
+    fn meant_at(&self, place: usize) -> Option<EndpointKey> {
+        let meant = self.findings.meant.as_slice();
+        let index = meant.binary_search_by_key(&place, |call| call.place);
+        Some(meant.get(index.ok()?)?.key)
     }
 
-    // What may be chosen at one line, if it applies to the endpoint of the failure. `call` is what a call means that
-    // begins there.
-    fn look_at(
-        &self,
-        out: &mut Candidates,
-        spot: Spot,
-        call: Option<EndpointKey>,
-    ) -> Result<(), OutOfMemory> {
+    // What may be chosen at one line, if it applies to the endpoint of the failure.
+    fn look_at(&self, out: &mut Candidates, spot: Spot) -> Done {
         let Some(line) = self.lines.get(spot.place) else {
             return Ok(());
         };
-        let key = EndpointKey::of_line(line).or(call);
+        let key = EndpointKey::of_line(line).or_else(|| self.meant_at(spot.place));
         let wanted = self.failure.key.or(key);
         if key.is_some() && key != wanted {
             return Ok(());
         }
         match &line.event {
-            Event::Came(_, _) => self.at_arrival(out, spot)?,
+            Event::Came(..) => self.at_arrival(out, spot)?,
             Event::Sent(host, wire) => {
                 self.at_sending(out, spot, EndpointKey::sender(*host, wire))?
             }
             Event::CallBegin(_) => self.wait_until(out, spot)?,
-            Event::CallEnd(_) | Event::Expired(_, _, _, _) => {}
+            Event::CallEnd(_) | Event::Expired(..) => {}
         }
         match wanted {
             Some(key) => self.unseen_after(out, spot, key),
@@ -119,7 +102,7 @@ impl<'t> Known<'t> {
     }
 
     // An arrival waits, or is processed otherwise, or dropped.
-    fn at_arrival(&self, out: &mut Candidates, spot: Spot) -> Result<(), OutOfMemory> {
+    fn at_arrival(&self, out: &mut Candidates, spot: Spot) -> Done {
         let Spot { place, is_far } = spot;
         if place == self.failure.place {
             return Ok(());
@@ -149,7 +132,7 @@ impl<'t> Known<'t> {
     }
 
     // An arrival or a call waits until after the failure, or one of the next lines before it.
-    fn wait_until(&self, out: &mut Candidates, spot: Spot) -> Result<(), OutOfMemory> {
+    fn wait_until(&self, out: &mut Candidates, spot: Spot) -> Done {
         let Spot { place, is_far } = spot;
         let last = self.failure.place;
         let lines = if is_far {
@@ -167,67 +150,42 @@ impl<'t> Known<'t> {
 
     // Whether an arrival or a call may wait until after a line; an arrival not for too long.
     fn may_wait(&self, place: usize, after: usize) -> bool {
-        match (self.lines.get(place), self.lines.get(after)) {
-            (Some(line), Some(later)) => {
-                !matches!(&line.event, Event::Came(_, _))
-                    || later.moment.saturating_sub(line.moment) <= LONGEST_WAIT
-            }
-            _ => false,
-        }
+        let (Some(line), Some(later)) = (self.lines.get(place), self.lines.get(after)) else {
+            return false;
+        };
+        !matches!(line.event, Event::Came(..))
+            || later.moment.saturating_sub(line.moment) <= LONGEST_WAIT
     }
 
-    // The segment of a line was built earlier, or something happened before it.
-    fn at_sending(
-        &self,
-        out: &mut Candidates,
-        spot: Spot,
-        at: EndpointKey,
-    ) -> Result<(), OutOfMemory> {
+    // The segment of a line was built after one of the lines before it, or something happened before the line.
+    fn at_sending(&self, out: &mut Candidates, spot: Spot, at: EndpointKey) -> Done {
         let Spot { place, is_far } = spot;
         if is_far == (place == self.failure.place) {
             return Ok(());
         }
         if self.failure.rule != Rule::BytesDiffer {
-            for remedy in [
-                Remedy::Recovery,
-                Remedy::Persist,
-                Remedy::Rto,
-                Remedy::TimeWaitOver,
-            ] {
-                out.push(place, Deed::Before(at, remedy))?;
-            }
+            out.push(place, Deed::Before(at, Remedy::Recovery))?;
+            out.push(place, Deed::Before(at, Remedy::Persist))?;
+            out.push(place, Deed::Before(at, Remedy::Rto))?;
+            out.push(place, Deed::Before(at, Remedy::TimeWaitOver))?;
         }
-        self.earlier(out, place)
-    }
-
-    // The segment of a line was built after one of the lines before it.
-    fn earlier(&self, out: &mut Candidates, place: usize) -> Result<(), OutOfMemory> {
-        for step in 1..=NEAR {
-            if let Some(after) = place.checked_sub(step) {
-                out.push(after, Deed::Build(place))?;
-            }
+        for after in (place.saturating_sub(NEAR)..place).rev() {
+            out.push(after, Deed::Build(place))?;
         }
         Ok(())
     }
 
     // After a line, something was built that no line shows.
-    fn unseen_after(
-        &self,
-        out: &mut Candidates,
-        spot: Spot,
-        key: EndpointKey,
-    ) -> Result<(), OutOfMemory> {
+    fn unseen_after(&self, out: &mut Candidates, spot: Spot, key: EndpointKey) -> Done {
         let after = spot.place;
         if after >= self.failure.place {
             return Ok(());
         }
-        match self.failure.rule {
-            Rule::TimerOff | Rule::TimerEarly | Rule::Growth if !spot.is_far =>
-                match self.timer_at() {
-                    Some(at) => push_unseen(out, after, at, [Unseen::All, Unseen::One]),
-                    None => Ok(()),
-                },
-            Rule::CallAnswer | Rule::State | Rule::NoEndpoint | Rule::Iss if spot.is_far => {
+        match (self.failure.rule, self.timer_at()) {
+            (Rule::TimerOff | Rule::TimerEarly | Rule::Growth, Some(at)) if !spot.is_far => {
+                push_unseen(out, after, at, [Unseen::All, Unseen::One])
+            }
+            (Rule::CallAnswer | Rule::State | Rule::NoEndpoint | Rule::Iss, _) if spot.is_far => {
                 push_unseen(out, after, key, [Unseen::Reset, Unseen::All])?;
                 push_unseen(out, after, key.peer(), [Unseen::Reset, Unseen::All])
             }
@@ -238,7 +196,7 @@ impl<'t> Known<'t> {
     // The endpoint whose retransmission timer expires with the failing line.
     fn timer_at(&self) -> Option<EndpointKey> {
         let line = self.lines.get(self.failure.place)?;
-        match &line.event {
+        match line.event {
             Event::Expired(_, _, _, Timer::Rto | Timer::Giveup) => EndpointKey::of_line(line),
             _ => None,
         }
@@ -246,12 +204,7 @@ impl<'t> Known<'t> {
 }
 
 // After a line, an endpoint built one of these.
-fn push_unseen(
-    out: &mut Candidates,
-    after: usize,
-    at: EndpointKey,
-    kinds: [Unseen; 2],
-) -> Result<(), OutOfMemory> {
+fn push_unseen(out: &mut Candidates, after: usize, at: EndpointKey, kinds: [Unseen; 2]) -> Done {
     for unseen in kinds {
         out.push(after, Deed::BuildUnseen(at, unseen))?;
     }

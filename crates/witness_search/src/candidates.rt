@@ -4,6 +4,9 @@ use case_forms::OutOfMemory;
 use forward_pass::{Choice, Deed};
 use std::alloc::Global;
 
+/// Done, or memory ran out.
+pub(crate) type Done = Result<(), OutOfMemory>;
+
 /// Candidates, each of which is one choice or several.
 #[derive(Drop)]
 pub(crate) struct Candidates {
@@ -28,10 +31,9 @@ impl Candidates {
 
     // The place of the first choice of a candidate.
     fn start_of(&self, index: usize) -> usize {
-        match index.checked_sub(1) {
-            Some(before) => self.stops.get(before).copied().unwrap_or(0),
-            None => 0,
-        }
+        let before = index.checked_sub(1);
+        let stop = before.and_then(|before| self.stops.get(before));
+        stop.copied().unwrap_or(0)
     }
 
     /// The choices of a candidate, none if it doesn't exist.
@@ -42,27 +44,27 @@ impl Candidates {
 
     /// Keeps only the first candidates, so many of them.
     pub(crate) fn truncate(&mut self, count: usize) {
-        let start = self.start_of(count);
         if count < self.stops.len() {
+            let start = self.start_of(count);
             self.choices.truncate(start);
             self.stops.truncate(count);
         }
     }
 
     /// Adds a candidate of one choice.
-    pub(crate) fn push(&mut self, place: usize, deed: Deed) -> Result<(), OutOfMemory> {
+    pub(crate) fn push(&mut self, place: usize, deed: Deed) -> Done {
         self.add(place, deed)?;
         self.end()
     }
 
     /// Adds a choice to the candidate that ends next.
-    pub(crate) fn add(&mut self, place: usize, deed: Deed) -> Result<(), OutOfMemory> {
+    pub(crate) fn add(&mut self, place: usize, deed: Deed) -> Done {
         self.choices.push(Choice { place, deed })?;
         Ok(())
     }
 
     /// The choices since the last candidate are one, if there are any.
-    pub(crate) fn end(&mut self) -> Result<(), OutOfMemory> {
+    pub(crate) fn end(&mut self) -> Done {
         let stop = self.choices.len();
         if self.start_of(self.stops.len()) < stop {
             self.stops.push(stop)?;

@@ -1,10 +1,10 @@
 //! The text of a case: the trace with added lines, and the witness.
 
+use crate::candidates::Done;
 use bstr::ByteSlice;
-use case_forms::{Answer, Label, Line, OutOfMemory, Steps, Trace, Witness};
-use forward_pass::Added;
+use case_forms::{Answer, Label, OutOfMemory, Step, Witness};
+use forward_pass::{Added, Sought};
 use line_fields::{push_end, push_host, push_number, push_space, push_word, timer_name};
-use std::alloc::Global;
 use witness::push_witness;
 
 // About how many bytes the line of a step has, without bytes in hex.
@@ -12,93 +12,60 @@ const USUAL_STEP: usize = 40;
 
 /// The text of a case: a trace, whose text is given, with added lines, and a witness.
 pub(crate) fn case_text(
-    alloc: Global,
+    trace: Sought<'_>,
     text: &[u8],
-    trace: &Trace,
     added: &[Added],
     witness: &Witness,
 ) -> Result<Vec<u8>, OutOfMemory> {
-    let len = text.len().saturating_add(usual_len(&witness.steps));
-    let mut case = Vec::with_capacity(alloc, len)?;
+    // Room for the witness is reserved at once.
+    let steps = witness.steps.as_slice().iter();
+    let len = steps.fold(text.len(), |len, step| len.saturating_add(usual_len(step)));
+    let mut case = Vec::with_capacity(trace.alloc, len)?;
     push_trace(&mut case, text, trace, added)?;
     push_witness(&mut case, witness)?;
     Ok(case)
 }
 
-// About how many bytes the text of a witness has, for which room is reserved at once.
-fn usual_len(steps: &Steps) -> usize {
-    let mut len: usize = 0;
-    for step in steps.as_slice() {
-        let digits = match &step.label {
-            Label::D {
-                answer: Answer::Bytes(bytes),
-                ..
-            } => bytes.len().saturating_mul(2),
-            _ => 0,
-        };
-        len = len.saturating_add(digits).saturating_add(USUAL_STEP);
+// About how many bytes the line of a step has.
+fn usual_len(step: &Step) -> usize {
+    match &step.label {
+        Label::D {
+            answer: Answer::Bytes(bytes),
+            ..
+        } => bytes.len().saturating_mul(2).saturating_add(USUAL_STEP),
+        _ => USUAL_STEP,
     }
-    len
 }
 
-// A thread that no line has, if there is one above all others.
-fn unused_thread(lines: &[Line]) -> u32 {
-    let mut greatest = 0;
-    for line in lines {
-        greatest = line.thread.max(greatest);
-    }
-    greatest.saturating_add(1)
-}
-
-// Writes the text of the trace, with the added lines. What follows the last of them is copied in one piece.
-fn push_trace(
-    out: &mut Vec<u8>,
-    text: &[u8],
-    trace: &Trace,
-    added: &[Added],
-) -> Result<(), OutOfMemory> {
-    let thread = unused_thread(trace.lines.as_slice());
-    let first = trace.header.first_event_line();
-    let mut left = added;
-    let mut number: u64 = 1;
+// Writes the text of the trace, with the added lines.
+fn push_trace(out: &mut Vec<u8>, text: &[u8], trace: Sought<'_>, added: &[Added]) -> Done {
+    // A thread that no line has, if there is one above all others.
+    let threads = trace.lines.iter().map(|line| line.thread);
+    let thread = threads.max().unwrap_or(0).saturating_add(1);
+    let header = trace.header.first_event_line().saturating_sub(1) as usize;
+    let mut written: usize = 0;
     let mut rest = text;
-    for raw in text.lines_with_terminator() {
-        left = push_before(out, left, first, number, thread)?;
-        if left.is_empty() {
-            break;
-        }
-        out.extend_from_slice(raw)?;
-        let (_line, after) = rest.split_at(raw.len().min(rest.len()));
+    for line in added {
+        let before = header.saturating_add(line.before);
+        let (lines, after) = split_lines(rest, before.saturating_sub(written));
+        out.extend_from_slice(lines)?;
+        push_expiry(out, line, thread)?;
+        written = before;
         rest = after;
-        number = number.saturating_add(1);
     }
     out.extend_from_slice(rest)?;
-    push_before(out, left, first, number, thread)?;
     Ok(())
 }
 
-// Writes the lines that are added before the line of this number. The result is those that are left. The event lines
-// begin at `first`.
-fn push_before<'a>(
-    out: &mut Vec<u8>,
-    added: &'a [Added],
-    first: u64,
-    number: u64,
-    thread: u32,
-) -> Result<&'a [Added], OutOfMemory> {
-    let mut left = added;
-    while let [line, after @ ..] = left {
-        if number < first.saturating_add(line.before as u64) {
-            break;
-        }
-        push_expiry(out, line, thread)?;
-        left = after;
-    }
-    Ok(left)
+// The first lines of a text, so many of them, and what follows.
+fn split_lines(text: &[u8], count: usize) -> (&[u8], &[u8]) {
+    let lines = text.lines_with_terminator().take(count);
+    let len = lines.fold(0, |len: usize, line| len.saturating_add(line.len()));
+    text.split_at(len.min(text.len()))
 }
 
 // Writes a line that shows an expiry.
-fn push_expiry(out: &mut Vec<u8>, line: &Added, thread: u32) -> Result<(), OutOfMemory> {
+fn push_expiry(out: &mut Vec<u8>, line: &Added, thread: u32) -> Done {
     let ports = line.key.ports();
     push_number(out, line.moment)?;
     push_space(out)?;

@@ -2,7 +2,7 @@
 
 use crate::case_text::case_text;
 use crate::going_back::Retries;
-use case_forms::{OutOfMemory, Steps, Trace, Witness};
+use case_forms::{OutOfMemory, Steps, Witness};
 use forward_pass::{End, LaterLines, Sought};
 use line_fields::TextFault;
 use std::alloc::Global;
@@ -56,46 +56,46 @@ pub fn find_within(alloc: Global, text: &[u8], budget: u64) -> Result<Found, Tex
         later: &later,
     };
     let mut retries = Retries::new(sought, budget);
-    let found = found_by(alloc, &mut retries, text, &trace);
+    let found = found_by(&mut retries, text);
     drop(retries);
     drop(later);
     Ok(found?)
 }
 
 // Runs a search. The result is what it found.
-fn found_by(
-    alloc: Global,
-    retries: &mut Retries<'_>,
-    text: &[u8],
-    trace: &Trace,
-) -> Result<Found, OutOfMemory> {
+fn found_by(retries: &mut Retries<'_>, text: &[u8]) -> Result<Found, OutOfMemory> {
     retries.run()?;
+    let sought = retries.sought;
     let findings = &mut retries.best.findings;
     let witness = Witness {
-        version: trace.header.version,
-        steps: replace(&mut findings.steps, Steps::new(alloc)),
+        version: sought.header.version,
+        steps: replace(&mut findings.steps, Steps::new(sought.alloc)),
     };
-    let case = case_text(alloc, text, trace, findings.added.as_slice(), &witness)?;
+    let case = case_text(sought, text, findings.added.as_slice(), &witness)?;
     Ok(Found {
         case,
-        ending: ending_of(retries, trace.header.first_event_line()),
+        ending: ending_of(retries),
         tried: retries.tried,
     })
 }
 
-// How a search ended. The event lines begin at `first`.
-fn ending_of(retries: &Retries<'_>, first: u64) -> Ending {
+// How a search ended.
+fn ending_of(retries: &Retries<'_>) -> Ending {
+    let first = retries.sought.header.first_event_line();
     let line_at = |place: usize| first.saturating_add(place as u64);
     match retries.best.end {
         End::Whole => Ending::Whole,
-        End::TooManySteps { place } => Ending::TooManySteps {
-            line: line_at(place),
-        },
-        End::Refused(failure) if retries.is_spent() => Ending::BudgetSpent {
-            line: line_at(failure.place),
-        },
-        End::Refused(failure) => Ending::Exhausted {
-            line: line_at(failure.place),
-        },
+        End::TooManySteps { place } => {
+            let line = line_at(place);
+            Ending::TooManySteps { line }
+        }
+        End::Refused(failure) => {
+            let line = line_at(failure.place);
+            if retries.is_spent() {
+                Ending::BudgetSpent { line }
+            } else {
+                Ending::Exhausted { line }
+            }
+        }
     }
 }

@@ -5,7 +5,7 @@
 //! are kept. If none does, two candidates are tried at once.
 
 use crate::alternatives::{Known, push_candidates};
-use crate::candidates::Candidates;
+use crate::candidates::{Candidates, Done};
 use case_forms::OutOfMemory;
 use forward_pass::{Attempt, Choices, Sought};
 use std::collections::BTreeMap;
@@ -34,7 +34,7 @@ struct Level {
 /// A search that goes back.
 #[derive(Drop)]
 pub(crate) struct Retries<'t> {
-    sought: Sought<'t>,
+    pub sought: Sought<'t>,
     budget: u64,
     /// The attempt that explains most, and its choices.
     pub best: Attempt,
@@ -79,7 +79,7 @@ impl<'t> Retries<'t> {
 
     /// Finds a witness, and goes back until every line is explained, the budget is spent, or a case can't have more
     /// steps.
-    pub(crate) fn run(&mut self) -> Result<(), OutOfMemory> {
+    pub(crate) fn run(&mut self) -> Done {
         self.best.search(self.sought, &self.chosen)?;
         for _ in 0..self.budget {
             if !self.go_further()? {
@@ -122,10 +122,7 @@ impl<'t> Retries<'t> {
         self.choices.set(&self.before_pairs)?;
         let tried = self.best.failure();
         self.try_singles(u64::MAX)?;
-        Ok(match (tried, self.best.failure()) {
-            (Some(before), Some(now)) => now.place > before.place,
-            _ => false,
-        })
+        Ok(tried.is_some_and(|failure| self.best.explains(failure.place)))
     }
 
     // Tries two candidates of the best attempt at once. The result is whether they explain a further line.
@@ -165,7 +162,7 @@ impl<'t> Retries<'t> {
     }
 
     // The path begins anew at the best attempt.
-    fn begin_anew(&mut self) -> Result<(), OutOfMemory> {
+    fn begin_anew(&mut self) -> Done {
         self.path.clear();
         self.candidates.truncate(0);
         self.choices.set(&self.chosen)?;
@@ -185,11 +182,8 @@ impl<'t> Retries<'t> {
         if is_further {
             self.go_on_from_last(LISTS)?;
         }
-        let is_best = match self.best.failure() {
-            Some(failure) => self.last.explains(failure.place),
-            None => false,
-        };
-        if is_best {
+        let best = self.best.failure();
+        if best.is_some_and(|failure| self.last.explains(failure.place)) {
             swap(&mut self.best, &mut self.last);
             self.chosen.set(&self.choices)?;
         }
@@ -197,7 +191,7 @@ impl<'t> Retries<'t> {
     }
 
     // Puts the level of the last attempt on the path, unless candidates were listed this often for its line.
-    fn go_on_from_last(&mut self, lists: u32) -> Result<(), OutOfMemory> {
+    fn go_on_from_last(&mut self, lists: u32) -> Done {
         let Some(known) = Known::of(&self.last, self.sought.lines) else {
             return Ok(());
         };
@@ -220,7 +214,7 @@ impl<'t> Retries<'t> {
     }
 
     // Adds one candidate after the other, and goes back if no further one helps. It ends at this many steps.
-    fn try_singles(&mut self, most: u64) -> Result<(), OutOfMemory> {
+    fn try_singles(&mut self, most: u64) -> Done {
         for _ in 0..self.budget {
             if self.is_over() || self.cost >= most {
                 break;
@@ -234,7 +228,7 @@ impl<'t> Retries<'t> {
     }
 
     // Tries the next candidate of a level that was just removed from the path, and puts the level back if there is one.
-    fn try_single(&mut self, level: Level) -> Result<(), OutOfMemory> {
+    fn try_single(&mut self, level: Level) -> Done {
         self.candidates.truncate(level.stop);
         if level.next >= level.stop {
             return Ok(());

@@ -1,8 +1,8 @@
 //! Several choices at once before a line that no step explains.
 
 use crate::alternatives::{Known, NEAR, REACH};
-use crate::candidates::Candidates;
-use case_forms::{Event, OutOfMemory, Wire};
+use crate::candidates::{Candidates, Done};
+use case_forms::{Event, Wire};
 use forward_pass::{Deed, EndpointKey, Fate, Remedy};
 use segment::Flag;
 use verdict::Rule;
@@ -63,7 +63,7 @@ impl Known<'_> {
     }
 
     /// Adds choices at several lines at once, and arrivals beyond the window.
-    pub(crate) fn together(&self, out: &mut Candidates) -> Result<(), OutOfMemory> {
+    pub(crate) fn together(&self, out: &mut Candidates) -> Done {
         if self.failure.rule == Rule::BytesDiffer {
             self.gather(out, Kind::Covers, Fate::NotKept)?;
             self.gather(out, Kind::EndsBeyond, Fate::NotKept)?;
@@ -72,21 +72,18 @@ impl Known<'_> {
         self.widen(out)?;
         self.drop_all(out)?;
         match (self.failure.rule, self.failure.key) {
-            (Rule::CallAnswer | Rule::OldData | Rule::TimerOff, Some(key)) => {
-                self.expire_each(out, key)
+            (Rule::CallAnswer | Rule::OldData | Rule::TimerOff, Some(at)) => {
+                self.expire_each(out, at)
             }
             _ => Ok(()),
         }
     }
 
     // The last arrivals that end beyond the window: an unseen segment advertised a larger one.
-    fn widen(&self, out: &mut Candidates) -> Result<(), OutOfMemory> {
-        let mut left = NEAR;
-        for place in self.findings.beyond.iter().rev().take(REACH) {
-            if left == 0 || !self.is_at_failing_endpoint(*place) {
-                continue;
-            }
-            left = left.saturating_sub(1);
+    fn widen(&self, out: &mut Candidates) -> Done {
+        let places = self.findings.beyond.iter().rev().take(REACH);
+        let places = places.filter(|place| self.is_at_failing_endpoint(**place));
+        for place in places.take(NEAR) {
             out.push(*place, Deed::Fate(Fate::Widened))?;
         }
         Ok(())
@@ -94,7 +91,7 @@ impl Known<'_> {
 
     // Resets, SYNs or FINs are dropped. A host that ignores one reset may ignore a flood of them, so the resets after
     // the failure are dropped, too.
-    fn drop_all(&self, out: &mut Candidates) -> Result<(), OutOfMemory> {
+    fn drop_all(&self, out: &mut Candidates) -> Done {
         let resets = Kind::Has(Flag::Rst);
         self.add(out, resets, Fate::Dropped, Side::Before)?;
         self.add(out, resets, Fate::Dropped, Side::After)?;
@@ -104,7 +101,7 @@ impl Known<'_> {
     }
 
     // One candidate: the retransmission timer expires before each retransmission, if it may.
-    fn expire_each(&self, out: &mut Candidates, at: EndpointKey) -> Result<(), OutOfMemory> {
+    fn expire_each(&self, out: &mut Candidates, at: EndpointKey) -> Done {
         let mut end: Option<u32> = None;
         let first = self.failure.place.saturating_sub(REACH);
         for place in first..=self.failure.place {
@@ -131,28 +128,16 @@ impl Known<'_> {
     }
 
     // One candidate: all arrivals of a kind before the failure have this fate.
-    fn gather(&self, out: &mut Candidates, kind: Kind, fate: Fate) -> Result<(), OutOfMemory> {
+    fn gather(&self, out: &mut Candidates, kind: Kind, fate: Fate) -> Done {
         self.add(out, kind, fate, Side::Before)?;
         out.end()
     }
 
     // The arrivals of a kind on one side of the failure have this fate, the nearest first.
-    fn add(
-        &self,
-        out: &mut Candidates,
-        kind: Kind,
-        fate: Fate,
-        side: Side,
-    ) -> Result<(), OutOfMemory> {
-        let mut left = TOGETHER;
-        for distance in 1..=REACH {
-            let Some(place) = self.place_at(side, distance) else {
-                break;
-            };
-            if left == 0 || !self.is_arrival_of(place, kind) {
-                continue;
-            }
-            left = left.saturating_sub(1);
+    fn add(&self, out: &mut Candidates, kind: Kind, fate: Fate, side: Side) -> Done {
+        let places = (1..=REACH).map_while(|distance| self.place_at(side, distance));
+        let places = places.filter(|place| self.is_arrival_of(*place, kind));
+        for place in places.take(TOGETHER) {
             out.add(place, Deed::Fate(fate))?;
         }
         Ok(())
@@ -168,30 +153,23 @@ impl Known<'_> {
 
     // Whether a line applies to the endpoint of the failure, or that endpoint isn't known.
     fn is_at_failing_endpoint(&self, place: usize) -> bool {
-        match self.lines.get(place) {
-            Some(line) => {
-                self.failure.key.is_none() || EndpointKey::of_line(line) == self.failure.key
-            }
-            None => false,
-        }
+        let key = self.failure.key;
+        let line = self.lines.get(place);
+        line.is_some_and(|line| key.is_none() || EndpointKey::of_line(line) == key)
     }
 
     /// Whether a line shows an arrival of this kind at the endpoint of the failure.
     pub(crate) fn is_arrival_of(&self, place: usize, kind: Kind) -> bool {
-        let Some(line) = self.lines.get(place) else {
+        let event = self.lines.get(place).map(|line| &line.event);
+        let Some(Event::Came(_, wire)) = event else {
             return false;
         };
-        let Event::Came(_, wire) = &line.event else {
-            return false;
-        };
-        if !self.is_at_failing_endpoint(place) {
-            return false;
-        }
-        match (kind, self.shown_ack()) {
-            (Kind::Has(flag), _) => wire.seg.has(flag),
-            (Kind::Covers, Some(ack)) => covers(wire, ack),
-            (Kind::EndsBeyond, Some(ack)) => ends_beyond(wire, ack),
-            (Kind::Covers | Kind::EndsBeyond, None) => false,
-        }
+        self.is_at_failing_endpoint(place)
+            && match (kind, self.shown_ack()) {
+                (Kind::Has(flag), _) => wire.seg.has(flag),
+                (Kind::Covers, Some(ack)) => covers(wire, ack),
+                (Kind::EndsBeyond, Some(ack)) => ends_beyond(wire, ack),
+                (Kind::Covers | Kind::EndsBeyond, None) => false,
+            }
     }
 }

@@ -1,42 +1,20 @@
 //! An arrival is processed at once, answered by a reset if one follows, or dropped.
 
 use super::Pass;
-use super::sending::{plan_of, position_of};
+use super::sending::position_of;
 use crate::calls::listener_at;
 use crate::choices::Arrival;
 use crate::key::EndpointKey;
+use crate::outgoing::Shown;
 use crate::progress::saturated;
-use crate::stop::{Stop, permitted};
+use crate::stop::{Done, Stop, permitted};
 use case_forms::{Event, Host, TakeChoice, Timer, Wire};
 use endpoint::{greatest_taking, matches_sent, reset_of};
-use endpoint_state::{Endpoint, World};
+use endpoint_state::Endpoint;
 use segment::Flag;
 use seqno::number;
 use spec_tcp::{Arrived, Emission};
 use verdict::Rule;
-
-/// The endpoint that a segment finds, if it is not CLOSED.
-pub(crate) fn endpoint_found<'w>(
-    world: &'w World,
-    host: Host,
-    m: &Emission,
-) -> Option<&'w Endpoint> {
-    let endpoint = world.body(host).endpoint_of(m.rport, m.lport)?;
-    if endpoint.state.is_closed() {
-        None
-    } else {
-        Some(endpoint)
-    }
-}
-
-/// A segment as the endpoint reads it. None: the endpoint is beyond all positions.
-pub(crate) fn as_read<'m>(
-    world: &World,
-    endpoint: &Endpoint,
-    m: &'m Emission,
-) -> Option<Arrived<'m>> {
-    Arrived::checked_read(world.header().version, endpoint, m)
-}
 
 // Whether a segment acknowledges exactly what its sender received, or nothing if that has met no peer.
 fn acknowledges_next(endpoint: &Endpoint, wire: &Wire) -> bool {
@@ -57,33 +35,20 @@ fn built_before(endpoint: &Endpoint, m: &Arrived<'_>, wire: &Wire) -> Option<boo
     }
     let acknowledges = m.flags().ack && endpoint.stream.snd_una < m.ack();
     let has_length = !seg.payload.is_empty() || seg.has(Flag::Fin) || seg.has(Flag::Syn);
-    if acknowledges && has_length && position_of(endpoint, seg.seq)? < m.ack() {
-        Some(next)
-    } else {
-        None
-    }
-}
-
-// A segment that is sent later and was built before an arrival was processed.
-#[derive(Clone, Copy)]
-struct Earlier<'t> {
-    key: EndpointKey,
-    place: usize,
-    wire: &'t Wire,
-    /// Whether its acknowledgment number shows that.
-    needed: bool,
+    let contains = acknowledges && has_length && position_of(endpoint, seg.seq)? < m.ack();
+    contains.then_some(next)
 }
 
 impl<'t> Pass<'t> {
     /// The current line shows an arrival.
-    pub(crate) fn receive(&mut self, host: Host, wire: &'t Wire) -> Result<(), Stop> {
+    pub(crate) fn receive(&mut self, host: Host, wire: &'t Wire) -> Done {
         let place = self.progress.place();
         let how = self.choices.arrival(place);
         let line = self.bring_in(host, wire, how)?;
         if self.widening(host, line).is_some() {
-            self.progress.findings().beyond.push(place)?;
+            self.progress.findings.beyond.push(place)?;
         }
-        if how.waits {
+        if self.choices.waits(place) {
             self.waiting.insert(place, line)?;
             return Ok(());
         }
@@ -95,30 +60,27 @@ impl<'t> Pass<'t> {
         if self.sought.header.version.is_half() {
             return self.progress.hear(host, wire);
         }
-        let place = self.copies.of(host.other()).place(wire.bytes.as_slice());
-        let Some(place) = place else {
+        let sent = self.copies.of(host.other());
+        let Some(place) = sent.place(wire.bytes.as_slice()) else {
             return self.progress.arrive(host, 0, wire);
         };
         let copied = self.copied(host, wire, place, how);
         let line = self.progress.arrive(host, copied, wire)?;
-        let moment = self.progress.moment();
         let sent = self.copies.of(host.other());
-        sent.arrive(place, copied, moment);
+        sent.arrive(place, copied, self.progress.moment());
         Ok(line)
     }
 
     // The line that an arrival copies: of those with its bytes, which are at this place, the first that has no copy
     // yet, unless others show that it is too old; else the last.
-    fn copied(&mut self, host: Host, wire: &'t Wire, place: usize, how: Arrival) -> u64 {
+    fn copied(&mut self, host: Host, wire: &Wire, place: usize, how: Arrival) -> u64 {
         let moment = self.progress.moment();
         let world = self.progress.world();
         let sent = self.copies.of(host.other());
-        let tries = if how.is_of_last {
-            0
-        } else {
-            self.sought.lines.len()
-        };
-        for _ in 0..tries {
+        if how.is_of_last {
+            return sent.last(place).unwrap_or(0);
+        }
+        for _ in 0..self.sought.lines.len() {
             let Some(line) = sent.first(place, moment) else {
                 break;
             };
@@ -131,20 +93,14 @@ impl<'t> Pass<'t> {
     }
 
     /// An arrival is processed, answered or dropped.
-    pub(crate) fn resolve_arrival(
-        &mut self,
-        host: Host,
-        line: u64,
-        how: Arrival,
-    ) -> Result<(), Stop> {
+    pub(crate) fn resolve_arrival(&mut self, host: Host, line: u64, mut how: Arrival) -> Done {
         if how.is_dropped {
             return self.progress.drop_arrival(host, line);
         }
-        let is_kept = self.make_earlier(host, line)? && how.is_kept;
+        how.is_not_kept |= !self.make_earlier(host, line)?;
         if how.is_widened {
             self.widen(host, line)?;
         }
-        let how = Arrival { is_kept, ..how };
         let is_resolved = self.try_processing(host, line, how)?
             || (self.leaves_time_wait(host, line)? && self.try_processing(host, line, how)?)
             || self.try_answer(host, line)?;
@@ -168,11 +124,11 @@ impl<'t> Pass<'t> {
     fn choice(&self, host: Host, line: u64, how: Arrival) -> Option<(EndpointKey, TakeChoice)> {
         let world = self.progress.world();
         let moment = self.progress.moment();
-        let m = world.waiting(host, line)?;
+        let (key, m) = self.progress.waiting(host, line)?;
         let mut choice = TakeChoice {
-            cwnd: self.greatest_window(host, m, how),
-            keep: how.is_kept,
-            sample: how.is_measured,
+            cwnd: self.greatest_window(key, m, how),
+            keep: !how.is_not_kept,
+            sample: !how.is_unmeasured,
         };
         match world.admits_taking(host, moment, line, choice) {
             Ok(()) => {}
@@ -182,33 +138,27 @@ impl<'t> Pass<'t> {
             }
             Err(_) => return None,
         }
-        Some((EndpointKey::receiver(host, m), choice))
+        Some((key, choice))
     }
 
     // The greatest congestion window with which a segment may be processed, which may have to stay as it is; 0 at a
     // listener.
-    fn greatest_window(&self, host: Host, m: &Emission, how: Arrival) -> u32 {
-        let world = self.progress.world();
-        let Some(endpoint) = endpoint_found(world, host, m) else {
+    fn greatest_window(&self, key: EndpointKey, m: &Emission, how: Arrival) -> u32 {
+        let Some((endpoint, read)) = self.progress.read(key, m) else {
             return 0;
         };
-        let Some(m) = as_read(world, endpoint, m) else {
-            return 0;
-        };
-        let greatest = saturated(greatest_taking(endpoint, &m, self.progress.moment()));
-        if how.grows {
-            greatest
-        } else {
+        let greatest = saturated(greatest_taking(endpoint, &read, self.progress.moment()));
+        if how.is_not_grown {
             greatest.min(endpoint.control.values.cwnd)
+        } else {
+            greatest
         }
     }
 
     // Calls on the endpoint that processed a segment are tried, and those on its listener.
-    fn wake_receiver(&mut self, key: EndpointKey) -> Result<(), Stop> {
-        let Some(endpoint) = self.progress.endpoint(key) else {
-            return Ok(());
-        };
-        let listener = endpoint.listener;
+    fn wake_receiver(&mut self, key: EndpointKey) -> Done {
+        let endpoint = self.progress.endpoint(key);
+        let listener = endpoint.and_then(|endpoint| endpoint.listener);
         self.wake_endpoint(key)?;
         match listener {
             Some(listener) => self.wake(listener_at(key.host(), listener)),
@@ -218,102 +168,77 @@ impl<'t> Pass<'t> {
 
     // A SYN finds an endpoint whose TIME-WAIT is over.
     fn leaves_time_wait(&mut self, host: Host, line: u64) -> Result<bool, Stop> {
-        let world = self.progress.world();
-        let Some(m) = world.waiting(host, line) else {
+        let Some((key, m)) = self.progress.waiting(host, line) else {
             return Ok(false);
         };
-        let key = EndpointKey::receiver(host, m);
-        let is_over = match endpoint_found(world, host, m) {
-            Some(endpoint) => m.flags.syn && endpoint.state.is_time_wait(),
-            None => false,
-        };
+        let endpoint = self.progress.endpoint(key);
+        let is_over = m.flags.syn && endpoint.is_some_and(|endpoint| endpoint.state.is_time_wait());
         Ok(is_over && self.add_expiry(key, Timer::Msl2)?)
     }
 
     // Answers an arrival by a reset, if its receiver sends that reset next.
     fn try_answer(&mut self, host: Host, line: u64) -> Result<bool, Stop> {
-        let Some((key, place)) = self.answer_to(host, line) else {
+        let Some(shown) = self.answer_to(host, line) else {
             return Ok(false);
         };
         let Some(made) = permitted(self.progress.reply_with_reset(host, line))? else {
             return Ok(false);
         };
-        self.outgoing.build_reset(key, place, made)?;
+        self.outgoing.build_reset(shown, made)?;
         Ok(true)
     }
 
-    // The line of the reset that answers an arrival, and its endpoint.
-    fn answer_to(&self, host: Host, line: u64) -> Option<(EndpointKey, usize)> {
-        let m = self.progress.world().waiting(host, line)?;
-        let key = EndpointKey::receiver(host, m);
-        let (place, wire) = self.outgoing.next_reset(key)?;
+    // The line of the reset that answers an arrival.
+    fn answer_to(&self, host: Host, line: u64) -> Option<Shown<'t>> {
+        let (key, m) = self.progress.waiting(host, line)?;
+        let shown = self.outgoing.next_reset(key)?;
         let reset = reset_of(self.sought.alloc, m);
-        if matches_sent(self.sought.header, wire, &reset) {
-            Some((key, place))
-        } else {
-            None
-        }
+        matches_sent(self.sought.header, shown.wire, &reset).then_some(shown)
     }
 
     // Builds what is sent later and was built before this arrival was processed. The result is whether the arrival is
     // kept.
     fn make_earlier(&mut self, host: Host, line: u64) -> Result<bool, Stop> {
         for _ in 0..self.sought.lines.len() {
-            let Some(earlier) = self.earlier(host, line) else {
+            let Some((shown, is_needed)) = self.earlier(host, line) else {
                 return Ok(true);
             };
-            if !self.try_making(earlier)? {
-                return Ok(!earlier.needed);
+            if !self.try_making(shown)? {
+                return Ok(!is_needed);
             }
         }
         Ok(true)
     }
 
-    // The next segment of the receiver of an arrival, if it was built before.
-    fn earlier(&self, host: Host, line: u64) -> Option<Earlier<'t>> {
-        let world = self.progress.world();
-        let m = world.waiting(host, line)?;
-        let key = EndpointKey::receiver(host, m);
-        let (place, wire) = self.outgoing.next(key)?;
-        let endpoint = endpoint_found(world, host, m)?;
-        let read = as_read(world, endpoint, m)?;
-        Some(Earlier {
-            key,
-            place,
-            wire,
-            needed: built_before(endpoint, &read, wire)?,
-        })
+    // The next segment of the receiver of an arrival, if it was built before, and whether its acknowledgment number
+    // shows that.
+    fn earlier(&self, host: Host, line: u64) -> Option<(Shown<'t>, bool)> {
+        let (key, m) = self.progress.waiting(host, line)?;
+        let shown = self.outgoing.next(key)?;
+        let (endpoint, read) = self.progress.read(key, m)?;
+        Some((shown, built_before(endpoint, &read, shown.wire)?))
     }
 
     // Builds a segment before its line. The result is whether that's permitted.
-    fn try_making(&mut self, earlier: Earlier<'t>) -> Result<bool, Stop> {
-        let host = earlier.key.host();
-        let plan = plan_of(self.progress.world(), host, earlier.wire);
-        let Some(made) = permitted(self.progress.make(host, plan))? else {
+    fn try_making(&mut self, shown: Shown<'t>) -> Result<bool, Stop> {
+        let plan = self.plan_of(shown.key, shown.wire);
+        let Some(made) = permitted(self.progress.make(shown.key.host(), plan))? else {
             return Ok(false);
         };
-        self.outgoing.build(earlier.key, earlier.place, made)?;
+        self.outgoing.build(shown, made)?;
         Ok(true)
     }
 
     /// The segment of the line at a place is built now, if that's permitted and it wasn't before.
-    pub(crate) fn make_early(&mut self, place: usize) -> Result<(), Stop> {
+    pub(crate) fn make_early(&mut self, place: usize) -> Done {
         let lines = self.sought.lines;
-        let Some(line) = lines.get(place) else {
-            return Ok(());
-        };
-        let Event::Sent(host, wire) = &line.event else {
-            return Ok(());
-        };
-        if !self.progress.is_ahead(place) || self.outgoing.is_built(place) {
-            return Ok(());
+        let event = lines.get(place).map(|line| &line.event);
+        if let Some(Event::Sent(host, wire)) = event {
+            if self.progress.is_ahead(place) && !self.outgoing.is_built(place) {
+                let key = EndpointKey::sender(*host, wire);
+                self.try_making(Shown { key, place, wire })?;
+            }
         }
-        self.try_making(Earlier {
-            key: EndpointKey::sender(*host, wire),
-            place,
-            wire,
-            needed: false,
-        })?;
         Ok(())
     }
 }

@@ -4,7 +4,7 @@ use super::Pass;
 use crate::calls::{Meant, Pending, key_of_call, meant_by, supposed};
 use crate::key::EndpointKey;
 use crate::progress::MeantCall;
-use crate::stop::{Stop, permitted};
+use crate::stop::{Done, Stop, permitted};
 use case_forms::{Answer, Call, Event, Label, State, Timer};
 
 // How many calls on one endpoint or listener are tried again at once, so that the search stays linear.
@@ -15,39 +15,27 @@ fn timer_for(answer: &Answer) -> Option<Timer> {
     match answer {
         Answer::Timeout => Some(Timer::Giveup),
         Answer::State(State::Closed) | Answer::Given(_) => Some(Timer::Msl2),
-        Answer::Done
-        | Answer::Bytes(_)
-        | Answer::Again
-        | Answer::Eof
-        | Answer::Closed
-        | Answer::NotConn
-        | Answer::Refused
-        | Answer::Reset
-        | Answer::InUse
-        | Answer::BadSocket
-        | Answer::State(_) => None,
+        _ => None,
     }
 }
 
-impl<'t> Pass<'t> {
+impl Pass<'_> {
     /// The current line begins a call; the call has its effect if that's permitted.
-    pub(crate) fn begin(&mut self, thread: u32, call: &Call) -> Result<(), Stop> {
+    pub(crate) fn begin(&mut self, thread: u32, call: &Call) -> Done {
         let place = self.progress.place();
         self.progress.begin(thread, call)?;
-        self.calls.begin(thread, place)?;
+        self.calls.open.insert(thread, place)?;
         if let Some(key) = key_of_call(self.progress.world(), thread) {
-            let findings = self.progress.findings();
-            findings.meant.push(MeantCall { place, key })?;
+            self.progress.findings.meant.push(MeantCall { place, key })?;
         }
         if self.choices.waits(place) {
-            Ok(())
-        } else {
-            self.try_first(place, thread, call)
+            return Ok(());
         }
+        self.try_first(place, thread, call)
     }
 
-    // A call has its effect if that's permitted; else it waits.
-    fn try_first(&mut self, place: usize, thread: u32, call: &Call) -> Result<(), Stop> {
+    /// A call has its effect if that's permitted; else it waits.
+    pub(crate) fn try_first(&mut self, place: usize, thread: u32, call: &Call) -> Done {
         let pending = Pending {
             thread,
             begin: place,
@@ -55,28 +43,23 @@ impl<'t> Pass<'t> {
         };
         let meant = meant_by(self.progress.world(), call);
         if self.has_effect(pending)? {
-            return self.wake_after(meant, call);
+            // What ends or closes something lets calls go on that wait for it.
+            return match (call, meant) {
+                (Call::Shut(_) | Call::Close(_) | Call::Abort(_), Some(meant)) => self.wake(meant),
+                _ => Ok(()),
+            };
         }
-        if let Call::Connect(host, lport, rport) = call {
-            return self.wait_for_ports(pending, EndpointKey::new(*host, *lport, *rport));
-        }
-        if let Some(meant) = meant {
-            self.calls.put(meant, pending)?;
-        }
-        Ok(())
-    }
-
-    /// A call that waited for another line is tried, if it had no effect yet.
-    pub(crate) fn try_late(&mut self, place: usize, thread: u32, call: &Call) -> Result<(), Stop> {
-        if self.calls.is_open(thread, place) {
-            self.try_first(place, thread, call)
-        } else {
-            Ok(())
+        match (call, meant) {
+            (Call::Connect(host, lport, rport), _) => {
+                self.wait_for_ports(pending, EndpointKey::new(*host, *lport, *rport))
+            }
+            (_, Some(meant)) => Ok(self.calls.put(meant, pending)?),
+            (_, None) => Ok(()),
         }
     }
 
     // A call opens an endpoint whose ports are in use: the old one's TIME-WAIT is over, or the call waits.
-    fn wait_for_ports(&mut self, pending: Pending, key: EndpointKey) -> Result<(), Stop> {
+    fn wait_for_ports(&mut self, pending: Pending, key: EndpointKey) -> Done {
         self.calls.opens.insert(key, pending)?;
         if self.add_expiry(key, Timer::Msl2)? {
             self.open_again(key)?;
@@ -89,38 +72,34 @@ impl<'t> Pass<'t> {
         let Some(pending) = self.calls.opens.get(&key).copied() else {
             return Ok(false);
         };
-        if !self.had_effect(pending)? {
-            return Ok(false);
+        let is_opened = self.calls.is_open(pending.thread, pending.begin)
+            && self.has_effect(pending)?;
+        if is_opened {
+            self.calls.opens.remove(&key);
         }
-        self.calls.opens.remove(&key);
-        Ok(true)
-    }
-
-    // What ends or closes something lets calls go on that wait for it.
-    fn wake_after(&mut self, meant: Option<Meant>, call: &Call) -> Result<(), Stop> {
-        match (meant, call) {
-            (Some(meant), Call::Shut(_) | Call::Close(_) | Call::Abort(_)) => self.wake(meant),
-            _ => Ok(()),
-        }
+        Ok(is_opened)
     }
 
     /// The current line ends a call, which had its effect, or has it now.
-    pub(crate) fn end(&mut self, thread: u32, answer: &Answer) -> Result<(), Stop> {
-        if self.calls.has_open(thread) {
+    pub(crate) fn end(&mut self, thread: u32, answer: &Answer) -> Done {
+        if self.calls.open.contains_key(&thread) {
             self.effect_now(thread, answer)?;
-            self.calls.close(thread);
+            self.calls.open.remove(&thread);
         }
         self.progress.finish(thread, answer)?;
         Ok(())
     }
 
     // The effect of a call that ends here. If it isn't permitted, a timer may have to expire before it.
-    fn effect_now(&mut self, thread: u32, answer: &Answer) -> Result<(), Stop> {
+    fn effect_now(&mut self, thread: u32, answer: &Answer) -> Done {
         if permitted(self.progress.effect(thread, answer))?.is_some() {
             return Ok(());
         }
-        self.expire_for(thread, answer)?;
-        if !self.calls.has_open(thread) {
+        let key = key_of_call(self.progress.world(), thread);
+        if let (Some(key), Some(timer)) = (key, timer_for(answer)) {
+            self.try_expiry(key, timer)?;
+        }
+        if !self.calls.open.contains_key(&thread) {
             return Ok(());
         }
         let done = self.progress.effect(thread, answer);
@@ -131,35 +110,13 @@ impl<'t> Pass<'t> {
         done
     }
 
-    // A timer expires that lets a call have this answer.
-    fn expire_for(&mut self, thread: u32, answer: &Answer) -> Result<(), Stop> {
-        let Some(timer) = timer_for(answer) else {
-            return Ok(());
-        };
-        match key_of_call(self.progress.world(), thread) {
-            Some(key) => self.try_expiry(key, timer),
-            None => Ok(()),
-        }
-    }
-
-    // Whether a call that may have had its effect before has it now.
-    fn had_effect(&mut self, pending: Pending) -> Result<bool, Stop> {
-        Ok(self.calls.is_open(pending.thread, pending.begin) && self.has_effect(pending)?)
-    }
-
-    // The answer with which a call ends.
-    fn answer_of(&self, pending: Pending) -> Option<&'t Answer> {
-        match &self.sought.lines.get(pending.end?)?.event {
-            Event::CallEnd(answer) => Some(answer),
-            _ => None,
-        }
-    }
-
-    // Whether a call has its effect now.
+    // Whether a call has its effect now, with the answer with which it ends.
     fn has_effect(&mut self, pending: Pending) -> Result<bool, Stop> {
-        match self.answer_of(pending) {
-            Some(answer) => self.try_effect(pending.thread, answer),
-            None => Ok(false),
+        let lines = self.sought.lines;
+        let end = pending.end.and_then(|end| lines.get(end));
+        match end.map(|line| &line.event) {
+            Some(Event::CallEnd(answer)) => self.try_effect(pending.thread, answer),
+            _ => Ok(false),
         }
     }
 
@@ -167,41 +124,30 @@ impl<'t> Pass<'t> {
     fn try_effect(&mut self, thread: u32, answer: &Answer) -> Result<bool, Stop> {
         let is_done = permitted(self.progress.effect(thread, answer))?.is_some();
         if is_done {
-            self.calls.close(thread);
+            self.calls.open.remove(&thread);
         }
         Ok(is_done)
     }
 
-    /// Something changed at a listener or an endpoint: the first calls on it are tried.
-    pub(crate) fn wake(&mut self, meant: Meant) -> Result<(), Stop> {
-        let mut failed = Vec::new(self.sought.alloc);
-        self.try_waiting(meant, &mut failed)?;
-        self.put_back(meant, failed.as_slice())
-    }
-
-    fn try_waiting(&mut self, meant: Meant, failed: &mut Vec<Pending>) -> Result<(), Stop> {
+    /// Something changed at a listener or an endpoint: the first calls on it are tried. Those that fail wait on.
+    pub(crate) fn wake(&mut self, meant: Meant) -> Done {
+        let mut failed: usize = 0;
         for _ in 0..TRIES {
-            let Some(pending) = self.calls.ended.pop(meant) else {
+            let Some(pending) = self.calls.ended.get(meant, failed) else {
                 break;
             };
             if self.calls.is_open(pending.thread, pending.begin) && !self.has_effect(pending)? {
-                failed.push(pending)?;
+                failed = failed.saturating_add(1);
+            } else {
+                self.calls.ended.remove(meant, failed);
             }
-        }
-        Ok(())
-    }
-
-    // The calls that failed wait on, before all others.
-    fn put_back(&mut self, meant: Meant, failed: &[Pending]) -> Result<(), Stop> {
-        for pending in failed.iter().rev() {
-            self.calls.ended.put_back(meant, *pending)?;
         }
         Ok(())
     }
 
     /// The first call on an endpoint that is open at the end of the trace has its effect. The result is whether it did.
     pub(crate) fn suppose(&mut self, meant: Meant) -> Result<bool, Stop> {
-        let Some(pending) = self.calls.unended.pop(meant) else {
+        let Some(pending) = self.calls.unended.remove(meant, 0) else {
             return Ok(false);
         };
         if !self.calls.is_open(pending.thread, pending.begin) {

@@ -1,16 +1,16 @@
 //! Expiries that the trace shows, and lines that are added for others.
 
 use super::Pass;
-use crate::calls::endpoint_at;
+use crate::calls::{Meant, endpoint_at};
 use crate::key::EndpointKey;
 use crate::progress::saturated;
-use crate::stop::{Stop, permitted};
+use crate::stop::{Done, Stop, permitted};
 use case_forms::{Expired, Recovery, RtoChoice, Timer};
 use endpoint::{greatest_at_recovery, greatest_values};
 
 impl Pass<'_> {
     /// The current line shows that a timer expired.
-    pub(crate) fn expire_shown(&mut self, key: EndpointKey, timer: Timer) -> Result<(), Stop> {
+    pub(crate) fn expire_shown(&mut self, key: EndpointKey, timer: Timer) -> Done {
         let expired = self.greatest_expiry(key, timer);
         self.progress.expire(key, expired)?;
         self.wake_endpoint(key)
@@ -18,34 +18,39 @@ impl Pass<'_> {
 
     // The expiry of a timer, with the greatest values that may be chosen then.
     fn greatest_expiry(&self, key: EndpointKey, timer: Timer) -> Expired {
-        let (cwnd, ssthresh) = match (timer, self.progress.endpoint(key)) {
-            (Timer::Rto, Some(endpoint)) => greatest_values(endpoint, self.progress.moment()),
-            _ => (0, 0),
-        };
         match timer {
-            Timer::Rto => Expired::Rto(RtoChoice {
-                cwnd: saturated(cwnd),
-                ssthresh: saturated(ssthresh),
-            }),
+            Timer::Rto => Expired::Rto(self.greatest_choice(key)),
             Timer::Persist => Expired::Persist,
             Timer::Msl2 => Expired::Msl2,
             Timer::Giveup => Expired::Giveup,
         }
     }
 
+    fn greatest_choice(&self, key: EndpointKey) -> RtoChoice {
+        let (cwnd, ssthresh) = match self.progress.endpoint(key) {
+            Some(endpoint) => greatest_values(endpoint, self.progress.moment()),
+            None => (0, 0),
+        };
+        RtoChoice {
+            cwnd: saturated(cwnd),
+            ssthresh: saturated(ssthresh),
+        }
+    }
+
     /// Calls on an endpoint are tried, and one that waits for its ports.
-    pub(crate) fn wake_endpoint(&mut self, key: EndpointKey) -> Result<(), Stop> {
-        if let Some(place) = self.place_of(key) {
-            self.wake(endpoint_at(key.host(), place))?;
+    pub(crate) fn wake_endpoint(&mut self, key: EndpointKey) -> Done {
+        if let Some(meant) = self.meant_at(key) {
+            self.wake(meant)?;
         }
         self.open_again(key)?;
         Ok(())
     }
 
-    /// The place of an endpoint at its host.
-    pub(crate) fn place_of(&self, key: EndpointKey) -> Option<u32> {
+    /// What a call on an endpoint means. None: the endpoint doesn't exist.
+    pub(crate) fn meant_at(&self, key: EndpointKey) -> Option<Meant> {
         let body = self.progress.world().body(key.host());
-        body.place_of(key.lport, key.rport)
+        let place = body.place_of(key.lport, key.rport)?;
+        Some(endpoint_at(key.host(), place))
     }
 
     /// Adds a line for an expiry, if the timer may expire now: before the current line, or after it if its step was
@@ -56,7 +61,7 @@ impl Pass<'_> {
     }
 
     /// Adds a line for an expiry, if that's permitted now, and tries the calls on the endpoint.
-    pub(crate) fn try_expiry(&mut self, key: EndpointKey, timer: Timer) -> Result<(), Stop> {
+    pub(crate) fn try_expiry(&mut self, key: EndpointKey, timer: Timer) -> Done {
         if self.add_expiry(key, timer)? {
             self.wake_endpoint(key)?;
         }

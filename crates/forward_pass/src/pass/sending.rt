@@ -1,13 +1,13 @@
 //! A segment is built when its line shows that it was sent.
 
 use super::Pass;
-use crate::calls::endpoint_at;
 use crate::choices::Unseen;
 use crate::copies::Sending;
 use crate::key::EndpointKey;
-use crate::stop::Stop;
+use crate::outgoing::Shown;
+use crate::stop::{Done, Stop};
 use case_forms::{Flags, Host, Label, POSITIONS, SegmentPlan, Timer, Wire};
-use endpoint_state::{Endpoint, World};
+use endpoint_state::Endpoint;
 use segment::Flag;
 use seqno::{Word, read_near};
 use verdict::Rule;
@@ -24,42 +24,37 @@ pub(crate) fn position_of(endpoint: &Endpoint, seq: Word) -> Option<u64> {
     read_near(near, endpoint.iss?, seq)
 }
 
-/// The segment that a line shows, as its host has to build it.
-pub(crate) fn plan_of(world: &World, host: Host, wire: &Wire) -> SegmentPlan {
-    let seg = &wire.seg;
-    let flags = Flags {
-        ack: seg.has(Flag::Ack),
-        rst: seg.has(Flag::Rst),
-        syn: seg.has(Flag::Syn),
-        fin: seg.has(Flag::Fin),
-    };
-    let (pos, is_known) = match world.body(host).endpoint_of(seg.src, seg.dst) {
-        Some(endpoint) => (position_of(endpoint, seg.seq), endpoint.iss.is_some()),
-        None => (None, false),
-    };
-    let is_first = flags.syn && !is_known;
-    let is_scaled = is_first && world.header().version.scales();
-    SegmentPlan {
-        lport: seg.src,
-        rport: seg.dst,
-        pos: if flags.syn { 0 } else { pos.unwrap_or(0) },
-        len: u16::try_from(seg.payload.len()).unwrap_or(u16::MAX),
-        flags,
-        window: seg.window,
-        iss: if is_first { Some(seg.seq) } else { None },
-        shift: match seg.scale {
-            Some(shift) if is_scaled => Some(shift.min(14)),
-            _ => None,
-        },
-    }
-}
-
 impl<'t> Pass<'t> {
+    /// The segment that a line shows, as its endpoint has to build it.
+    pub(crate) fn plan_of(&self, key: EndpointKey, wire: &Wire) -> SegmentPlan {
+        let seg = &wire.seg;
+        let flags = Flags {
+            ack: seg.has(Flag::Ack),
+            rst: seg.has(Flag::Rst),
+            syn: seg.has(Flag::Syn),
+            fin: seg.has(Flag::Fin),
+        };
+        let endpoint = self.progress.endpoint(key);
+        let pos = endpoint.and_then(|endpoint| position_of(endpoint, seg.seq));
+        let is_first = flags.syn && endpoint.is_none_or(|endpoint| endpoint.iss.is_none());
+        let is_scaled = is_first && self.sought.header.version.scales();
+        SegmentPlan {
+            lport: key.lport,
+            rport: key.rport,
+            pos: if flags.syn { 0 } else { pos.unwrap_or(0) },
+            len: u16::try_from(seg.payload.len()).unwrap_or(u16::MAX),
+            flags,
+            window: seg.window,
+            iss: is_first.then_some(seg.seq),
+            shift: seg.scale.filter(|_| is_scaled).map(|shift| shift.min(14)),
+        }
+    }
+
     /// The current line shows a segment sent: it is built, unless it was before.
-    pub(crate) fn send(&mut self, host: Host, wire: &'t Wire) -> Result<(), Stop> {
+    pub(crate) fn send(&mut self, host: Host, wire: &'t Wire) -> Done {
         let key = EndpointKey::sender(host, wire);
         let place = self.progress.place();
-        let made = match self.outgoing.start_sending(key, place)? {
+        let made = match self.outgoing.start_sending(Shown { key, place, wire })? {
             Some(made) => made,
             None => self.make_shown(key, wire)?,
         };
@@ -68,7 +63,7 @@ impl<'t> Pass<'t> {
         let sent = self.copies.of(host);
         sent.add(wire.bytes.as_slice(), Sending { line, moment })?;
         if wire.seg.has(Flag::Syn) {
-            self.outgoing.sent_syn(key, wire.seg.seq)?;
+            self.outgoing.syns.insert(key, wire.seg.seq)?;
         }
         Ok(())
     }
@@ -80,24 +75,20 @@ impl<'t> Pass<'t> {
             self.expire_before_syn(key)?;
         }
         for _ in 0..REMEDIES {
-            let plan = plan_of(self.progress.world(), host, wire);
-            match self.progress.make(host, plan) {
-                Err(Stop::Broken(rule)) => {
-                    if !self.remedy(key, plan, rule)? {
-                        break;
-                    }
-                }
-                Ok(made) => {
-                    // A reset closes its endpoint, for which calls may wait.
-                    if plan.flags.rst {
-                        self.wake_endpoint(key)?;
-                    }
-                    return Ok(made);
-                }
-                Err(stop) => return Err(stop),
+            let plan = self.plan_of(key, wire);
+            let made = self.progress.make(host, plan);
+            if made.is_ok() && plan.flags.rst {
+                // A reset closes its endpoint, for which calls may wait.
+                self.wake_endpoint(key)?;
+            }
+            let Err(Stop::Broken(rule)) = made else {
+                return made;
+            };
+            if !self.remedy(key, plan, rule)? {
+                break;
             }
         }
-        let plan = plan_of(self.progress.world(), host, wire);
+        let plan = self.plan_of(key, wire);
         let made = self.progress.make(host, plan);
         if let Err(Stop::Broken(_)) = made {
             self.progress.push_step(Label::M { host, plan })?;
@@ -107,23 +98,16 @@ impl<'t> Pass<'t> {
 
     // Does what may permit a segment that breaks this rule. The result is whether something was done.
     fn remedy(&mut self, key: EndpointKey, plan: SegmentPlan, rule: Rule) -> Result<bool, Stop> {
+        let endpoint = self.progress.endpoint(key);
+        let is_after_gap = endpoint.is_some_and(|endpoint| endpoint.snd_max() < plan.pos);
         match rule {
-            Rule::OldData if self.is_gap_before(key, plan) => {
-                self.make_unseen(key, Unseen::One, plan.pos)
-            }
+            // What precedes the segment was built, and no line shows it.
+            Rule::OldData if is_after_gap => self.make_unseen(key, Unseen::One, plan.pos),
             Rule::OldData => self.permit_old_data(key),
             Rule::Offered => self.add_expiry(key, Timer::Persist),
             Rule::State | Rule::NoEndpoint if plan.flags.syn && !plan.flags.ack => self.reopen(key),
             Rule::PayloadRange | Rule::State | Rule::NoEndpoint => self.suppose_at(key),
             _ => Ok(false),
-        }
-    }
-
-    // Whether positions before a segment weren't built yet: they were, and no line shows it.
-    fn is_gap_before(&self, key: EndpointKey, plan: SegmentPlan) -> bool {
-        match self.progress.endpoint(key) {
-            Some(endpoint) => endpoint.snd_max() < plan.pos,
-            None => false,
         }
     }
 
@@ -139,12 +123,9 @@ impl<'t> Pass<'t> {
 
     // After one expiry, or if retransmissions aren't judged, a SYN may be built again without another expiry. Its timer
     // may have expired all the same.
-    fn expire_before_syn(&mut self, key: EndpointKey) -> Result<(), Stop> {
-        let is_again = match self.progress.endpoint(key) {
-            Some(endpoint) => endpoint.iss.is_some() && endpoint.snd_max() > 0,
-            None => false,
-        };
-        if is_again {
+    fn expire_before_syn(&mut self, key: EndpointKey) -> Done {
+        let endpoint = self.progress.endpoint(key);
+        if endpoint.is_some_and(|endpoint| endpoint.iss.is_some() && endpoint.snd_max() > 0) {
             self.add_expiry(key, Timer::Rto)?;
         }
         Ok(())
@@ -152,10 +133,8 @@ impl<'t> Pass<'t> {
 
     // Does what permits old data to be sent again.
     fn permit_old_data(&mut self, key: EndpointKey) -> Result<bool, Stop> {
-        let is_closed = match self.progress.endpoint(key) {
-            Some(endpoint) => endpoint.window.snd_wnd == 0,
-            None => false,
-        };
+        let endpoint = self.progress.endpoint(key);
+        let is_closed = endpoint.is_some_and(|endpoint| endpoint.window.snd_wnd == 0);
         Ok(
             (is_closed && self.add_expiry(key, Timer::Persist)?)
                 || self.try_recovery(key)?
@@ -165,8 +144,8 @@ impl<'t> Pass<'t> {
     }
 
     fn suppose_at(&mut self, key: EndpointKey) -> Result<bool, Stop> {
-        match self.place_of(key) {
-            Some(place) => self.suppose(endpoint_at(key.host(), place)),
+        match self.meant_at(key) {
+            Some(meant) => self.suppose(meant),
             None => Ok(false),
         }
     }

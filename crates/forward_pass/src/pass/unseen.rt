@@ -1,11 +1,9 @@
 //! Segments that were built, and that no line shows: they were lost before the capture.
 
 use super::Pass;
-use super::arriving::{as_read, endpoint_found};
-use super::sending::plan_of;
 use crate::choices::Unseen;
 use crate::key::EndpointKey;
-use crate::stop::{Stop, permitted};
+use crate::stop::{Done, Stop, permitted};
 use case_forms::{Flags, Host, SegmentPlan, State};
 use endpoint_state::Endpoint;
 use segment::Flag;
@@ -41,18 +39,7 @@ fn syn(endpoint: &Endpoint, number: Word) -> SegmentPlan {
     let mut plan = bare(endpoint, u16::MAX, endpoint.rcv_nxt() >= 1);
     plan.flags.syn = true;
     plan.pos = 0;
-    plan.iss = if endpoint.iss.is_none() {
-        Some(number)
-    } else {
-        None
-    };
-    plan
-}
-
-// A reset.
-fn reset(endpoint: &Endpoint, window: u16) -> SegmentPlan {
-    let mut plan = bare(endpoint, window, endpoint.rcv_nxt() >= 1);
-    plan.flags.rst = true;
+    plan.iss = endpoint.iss.is_none().then_some(number);
     plan
 }
 
@@ -87,7 +74,7 @@ fn window_up_to(endpoint: &Endpoint, end: u64) -> Option<u16> {
 
 impl Pass<'_> {
     /// Advertises a window that reaches to the end of an arrival, in a segment that no line shows.
-    pub(crate) fn widen(&mut self, host: Host, line: u64) -> Result<(), Stop> {
+    pub(crate) fn widen(&mut self, host: Host, line: u64) -> Done {
         if let Some(plan) = self.widening(host, line) {
             permitted(self.progress.make(host, plan))?;
         }
@@ -96,10 +83,8 @@ impl Pass<'_> {
 
     /// The segment that advertises such a window. None: the window reaches there, or none can.
     pub(crate) fn widening(&self, host: Host, line: u64) -> Option<SegmentPlan> {
-        let world = self.progress.world();
-        let m = world.waiting(host, line)?;
-        let endpoint = endpoint_found(world, host, m)?;
-        let read = as_read(world, endpoint, m)?;
+        let (key, m) = self.progress.waiting(host, line)?;
+        let (endpoint, read) = self.progress.read(key, m)?;
         let len = (m.payload.len() as u64).max(1);
         let window = window_up_to(endpoint, read.pos().saturating_add(len))?;
         Some(bare(endpoint, window, true))
@@ -136,12 +121,12 @@ impl Pass<'_> {
     // The next segment that an endpoint can build. None: it has nothing to send.
     fn unseen_plan(&self, key: EndpointKey, unseen: Unseen, to: u64) -> Option<SegmentPlan> {
         let endpoint = self.progress.endpoint(key)?;
-        let window = match self.outgoing.next(key) {
-            Some((_, wire)) => wire.seg.window,
-            None => u16::MAX,
-        };
+        let next = self.outgoing.next(key).map(|shown| shown.wire);
+        let window = next.map_or(u16::MAX, |wire| wire.seg.window);
         if unseen == Unseen::Reset {
-            return Some(reset(endpoint, window));
+            let mut plan = bare(endpoint, window, endpoint.rcv_nxt() >= 1);
+            plan.flags.rst = true;
+            return Some(plan);
         }
         match endpoint.state {
             State::SynSent | State::SynReceived => Some(self.unseen_syn(key, endpoint)),
@@ -151,12 +136,12 @@ impl Pass<'_> {
 
     // The SYN that the endpoint sends next, or one like it.
     fn unseen_syn(&self, key: EndpointKey, endpoint: &Endpoint) -> SegmentPlan {
-        let number = match self.outgoing.next(key) {
-            Some((_, wire)) if wire.seg.has(Flag::Syn) && !wire.seg.has(Flag::Rst) => {
-                return plan_of(self.progress.world(), key.host(), wire);
+        let number = match self.outgoing.next(key).map(|shown| shown.wire) {
+            Some(wire) if wire.seg.has(Flag::Syn) && !wire.seg.has(Flag::Rst) => {
+                return self.plan_of(key, wire);
             }
-            Some((_, wire)) => Word(wire.seg.seq.0.wrapping_sub(1)),
-            None => self.outgoing.last_syn(key).unwrap_or(Word(0)),
+            Some(wire) => Word(wire.seg.seq.0.wrapping_sub(1)),
+            None => self.outgoing.syns.get(&key).copied().unwrap_or(Word(0)),
         };
         syn(endpoint, number)
     }
