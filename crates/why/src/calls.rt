@@ -10,48 +10,39 @@ use endpoint_state::World;
 use plain_words::{AnswerFields, AnswerWords, CallWords, HostName};
 use replayed::socket_of;
 use spec_tcp::SocketTarget;
-use std::alloc::Global;
 
 // Of data with more bytes than this, only the length is shown.
 const SHOWN: usize = 60;
 
 /// Writes the open call of a thread.
 pub(crate) fn describe_thread(out: &mut String, scene: &Scene, thread: u32) -> Done {
-    let pending = scene.world().pending_call(thread);
-    let given = scene.world().given_answer(thread);
-    let begun = begun_at(scene, thread);
-    if pending.is_none() && given.is_none() {
-        return writeln!(out, "thread {thread} has no open call");
-    }
-    write!(
-        out,
-        "the open call of thread {thread}, begun in trace line {begun}"
-    )?;
-    if let Some(call) = pending {
-        return writeln!(out, ": {}; it hasn't taken effect yet", CallWords(call));
-    }
-    let effect = effect_at(scene, thread);
-    write!(
-        out,
-        ", took effect in line {effect} of the witness, with the answer"
-    )?;
-    match given {
-        Some(answer) => say_answer(out, answer),
-        None => writeln!(out),
+    let world = scene.world();
+    match (world.pending_call(thread), world.given_answer(thread)) {
+        (None, None) => writeln!(out, "thread {thread} has no open call"),
+        (Some(call), _) => {
+            say_begun(out, scene, thread)?;
+            writeln!(out, ": {}; it hasn't taken effect yet", CallWords(call))
+        }
+        (None, Some(answer)) => {
+            say_begun(out, scene, thread)?;
+            let effect = effect_at(scene, thread);
+            write!(out, ", took effect in line {effect} of the witness, ")?;
+            out.push_str("with the answer")?;
+            say_answer(out, answer)
+        }
     }
 }
 
-// The last used line that began a call of a thread; 0 if there is none.
-fn begun_at(scene: &Scene, thread: u32) -> u64 {
+// Writes where the open call began: the last used line that began a call of the thread; 0 if there is none.
+fn say_begun(out: &mut String, scene: &Scene, thread: u32) -> Done {
     let begun = scene.lines().iter().rfind(|line| {
         line.thread == thread
             && matches!(&line.event, Event::CallBegin(_))
             && scene.used_by(line.number).is_some()
     });
-    match begun {
-        Some(line) => line.number,
-        None => 0,
-    }
+    let begun = begun.map_or(0, |line| line.number);
+    write!(out, "the open call of thread {thread}, ")?;
+    write!(out, "begun in trace line {begun}")
 }
 
 // The line of the witness with the last effect of a thread before the step; 0 if there is none.
@@ -71,20 +62,12 @@ fn say_answer(out: &mut String, answer: &Answer) -> Done {
     }
 }
 
-/// Writes the answer of an `E` line, and the thread's call.
+/// Writes the answer of an `E` line, the thread's call, and the first byte in which its data differs from that of the
+/// effect.
 pub(crate) fn describe_end(out: &mut String, scene: &Scene, thread: u32, answer: &Answer) -> Done {
-    write!(out, "the line has the answer")?;
+    out.push_str("the line has the answer")?;
     say_answer(out, answer)?;
-    describe_thread(out, scene, thread)
-}
-
-/// The first byte in which the data of an `E` line differs from that of the effect.
-pub(crate) fn answer_differs(
-    out: &mut String,
-    scene: &Scene,
-    thread: u32,
-    answer: &Answer,
-) -> Done {
+    describe_thread(out, scene, thread)?;
     match (answer, scene.world().given_answer(thread)) {
         (Answer::Bytes(told), Some(Answer::Bytes(given))) => {
             let (told, given) = (told.as_slice(), given.as_slice());
@@ -96,37 +79,22 @@ pub(crate) fn answer_differs(
 
 /// Where a socket number was returned before.
 pub(crate) fn socket(out: &mut String, world: &World, number: u32) -> Done {
-    let host = if world.body(Host::Zero).is_given(number) {
-        Host::Zero
-    } else {
-        Host::One
-    };
-    write!(
-        out,
-        "socket number {number} was returned before, at {}; ",
-        HostName(host)
-    )?;
-    writeln!(out, "each is returned once, at either host")?;
-    describe_socket(out, world, host, number)
+    if let Some(host) = giver(world, number) {
+        write!(out, "socket number {number} was returned before, ")?;
+        let host = HostName(host);
+        writeln!(out, "at {host}; each is returned once, at either host")?;
+    }
+    describe_named(out, world, number)
 }
 
 /// What the call refers to, and the answers that it may have.
-pub(crate) fn call_answer(
-    alloc: Global,
-    out: &mut String,
-    world: &World,
-    thread: u32,
-    answer: &Answer,
-) -> Done {
-    let Some(call) = world.pending_call(thread) else {
-        return Ok(());
-    };
-    describe_object(out, world, call)?;
-    write!(out, "the witness has the answer:")?;
+pub(crate) fn call_answer(out: &mut String, scene: &Scene, call: &Call, answer: &Answer) -> Done {
+    describe_object(out, scene.world(), call)?;
+    out.push_str("the witness has the answer:")?;
     say_answer(out, answer)?;
-    write!(out, "allowed there:")?;
-    say_allowed(alloc, out, world, call)?;
-    writeln!(out)
+    out.push_str("allowed there:")?;
+    say_allowed(out, scene, call)?;
+    out.push_str("\n")
 }
 
 // Writes what a call refers to.
@@ -147,24 +115,19 @@ fn describe_object(out: &mut String, world: &World, call: &Call) -> Done {
     }
 }
 
-// Writes what a socket number names.
-fn describe_named(out: &mut String, world: &World, socket: u32) -> Done {
-    let mut is_given = false;
-    for host in [Host::Zero, Host::One] {
-        if world.body(host).is_given(socket) {
-            is_given = true;
-            describe_socket(out, world, host, socket)?;
-        }
-    }
-    if is_given {
-        Ok(())
-    } else {
-        writeln!(out, "socket number {socket} was never returned")
-    }
+/// The host that returned a socket number. None: neither did.
+pub(crate) fn giver(world: &World, socket: u32) -> Option<Host> {
+    let hosts = [Host::Zero, Host::One];
+    hosts
+        .into_iter()
+        .find(|host| world.body(*host).is_given(socket))
 }
 
 // Writes what a socket number names at the host that returned it.
-fn describe_socket(out: &mut String, world: &World, host: Host, socket: u32) -> Done {
+fn describe_named(out: &mut String, world: &World, socket: u32) -> Done {
+    let Some(host) = giver(world, socket) else {
+        return writeln!(out, "socket number {socket} was never returned");
+    };
     let body = world.body(host);
     match body.thing(socket) {
         Some(SocketTarget::EndpointAt(place)) => match body.endpoint_at(place) {
@@ -178,13 +141,10 @@ fn describe_socket(out: &mut String, world: &World, host: Host, socket: u32) -> 
 
 // Writes a host's listener.
 fn describe_listener(out: &mut String, world: &World, host: Host, place: u32) -> Done {
-    match world.body(host).listener_at(place) {
-        Some(listener) => {
-            let (host, port) = (HostName(host), listener.port);
-            let children = listener.queue.len();
-            write!(out, "before the step, {host}'s listener on port {port}, ")?;
-            writeln!(out, "children in its queue: {children}")
-        }
-        None => Ok(()),
-    }
+    let Some(listener) = world.body(host).listener_at(place) else {
+        return Ok(());
+    };
+    let (host, port, children) = (HostName(host), listener.port, listener.queue.len());
+    write!(out, "before the step, {host}'s listener on port {port}, ")?;
+    writeln!(out, "children in its queue: {children}")
 }

@@ -32,16 +32,6 @@ pub(crate) enum Change {
 }
 
 impl Values {
-    /// The values before anything is sent.
-    pub(crate) fn start() -> Values {
-        Values {
-            una: 0,
-            sent: 0,
-            backoffs: 0,
-            congestion: Congestion::start(),
-        }
-    }
-
     pub(crate) fn of(endpoint: &Endpoint) -> Values {
         Values {
             una: endpoint.stream.snd_una,

@@ -11,21 +11,16 @@ const UNSET: u32 = u32::MAX;
 
 /// Writes that a host has no endpoint with these ports.
 pub(crate) fn no_endpoint(out: &mut String, host: Host, lport: u16, rport: u16) -> Done {
-    let host = HostName(host);
-    writeln!(
-        out,
-        "{host} has no endpoint between its port {lport} and the peer's port {rport}"
-    )
+    write!(out, "{} has no endpoint between ", HostName(host))?;
+    writeln!(out, "its port {lport} and the peer's port {rport}")
 }
 
 /// Writes the values of an endpoint that rules compare, as they are before the step.
 pub(crate) fn describe(out: &mut String, host: Host, endpoint: &Endpoint) -> Done {
-    let (host, state) = (HostName(host), state_name(endpoint.state));
     let (lport, rport) = (endpoint.lport, endpoint.rport);
-    writeln!(
-        out,
-        "before the step, {host}'s endpoint {lport} -> {rport}: {state}"
-    )?;
+    let state = state_name(endpoint.state);
+    write!(out, "before the step, {}'s endpoint ", HostName(host))?;
+    writeln!(out, "{lport} -> {rport}: {state}")?;
     describe_sending(out, endpoint)?;
     describe_receiving(out, endpoint)?;
     describe_windows(out, endpoint)?;
@@ -33,46 +28,37 @@ pub(crate) fn describe(out: &mut String, host: Host, endpoint: &Endpoint) -> Don
 }
 
 fn describe_sending(out: &mut String, endpoint: &Endpoint) -> Done {
-    let stream = &endpoint.stream;
-    let (una, sent, recover) = (stream.snd_una, endpoint.snd_max(), endpoint.recover);
-    let accepted = stream.accepted.end();
+    let (stream, recover) = (&endpoint.stream, endpoint.recover);
+    let (una, sent, accepted) = (stream.snd_una, endpoint.snd_max(), stream.accepted.end());
     let ended = word_if(stream.ended, ", sending has ended");
-    write!(
-        out,
-        "  sending: SND.UNA {una}, sent up to {sent}, accepted from the program up to {accepted}"
-    )?;
-    writeln!(out, "{ended}, may be retransmitted up to {recover}")
+    write!(out, "  sending: SND.UNA {una}, sent up to {sent}, ")?;
+    write!(out, "accepted from the program up to {accepted}{ended}, ")?;
+    writeln!(out, "may be retransmitted up to {recover}")
 }
 
 // Before the peer's SYN, which has position 0, there is nothing to acknowledge and no window to advertise.
 fn describe_receiving(out: &mut String, endpoint: &Endpoint) -> Done {
-    match endpoint.rcv_nxt() {
-        0 => writeln!(out, "  receiving: no SYN received yet"),
-        next => {
-            let edge = endpoint.window.rcv_adv;
-            writeln!(out, "  receiving: RCV.NXT {next}, advertised up to {edge}")
-        }
+    let (next, edge) = (endpoint.rcv_nxt(), endpoint.window.rcv_adv);
+    if next == 0 {
+        return out.push_str("  receiving: no SYN received yet\n");
     }
+    writeln!(out, "  receiving: RCV.NXT {next}, advertised up to {edge}")
 }
 
 fn describe_windows(out: &mut String, endpoint: &Endpoint) -> Done {
-    let congestion = &endpoint.control.values;
-    let (wnd, cwnd) = (endpoint.window.snd_wnd, congestion.cwnd);
+    let (wnd, values) = (endpoint.window.snd_wnd, &endpoint.control.values);
+    let (cwnd, smss, dup) = (values.cwnd, values.smss, values.dup);
     write!(out, "  windows: SND.WND {wnd}, cwnd {cwnd}, ssthresh ")?;
-    match congestion.ssthresh {
-        UNSET => write!(out, "not set")?,
+    match values.ssthresh {
+        UNSET => out.push_str("not set")?,
         bytes => write!(out, "{bytes}")?,
     }
     let is_judged = endpoint.control.profile.bounds_windows();
-    let unjudged = word_if(!is_judged, " (neither is judged)");
-    let recovering = word_if(congestion.fast, ", in fast recovery");
-    let scaled = word_if(endpoint.is_scaling(), ", windows are scaled");
-    let (smss, dup) = (congestion.smss, congestion.dup);
-    write!(
-        out,
-        "{unjudged}, SMSS {smss}, {dup} duplicate acknowledgments"
-    )?;
-    writeln!(out, "{recovering}{scaled}")
+    out.push_str(word_if(!is_judged, " (neither is judged)"))?;
+    write!(out, ", SMSS {smss}, {dup} duplicate acknowledgments")?;
+    out.push_str(word_if(values.fast, ", in fast recovery"))?;
+    out.push_str(word_if(endpoint.is_scaling(), ", windows are scaled"))?;
+    out.push_str("\n")
 }
 
 fn describe_timers(out: &mut String, endpoint: &Endpoint) -> Done {
@@ -88,5 +74,5 @@ fn describe_timers(out: &mut String, endpoint: &Endpoint) -> Done {
             None => write!(out, ", {name} off")?,
         }
     }
-    writeln!(out)
+    out.push_str("\n")
 }

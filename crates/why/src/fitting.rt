@@ -1,33 +1,125 @@
-//! If `congestion` refuses a segment: the congestion windows with other growth rules that it would fit. They are
-//! computed from the case.
+//! If `congestion` refuses a segment: the congestion windows with other growth rules that it would fit. They are kept
+//! for one endpoint while a case is replayed, in constant time for each segment sent or acknowledged.
 
 use crate::Done;
+use crate::changes::{Change, Values};
 use crate::scene::{Object, Scene};
+use crate::segment_window::SegmentWindow;
+use case_forms::{Host, Label, POSITIONS, Step};
+use endpoint_state::World;
+use replayed::end_of;
+use std::alloc::Global;
 use verdict::Rule;
+use window_rules::{Congestion, congestion_edge, counted_after, may_grow, on_duplicate};
+
+/// Other windows of the endpoint that builds the segment of a step.
+#[derive(Drop)]
+pub(crate) struct OtherWindows {
+    host: Host,
+    lport: u16,
+    rport: u16,
+    /// The endpoint's values before the next step.
+    now: Values,
+    /// The greatest window if slow start adds SMSS bytes for each acknowledgment of new data, in bytes (RFC 5681, 3.1).
+    upper: Congestion,
+    segments: SegmentWindow,
+}
+
+impl OtherWindows {
+    /// The windows for a step. None: it builds no segment.
+    pub(crate) fn of(alloc: Global, step: Option<&Step>) -> Option<OtherWindows> {
+        let Label::M { host, plan } = &step?.label else {
+            return None;
+        };
+        let congestion = Congestion::start();
+        Some(OtherWindows {
+            host: *host,
+            lport: plan.lport,
+            rport: plan.rport,
+            now: Values {
+                una: 0,
+                sent: 0,
+                backoffs: 0,
+                congestion,
+            },
+            upper: congestion,
+            segments: SegmentWindow::new(alloc),
+        })
+    }
+
+    /// Follows the world after one step.
+    pub(crate) fn follow(&mut self, world: &World) -> Done {
+        let Some(endpoint) = world.body(self.host).endpoint_of(self.lport, self.rport) else {
+            return Ok(());
+        };
+        let after = Values::of(endpoint);
+        let change = self.now.change(&after);
+        self.segments.follow(change, &self.now, &after)?;
+        self.upper = self.grown(change, &after);
+        self.now = after;
+        Ok(())
+    }
+
+    // The upper window after a step. Only its growth differs from the endpoint's own.
+    fn grown(&self, change: Change, after: &Values) -> Congestion {
+        let was = Congestion {
+            cwnd: self.upper.cwnd,
+            counted: self.upper.counted,
+            ..self.now.congestion
+        };
+        match change {
+            Change::Begins | Change::Timeout | Change::Recovery => after.congestion,
+            Change::Acknowledged(acked) if acked < POSITIONS && was.counted < POSITIONS => {
+                let least = if was.cwnd < was.ssthresh { was.smss } else { 0 };
+                Congestion {
+                    cwnd: may_grow(&was, acked.max(u64::from(least))) as u32,
+                    counted: counted_after(&was, acked),
+                    ..after.congestion
+                }
+            }
+            Change::Duplicate => Congestion {
+                cwnd: on_duplicate(&was) as u32,
+                ..was
+            },
+            Change::Acknowledged(_) | Change::Other => was,
+        }
+    }
+}
 
 /// Writes which other windows the segment of the step would fit; nothing if there are none. A segment of more than SMSS
 /// bytes fits none.
 pub(crate) fn say_fitting(out: &mut String, scene: &Scene, rule: Rule) -> Done {
-    let (Object::Building(it), Some(others)) = (scene.object(), &scene.others) else {
-        return Ok(());
+    match (scene.object(), &scene.others) {
+        (Object::Building(it), Some(others))
+            if rule == Rule::Congestion && u32::from(it.plan.len) <= others.now.congestion.smss => {
+            fits_upper(out, others, end_of(it.plan))?;
+            fits_segments(out, others)
+        }
+        _ => Ok(()),
+    }
+}
+
+fn fits_upper(out: &mut String, others: &OtherWindows, end: u64) -> Done {
+    let (una, cwnd) = (others.now.una, others.upper.cwnd);
+    let window = Congestion {
+        cwnd,
+        ..others.now.congestion
     };
-    if rule != Rule::Congestion || !others.is_segment(it.plan) {
-        return Ok(());
-    }
-    if let Some(cwnd) = others.upper_for(it.plan) {
-        write!(
-            out,
-            "it would fit if slow start added one SMSS for each acknowledgment, "
-        )?;
+    if una < POSITIONS && end <= congestion_edge(una, &window) {
+        out.push_str("it would fit if slow start added one SMSS for each acknowledgment, ")?;
         write!(out, "with cwnd {cwnd}. RFC 5681, 3.1, allows that; ")?;
-        writeln!(out, "this profile allows min(N, SMSS)")?;
+        out.push_str("this profile allows min(N, SMSS)\n")?;
     }
-    if let Some((flight, allowed)) = others.segments_fit() {
-        write!(
-            out,
-            "it would fit a window that counts segments (Linux): {flight} are in flight "
-        )?;
-        writeln!(out, "with this one, and the window would be {allowed}")?;
+    Ok(())
+}
+
+fn fits_segments(out: &mut String, others: &OtherWindows) -> Done {
+    let flight = others.segments.flight().saturating_add(1);
+    let allowed = others.segments.allowed(&others.now);
+    if flight <= allowed {
+        out.push_str("it would fit a window that counts segments (Linux): ")?;
+        write!(out, "{flight} are in flight with this one, ")?;
+        writeln!(out, "and the window would be {allowed}")?;
     }
     Ok(())
 }

@@ -7,9 +7,10 @@ use plain_words::{Shown, is_shown};
 use replayed::line_at;
 use segment::SegFault;
 
-// How many bytes before the mark are shown, and how many in all.
+// How many bytes before the mark are shown.
 const BEFORE: usize = 60;
 
+// How many bytes are shown in all.
 const SHOWN: usize = 110;
 
 /// Writes the line with the fault, and a mark under its columns.
@@ -21,27 +22,22 @@ pub(crate) fn mark(out: &mut String, text: &[u8], fault: &TextFault) -> Done {
     let from = fault.span.start.saturating_sub(BEFORE);
     let left = line.get(from..).unwrap_or(&[]);
     let shown = left.get(..SHOWN).unwrap_or(left);
-    writeln!(out, "  {}", Shown(shown))?;
     let before = fault.span.start.saturating_sub(from);
     let marked = fault.span.stop.saturating_sub(fault.span.start);
-    write!(out, "  ")?;
+    write!(out, "  {}\n  ", Shown(shown))?;
     push_blank(out, shown.get(..before).unwrap_or(shown))?;
     push_marks(out, shown.get(before..).unwrap_or(&[]), marked)?;
-    writeln!(out)?;
-    writeln!(out, "{meaning}")
+    writeln!(out, "\n{meaning}")
 }
 
 // Writes a space under each column of the bytes shown, and a tab under a tab.
 fn push_blank(out: &mut String, bytes: &[u8]) -> Done {
     for byte in bytes {
-        let blank = if *byte == b'\t' {
-            "\t"
-        } else if is_shown(*byte) {
-            " "
-        } else {
-            "    "
-        };
-        out.push_str(blank)?;
+        out.push_str(match *byte {
+            b'\t' => "\t",
+            byte if is_shown(byte) => " ",
+            _ => "    ",
+        })?;
     }
     Ok(())
 }

@@ -2,30 +2,36 @@
 
 use crate::Done;
 use crate::scene::Scene;
-use case_forms::{Event, Line, Timer};
+use case_forms::{Event, Line, NamedLine, Timer};
+use verdict::Rule;
 
-/// A line that the trace doesn't have, or extra numbers that it can't have.
-pub(crate) fn line_range(out: &mut String, scene: &Scene) -> Done {
-    let (number, extras) = (scene.number(), scene.extras());
-    let count = scene.lines().len();
-    let first = scene.header().first_event_line();
-    match scene.line(number) {
-        Some(line) => {
-            let wanted = wanted(line, scene.header().version.is_half());
-            writeln!(
-                out,
-                "extra numbers in the step: {}; {wanted}",
-                extras.count()
-            )
-        }
-        None => {
-            write!(
-                out,
-                "the trace has {count} event lines, from line {first} on; "
-            )?;
-            writeln!(out, "the step names line {number}")
-        }
+/// What a rule compares, if it is of the order of lines.
+pub(crate) fn compare(out: &mut String, scene: &Scene, rule: Rule) -> Done {
+    match rule {
+        Rule::LineRange => line_range(out, scene),
+        Rule::LineAgain => line_again(out, scene),
+        Rule::ThreadOrder => thread_order(out, scene),
+        Rule::MomentFalls => moment_falls(out, scene),
+        Rule::MomentOff => moment_off(out, scene),
+        Rule::Overdue => overdue(out, scene),
+        Rule::Unplaced => unplaced(out, scene),
+        _ => Ok(()),
     }
+}
+
+// A line that the trace doesn't have, or extra numbers that it can't have.
+fn line_range(out: &mut String, scene: &Scene) -> Done {
+    let NamedLine { number, extras } = scene.named();
+    if let Some(line) = scene.line(number) {
+        let (count, wanted) = (
+            extras.count(),
+            wanted(line, scene.header().version.is_half()),
+        );
+        return writeln!(out, "extra numbers in the step: {count}; {wanted}");
+    }
+    let (count, first) = (scene.lines().len(), scene.header().first_event_line());
+    write!(out, "the trace has {count} event lines, ")?;
+    writeln!(out, "from line {first} on; the step names line {number}")
 }
 
 // The extra numbers of a line.
@@ -33,31 +39,25 @@ fn wanted(line: &Line, half: bool) -> &'static str {
     match &line.event {
         Event::CallBegin(_) => "a B line has none",
         Event::CallEnd(_) => "an E line has none",
-        Event::Sent(_, _) => "an O line has 1, the number of the built segment that it shows",
-        Event::Came(_, _) if half => "an I line of a half case has none",
-        Event::Came(_, _) => "an I line has 1, the number of the O line that it copies",
+        Event::Sent(..) => "an O line has 1, the number of the built segment that it shows",
+        Event::Came(..) if half => "an I line of a half case has none",
+        Event::Came(..) => "an I line has 1, the number of the O line that it copies",
         Event::Expired(_, _, _, Timer::Rto) => "a T line of rto has 2, cwnd and ssthresh",
-        Event::Expired(_, _, _, _) => "a T line of any timer but rto has none",
+        Event::Expired(..) => "a T line of any timer but rto has none",
     }
 }
 
-/// A line that was used before.
-pub(crate) fn line_again(out: &mut String, scene: &Scene) -> Done {
-    let number = scene.number();
-    match scene.used_by(number) {
-        Some(step) => {
-            writeln!(
-                out,
-                "line {number} was already used by line {step} of the witness"
-            )
-        }
-        None => Ok(()),
-    }
+// A line that was used before.
+fn line_again(out: &mut String, scene: &Scene) -> Done {
+    let number = scene.named().number;
+    let step = scene.used_by(number).unwrap_or(0);
+    write!(out, "line {number} was already used ")?;
+    writeln!(out, "by line {step} of the witness")
 }
 
-/// The first earlier line of the same thread that isn't used yet.
-pub(crate) fn thread_order(out: &mut String, scene: &Scene) -> Done {
-    let number = scene.number();
+// The first earlier line of the same thread that isn't used yet.
+fn thread_order(out: &mut String, scene: &Scene) -> Done {
+    let number = scene.named().number;
     let Some(line) = scene.line(number) else {
         return Ok(());
     };
@@ -65,73 +65,46 @@ pub(crate) fn thread_order(out: &mut String, scene: &Scene) -> Done {
     let earlier = scene.lines().iter().find(|other| {
         other.number < number && other.thread == thread && scene.used_by(other.number).is_none()
     });
-    match earlier {
-        Some(earlier) => {
-            let earlier = earlier.number;
-            writeln!(
-                out,
-                "line {earlier} of the same thread {thread} comes first and isn't used yet"
-            )
-        }
-        None => Ok(()),
-    }
+    let earlier = earlier.map_or(0, |line| line.number);
+    write!(out, "line {earlier} of the same thread {thread} ")?;
+    out.push_str("comes first and isn't used yet\n")
 }
 
-/// The moment of the step, next to that of the step before it.
-pub(crate) fn moment_falls(out: &mut String, scene: &Scene) -> Done {
-    let moment = scene.moment();
-    match scene.before.last() {
-        Some(before) => {
-            let before = before.moment;
-            writeln!(
-                out,
-                "the step's moment is {moment}, that of the step before is {before}"
-            )
-        }
-        None => Ok(()),
-    }
+// The moment of the step, next to that of the step before it.
+fn moment_falls(out: &mut String, scene: &Scene) -> Done {
+    let before = scene.before.last().map_or(0, |step| step.moment);
+    write!(out, "the step's moment is {}, ", scene.moment())?;
+    writeln!(out, "that of the step before is {before}")
 }
 
-/// When a line may be used.
-pub(crate) fn moment_off(out: &mut String, scene: &Scene) -> Done {
-    let number = scene.number();
-    let Some(line) = scene.line(number) else {
-        return Ok(());
-    };
+// When a line may be used.
+fn moment_off(out: &mut String, scene: &Scene) -> Done {
     let (moment, skew) = (scene.moment(), scene.header().skew);
-    let (from, to) = (line.moment, line.moment.saturating_add(skew));
-    write!(
-        out,
-        "the step's moment is {moment}, the line may be used from {from} to {to} "
-    )?;
-    writeln!(out, "(its moment plus skew {skew})")
+    let line = scene.line(scene.named().number);
+    let from = line.map_or(0, |line| line.moment);
+    let to = from.saturating_add(skew);
+    write!(out, "the step's moment is {moment}, the line may be used ")?;
+    writeln!(out, "from {from} to {to} (its moment plus skew {skew})")
 }
 
-/// The first line that had to be used before the step's moment.
-pub(crate) fn overdue(out: &mut String, scene: &Scene) -> Done {
+// The first line that had to be used before the step's moment.
+fn overdue(out: &mut String, scene: &Scene) -> Done {
     let (moment, skew) = (scene.moment(), scene.header().skew);
     let overdue = scene.lines().iter().find(|line| {
         scene.used_by(line.number).is_none() && line.moment.saturating_add(skew) < moment
     });
-    match overdue {
-        Some(line) => {
-            let (number, by) = (line.number, line.moment.saturating_add(skew));
-            writeln!(
-                out,
-                "line {number} had to be used by {by}; the step's moment is {moment}"
-            )
-        }
-        None => Ok(()),
-    }
+    let Some(line) = overdue else {
+        return Ok(());
+    };
+    let (number, by) = (line.number, line.moment.saturating_add(skew));
+    write!(out, "line {number} had to be used by {by}; ")?;
+    writeln!(out, "the step's moment is {moment}")
 }
 
-/// The event lines that no step used.
-pub(crate) fn unplaced(out: &mut String, scene: &Scene) -> Done {
-    let (steps, all) = (scene.before.len(), scene.lines().len() as u64);
-    let unused = all.saturating_sub(scene.used_count());
-    write!(
-        out,
-        "the witness has {steps} steps; unused event lines: {unused} of {all}, "
-    )?;
-    writeln!(out, "and this is the first")
+// The event lines that no step used.
+fn unplaced(out: &mut String, scene: &Scene) -> Done {
+    let (steps, all) = (scene.before.len(), scene.lines().len());
+    let unused = all.saturating_sub(scene.used.len());
+    write!(out, "the witness has {steps} steps; unused event lines: ")?;
+    writeln!(out, "{unused} of {all}, and this is the first")
 }

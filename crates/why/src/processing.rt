@@ -1,18 +1,56 @@
 //! The rules of processing a received segment.
 
-use crate::Done;
 use crate::scene::{Processing, Scene};
-use case_forms::Host;
+use crate::{Done, numbers};
+use case_forms::{Host, TakeChoice};
 use endpoint::greatest_taking;
+use endpoint_state::{Endpoint, World};
 use plain_words::HostName;
-use spec_tcp::{Emission, EndpointId};
+use spec_tcp::{Arrived, Emission, EndpointId};
 use std::fmt;
+use verdict::Rule;
+
+/// What a rule compares at a segment that an endpoint processes.
+pub(crate) fn compare(out: &mut String, scene: &Scene, rule: Rule, it: Processing) -> Done {
+    let endpoint = it.endpoint;
+    let Some(m) = scene.as_read(endpoint, it.m) else {
+        return Ok(());
+    };
+    match rule {
+        Rule::State => out.push_str("in SYN-SENT only a segment with SYN or RST is processed\n"),
+        Rule::NotPeer => not_peer(out, scene, it.host, endpoint, &m),
+        Rule::Number => numbers::misread(out, scene, endpoint, &m),
+        Rule::Unacceptable => numbers::unacceptable(out, endpoint, &m),
+        Rule::AckRange => numbers::ack_range(out, endpoint, &m),
+        Rule::QueueFull => queue_full(out, scene, it),
+        Rule::Growth => growth(out, endpoint, &m, it.choice.cwnd, scene.moment()),
+        Rule::Sample => sample(out, endpoint, &m),
+        Rule::ScaleUnread => scale_unread(out, endpoint, &m),
+        _ => Ok(()),
+    }
+}
 
 /// Writes whether a listener is open on the port of a segment.
-pub(crate) fn listener(out: &mut String, scene: &Scene, host: Host, m: &Emission) -> Done {
-    let is_listening = scene.world().body(host).is_listening(m.rport);
+pub(crate) fn listener(out: &mut String, world: &World, host: Host, m: &Emission) -> Done {
+    let is_listening = world.body(host).is_listening(m.rport);
     let a = if is_listening { "a" } else { "no" };
     writeln!(out, "{a} listener is open on port {}", m.rport)
+}
+
+/// What a rule compares at a segment that is processed where no connection is open.
+pub(crate) fn compare_listening(out: &mut String, rule: Rule, choice: TakeChoice) -> Done {
+    let cwnd = choice.cwnd;
+    match rule {
+        Rule::State => {
+            out.push_str("a listener processes only a segment with SYN, without ACK and RST\n")
+        }
+        Rule::Growth => writeln!(out, "the step chooses cwnd {cwnd}, a child begins with 0"),
+        Rule::Sample => {
+            out.push_str("the step measures a round trip, ")?;
+            out.push_str("but a child has sent nothing that could be acknowledged\n")
+        }
+        _ => Ok(()),
+    }
 }
 
 // An endpoint by its number and its host.
@@ -25,21 +63,14 @@ impl fmt::Display for EndpointName {
     }
 }
 
-/// The endpoints that built the segment and that process it.
-pub(crate) fn not_peer(out: &mut String, scene: &Scene, it: &Processing) -> Done {
-    let (host, endpoint, m) = (it.host, it.endpoint, &it.read);
+// The endpoints that built the segment and that process it.
+fn not_peer(out: &mut String, scene: &Scene, host: Host, endpoint: &Endpoint, m: &Arrived) -> Done {
     let body = scene.world().body(host);
     let number = body.place_of(endpoint.lport, endpoint.rport).unwrap_or(0);
-    writeln!(
-        out,
-        "endpoints are counted from 0 at each host, in the order of creation"
-    )?;
-    write!(
-        out,
-        "the receiver is {}",
-        EndpointName(EndpointId { host, number })
-    )?;
+    let receiver = EndpointName(EndpointId { host, number });
     let sender = EndpointName(m.sender());
+    out.push_str("endpoints are counted from 0 at each host, in the order of creation\n")?;
+    write!(out, "the receiver is {receiver}")?;
     if m.is_reset_reply() {
         return writeln!(out, "; the reset answers a segment built by {sender}");
     }
@@ -50,75 +81,53 @@ pub(crate) fn not_peer(out: &mut String, scene: &Scene, it: &Processing) -> Done
     if let Some(peer) = m.peer_at_send() {
         write!(out, " for {}", EndpointName(peer))?;
     }
-    writeln!(out)
+    out.push_str("\n")
 }
 
-/// How many children the listen queue has, and how many it has room for.
-pub(crate) fn queue_full(out: &mut String, scene: &Scene, it: &Processing) -> Done {
-    let Some(place) = it.endpoint.listener else {
+// How many children the listen queue has, and how many it has room for.
+fn queue_full(out: &mut String, scene: &Scene, it: Processing) -> Done {
+    let body = scene.world().body(it.host);
+    let Some(listener) = it
+        .endpoint
+        .listener
+        .and_then(|place| body.listener_at(place))
+    else {
         return Ok(());
     };
-    match scene.world().body(it.host).listener_at(place) {
-        Some(listener) => {
-            let (children, backlog) = (listener.queue.len(), listener.backlog);
-            let extra = scene.header().extra;
-            write!(out, "children in the listen queue: {children}; ")?;
-            writeln!(out, "it has room for backlog {backlog} + extra {extra}")
-        }
-        None => Ok(()),
-    }
+    let (children, extra) = (listener.queue.len(), scene.header().extra);
+    write!(out, "children in the listen queue: {children}; ")?;
+    let backlog = listener.backlog;
+    writeln!(out, "it has room for backlog {backlog} + extra {extra}")
 }
 
-/// The congestion window that the step chooses, and the greatest one.
-pub(crate) fn growth(out: &mut String, it: &Processing, moment: u64) -> Done {
-    let greatest = greatest_taking(it.endpoint, &it.read, moment);
-    let acknowledged = if it.read.flags().ack {
-        it.read.ack().saturating_sub(it.endpoint.stream.snd_una)
-    } else {
-        0
-    };
-    let (cwnd, counted) = (it.choice.cwnd, it.endpoint.control.values.counted);
-    write!(
-        out,
-        "the step chooses cwnd {cwnd}, the greatest is {greatest}; "
-    )?;
-    writeln!(
-        out,
-        "newly acknowledged {acknowledged}, counted before {counted}"
-    )
+// The congestion window that the step chooses, and the greatest one.
+fn growth(out: &mut String, endpoint: &Endpoint, m: &Arrived, cwnd: u32, moment: u64) -> Done {
+    let greatest = greatest_taking(endpoint, m, moment);
+    let counted = endpoint.control.values.counted;
+    let ack = if m.flags().ack { m.ack() } else { 0 };
+    let acknowledged = ack.saturating_sub(endpoint.stream.snd_una);
+    write!(out, "the step chooses cwnd {cwnd}, the greatest is ")?;
+    write!(out, "{greatest}; newly acknowledged {acknowledged}, ")?;
+    writeln!(out, "counted before {counted}")
 }
 
-/// What the segment newly acknowledges.
-pub(crate) fn sample(out: &mut String, it: &Processing) -> Done {
-    let (una, ack) = (it.endpoint.stream.snd_una, it.read.ack());
-    let flags = it.read.flags();
+// What the segment newly acknowledges.
+fn sample(out: &mut String, endpoint: &Endpoint, m: &Arrived) -> Done {
+    let (una, ack, flags) = (endpoint.stream.snd_una, m.ack(), m.flags());
     if flags.ack && !flags.rst && una < ack {
         write!(out, "it acknowledges from {una} up to {ack}, ")?;
-        writeln!(out, "and a position there was sent more than once")
+        out.push_str("and a position there was sent more than once\n")
     } else {
         write!(out, "it acknowledges nothing new: SND.UNA is {una}; ")?;
-        writeln!(
-            out,
-            "a round trip is measured by a new acknowledgment, not by a reset"
-        )
+        out.push_str("a round trip is measured by a new acknowledgment, not by a reset\n")
     }
 }
 
-/// Which of the two sides scales windows.
-pub(crate) fn scale_unread(out: &mut String, it: &Processing) -> Done {
-    let sender = if it.read.is_scaled() {
-        "scaled"
-    } else {
-        "didn't scale"
-    };
-    let receiver = if it.endpoint.is_scaling() {
-        "scales them"
-    } else {
-        "doesn't"
-    };
-    write!(
-        out,
-        "its sender {sender} windows when it built the segment, "
-    )?;
-    writeln!(out, "and its receiver {receiver}")
+// Which of the two sides scales windows.
+fn scale_unread(out: &mut String, endpoint: &Endpoint, m: &Arrived) -> Done {
+    let (scaled, scales) = (m.is_scaled(), endpoint.is_scaling());
+    let sender = if scaled { "scaled" } else { "didn't scale" };
+    let receiver = if scales { "scales them" } else { "doesn't" };
+    write!(out, "its sender {sender} windows when it built ")?;
+    writeln!(out, "the segment, and its receiver {receiver}")
 }

@@ -1,6 +1,6 @@
 //! A case up to the refused step: the world before it, and what the step is about.
 
-use crate::other_windows::OtherWindows;
+use crate::fitting::OtherWindows;
 use case_forms::{
     Answer, Event, Extras, Header, Host, Label, Line, NamedLine, Recovery, SegmentPlan, Step,
     TakeChoice, Timer, Wire,
@@ -14,20 +14,21 @@ use std::collections::BTreeMap;
 /// What is known at the refused step, or after the last step if none is refused.
 #[derive(Drop)]
 pub(crate) struct Scene<'c> {
-    pub case: &'c Case<'c>,
+    pub alloc: Global,
+    case: &'c Case<'c>,
     /// The steps before the refused one.
     pub before: &'c [Step],
     /// The refused step. None: a rule is broken after the last step.
     pub step: Option<&'c Step>,
     replay: Replay<'c>,
     /// For each line used, the line of the witness that used it.
-    used: BTreeMap<u64, u64>,
+    pub used: BTreeMap<u64, u64>,
     /// If the step builds a segment, other congestion windows of the endpoint that builds it.
     pub others: Option<OtherWindows>,
 }
 
 /// What a step is about, and the endpoint that it concerns.
-#[derive(Drop)]
+#[derive(Clone, Copy)]
 pub(crate) enum Object<'s> {
     /// The effect of a thread's call, with this answer.
     Effect(u32, &'s Answer),
@@ -58,12 +59,12 @@ pub(crate) struct Building<'s> {
     pub endpoint: &'s Endpoint,
 }
 
-/// A segment that an endpoint processes, as it reads it.
-#[derive(Drop)]
+/// A segment that an endpoint processes.
+#[derive(Clone, Copy)]
 pub(crate) struct Processing<'s> {
     pub host: Host,
     pub endpoint: &'s Endpoint,
-    pub read: Arrived<'s>,
+    pub m: &'s Emission,
     pub choice: TakeChoice,
 }
 
@@ -72,7 +73,6 @@ pub(crate) struct Processing<'s> {
 pub(crate) struct Expiring<'s> {
     pub endpoint: &'s Endpoint,
     pub timer: Timer,
-    pub extras: Extras,
 }
 
 impl<'c> Scene<'c> {
@@ -80,6 +80,7 @@ impl<'c> Scene<'c> {
     pub(crate) fn new(alloc: Global, case: &'c Case<'c>) -> Scene<'c> {
         let step = case.refused_step();
         Scene {
+            alloc,
             case,
             before: case.steps_before_refusal(),
             step,
@@ -92,19 +93,13 @@ impl<'c> Scene<'c> {
     /// Does the steps before the refused one.
     pub(crate) fn run(&mut self) -> Result<(), ReplayFault> {
         for (place, step) in self.before.iter().enumerate() {
-            self.go_on(step, witness_line(Some(place)))?;
-        }
-        Ok(())
-    }
-
-    // Does the step of a line of the witness.
-    fn go_on(&mut self, step: &Step, witness_line: u64) -> Result<(), ReplayFault> {
-        self.replay.apply(step)?;
-        if let Label::L(named) = &step.label {
-            self.used.insert(named.number, witness_line)?;
-        }
-        if let Some(others) = &mut self.others {
-            others.follow(self.replay.world())?;
+            self.replay.apply(step)?;
+            if let Label::L(named) = &step.label {
+                self.used.insert(named.number, witness_line(Some(place)))?;
+            }
+            if let Some(others) = &mut self.others {
+                others.follow(self.replay.world())?;
+            }
         }
         Ok(())
     }
@@ -124,20 +119,12 @@ impl<'c> Scene<'c> {
 
     /// The moment of the step.
     pub(crate) fn moment(&self) -> u64 {
-        match self.step {
-            Some(step) => step.moment,
-            None => 0,
-        }
+        self.step.map_or(0, |step| step.moment)
     }
 
     /// The line of the witness that used a line of the trace. None: none did before the step.
     pub(crate) fn used_by(&self, line: u64) -> Option<u64> {
         self.used.get(&line).copied()
-    }
-
-    /// How many lines were used.
-    pub(crate) fn used_count(&self) -> u64 {
-        self.used.len() as u64
     }
 
     /// The line of the trace with this number. None: the trace has no such event line.
@@ -160,24 +147,10 @@ impl<'c> Scene<'c> {
         Arrived::checked_read(self.header().version, endpoint, m)
     }
 
-    /// The line of the trace that the step uses; 0 if it uses none.
-    pub(crate) fn number(&self) -> u64 {
-        self.named().number
-    }
-
-    /// The extra numbers of the step.
-    pub(crate) fn extras(&self) -> Extras {
-        self.named().extras
-    }
-
-    fn named(&self) -> NamedLine {
-        match self.step {
-            Some(
-                Step {
-                    label: Label::L(named),
-                    ..
-                },
-            ) => *named,
+    /// The line of the trace that the step uses, by its number; 0 if it uses none.
+    pub(crate) fn named(&self) -> NamedLine {
+        match self.step.map(|step| &step.label) {
+            Some(Label::L(named)) => *named,
             _ => NamedLine {
                 number: 0,
                 extras: Extras::Bare,
@@ -187,13 +160,7 @@ impl<'c> Scene<'c> {
 
     /// Whether the step builds a segment.
     pub(crate) fn builds(&self) -> bool {
-        matches!(
-            self.step,
-            Some(Step {
-                label: Label::M { .. },
-                ..
-            })
-        )
+        self.others.is_some()
     }
 
     /// What the step is about.
@@ -203,7 +170,7 @@ impl<'c> Scene<'c> {
 
     fn known_object(&self) -> Option<Object> {
         Some(match &self.step?.label {
-            Label::L(named) => return self.object_of_line(named.number, named.extras),
+            Label::L(named) => return self.object_of_line(*named),
             Label::D { thread, answer } => Object::Effect(*thread, answer),
             Label::M { host, plan } => Object::Building(Building {
                 host: *host,
@@ -220,32 +187,31 @@ impl<'c> Scene<'c> {
         })
     }
 
-    fn object_of_line(&self, number: u64, extras: Extras) -> Option<Object> {
-        let line = self.line(number)?;
+    fn object_of_line(&self, named: NamedLine) -> Option<Object> {
+        let (line, extra) = (self.line(named.number)?, first_extra(named.extras));
         Some(match &line.event {
             Event::CallBegin(_) => return None,
             Event::CallEnd(answer) => Object::End(line.thread, answer),
-            Event::Sent(host, wire) => Object::Sent(*host, first_extra(extras), wire),
-            Event::Came(host, wire) => Object::Came(*host, u64::from(first_extra(extras)), wire),
+            Event::Sent(host, wire) => Object::Sent(*host, extra, wire),
+            Event::Came(host, wire) => Object::Came(*host, u64::from(extra), wire),
             Event::Expired(host, lport, rport, timer) => Object::Expiring(Expiring {
                 endpoint: self.endpoint(*host, *lport, *rport)?,
                 timer: *timer,
-                extras,
             }),
         })
     }
 
     fn processed(&self, host: Host, line: u64, choice: TakeChoice) -> Option<Object> {
         let m = self.world().waiting(host, line)?;
-        match self.taker(host, m) {
-            Some(endpoint) if !endpoint.state.is_closed() => Some(Object::Processing(Processing {
+        Some(match self.taker(host, m) {
+            Some(endpoint) if !endpoint.state.is_closed() => Object::Processing(Processing {
                 host,
                 endpoint,
-                read: self.as_read(endpoint, m)?,
+                m,
                 choice,
-            })),
-            _ => Some(Object::Listening(host, m, choice)),
-        }
+            }),
+            _ => Object::Listening(host, m, choice),
+        })
     }
 }
 
@@ -259,8 +225,5 @@ pub(crate) fn first_extra(extras: Extras) -> u32 {
 
 /// The line of the witness that has the step of this place; 0 if there is none.
 pub(crate) fn witness_line(place: Option<usize>) -> u64 {
-    match place {
-        Some(place) => (place as u64).saturating_add(2),
-        None => 0,
-    }
+    place.map_or(0, |place| (place as u64).saturating_add(2))
 }

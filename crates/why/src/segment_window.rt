@@ -30,36 +30,46 @@ impl SegmentWindow {
         }
     }
 
-    /// Follows an endpoint from the values before a step to those after it.
-    pub(crate) fn follow(&mut self, before: &Values, after: &Values) -> Done {
-        self.record(before, after)?;
-        let covered = self.cover(after.una);
-        self.change(before, after, covered);
-        Ok(())
-    }
-
-    // Records the end of a segment sent. A new connection begins with none.
-    fn record(&mut self, before: &Values, after: &Values) -> Done {
+    /// Follows an endpoint through a change from the values before a step to those after it.
+    pub(crate) fn follow(&mut self, change: Change, before: &Values, after: &Values) -> Done {
         if after.sent < before.sent {
+            // A new connection begins with no segment.
             self.ends.clear();
             self.acknowledged = 0;
         } else if before.sent < after.sent {
             self.ends.push(after.sent)?;
         }
+        let covered = self.cover(after.una);
+        self.change(change, before, after, covered);
         Ok(())
     }
 
     // Changes the window for one step, which acknowledged `covered` segments.
-    fn change(&mut self, before: &Values, after: &Values, covered: u64) {
-        match before.change(after) {
-            Change::Begins => self.begin(after),
+    fn change(&mut self, change: Change, before: &Values, after: &Values, covered: u64) {
+        match change {
+            Change::Begins => {
+                let smss = after.congestion.smss.max(1);
+                self.window = u64::from(after.congestion.cwnd / smss);
+                self.threshold = u64::MAX;
+                self.counted = 0;
+            }
             Change::Acknowledged(_) if before.congestion.fast => self.window = self.threshold,
             Change::Acknowledged(_) => self.grow(covered),
-            Change::Duplicate if before.congestion.fast => self.window = self
-                .window
-                .saturating_add(1),
-            Change::Timeout => self.collapse(before),
-            Change::Recovery => self.recover(before),
+            Change::Duplicate if before.congestion.fast => {
+                self.window = self.window.saturating_add(1);
+            }
+            Change::Timeout => {
+                if before.backoffs == 0 && before.una != 0 {
+                    self.threshold = self.half();
+                }
+                self.window = 1;
+                self.counted = 0;
+            }
+            Change::Recovery => {
+                self.threshold = self.half();
+                let duplicates = u64::from(before.congestion.dup);
+                self.window = self.threshold.saturating_add(duplicates);
+            }
             Change::Duplicate | Change::Other => {}
         }
     }
@@ -71,31 +81,16 @@ impl SegmentWindow {
 
     /// The window in segments, with the two that limited transmit adds (RFC 5681, 3.2, step 1).
     pub(crate) fn allowed(&self, now: &Values) -> u64 {
-        let limited = !now.congestion.fast && (now.congestion.dup == 1 || now.congestion.dup == 2);
+        let limited = !now.congestion.fast && matches!(now.congestion.dup, 1 | 2);
         self.window.saturating_add(if limited { 2 } else { 0 })
     }
 
     // Counts the segments that end at or below `una` as acknowledged, and returns their number.
     fn cover(&mut self, una: u64) -> u64 {
-        let mut covered: u64 = 0;
-        for end in self.ends.get(self.acknowledged..).unwrap_or(&[]) {
-            if una < *end {
-                break;
-            }
-            covered = covered.saturating_add(1);
-        }
-        self.acknowledged = self
-            .acknowledged
-            .saturating_add(usize::try_from(covered).unwrap_or(0));
-        covered
-    }
-
-    // The first window in whole segments.
-    fn begin(&mut self, after: &Values) {
-        let smss = after.congestion.smss.max(1);
-        self.window = u64::from(after.congestion.cwnd / smss);
-        self.threshold = u64::MAX;
-        self.counted = 0;
+        let unacknowledged = self.ends.get(self.acknowledged..).unwrap_or(&[]);
+        let covered = unacknowledged.iter().take_while(|end| **end <= una).count();
+        self.acknowledged = self.acknowledged.saturating_add(covered);
+        covered as u64
     }
 
     // This many segments are newly acknowledged.
@@ -107,23 +102,6 @@ impl SegmentWindow {
             self.counted = self.counted.saturating_sub(self.window);
             self.window = self.window.saturating_add(1);
         }
-    }
-
-    // The retransmission timer expired.
-    fn collapse(&mut self, before: &Values) {
-        if before.backoffs == 0 && before.una != 0 {
-            self.threshold = self.half();
-        }
-        self.window = 1;
-        self.counted = 0;
-    }
-
-    // Fast recovery begins.
-    fn recover(&mut self, before: &Values) {
-        self.threshold = self.half();
-        self.window = self
-            .threshold
-            .saturating_add(u64::from(before.congestion.dup));
     }
 
     // Half of the flight, or two segments.

@@ -6,152 +6,122 @@ use case_forms::{Extras, Recovery, Timer};
 use endpoint::{greatest_recovery, greatest_values};
 use endpoint_state::Endpoint;
 use plain_words::word_if;
+use verdict::Rule;
 
-/// The windows chosen at an expiry of rto, next to the greatest ones.
-pub(crate) fn growth(out: &mut String, it: Expiring, moment: u64) -> Done {
-    let Extras::Two(cwnd, ssthresh) = it.extras else {
-        return Ok(());
-    };
-    let (most, highest) = greatest_values(it.endpoint, moment);
-    let (flight, backoffs) = (it.endpoint.flight(), it.endpoint.backoffs);
-    write!(
-        out,
-        "the step chooses cwnd {cwnd} (the greatest is {most}) "
-    )?;
-    write!(out, "and ssthresh {ssthresh} (the greatest is {highest}); ")?;
-    writeln!(
-        out,
-        "in flight {flight}, expiries since a new acknowledgment {backoffs}"
-    )
+/// What a rule compares at the expiry of a timer.
+pub(crate) fn compare(out: &mut String, scene: &Scene, rule: Rule, it: Expiring) -> Done {
+    match (rule, scene.named().extras) {
+        (Rule::NoEndpoint, _) => out.push_str("the endpoint is CLOSED, and has no timers\n"),
+        (Rule::Growth, Extras::Two(cwnd, ssthresh)) => {
+            growth(out, it.endpoint, scene.moment(), (cwnd, ssthresh))
+        }
+        (Rule::TimerOff, _) => off(out, it),
+        (Rule::TimerEarly, _) => early(out, scene, it),
+        _ => Ok(()),
+    }
 }
 
-/// Why a timer can't expire at all.
-pub(crate) fn off(out: &mut String, it: Expiring) -> Done {
+// The windows chosen at an expiry of rto, next to the greatest ones.
+fn growth(out: &mut String, endpoint: &Endpoint, moment: u64, chosen: (u32, u32)) -> Done {
+    let ((cwnd, ssthresh), (most, highest)) = (chosen, greatest_values(endpoint, moment));
+    let (flight, backoffs) = (endpoint.flight(), endpoint.backoffs);
+    write!(out, "the step chooses cwnd {cwnd} ")?;
+    write!(out, "(the greatest is {most}) and ssthresh {ssthresh} ")?;
+    write!(out, "(the greatest is {highest}); in flight {flight}, ")?;
+    writeln!(out, "expiries since a new acknowledgment {backoffs}")
+}
+
+// Why a timer can't expire at all.
+fn off(out: &mut String, it: Expiring) -> Done {
     match it.timer {
         Timer::Rto => {
             let (una, sent) = (it.endpoint.stream.snd_una, it.endpoint.snd_max());
             write!(out, "the timer is off: SND.UNA {una}, sent up to {sent}; ")?;
-            writeln!(out, "a SYN, data or a FIN arms it")
+            out.push_str("a SYN, data or a FIN arms it\n")
         }
         Timer::Persist => persist_off(out, it.endpoint),
-        Timer::Msl2 => writeln!(out, "the timer is off: it is armed on entering TIME-WAIT"),
+        Timer::Msl2 => out.push_str("the timer is off: it is armed on entering TIME-WAIT\n"),
         Timer::Giveup => giveup_off(out, it.endpoint),
     }
 }
 
 fn persist_off(out: &mut String, endpoint: &Endpoint) -> Done {
-    let stream = &endpoint.stream;
+    let (stream, wnd) = (&endpoint.stream, endpoint.window.snd_wnd);
     if endpoint.timers.persist_armed.is_none() {
-        let wnd = endpoint.window.snd_wnd;
-        return writeln!(
-            out,
-            "the timer is off: a window of 0 arms it, and SND.WND is {wnd}"
-        );
+        out.push_str("the timer is off: a window of 0 arms it, ")?;
+        return writeln!(out, "and SND.WND is {wnd}");
     }
+    out.push_str("the timer is armed, but ")?;
     if !endpoint.is_up() {
-        write!(out, "the timer is armed, but ")?;
         return handshake(out, endpoint);
     }
     let (una, accepted) = (stream.snd_una, stream.accepted.end());
-    write!(
-        out,
-        "the timer is armed, but there is nothing to probe with: SND.UNA {una}, "
-    )?;
-    write!(out, "accepted from the program up to {accepted}")?;
-    if stream.ended {
-        writeln!(out, ", and the FIN after it")
+    let fin = if stream.ended {
+        "the FIN after it"
     } else {
-        writeln!(out, ", and no FIN")
-    }
+        "no FIN"
+    };
+    write!(out, "there is nothing to probe with: SND.UNA {una}, ")?;
+    writeln!(out, "accepted from the program up to {accepted}, and {fin}")
 }
 
 /// Writes that the handshake isn't done.
 pub(crate) fn handshake(out: &mut String, endpoint: &Endpoint) -> Done {
     let (una, next) = (endpoint.stream.snd_una, endpoint.rcv_nxt());
-    write!(
-        out,
-        "the handshake isn't done: SND.UNA {una}, RCV.NXT {next}; "
-    )?;
-    writeln!(out, "both have to be at least 1")
+    write!(out, "the handshake isn't done: SND.UNA {una}, ")?;
+    writeln!(out, "RCV.NXT {next}; both have to be at least 1")
 }
 
 fn giveup_off(out: &mut String, endpoint: &Endpoint) -> Done {
     let (expiries, flight) = (endpoint.unanswered_expiries, endpoint.flight());
-    write!(
-        out,
-        "expiries since a segment was processed: {expiries}, three are needed; "
-    )?;
-    write!(
-        out,
-        "outstanding: {flight} positions, and the persist timer is "
-    )?;
-    if endpoint.timers.persist_armed.is_some() {
-        writeln!(out, "armed")?;
-    } else {
-        writeln!(out, "off; one of the two is needed")?;
-    }
     let not = word_if(!endpoint.closed, "not ");
-    writeln!(
-        out,
-        "or else FIN-WAIT-2 with a closed socket: the socket is {not}closed"
-    )
+    write!(out, "expiries since a segment was processed: {expiries}, ")?;
+    write!(out, "three are needed; outstanding: {flight} positions, ")?;
+    out.push_str(if endpoint.timers.persist_armed.is_some() {
+        "and the persist timer is armed\n"
+    } else {
+        "and the persist timer is off; one of the two is needed\n"
+    })?;
+    out.push_str("or else FIN-WAIT-2 with a closed socket: ")?;
+    writeln!(out, "the socket is {not}closed")
 }
 
-/// The moment from which on a timer may expire.
-pub(crate) fn early(out: &mut String, scene: &Scene, it: Expiring) -> Done {
-    let timers = &it.endpoint.timers;
-    let (msl, grain, moment) = (scene.header().msl, scene.header().grain, scene.moment());
+// The moment from which on a timer may expire.
+fn early(out: &mut String, scene: &Scene, it: Expiring) -> Done {
+    let (timers, header, moment) = (&it.endpoint.timers, scene.header(), scene.moment());
     let (armed, time) = match it.timer {
         Timer::Rto => (timers.rto_armed, timers.rto),
         Timer::Persist => (timers.persist_armed, timers.rto),
-        Timer::Msl2 | Timer::Giveup => (timers.msl_armed, msl.saturating_mul(2)),
+        Timer::Msl2 | Timer::Giveup => (timers.msl_armed, header.msl.saturating_mul(2)),
     };
-    let since = armed.unwrap_or(0);
+    let (since, grain) = (armed.unwrap_or(0), header.grain);
     let earliest = since.saturating_add(time).saturating_sub(grain).max(since);
-    write!(
-        out,
-        "armed since {since}, it runs for {time} and may expire a clock tick "
-    )?;
-    writeln!(
-        out,
-        "({grain}) early: from {earliest} on; the step's moment is {moment}"
-    )
+    write!(out, "armed since {since}, it runs for {time} and may ")?;
+    write!(out, "expire a clock tick ({grain}) early: ")?;
+    writeln!(out, "from {earliest} on; the step's moment is {moment}")
 }
 
 /// Why fast recovery may not begin, or not with these windows.
-pub(crate) fn recovery(
-    out: &mut String,
-    endpoint: &Endpoint,
-    chosen: Recovery,
-    moment: u64,
-) -> Done {
-    let profile = endpoint.control.profile;
-    let congestion = &endpoint.control.values;
+pub(crate) fn recovery(out: &mut String, endpoint: &Endpoint, it: Recovery, moment: u64) -> Done {
+    let (profile, values) = (endpoint.control.profile, &endpoint.control.values);
     if !profile.counts_duplicates() {
-        return writeln!(
-            out,
-            "in flight: 0; fast recovery begins only if something is in flight"
-        );
+        out.push_str("in flight: 0; ")?;
+        return out.push_str("fast recovery begins only if something is in flight\n");
     }
-    let (dup, flight) = (congestion.dup, endpoint.flight());
-    let already = if congestion.fast {
-        "in fast recovery already"
-    } else {
-        "not in fast recovery"
-    };
+    let (dup, flight) = (values.dup, endpoint.flight());
     write!(out, "duplicate acknowledgments: {dup}, three are needed; ")?;
-    writeln!(out, "in flight: {flight}, {already}")?;
+    write!(out, "in flight: {flight}, ")?;
+    out.push_str(if values.fast {
+        "in fast recovery already\n"
+    } else {
+        "not in fast recovery\n"
+    })?;
     if !profile.bounds_windows() {
         return Ok(());
     }
-    let (cwnd, ssthresh) = (chosen.cwnd, chosen.ssthresh);
+    let (cwnd, ssthresh) = (it.cwnd, it.ssthresh);
     let (most, highest) = greatest_recovery(endpoint, ssthresh, moment);
-    write!(
-        out,
-        "the step chooses ssthresh {ssthresh} (the greatest is {highest}) "
-    )?;
-    writeln!(
-        out,
-        "and cwnd {cwnd} (the greatest with that ssthresh is {most})"
-    )
+    write!(out, "the step chooses ssthresh {ssthresh} ")?;
+    write!(out, "(the greatest is {highest}) and cwnd {cwnd} ")?;
+    writeln!(out, "(the greatest with that ssthresh is {most})")
 }

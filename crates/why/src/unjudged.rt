@@ -10,26 +10,20 @@ use verdict::Rule;
 
 /// Writes which level leaves the refusal unjudged, if the header's level doesn't and another one does.
 pub(crate) fn say_unjudged(out: &mut String, scene: &Scene, rule: Rule) -> Done {
-    match (scene.header().congestion, lenient_level(scene, rule)) {
-        (Judged::Full, Some(Judged::Recovery)) => say_level(out, scene, rule, "recovery"),
-        (Judged::Full | Judged::Recovery, Some(Judged::NoControl)) => {
-            say_level(out, scene, rule, "none")
-        }
-        _ => Ok(()),
-    }
-}
-
-fn say_level(out: &mut String, scene: &Scene, rule: Rule, level: &str) -> Done {
-    let (before, after) = match scene.header().version {
-        Version::One | Version::Two | Version::Three => (
-            "in version 4, the header line `congestion ",
-            "` leaves it unjudged",
-        ),
-        Version::Four | Version::FourHalf => ("`congestion ", "` in the header leaves it unjudged"),
+    let header = scene.header();
+    let level = match (header.congestion, lenient_level(scene, rule)) {
+        (Judged::Full, Some(Judged::Recovery)) => "recovery",
+        (Judged::Full | Judged::Recovery, Some(Judged::NoControl)) => "none",
+        _ => return Ok(()),
+    };
+    let (before, after) = match header.version {
+        Version::One | Version::Two | Version::Three => ("in version 4, the header line ", ""),
+        Version::Four | Version::FourHalf => ("", " in the header"),
     };
     let condition = word_if(rule == Rule::OldData, " if an F step comes first");
-    write!(out, "stacks with CUBIC, BBR, SACK or RACK-TLP do this; ")?;
-    writeln!(out, "{before}{level}{after}{condition}")
+    out.push_str("stacks with CUBIC, BBR, SACK or RACK-TLP do this; ")?;
+    write!(out, "{before}`congestion {level}`{after} ")?;
+    writeln!(out, "leaves it unjudged{condition}")
 }
 
 // The strictest level at which the step doesn't break the rule. None: it breaks it at every level.
