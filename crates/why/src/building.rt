@@ -10,29 +10,14 @@ use seqno::Word;
 use verdict::Rule;
 use window_rules::offered_edge;
 
-/// What a rule compares at a segment that is built.
-pub(crate) fn compare(out: &mut String, scene: &Scene, rule: Rule, it: Building) -> Done {
-    match rule {
-        Rule::NoEndpoint | Rule::State => state(out, scene.world(), it),
-        Rule::Iss => iss(out, it),
-        Rule::PayloadRange => payload_range(out, it),
-        Rule::AckField => ack_field(out, it),
-        Rule::OldData => old_data(out, it, scene.moment()),
-        Rule::Offered => offered(out, it),
-        Rule::Congestion => congestion(out, it),
-        Rule::Size => size(out, it),
-        _ => Ok(()),
-    }
-}
-
-// The length of the segment, and SMSS.
-fn size(out: &mut String, it: Building) -> Done {
+/// The length of the segment, and SMSS.
+pub(crate) fn size(out: &mut String, it: Building) -> Done {
     let (len, smss) = (it.plan.len, it.endpoint.control.values.smss);
     writeln!(out, "it has {len} bytes, SMSS is {smss}")
 }
 
-// The end of new bytes, and the offered edge.
-fn offered(out: &mut String, Building { plan, endpoint, .. }: Building) -> Done {
+/// The end of new bytes, and the offered edge.
+pub(crate) fn offered(out: &mut String, Building { plan, endpoint, .. }: Building) -> Done {
     let (una, wnd) = (endpoint.stream.snd_una, endpoint.window.snd_wnd);
     if una >= POSITIONS {
         return Ok(());
@@ -44,8 +29,8 @@ fn offered(out: &mut String, Building { plan, endpoint, .. }: Building) -> Done 
     writeln!(out, "= SND.UNA {una} + SND.WND {wnd}{probe}")
 }
 
-// The end of new bytes, and the congestion edge.
-fn congestion(out: &mut String, Building { plan, endpoint, .. }: Building) -> Done {
+/// The end of new bytes, and the congestion edge.
+pub(crate) fn congestion(out: &mut String, Building { plan, endpoint, .. }: Building) -> Done {
     let (una, control) = (endpoint.stream.snd_una, &endpoint.control);
     if una >= POSITIONS {
         return Ok(());
@@ -60,8 +45,12 @@ fn congestion(out: &mut String, Building { plan, endpoint, .. }: Building) -> Do
     out.push_str("\n")
 }
 
-// Where the segment begins, and what may be sent.
-fn old_data(out: &mut String, Building { plan, endpoint, .. }: Building, moment: u64) -> Done {
+/// Where the segment begins, and what may be sent.
+pub(crate) fn old_data(
+    out: &mut String,
+    Building { plan, endpoint, .. }: Building,
+    moment: u64,
+) -> Done {
     let (pos, end, una) = (plan.pos, end_of(plan), endpoint.stream.snd_una);
     let (sent, recover) = (endpoint.snd_max(), endpoint.recover);
     let fin = word_if(plan.flags.fin, " with a FIN");
@@ -96,8 +85,8 @@ fn timer_due(out: &mut String, endpoint: &Endpoint, moment: u64) -> Done {
     })
 }
 
-// Where the segment's bytes begin and end, and which bytes may be sent.
-fn payload_range(out: &mut String, Building { plan, endpoint, .. }: Building) -> Done {
+/// Where the segment's bytes begin and end, and which bytes may be sent.
+pub(crate) fn payload_range(out: &mut String, Building { plan, endpoint, .. }: Building) -> Done {
     let (pos, len, end) = (plan.pos, plan.len, end_of(plan));
     write!(out, "it begins at {pos} and has {len} bytes, up to {end}")?;
     if plan.flags.syn {
@@ -117,15 +106,15 @@ fn payload_range(out: &mut String, Building { plan, endpoint, .. }: Building) ->
     })
 }
 
-// Whether the segment has ACK, and whether the peer's SYN was received.
-fn ack_field(out: &mut String, Building { plan, endpoint, .. }: Building) -> Done {
+/// Whether the segment has ACK, and whether the peer's SYN was received.
+pub(crate) fn ack_field(out: &mut String, Building { plan, endpoint, .. }: Building) -> Done {
     let no = word_if(!plan.flags.ack, "no ");
     let not = word_if(endpoint.rcv_nxt() == 0, "n't");
     writeln!(out, "it has {no}ACK, and the peer's SYN was{not} received")
 }
 
-// The initial sequence numbers that were given.
-fn iss(out: &mut String, Building { plan, endpoint, .. }: Building) -> Done {
+/// The initial sequence numbers that were given.
+pub(crate) fn iss(out: &mut String, Building { plan, endpoint, .. }: Building) -> Done {
     match endpoint.iss {
         Some(Word(iss)) => write!(out, "the initial sequence number {iss} was given before, ")?,
         None => out.push_str("no initial sequence number was given yet, ")?,
@@ -141,8 +130,8 @@ fn iss(out: &mut String, Building { plan, endpoint, .. }: Building) -> Done {
     })
 }
 
-// What the state of the endpoint lets it build.
-fn state(out: &mut String, world: &World, it: Building) -> Done {
+/// What the state of the endpoint lets it build.
+pub(crate) fn state(out: &mut String, world: &World, it: Building) -> Done {
     let (flags, len) = (FlagWords(it.plan.flags), it.plan.len);
     let a = if it.endpoint.reset_due { "a" } else { "no" };
     let not = word_if(!it.endpoint.closed, "not ");

@@ -88,7 +88,10 @@ pub(crate) fn socket(out: &mut String, world: &World, number: u32) -> Done {
 }
 
 /// What the call refers to, and the answers that it may have.
-pub(crate) fn call_answer(out: &mut String, scene: &Scene, call: &Call, answer: &Answer) -> Done {
+pub(crate) fn call_answer(out: &mut String, scene: &Scene, thread: u32, answer: &Answer) -> Done {
+    let Some(call) = scene.world().pending_call(thread) else {
+        return Ok(());
+    };
     describe_object(out, scene.world(), call)?;
     out.push_str("the witness has the answer:")?;
     say_answer(out, answer)?;

@@ -5,7 +5,7 @@ use crate::known::{Origin, say_cause};
 use crate::marks::mark;
 use crate::scene::{Object, Scene};
 use crate::unjudged::say_unjudged;
-use crate::{Done, building, calls, inbox, order, processing, timers, wire};
+use crate::{Done, building, calls, inbox, numbers, order, processing, timers, wire};
 use case_forms::{Answer, Event, Host, Label, Line, OutOfMemory, Step};
 use line_fields::{FaultKind, TextFault};
 use plain_words::{Shown, fault_line};
@@ -82,17 +82,29 @@ fn explain_refusal(
     origin: Origin,
 ) -> Result<(), ReplayFault> {
     scene.run()?;
-    match scene.step {
-        // The rules of the order of lines, the first six and the last, are about nothing but that order.
-        Some(step) if (Rule::Overdue as u8) < rule as u8 => {
-            describe_step(out, scene, step)?;
-            compare(out, scene, rule)?;
-        }
-        _ => order::compare(out, scene, rule)?,
+    if let Some(step) = scene.step
+        && !is_of_order(rule)
+    {
+        describe_step(out, scene, step)?;
     }
+    compare(out, scene, rule)?;
     say_cause(out, scene, rule, origin)?;
     say_unjudged(out, scene, rule)?;
     Ok(())
+}
+
+// Whether a rule is about nothing but the order of the lines.
+fn is_of_order(rule: Rule) -> bool {
+    matches!(
+        rule,
+        Rule::LineRange
+            | Rule::LineAgain
+            | Rule::ThreadOrder
+            | Rule::MomentFalls
+            | Rule::MomentOff
+            | Rule::Overdue
+            | Rule::Unplaced
+    )
 }
 
 // The step and the trace line, as written.
@@ -119,7 +131,14 @@ fn describe_step(out: &mut String, scene: &Scene, step: &Step) -> Done {
         },
         Label::D { thread, .. } => calls::describe_thread(out, scene, *thread),
         Label::M { host, plan } => describe_ports(out, scene, *host, plan.lport, plan.rport),
-        Label::T { host, line, .. } | Label::K { host, line } | Label::R { host, line } => {
+        Label::T { host, line, .. } => {
+            inbox::describe_arrival(out, scene, *host, *line)?;
+            match scene.object() {
+                Object::Listening(host, m, _) => processing::listener(out, scene.world(), host, m),
+                _ => Ok(()),
+            }
+        }
+        Label::K { host, line } | Label::R { host, line } => {
             inbox::describe_arrival(out, scene, *host, *line)
         }
         Label::F { host, recovery } => {
@@ -132,7 +151,8 @@ fn describe_line(out: &mut String, scene: &Scene, line: &Line) -> Done {
     match &line.event {
         Event::CallBegin(_) => calls::describe_thread(out, scene, line.thread),
         Event::CallEnd(answer) => calls::describe_end(out, scene, line.thread, answer),
-        Event::Sent(..) | Event::Came(..) => Ok(()),
+        Event::Sent(host, _) => wire::describe_sent(out, scene, *host),
+        Event::Came(host, _) => wire::describe_came(out, scene, *host),
         Event::Expired(host, lport, rport, _) => describe_ports(out, scene, *host, *lport, *rport),
     }
 }
@@ -145,51 +165,123 @@ fn describe_ports(out: &mut String, scene: &Scene, host: Host, lport: u16, rport
     }
 }
 
-// What the rule compares. For the other rules, what the step is about says it all.
+// What the rule compares. Each rule is named, so that a new one can't be forgotten here.
 fn compare(out: &mut String, scene: &Scene, rule: Rule) -> Done {
-    let world = scene.world();
-    match scene.object() {
-        Object::Effect(thread, answer) => match (rule, answer, world.pending_call(thread)) {
-            (Rule::Socket, Answer::Given(number), _) => calls::socket(out, world, *number),
-            (Rule::CallAnswer, _, Some(call)) => calls::call_answer(out, scene, call, answer),
-            _ => Ok(()),
-        },
-        Object::Building(it) => building::compare(out, scene, rule, it),
-        Object::Processing(it) => processing::compare(out, scene, rule, it),
-        Object::Listening(host, m, choice) => {
-            processing::listener(out, world, host, m)?;
-            processing::compare_listening(out, rule, choice)
+    let (world, moment, object) = (scene.world(), scene.moment(), scene.object());
+    let read = match object {
+        Object::Processing(it) => scene.as_read(it.endpoint, it.m),
+        _ => None,
+    };
+    match (rule, object, &read) {
+        (Rule::LineRange, _, _) => order::line_range(out, scene),
+        (Rule::LineAgain, _, _) => order::line_again(out, scene),
+        (Rule::ThreadOrder, _, _) => order::thread_order(out, scene),
+        (Rule::MomentFalls, _, _) => order::moment_falls(out, scene),
+        (Rule::MomentOff, _, _) => order::moment_off(out, scene),
+        (Rule::Overdue, _, _) => order::overdue(out, scene),
+        (Rule::Unplaced, _, _) => order::unplaced(out, scene),
+        (Rule::Socket, Object::Effect(_, Answer::Given(number)), _) => {
+            calls::socket(out, world, *number)
         }
-        Object::Answered(host, m) if rule == Rule::State => {
-            inbox::unanswerable(out, scene, host, m)
+        (Rule::CallAnswer, Object::Effect(thread, answer), _) => {
+            calls::call_answer(out, scene, thread, answer)
         }
-        Object::Recovering(endpoint, chosen) => match rule {
-            Rule::NoEndpoint => out.push_str("the endpoint is CLOSED\n"),
-            Rule::State => timers::handshake(out, endpoint),
-            Rule::Recovery => timers::recovery(out, endpoint, chosen, scene.moment()),
-            _ => Ok(()),
-        },
-        object => compare_line(out, scene, rule, object),
-    }
-}
-
-// What the rule compares at a line of the trace.
-fn compare_line(out: &mut String, scene: &Scene, rule: Rule, object: Object) -> Done {
-    let world = scene.world();
-    match object {
-        Object::Sent(host, number, wire) => match (rule, world.made(host, number)) {
-            (_, None) => wire::not_built(out, world, host, number),
-            (Rule::BytesDiffer, Some(made)) => wire::differences(out, made.emission(), wire),
-            (Rule::NotMade, Some(_)) => wire::sent_before(out, scene, number),
-            (_, Some(_)) => Ok(()),
-        },
-        Object::Came(host, copied, wire) => match (rule, world.sent(host.other(), copied)) {
-            (_, None) => wire::not_sent(out, scene, host.other(), copied),
-            (Rule::CopyDiffers, Some(m)) => wire::copy_differs(out, m, wire),
-            (Rule::Lifetime, Some(m)) => wire::lifetime(out, scene, m),
-            (_, Some(_)) => Ok(()),
-        },
-        Object::Expiring(it) => timers::compare(out, scene, rule, it),
-        _ => Ok(()),
+        (Rule::NoEndpoint | Rule::State, Object::Building(it), _) => building::state(
+            out, world, it,
+        ),
+        (Rule::NoEndpoint, Object::Expiring(_), _) => {
+            out.push_str("the endpoint is CLOSED, and has no timers\n")
+        }
+        (Rule::NoEndpoint, Object::Recovering(..), _) => out.push_str("the endpoint is CLOSED\n"),
+        (Rule::State, Object::Answered(host, m), _) => inbox::unanswerable(out, scene, host, m),
+        (Rule::State, Object::Recovering(endpoint, _), _) => timers::handshake(out, endpoint),
+        (Rule::Iss, Object::Building(it), _) => building::iss(out, it),
+        (Rule::BytesDiffer, Object::Sent(made, _, wire), _) => wire::differences(out, made, wire),
+        (Rule::NotMade, Object::Sent(_, number, _), _) => wire::sent_before(out, scene, number),
+        (Rule::PayloadRange, Object::Building(it), _) => building::payload_range(out, it),
+        (Rule::AckField, Object::Building(it), _) => building::ack_field(out, it),
+        (Rule::OldData, Object::Building(it), _) => building::old_data(out, it, moment),
+        (Rule::Offered, Object::Building(it), _) => building::offered(out, it),
+        (Rule::Congestion, Object::Building(it), _) => building::congestion(out, it),
+        (Rule::Size, Object::Building(it), _) => building::size(out, it),
+        (Rule::CopyDiffers, Object::Came(m, wire), _) => wire::copy_differs(out, m, wire),
+        (Rule::Lifetime, Object::Came(m, _), _) => wire::lifetime(out, scene, m),
+        (Rule::Growth, Object::Expiring(it), _) => timers::growth(out, scene, it),
+        (Rule::TimerOff, Object::Expiring(it), _) => timers::off(out, it),
+        (Rule::TimerEarly, Object::Expiring(it), _) => timers::early(out, scene, it),
+        (Rule::Recovery, Object::Recovering(endpoint, chosen), _) => {
+            timers::recovery(out, endpoint, chosen, moment)
+        }
+        (Rule::State, Object::Processing(_), _) => {
+            out.push_str("in SYN-SENT only a segment with SYN or RST is processed\n")
+        }
+        (Rule::State, Object::Listening(..), _) => {
+            out.push_str("a listener processes only a segment with SYN, without ACK and RST\n")
+        }
+        (Rule::NotPeer, Object::Processing(it), Some(m)) => {
+            processing::not_peer(out, scene, it, m)
+        }
+        (Rule::Number, Object::Processing(it), Some(m)) => {
+            numbers::misread(out, scene, it.endpoint, m)
+        }
+        (Rule::Unacceptable, Object::Processing(it), Some(m)) => {
+            numbers::unacceptable(out, it.endpoint, m)
+        }
+        (Rule::AckRange, Object::Processing(it), Some(m)) => {
+            numbers::ack_range(out, it.endpoint, m)
+        }
+        (Rule::QueueFull, Object::Processing(it), _) => processing::queue_full(out, scene, it),
+        (Rule::Growth, Object::Processing(it), Some(m)) => {
+            processing::growth(out, it, m, moment)
+        }
+        (Rule::Growth, Object::Listening(_, _, choice), _) => {
+            let cwnd = choice.cwnd;
+            writeln!(out, "the step chooses cwnd {cwnd}, a child begins with 0")
+        }
+        (Rule::Sample, Object::Processing(it), Some(m)) => processing::sample(out, it.endpoint, m),
+        (Rule::Sample, Object::Listening(..), _) => {
+            out.push_str("the step measures a round trip, ")?;
+            out.push_str("but a child has sent nothing that could be acknowledged\n")
+        }
+        (Rule::ScaleUnread, Object::Processing(it), Some(m)) => {
+            processing::scale_unread(out, it.endpoint, m)
+        }
+        // What the step is about says it all.
+        (
+            Rule::ThreadBusy
+            | Rule::NoCall
+            | Rule::DoneTwice
+            | Rule::AnswerDiffers
+            | Rule::Socket
+            | Rule::CallAnswer
+            | Rule::NoEndpoint
+            | Rule::State
+            | Rule::Iss
+            | Rule::BytesDiffer
+            | Rule::NotMade
+            | Rule::PayloadRange
+            | Rule::AckField
+            | Rule::OldData
+            | Rule::Offered
+            | Rule::Congestion
+            | Rule::Size
+            | Rule::NoEmission
+            | Rule::CopyDiffers
+            | Rule::Lifetime
+            | Rule::Inbox
+            | Rule::NotPeer
+            | Rule::Number
+            | Rule::Unacceptable
+            | Rule::AckRange
+            | Rule::QueueFull
+            | Rule::Growth
+            | Rule::Sample
+            | Rule::ScaleUnread
+            | Rule::TimerOff
+            | Rule::TimerEarly
+            | Rule::Recovery,
+            _,
+            _,
+        ) => Ok(()),
     }
 }

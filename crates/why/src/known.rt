@@ -39,20 +39,17 @@ fn is_known(scene: &Scene, known: Known) -> bool {
     match scene.object() {
         Object::Effect(thread, _) => is_call(scene.world().pending_call(thread), known),
         Object::Building(it) => is_known_of(it, is_none, known),
-        Object::Sent(host, number, wire) => match scene.world().made(host, number) {
-            Some(made) => is_ack(made.emission(), wire, known),
-            None => false,
-        },
+        Object::Sent(made, _, wire) => is_ack(made, wire, known),
         Object::Expiring(it) => match it.timer {
             Timer::Rto => false,
             Timer::Persist => matches!(known, Known::PersistOff | Known::PersistEarly),
             Timer::Msl2 => matches!(known, Known::Msl2Off | Known::Msl2Early),
             Timer::Giveup => known == Known::GiveupOff,
         },
-        Object::Processing(_) | Object::Listening(_, _, _) => known == Known::Processing,
-        Object::Recovering(_, _) => known == Known::NothingOutstanding && is_none,
+        Object::Processing(_) | Object::Listening(..) => known == Known::Processing,
+        Object::Recovering(..) => known == Known::NothingOutstanding && is_none,
         Object::Other => known == Known::Building && scene.builds(),
-        Object::End(_, _) | Object::Came(_, _, _) | Object::Answered(_, _) => false,
+        Object::End(..) | Object::Came(..) | Object::Answered(..) => false,
     }
 }
 

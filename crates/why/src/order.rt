@@ -3,24 +3,9 @@
 use crate::Done;
 use crate::scene::Scene;
 use case_forms::{Event, Line, NamedLine, Timer};
-use verdict::Rule;
 
-/// What a rule compares, if it is of the order of lines.
-pub(crate) fn compare(out: &mut String, scene: &Scene, rule: Rule) -> Done {
-    match rule {
-        Rule::LineRange => line_range(out, scene),
-        Rule::LineAgain => line_again(out, scene),
-        Rule::ThreadOrder => thread_order(out, scene),
-        Rule::MomentFalls => moment_falls(out, scene),
-        Rule::MomentOff => moment_off(out, scene),
-        Rule::Overdue => overdue(out, scene),
-        Rule::Unplaced => unplaced(out, scene),
-        _ => Ok(()),
-    }
-}
-
-// A line that the trace doesn't have, or extra numbers that it can't have.
-fn line_range(out: &mut String, scene: &Scene) -> Done {
+/// A line that the trace doesn't have, or extra numbers that it can't have.
+pub(crate) fn line_range(out: &mut String, scene: &Scene) -> Done {
     let NamedLine { number, extras } = scene.named();
     if let Some(line) = scene.line(number) {
         let (count, wanted) = (
@@ -47,16 +32,16 @@ fn wanted(line: &Line, half: bool) -> &'static str {
     }
 }
 
-// A line that was used before.
-fn line_again(out: &mut String, scene: &Scene) -> Done {
+/// A line that was used before.
+pub(crate) fn line_again(out: &mut String, scene: &Scene) -> Done {
     let number = scene.named().number;
     let step = scene.used_by(number).unwrap_or(0);
     write!(out, "line {number} was already used ")?;
     writeln!(out, "by line {step} of the witness")
 }
 
-// The first earlier line of the same thread that isn't used yet.
-fn thread_order(out: &mut String, scene: &Scene) -> Done {
+/// The first earlier line of the same thread that isn't used yet.
+pub(crate) fn thread_order(out: &mut String, scene: &Scene) -> Done {
     let number = scene.named().number;
     let Some(line) = scene.line(number) else {
         return Ok(());
@@ -70,15 +55,15 @@ fn thread_order(out: &mut String, scene: &Scene) -> Done {
     out.push_str("comes first and isn't used yet\n")
 }
 
-// The moment of the step, next to that of the step before it.
-fn moment_falls(out: &mut String, scene: &Scene) -> Done {
+/// The moment of the step, next to that of the step before it.
+pub(crate) fn moment_falls(out: &mut String, scene: &Scene) -> Done {
     let before = scene.before.last().map_or(0, |step| step.moment);
     write!(out, "the step's moment is {}, ", scene.moment())?;
     writeln!(out, "that of the step before is {before}")
 }
 
-// When a line may be used.
-fn moment_off(out: &mut String, scene: &Scene) -> Done {
+/// When a line may be used.
+pub(crate) fn moment_off(out: &mut String, scene: &Scene) -> Done {
     let (moment, skew) = (scene.moment(), scene.header().skew);
     let line = scene.line(scene.named().number);
     let from = line.map_or(0, |line| line.moment);
@@ -87,8 +72,8 @@ fn moment_off(out: &mut String, scene: &Scene) -> Done {
     writeln!(out, "from {from} to {to} (its moment plus skew {skew})")
 }
 
-// The first line that had to be used before the step's moment.
-fn overdue(out: &mut String, scene: &Scene) -> Done {
+/// The first line that had to be used before the step's moment.
+pub(crate) fn overdue(out: &mut String, scene: &Scene) -> Done {
     let (moment, skew) = (scene.moment(), scene.header().skew);
     let overdue = scene.lines().iter().find(|line| {
         scene.used_by(line.number).is_none() && line.moment.saturating_add(skew) < moment
@@ -101,8 +86,8 @@ fn overdue(out: &mut String, scene: &Scene) -> Done {
     writeln!(out, "the step's moment is {moment}")
 }
 
-// The event lines that no step used.
-fn unplaced(out: &mut String, scene: &Scene) -> Done {
+/// The event lines that no step used.
+pub(crate) fn unplaced(out: &mut String, scene: &Scene) -> Done {
     let (steps, all) = (scene.before.len(), scene.lines().len());
     let unused = all.saturating_sub(scene.used.len());
     write!(out, "the witness has {steps} steps; unused event lines: ")?;

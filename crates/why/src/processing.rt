@@ -10,47 +10,11 @@ use spec_tcp::{Arrived, Emission, EndpointId};
 use std::fmt;
 use verdict::Rule;
 
-/// What a rule compares at a segment that an endpoint processes.
-pub(crate) fn compare(out: &mut String, scene: &Scene, rule: Rule, it: Processing) -> Done {
-    let endpoint = it.endpoint;
-    let Some(m) = scene.as_read(endpoint, it.m) else {
-        return Ok(());
-    };
-    match rule {
-        Rule::State => out.push_str("in SYN-SENT only a segment with SYN or RST is processed\n"),
-        Rule::NotPeer => not_peer(out, scene, it.host, endpoint, &m),
-        Rule::Number => numbers::misread(out, scene, endpoint, &m),
-        Rule::Unacceptable => numbers::unacceptable(out, endpoint, &m),
-        Rule::AckRange => numbers::ack_range(out, endpoint, &m),
-        Rule::QueueFull => queue_full(out, scene, it),
-        Rule::Growth => growth(out, endpoint, &m, it.choice.cwnd, scene.moment()),
-        Rule::Sample => sample(out, endpoint, &m),
-        Rule::ScaleUnread => scale_unread(out, endpoint, &m),
-        _ => Ok(()),
-    }
-}
-
 /// Writes whether a listener is open on the port of a segment.
 pub(crate) fn listener(out: &mut String, world: &World, host: Host, m: &Emission) -> Done {
     let is_listening = world.body(host).is_listening(m.rport);
     let a = if is_listening { "a" } else { "no" };
     writeln!(out, "{a} listener is open on port {}", m.rport)
-}
-
-/// What a rule compares at a segment that is processed where no connection is open.
-pub(crate) fn compare_listening(out: &mut String, rule: Rule, choice: TakeChoice) -> Done {
-    let cwnd = choice.cwnd;
-    match rule {
-        Rule::State => {
-            out.push_str("a listener processes only a segment with SYN, without ACK and RST\n")
-        }
-        Rule::Growth => writeln!(out, "the step chooses cwnd {cwnd}, a child begins with 0"),
-        Rule::Sample => {
-            out.push_str("the step measures a round trip, ")?;
-            out.push_str("but a child has sent nothing that could be acknowledged\n")
-        }
-        _ => Ok(()),
-    }
 }
 
 // An endpoint by its number and its host.
@@ -63,8 +27,9 @@ impl fmt::Display for EndpointName {
     }
 }
 
-// The endpoints that built the segment and that process it.
-fn not_peer(out: &mut String, scene: &Scene, host: Host, endpoint: &Endpoint, m: &Arrived) -> Done {
+/// The endpoints that built the segment and that process it.
+pub(crate) fn not_peer(out: &mut String, scene: &Scene, it: Processing, m: &Arrived) -> Done {
+    let (host, endpoint) = (it.host, it.endpoint);
     let body = scene.world().body(host);
     let number = body.place_of(endpoint.lport, endpoint.rport).unwrap_or(0);
     let receiver = EndpointName(EndpointId { host, number });
@@ -84,8 +49,8 @@ fn not_peer(out: &mut String, scene: &Scene, host: Host, endpoint: &Endpoint, m:
     out.push_str("\n")
 }
 
-// How many children the listen queue has, and how many it has room for.
-fn queue_full(out: &mut String, scene: &Scene, it: Processing) -> Done {
+/// How many children the listen queue has, and how many it has room for.
+pub(crate) fn queue_full(out: &mut String, scene: &Scene, it: Processing) -> Done {
     let body = scene.world().body(it.host);
     let Some(listener) = it
         .endpoint
@@ -100,8 +65,9 @@ fn queue_full(out: &mut String, scene: &Scene, it: Processing) -> Done {
     writeln!(out, "it has room for backlog {backlog} + extra {extra}")
 }
 
-// The congestion window that the step chooses, and the greatest one.
-fn growth(out: &mut String, endpoint: &Endpoint, m: &Arrived, cwnd: u32, moment: u64) -> Done {
+/// The congestion window that the step chooses, and the greatest one.
+pub(crate) fn growth(out: &mut String, it: Processing, m: &Arrived, moment: u64) -> Done {
+    let (endpoint, cwnd) = (it.endpoint, it.choice.cwnd);
     let greatest = greatest_taking(endpoint, m, moment);
     let counted = endpoint.control.values.counted;
     let ack = if m.flags().ack { m.ack() } else { 0 };
@@ -111,8 +77,8 @@ fn growth(out: &mut String, endpoint: &Endpoint, m: &Arrived, cwnd: u32, moment:
     writeln!(out, "counted before {counted}")
 }
 
-// What the segment newly acknowledges.
-fn sample(out: &mut String, endpoint: &Endpoint, m: &Arrived) -> Done {
+/// What the segment newly acknowledges.
+pub(crate) fn sample(out: &mut String, endpoint: &Endpoint, m: &Arrived) -> Done {
     let (una, ack, flags) = (endpoint.stream.snd_una, m.ack(), m.flags());
     if flags.ack && !flags.rst && una < ack {
         write!(out, "it acknowledges from {una} up to {ack}, ")?;
@@ -123,8 +89,8 @@ fn sample(out: &mut String, endpoint: &Endpoint, m: &Arrived) -> Done {
     }
 }
 
-// Which of the two sides scales windows.
-fn scale_unread(out: &mut String, endpoint: &Endpoint, m: &Arrived) -> Done {
+/// Which of the two sides scales windows.
+pub(crate) fn scale_unread(out: &mut String, endpoint: &Endpoint, m: &Arrived) -> Done {
     let (scaled, scales) = (m.is_scaled(), endpoint.is_scaling());
     let sender = if scaled { "scaled" } else { "didn't scale" };
     let receiver = if scales { "scales them" } else { "doesn't" };

@@ -35,10 +35,10 @@ pub(crate) enum Object<'s> {
     /// The end of a thread's call, with this answer.
     End(u32, &'s Answer),
     Building(Building<'s>),
-    /// A line that shows the built segment of this number as sent.
-    Sent(Host, u32, &'s Wire),
-    /// A line that shows a received segment, a copy of that of this line.
-    Came(Host, u64, &'s Wire),
+    /// A line that shows a built segment, which has this number, as sent.
+    Sent(&'s Emission, u32, &'s Wire),
+    /// A line that shows a copy of a sent segment as received.
+    Came(&'s Emission, &'s Wire),
     Processing(Processing<'s>),
     /// A segment that is processed where no connection is open, with this choice.
     Listening(Host, &'s Emission, TakeChoice),
@@ -47,7 +47,7 @@ pub(crate) enum Object<'s> {
     Expiring(Expiring<'s>),
     /// Fast recovery begins.
     Recovering(&'s Endpoint, Recovery),
-    /// Something else, or no endpoint with its ports exists.
+    /// Something else, or its endpoint or its segment doesn't exist.
     Other,
 }
 
@@ -192,8 +192,12 @@ impl<'c> Scene<'c> {
         Some(match &line.event {
             Event::CallBegin(_) => return None,
             Event::CallEnd(answer) => Object::End(line.thread, answer),
-            Event::Sent(host, wire) => Object::Sent(*host, extra, wire),
-            Event::Came(host, wire) => Object::Came(*host, u64::from(extra), wire),
+            Event::Sent(host, wire) => {
+                Object::Sent(self.world().made(*host, extra)?.emission(), extra, wire)
+            }
+            Event::Came(host, wire) => {
+                Object::Came(self.world().sent(host.other(), u64::from(extra))?, wire)
+            }
             Event::Expired(host, lport, rport, timer) => Object::Expiring(Expiring {
                 endpoint: self.endpoint(*host, *lport, *rport)?,
                 timer: *timer,

@@ -6,24 +6,14 @@ use case_forms::{Extras, Recovery, Timer};
 use endpoint::{greatest_recovery, greatest_values};
 use endpoint_state::Endpoint;
 use plain_words::word_if;
-use verdict::Rule;
 
-/// What a rule compares at the expiry of a timer.
-pub(crate) fn compare(out: &mut String, scene: &Scene, rule: Rule, it: Expiring) -> Done {
-    match (rule, scene.named().extras) {
-        (Rule::NoEndpoint, _) => out.push_str("the endpoint is CLOSED, and has no timers\n"),
-        (Rule::Growth, Extras::Two(cwnd, ssthresh)) => {
-            growth(out, it.endpoint, scene.moment(), (cwnd, ssthresh))
-        }
-        (Rule::TimerOff, _) => off(out, it),
-        (Rule::TimerEarly, _) => early(out, scene, it),
-        _ => Ok(()),
-    }
-}
-
-// The windows chosen at an expiry of rto, next to the greatest ones.
-fn growth(out: &mut String, endpoint: &Endpoint, moment: u64, chosen: (u32, u32)) -> Done {
-    let ((cwnd, ssthresh), (most, highest)) = (chosen, greatest_values(endpoint, moment));
+/// The windows chosen at an expiry of rto, next to the greatest ones.
+pub(crate) fn growth(out: &mut String, scene: &Scene, it: Expiring) -> Done {
+    let Extras::Two(cwnd, ssthresh) = scene.named().extras else {
+        return Ok(());
+    };
+    let endpoint = it.endpoint;
+    let (most, highest) = greatest_values(endpoint, scene.moment());
     let (flight, backoffs) = (endpoint.flight(), endpoint.backoffs);
     write!(out, "the step chooses cwnd {cwnd} ")?;
     write!(out, "(the greatest is {most}) and ssthresh {ssthresh} ")?;
@@ -31,8 +21,8 @@ fn growth(out: &mut String, endpoint: &Endpoint, moment: u64, chosen: (u32, u32)
     writeln!(out, "expiries since a new acknowledgment {backoffs}")
 }
 
-// Why a timer can't expire at all.
-fn off(out: &mut String, it: Expiring) -> Done {
+/// Why a timer can't expire at all.
+pub(crate) fn off(out: &mut String, it: Expiring) -> Done {
     match it.timer {
         Timer::Rto => {
             let (una, sent) = (it.endpoint.stream.snd_una, it.endpoint.snd_max());
@@ -86,8 +76,8 @@ fn giveup_off(out: &mut String, endpoint: &Endpoint) -> Done {
     writeln!(out, "the socket is {not}closed")
 }
 
-// The moment from which on a timer may expire.
-fn early(out: &mut String, scene: &Scene, it: Expiring) -> Done {
+/// The moment from which on a timer may expire.
+pub(crate) fn early(out: &mut String, scene: &Scene, it: Expiring) -> Done {
     let (timers, header, moment) = (&it.endpoint.timers, scene.header(), scene.moment());
     let (armed, time) = match it.timer {
         Timer::Rto => (timers.rto_armed, timers.rto),

@@ -3,20 +3,27 @@
 use crate::Done;
 use crate::scene::{Scene, first_extra};
 use case_forms::{Event, Host, Label, Wire};
-use endpoint_state::World;
 use plain_words::{HostName, word_if};
 use segment::Flag;
 use spec_tcp::Emission;
 
-/// Writes that the host of an O line built no segment of the number that the step names.
-pub(crate) fn not_built(out: &mut String, world: &World, host: Host, number: u32) -> Done {
+/// Writes that the host of an O line built no segment of the number that the step names, if that is so.
+pub(crate) fn describe_sent(out: &mut String, scene: &Scene, host: Host) -> Done {
+    let (world, number) = (scene.world(), first_extra(scene.named().extras));
+    if world.made(host, number).is_some() {
+        return Ok(());
+    }
     let (host, count) = (HostName(host), world.count());
     write!(out, "{host} built no segment with the number {number}; ")?;
     writeln!(out, "so far {count} were built at both hosts")
 }
 
 /// Writes what is wrong with the line that a received segment should copy, if that is no sent segment.
-pub(crate) fn not_sent(out: &mut String, scene: &Scene, sender: Host, copied: u64) -> Done {
+pub(crate) fn describe_came(out: &mut String, scene: &Scene, host: Host) -> Done {
+    let (sender, copied) = (host.other(), u64::from(first_extra(scene.named().extras)));
+    if scene.world().sent(sender, copied).is_some() {
+        return Ok(());
+    }
     let yet = word_if(sender_in(scene, copied) == Some(sender), " used yet; it is");
     let sender = HostName(sender);
     writeln!(out, "line {copied} isn't{yet} an O line of {sender}")

@@ -15,7 +15,17 @@ fn timer_for(answer: &Answer) -> Option<Timer> {
     match answer {
         Answer::Timeout => Some(Timer::Giveup),
         Answer::State(State::Closed) | Answer::Given(_) => Some(Timer::Msl2),
-        _ => None,
+        Answer::Done
+        | Answer::Bytes(_)
+        | Answer::Again
+        | Answer::Eof
+        | Answer::Closed
+        | Answer::NotConn
+        | Answer::Refused
+        | Answer::Reset
+        | Answer::InUse
+        | Answer::BadSocket
+        | Answer::State(_) => None,
     }
 }
 
