@@ -1,9 +1,9 @@
 //! Retransmissions that are counted, and the remarks on them. Moments and times are microseconds.
 
 use crate::clocks::{is_short, required_wait};
-use crate::found::{Done, Found};
+use crate::found::{Done, Found, Lines};
 use crate::waits::Now;
-use crate::words::{Position, Time, Times, Who};
+use crate::words::{Repeated, Time, Who};
 use plain_words::word_if;
 use std::fmt;
 
@@ -35,22 +35,34 @@ impl fmt::Display for Permit {
     }
 }
 
-/// How many retransmissions there are, and the lines of the first and the last.
+/// What let an endpoint retransmit last, and how many times anything did.
+#[derive(Clone, Copy, Default)]
+pub(crate) struct Permits {
+    pub last: Permit,
+    pub count: u64,
+}
+
+impl Permits {
+    /// Something lets it retransmit.
+    pub(crate) fn add(&mut self, permit: Permit) {
+        self.last = permit;
+        self.count = self.count.saturating_add(1);
+    }
+}
+
+/// How many retransmissions there are, and their lines.
 #[derive(Clone, Copy, Default)]
 pub(crate) struct Count {
     times: u64,
-    first: u64,
-    last: u64,
+    lines: Lines,
 }
 
 impl Count {
     /// One more, in this line.
-    pub(crate) fn and(&self, line: u64) -> Count {
-        Count {
-            times: self.times.saturating_add(1),
-            first: if self.times == 0 { line } else { self.first },
-            last: line,
-        }
+    pub(crate) fn add(&mut self, line: u64) {
+        let first = if self.times == 0 { line } else { self.lines.0 };
+        self.lines = Lines(first, line);
+        self.times = self.times.saturating_add(1);
     }
 }
 
@@ -59,9 +71,7 @@ impl Count {
 pub(crate) struct Again {
     pub who: Who,
     pub position: u64,
-    pub permit: Permit,
-    /// How many permits there were until then.
-    pub permits: u64,
+    pub permits: Permits,
     /// The moment of the last one.
     pub moment: u64,
     pub count: Count,
@@ -70,19 +80,17 @@ pub(crate) struct Again {
 impl Again {
     /// Remarks on them, unless there is one alone.
     pub(crate) fn say(&self, found: &mut Found) -> Done {
-        let Count { times, first, last } = self.count;
-        if times < 2 {
+        if self.count.times < 2 {
             return Ok(());
         }
-        found.add_lines((first, last), self)
+        found.add_lines(self.count.lines, self.who, "retransmits", self)
     }
 }
 
 impl fmt::Display for Again {
     fn fmt<W: fmt::Write>(&self, f: &mut fmt::Formatter<W>) -> fmt::Result {
-        let (position, times) = (Position(self.position), Times(self.count.times));
-        write!(f, "{} retransmits {position}", self.who)?;
-        write!(f, "{times} {}", self.permit)
+        let (position, times) = (self.position, self.count.times);
+        write!(f, "{} {}", Repeated { position, times }, self.permits.last)
     }
 }
 
@@ -106,39 +114,38 @@ pub(crate) struct Chain {
 }
 
 impl Chain {
-    /// The chain with one more retransmission, after so many permits.
-    pub(crate) fn longer(&self, permits: u64, now: Now, grain: u64) -> Chain {
+    /// One more retransmission, after so many permits.
+    pub(crate) fn add(&mut self, permits: u64, now: Now, grain: u64) {
         let wait = now.moment.saturating_sub(self.moment);
-        let mut next = *self;
-        next.moment = now.moment;
-        next.wait = wait.max(self.wait);
-        next.permits = permits;
         if is_short(wait, self.wait, grain) {
-            next.early = self.early.and(now.line);
             if self.early.times == 0 {
-                next.waits = (wait, self.wait);
+                self.waits = (wait, self.wait);
             }
+            self.early.add(now.line);
         }
-        next
+        self.moment = now.moment;
+        self.wait = wait.max(self.wait);
+        self.permits = permits;
     }
 
     /// Remarks on those that came too early, if any did.
     pub(crate) fn say(&self, found: &mut Found) -> Done {
-        let Count { times, first, last } = self.early;
-        if times == 0 {
+        if self.early.times == 0 {
             return Ok(());
         }
-        found.add_lines((first, last), self)
+        found.add_lines(self.early.lines, self.who, "retransmits", self)
     }
 }
 
 impl fmt::Display for Chain {
     fn fmt<W: fmt::Write>(&self, f: &mut fmt::Formatter<W>) -> fmt::Result {
-        let (position, times) = (Position(self.position), Times(self.early.times));
-        write!(f, "{} retransmits {position}", self.who)?;
-        let at_first = word_if(1 < self.early.times, "first ");
-        write!(f, "{times} without back-off: {at_first}after ")?;
+        let (position, times) = (self.position, self.early.times);
+        let at_first = word_if(1 < times, "first ");
         let (wait, required) = (Time(self.waits.0), Time(required_wait(self.waits.1)));
-        write!(f, "{wait} instead of {required} (RFC 6298, 5.5)")
+        write!(f, "{} without back-off: ", Repeated { position, times })?;
+        write!(
+            f,
+            "{at_first}after {wait} instead of {required} (RFC 6298, 5.5)"
+        )
     }
 }

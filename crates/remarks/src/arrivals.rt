@@ -2,11 +2,11 @@
 
 use crate::again::Permit;
 use crate::found::Done;
-use crate::notes::{key_of, number_of};
-use crate::review::Review;
+use crate::notes::position_key;
+use crate::review::{Rest, Review, endpoint_at, endpoint_of};
 use crate::words::{Stretch, Who};
-use case_forms::{Flags, Host, OutOfMemory, Step, TakeChoice};
-use replayed::ReplayFault;
+use case_forms::{Flags, Host, Label, NamedLine, OutOfMemory, TakeChoice};
+use endpoint_state::World;
 use spec_tcp::{Arrived, Emission, Endpoint, EndpointId};
 use std::fmt;
 
@@ -17,6 +17,46 @@ const LEAST: TakeChoice = TakeChoice {
     sample: false,
 };
 
+/// A segment that waits in the inbox of a host, and the endpoint that it is for.
+#[derive(Clone, Copy)]
+pub(crate) struct Arrival<'w> {
+    pub host: Host,
+    /// The line with which it arrived.
+    pub line: u64,
+    pub segment: &'w Emission,
+    /// None: there was never an endpoint with its ports.
+    pub receiver: Option<(EndpointId, &'w Endpoint)>,
+}
+
+impl<'w> Arrival<'w> {
+    /// The segment of a line. None: none waits.
+    pub(crate) fn of(world: &'w World, host: Host, line: u64) -> Option<Arrival<'w>> {
+        let segment = world.waiting(host, line)?;
+        let id = endpoint_of(world, host, segment.rport, segment.lport);
+        Some(Arrival {
+            host,
+            line,
+            segment,
+            receiver: id.and_then(|id| Some((id, endpoint_at(world, id)?))),
+        })
+    }
+
+    // What is left to do after it is processed.
+    fn rest(&self) -> Rest {
+        let was_shut = match self.receiver {
+            Some((_, endpoint)) => endpoint.timers.persist_armed.is_some(),
+            None => false,
+        };
+        Rest::Reached {
+            host: self.host,
+            lport: self.segment.rport,
+            rport: self.segment.lport,
+            line: self.line,
+            was_shut,
+        }
+    }
+}
+
 // The bytes of a segment, and the position of its FIN.
 #[derive(Clone, Copy)]
 struct Carried {
@@ -26,12 +66,12 @@ struct Carried {
 
 impl Carried {
     // What a segment carries whose number has this position.
-    fn of(m: &Emission, position: u64) -> Carried {
-        let first = position.saturating_add(u64::from(m.flags.syn));
-        let end = first.saturating_add(m.payload.len() as u64);
+    fn of(segment: &Emission, position: u64) -> Carried {
+        let first = position.saturating_add(u64::from(segment.flags.syn));
+        let end = first.saturating_add(segment.payload.len() as u64);
         Carried {
             bytes: Stretch::up_to(first, end),
-            fin: if m.flags.fin { Some(end) } else { None },
+            fin: if segment.flags.fin { Some(end) } else { None },
         }
     }
 
@@ -85,122 +125,132 @@ impl fmt::Display for Acceptable {
     }
 }
 
-// What a segment would bring to an endpoint.
-#[derive(Clone, Copy)]
-struct Brought {
-    id: EndpointId,
-    who: Who,
-    /// What lies in the receive window and wasn't received in order.
-    fresh: Carried,
-    /// The next position that the endpoint expects.
-    next: u64,
-}
-
 impl Review<'_> {
-    /// A host processes the segment of a line, and keeps what it carries or not.
-    pub(crate) fn process(
+    /// A host processes, drops or answers a segment.
+    pub(crate) fn hear(
         &mut self,
-        step: &Step,
-        host: Host,
+        world: &World,
+        label: &Label<NamedLine>,
+        arrival: &Arrival<'_>,
+    ) -> Result<Rest, OutOfMemory> {
+        self.arrive(arrival)?;
+        match label {
+            Label::T { choice, .. } => {
+                self.keep(arrival, choice.keep)?;
+                return Ok(arrival.rest());
+            }
+            Label::K { .. } => self.drop_arrival(world, arrival)?,
+            _ => {}
+        }
+        Ok(Rest::Nothing)
+    }
+
+    /// An endpoint was opened, or processed a segment.
+    pub(crate) fn reached(
+        &mut self,
+        world: &World,
+        id: EndpointId,
         line: u64,
-        keeps: bool,
-    ) -> Result<(), ReplayFault> {
-        let (lport, rport) = self.arrive(host, line)?;
-        self.keep(host, line, keeps)?;
-        let before = self.replay.world().body(host).endpoint_of(lport, rport);
-        let was_shut = before.is_some_and(|endpoint| endpoint.timers.persist_armed.is_some());
-        self.replay.apply(step)?;
-        let Some(id) = self.endpoint_of(host, lport, rport) else {
-            return Ok(());
-        };
-        let is_open = self.endpoint(id).is_some_and(|endpoint| {
+        was_shut: bool,
+    ) -> Done {
+        let is_open = endpoint_at(world, id).is_some_and(|endpoint| {
             !endpoint.state.is_closed() && endpoint.window.snd_wnd != 0
         });
-        let mut note = self.note(id);
         if was_shut && is_open {
-            note.allow(Permit::Opening(line));
+            self.note_mut(id)?.permits.add(Permit::Opening(line));
         }
-        self.touch(id, note, line)?;
+        self.touch(world, id, line)
+    }
+
+    // Remembers that a segment arrived.
+    fn arrive(&mut self, arrival: &Arrival<'_>) -> Done {
+        let Arrival { host, line, .. } = *arrival;
+        let ports = (host as u8, arrival.segment.rport, arrival.segment.lport);
+        if arrival.segment.flags.rst {
+            self.resets.insert(ports, line)?;
+        } else {
+            self.resets.remove(&ports);
+        }
+        if let Some((id, _)) = arrival.receiver {
+            self.note_mut(id)?.heard = true;
+        }
         Ok(())
     }
 
-    /// A host drops the segment of a line.
-    pub(crate) fn drop_arrival(&mut self, host: Host, line: u64) -> Done {
-        self.arrive(host, line)?;
-        let world = self.replay.world();
+    // A host drops a segment.
+    fn drop_arrival(&mut self, world: &World, arrival: &Arrival<'_>) -> Done {
+        let Arrival { host, line, .. } = *arrival;
         if world.admits_taking(host, self.moment, line, LEAST).is_err() {
             return Ok(());
         }
-        match self.met(host, line) {
-            Some((who, what)) => self.found.add(line, &format_args!("{who} drops {what}")),
+        match self.met(world, arrival) {
+            Some((who, what)) => self.found.add(line, who, "drops", &what),
             None => Ok(()),
         }
     }
 
-    /// Remembers that the segment of a line arrived. Returns the ports that it is for, the host's own and the peer's.
-    pub(crate) fn arrive(&mut self, host: Host, line: u64) -> Result<(u16, u16), OutOfMemory> {
-        let Some(m) = self.replay.world().waiting(host, line) else {
-            return Ok((0, 0));
-        };
-        let (lport, rport) = (m.rport, m.lport);
-        let is_reset = m.flags.rst;
-        self.arrived
-            .insert((number_of(host), lport, rport), (line, is_reset))?;
-        if let Some(id) = self.endpoint_of(host, lport, rport) {
-            let mut note = self.note(id);
-            note.heard = true;
-            self.put(id, note)?;
-        }
-        Ok((lport, rport))
-    }
-
-    // Who drops the segment of a line. None: nobody is to process it, or a full queue is a reason to drop it.
-    fn met(&self, host: Host, line: u64) -> Option<(Who, Acceptable)> {
-        let m = self.replay.world().waiting(host, line)?;
-        let endpoint = self.replay.world().body(host).endpoint_of(m.rport, m.lport);
-        let (who, position, ack) = match endpoint {
-            Some(endpoint) if !endpoint.state.is_closed() => {
-                let read = Arrived::checked_read(self.case.trace.header.version, endpoint, m)?;
+    // Who drops a segment. None: nobody is to process it, or a full queue is a reason to drop it.
+    fn met(&self, world: &World, arrival: &Arrival<'_>) -> Option<(Who, Acceptable)> {
+        let Arrival { host, segment, .. } = *arrival;
+        let (who, position, ack) = match arrival.receiver {
+            Some((_, endpoint)) if !endpoint.state.is_closed() => {
+                let read = Arrived::checked_read(
+                    self.case.trace.header.version,
+                    endpoint,
+                    segment,
+                )?;
                 (Who::of(host, endpoint), read.pos(), read.ack())
             }
-            _ => (self.listener_with_room(host, m.rport)?, 0, 0),
+            _ => (self.listener_with_room(world, host, segment.rport)?, 0, 0),
         };
         let what = Acceptable {
-            flags: m.flags,
-            carried: Carried::of(m, position),
+            flags: segment.flags,
+            carried: Carried::of(segment, position),
             ack,
         };
         Some((who, what))
     }
 
     // The listener on a port. None: there is none, or its queue is full.
-    fn listener_with_room(&self, host: Host, port: u16) -> Option<Who> {
-        let body = self.replay.world().body(host);
+    fn listener_with_room(&self, world: &World, host: Host, port: u16) -> Option<Who> {
+        let body = world.body(host);
         let listener = body.listener_at(body.listener_on(port)?)?;
         let extra = u64::from(self.case.trace.header.extra);
         if u64::from(listener.backlog).saturating_add(extra) <= listener.queue.len() as u64 {
             return None;
         }
-        let port = listener.port;
         Some(Who::Listener { host, port })
     }
 
     // Remarks on what an endpoint doesn't keep, and remembers what it keeps beyond a gap.
-    fn keep(&mut self, host: Host, line: u64, keeps: bool) -> Done {
-        let Some(brought) = self.brought(host, line) else {
+    fn keep(&mut self, arrival: &Arrival<'_>, keeps: bool) -> Done {
+        let Some((id, endpoint)) = arrival.receiver else {
             return Ok(());
         };
-        let (id, who, fresh) = (brought.id, brought.who, brought.fresh);
+        let Some(fresh) = self.fresh(endpoint, arrival.segment) else {
+            return Ok(());
+        };
+        let who = Who::of(id.host, endpoint);
         if keeps {
-            self.keep_beyond(id, line, who, fresh)?;
-            return self.hold(id, fresh, brought.next);
+            self.keep_beyond(id, arrival.line, who, fresh)?;
+            return self.hold(id, fresh, endpoint.rcv_nxt());
         }
         let lost = self.not_held(id, fresh);
         if lost.bytes.is_none() && lost.fin.is_none() {
             return Ok(());
         }
-        let words = &format_args!("{who} processes a segment but discards {lost}");
-        self.found.add(line, words)
+        let does = "processes a segment but discards";
+        self.found.add(arrival.line, who, does, &lost)
+    }
+
+    // What a segment would bring to an endpoint. None: it may keep nothing.
+    fn fresh(&self, endpoint: &Endpoint, segment: &Emission) -> Option<Carried> {
+        let may_keep = !endpoint.state.is_closed() && !endpoint.state.is_syn_sent();
+        if !may_keep || endpoint.stream.receive.is_ended() || segment.flags.rst {
+            return None;
+        }
+        let read = Arrived::checked_read(self.case.trace.header.version, endpoint, segment)?;
+        Some(Carried::of(segment, read.pos()).fresh(endpoint))
     }
 
     // Remarks on bytes that an endpoint keeps beyond the windows that lines show.
@@ -211,56 +261,36 @@ impl Review<'_> {
         };
         let last = edge.saturating_sub(1);
         let but = "but the segments it sent advertise only up to";
-        let words = &format_args!("{who} keeps {bytes}, {but} {last}");
-        self.found.add(line, words)
+        let what = &format_args!("{bytes}, {but} {last}");
+        self.found.add(line, who, "keeps", what)
     }
 
-    // What the segment of a line would bring to its endpoint. None: it may keep nothing.
-    fn brought(&self, host: Host, line: u64) -> Option<Brought> {
-        let m = self.replay.world().waiting(host, line)?;
-        let id = self.endpoint_of(host, m.rport, m.lport)?;
-        let endpoint = self.endpoint(id)?;
-        let may_keep = !endpoint.state.is_closed() && !endpoint.state.is_syn_sent();
-        if !may_keep || endpoint.stream.receive.is_ended() || m.flags.rst {
-            return None;
-        }
-        let read = Arrived::checked_read(self.case.trace.header.version, endpoint, m)?;
-        Some(Brought {
-            id,
-            who: Who::of(host, endpoint),
-            fresh: Carried::of(m, read.pos()).fresh(endpoint),
-            next: endpoint.rcv_nxt(),
-        })
-    }
-
-    // Remembers what is kept beyond a gap.
+    // Remembers what is kept beyond a gap, before which an endpoint expects this position.
     fn hold(&mut self, id: EndpointId, fresh: Carried, next: u64) -> Done {
-        let (host, place) = key_of(id);
         if let Some(Stretch { first, end }) = fresh.bytes {
             if next < first {
                 let end = end.max(self.held_up_to(id, first));
-                self.held.insert((host, place, first), end)?;
+                self.held.insert(position_key(id, first), end)?;
             }
         }
         if let Some(fin) = fresh.fin {
-            self.held.insert((host, place, fin), fin.saturating_add(1))?;
+            let end = fin.saturating_add(1);
+            self.held.insert(position_key(id, fin), end)?;
         }
         Ok(())
     }
 
     // The position after what is kept beyond a gap from a position on, or 0.
     fn held_up_to(&self, id: EndpointId, first: u64) -> u64 {
-        let (host, place) = key_of(id);
-        let end = self.held.get(&(host, place, first));
+        let end = self.held.get(&position_key(id, first));
         end.copied().unwrap_or(0)
     }
 
     // What of this isn't kept beyond a gap.
     fn not_held(&self, id: EndpointId, fresh: Carried) -> Carried {
+        let bytes = fresh.bytes;
         Carried {
-            bytes: fresh
-                .bytes
-                .filter(|bytes| self.held_up_to(id, bytes.first) < bytes.end),
+            bytes: bytes.filter(|bytes| self.held_up_to(id, bytes.first) < bytes.end),
             fin: fresh.fin.filter(|fin| self.held_up_to(id, *fin) <= *fin),
         }
     }

@@ -47,10 +47,9 @@ pub(crate) fn rto_clock(endpoint: &Endpoint, unseen: u32, expiries: u32) -> Opti
         timer: Timer::Rto,
         armed,
         since: armed,
-        time: if timers.srtt.is_none() {
-            time.max(backed_off(FIRST, expiries))
-        } else {
-            time
+        time: match timers.srtt {
+            Some(_) => time,
+            None => time.max(backed_off(FIRST, expiries)),
         },
     })
 }
@@ -83,7 +82,7 @@ fn backed_off(rto: u64, times: u32) -> u64 {
         Some(factor) => rto.saturating_mul(factor),
         None => LONGEST,
     };
-    doubled.min(LONGEST).max(SHORTEST)
+    doubled.clamp(SHORTEST, LONGEST)
 }
 
 // How many bytes a send accepted and no segment carries yet.
@@ -118,10 +117,7 @@ pub(crate) fn stall_of(endpoint: &Endpoint, before: Option<Stall>, moment: u64) 
     if !may_send(endpoint.state) || endpoint.flight() != 0 || bytes == 0 || room == 0 {
         return None;
     }
-    let since = match before {
-        Some(stall) => stall.since,
-        None => moment,
-    };
+    let since = before.map_or(moment, |stall| stall.since);
     Some(Stall { since, bytes, room })
 }
 
@@ -143,9 +139,6 @@ pub(crate) fn required_wait(before: u64) -> u64 {
 /// clock's granularity are left to late timers.
 pub(crate) fn is_short(wait: u64, before: u64, grain: u64) -> bool {
     let doubled = before.saturating_mul(2);
-    let least = doubled
-        .saturating_sub(doubled / 8)
-        .saturating_sub(grain)
-        .min(LONGEST);
-    wait < least
+    let least = (doubled - doubled / 8).saturating_sub(grain);
+    wait < least.min(LONGEST)
 }

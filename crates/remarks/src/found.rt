@@ -1,6 +1,7 @@
 //! The remarks that were found, in the order of their places.
 
 use crate::review::Remarked;
+use crate::words::Who;
 use case_forms::OutOfMemory;
 use std::alloc::Global;
 use std::collections::BTreeMap;
@@ -28,46 +29,48 @@ impl Found {
         }
     }
 
-    /// One more remark, on this line.
-    pub(crate) fn add(&mut self, line: u64, remark: &impl fmt::Display) -> Done {
-        self.add_lines((line, line), remark)
+    /// One more remark, on this line: who does what.
+    pub(crate) fn add(
+        &mut self,
+        line: u64,
+        who: Who,
+        does: &str,
+        what: &impl fmt::Display,
+    ) -> Done {
+        self.add_lines(Lines(line, line), who, does, what)
     }
 
-    /// One more remark, on the lines from the first to the last.
+    /// One more remark, on these lines.
     pub(crate) fn add_lines(
         &mut self,
-        (first, last): (u64, u64),
-        remark: &impl fmt::Display,
+        lines: Lines,
+        who: Who,
+        does: &str,
+        what: &impl fmt::Display,
     ) -> Done {
-        let number = self.places.len() as u64;
+        let key = (lines.0, self.places.len() as u64);
         let begin = self.text.len();
-        writeln!(self.text, "{}: {remark}", Lines(first, last))?;
-        self.places
-            .insert((first, number), (begin, self.text.len()))?;
+        writeln!(self.text, "{lines}: {who} {does} {what}")?;
+        self.places.insert(key, (begin, self.text.len()))?;
         Ok(())
     }
 
     /// All of them.
     pub(crate) fn remarked(&self, alloc: Global) -> Result<Remarked, OutOfMemory> {
         let mut text = String::new(alloc);
-        self.write_all(&mut text)?;
+        for (begin, end) in self.places.values() {
+            text.push_str(self.text.get(*begin..*end).unwrap_or(""))?;
+        }
         Ok(Remarked {
             text,
             count: self.places.len(),
         })
     }
-
-    fn write_all(&self, out: &mut String) -> Done {
-        for (begin, end) in self.places.values() {
-            out.push_str(self.text.get(*begin..*end).unwrap_or(""))?;
-        }
-        Ok(())
-    }
 }
 
-// The lines from the first to the last.
-#[derive(Clone, Copy)]
-struct Lines(u64, u64);
+/// The lines from the first to the last.
+#[derive(Clone, Copy, Default)]
+pub(crate) struct Lines(pub u64, pub u64);
 
 impl fmt::Display for Lines {
     fn fmt<W: fmt::Write>(&self, f: &mut fmt::Formatter<W>) -> fmt::Result {

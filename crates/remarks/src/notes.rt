@@ -1,6 +1,6 @@
 //! What is remembered of an endpoint.
 
-use crate::again::{Chain, Permit};
+use crate::again::{Chain, Permits};
 use crate::clocks::{Clock, Stall, persist_clock, rto_clock, stall_of};
 use case_forms::Host;
 use spec_tcp::{Endpoint, EndpointId};
@@ -8,23 +8,23 @@ use spec_tcp::{Endpoint, EndpointId};
 /// An endpoint, by its host and its place there.
 pub(crate) type EndpointKey = (u8, u32);
 
-/// The number of a host.
-pub(crate) fn number_of(host: Host) -> u8 {
-    match host {
-        Host::Zero => 0,
-        Host::One => 1,
-    }
-}
+/// A position of an endpoint.
+pub(crate) type PositionKey = (u8, u32, u64);
 
 /// The key of an endpoint.
 pub(crate) fn key_of(id: EndpointId) -> EndpointKey {
-    (number_of(id.host), id.number)
+    (id.host as u8, id.number)
 }
 
 /// The endpoint with a key.
 pub(crate) fn id_of((host, number): EndpointKey) -> EndpointId {
     let host = if host == 0 { Host::Zero } else { Host::One };
     EndpointId { host, number }
+}
+
+/// The key of a position of an endpoint.
+pub(crate) fn position_key(id: EndpointId, position: u64) -> PositionKey {
+    (id.host as u8, id.number, position)
 }
 
 /// What is remembered of an endpoint. Moments are microseconds.
@@ -43,9 +43,7 @@ pub(crate) struct Note {
     /// How many times anything let it retransmit when it last sent a probe again.
     pub probed_at: u64,
     pub stall: Option<Stall>,
-    /// What let it retransmit last, and how many times anything did.
-    pub permit: Permit,
-    pub permits: u64,
+    pub permits: Permits,
     /// Since when nothing was sent before the retransmission timer expired last.
     pub waited_from: u64,
     pub chain: Option<Chain>,
@@ -60,32 +58,17 @@ pub(crate) struct Note {
 }
 
 impl Note {
-    /// Something lets it retransmit.
-    pub(crate) fn allow(&mut self, permit: Permit) {
-        self.permit = permit;
-        self.permits = self.permits.saturating_add(1);
-    }
-
-    /// With the timers and the stall that the endpoint has at a moment.
-    pub(crate) fn seen(&self, endpoint: &Endpoint, moment: u64) -> Note {
-        let mut note = *self;
-        if !self.runs_since(endpoint.timers.rto_armed) {
-            note.unseen = 0;
+    /// Takes the timers and the stall that the endpoint has at a moment.
+    pub(crate) fn see(&mut self, endpoint: &Endpoint, moment: u64) {
+        let timers = &endpoint.timers;
+        if self.rto.map(|clock| clock.armed) != timers.rto_armed {
+            self.unseen = 0;
         }
-        if endpoint.timers.persist_armed.is_none() {
-            note.probes = 0;
+        if timers.persist_armed.is_none() {
+            self.probes = 0;
         }
-        note.rto = rto_clock(endpoint, note.unseen, note.expiries);
-        note.persist = persist_clock(endpoint, self.persist, note.probes, moment);
-        note.stall = stall_of(endpoint, self.stall, moment);
-        note
-    }
-
-    // Whether the retransmission timer is armed since then, as it was.
-    fn runs_since(&self, armed: Option<u64>) -> bool {
-        match (self.rto, armed) {
-            (Some(clock), Some(armed)) => clock.armed == armed,
-            _ => false,
-        }
+        self.rto = rto_clock(endpoint, self.unseen, self.expiries);
+        self.persist = persist_clock(endpoint, self.persist, self.probes, moment);
+        self.stall = stall_of(endpoint, self.stall, moment);
     }
 }

@@ -1,13 +1,13 @@
 //! What is made and sent, and what is sent again.
 
-use crate::again::{Again, Chain, Count, Permit};
+use crate::again::{Again, Chain, Count, Permit, Permits};
 use crate::found::{Done, Found};
-use crate::notes::{Note, key_of, number_of};
-use crate::review::Review;
+use crate::notes::{Note, position_key};
+use crate::review::{Rest, Review, endpoint_at, endpoint_of};
 use crate::waits::{Now, say_waits};
 use crate::words::Who;
-use case_forms::{Host, Recovery, SegmentPlan, Step, Timer};
-use replayed::ReplayFault;
+use case_forms::{Host, SegmentPlan, Timer};
+use endpoint_state::World;
 use spec_tcp::{Endpoint, EndpointId, window_in};
 
 /// A segment that an endpoint made.
@@ -26,18 +26,17 @@ pub(crate) struct Sending {
     /// The oldest position that was not acknowledged when it was made.
     una: u64,
     /// What allowed it to be sent again, and how many times anything did until then.
-    permit: Permit,
-    permits: u64,
+    permits: Permits,
     /// Something arrived since the endpoint last sent.
     answers: bool,
-    /// The retransmission timeout, in microseconds.
-    rto: u64,
+    /// The retransmission timeout less a clock's granularity, in microseconds.
+    timeout: u64,
 }
 
 impl Sending {
-    // Whether a timeout, less a clock's granularity, went by since a moment.
-    fn is_late(&self, since: u64, moment: u64, grain: u64) -> bool {
-        self.rto.saturating_sub(grain) <= moment.saturating_sub(since)
+    // Whether the timer may have expired since a moment.
+    fn is_late(&self, since: u64, moment: u64) -> bool {
+        self.timeout <= moment.saturating_sub(since)
     }
 }
 
@@ -52,43 +51,20 @@ fn edge_of(endpoint: &Endpoint, plan: &SegmentPlan) -> u64 {
 }
 
 impl Review<'_> {
-    /// A host makes a segment.
-    pub(crate) fn make(
-        &mut self,
-        step: &Step,
-        host: Host,
-        plan: &SegmentPlan,
-    ) -> Result<(), ReplayFault> {
-        let sending = self.sending_of(host, plan);
-        self.replay.apply(step)?;
-        if let Some(sending) = sending {
-            self.add_made(sending)?;
-        }
-        Ok(())
-    }
-
-    // Remembers the last segment that was made.
-    fn add_made(&mut self, sending: Sending) -> Done {
-        let number = self.replay.world().count();
-        self.made.insert(number, sending)?;
-        if self.shown.contains(&number) {
-            let mut note = self.note(sending.id);
-            note.edge = note.edge.max(sending.edge);
-            self.put(sending.id, note)?;
-        }
-        Ok(())
-    }
-
-    // The segment of a plan, before it is made.
-    fn sending_of(&self, host: Host, plan: &SegmentPlan) -> Option<Sending> {
-        let id = self.endpoint_of(host, plan.lport, plan.rport)?;
-        let endpoint = self.endpoint(id)?;
+    // The segment of a plan, before it is made. None: no endpoint makes it.
+    fn sending_of(&self, world: &World, host: Host, plan: &SegmentPlan) -> Option<Sending> {
+        let id = endpoint_of(world, host, plan.lport, plan.rport)?;
+        let endpoint = endpoint_at(world, id)?;
         let note = self.note(id);
         let end = plan
             .pos
             .saturating_add(u64::from(plan.len))
             .saturating_add(u64::from(plan.flags.syn))
             .saturating_add(u64::from(plan.flags.fin));
+        let mut permits = note.permits;
+        if endpoint.recover <= plan.pos {
+            permits.last = Permit::Nothing;
+        }
         Some(Sending {
             id,
             who: Who::of(host, endpoint),
@@ -98,44 +74,55 @@ impl Review<'_> {
             is_again: plan.pos < end && plan.pos < endpoint.snd_max(),
             is_reset: plan.flags.rst,
             una: endpoint.stream.snd_una,
-            permit: if plan.pos < endpoint.recover {
-                note.permit
-            } else {
-                Permit::Nothing
-            },
-            permits: note.permits,
+            permits,
             answers: note.heard,
-            rto: endpoint.timers.rto,
+            timeout: (endpoint.timers.rto).saturating_sub(self.case.trace.header.grain),
         })
     }
 
+    /// A host makes a segment.
+    pub(crate) fn making(&self, world: &World, host: Host, plan: &SegmentPlan) -> Rest {
+        match self.sending_of(world, host, plan) {
+            Some(sending) => Rest::Made(sending),
+            None => Rest::Nothing,
+        }
+    }
+
+    /// Remembers the last segment that was made.
+    pub(crate) fn add_made(&mut self, number: u32, sending: Sending) -> Done {
+        self.made.insert(number, sending)?;
+        if self.shown.contains(&number) {
+            let note = self.note_mut(sending.id)?;
+            note.edge = note.edge.max(sending.edge);
+        }
+        Ok(())
+    }
+
     /// The made segment of this number is sent with a line.
-    pub(crate) fn send(&mut self, number: u32, line: u64) -> Done {
+    pub(crate) fn send(&mut self, world: &World, number: u32, line: u64) -> Done {
         let Some(sending) = self.made.get(&number).copied() else {
             return Ok(());
         };
+        let (who, moment) = (sending.who, self.moment);
+        let now = Now { line, moment, who };
         let mut note = self.note(sending.id);
-        let now = Now {
-            line,
-            moment: self.moment,
-            who: sending.who,
-        };
         if sending.position < sending.end {
-            say_waits(self.found, now, &note)?;
+            say_waits(&mut self.found, now, &note)?;
             note.sent_end = note.sent_end.max(sending.end);
-            note.last_sent = now.moment;
+            note.last_sent = moment;
             note.heard = false;
         }
         if sending.is_again {
             note.count_probe(&sending);
             self.count_again(&sending, line)?;
             let grain = self.case.trace.header.grain;
-            note.follow_chain(self.found, &sending, now, grain)?;
+            note.follow_chain(&mut self.found, &sending, now, grain)?;
         }
         if sending.is_reset {
-            self.say_reset(sending.who, line)?;
+            self.say_reset(who, line)?;
         }
-        self.touch(sending.id, note, line)
+        *self.note_mut(sending.id)? = note;
+        self.touch(world, sending.id, line)
     }
 
     // An endpoint sends a reset.
@@ -143,12 +130,12 @@ impl Review<'_> {
         let Who::Endpoint { host, lport, rport } = who else {
             return Ok(());
         };
-        match self.arrived.get(&(number_of(host), lport, rport)) {
-            Some((reset, true)) => {
-                let words = &format_args!("{who} sends a reset after the reset of line {reset}");
-                self.found.add(line, words)
+        match self.resets.get(&(host as u8, lport, rport)) {
+            Some(reset) => {
+                let does = "sends a reset after the reset of line";
+                self.found.add(line, who, does, reset)
             }
-            Some((_, false)) | None => Ok(()),
+            None => Ok(()),
         }
     }
 
@@ -158,69 +145,63 @@ impl Review<'_> {
         if sending.position == 0 && sending.answers {
             return Ok(());
         }
-        let (host, place) = key_of(sending.id);
-        let key = (host, place, sending.position);
-        let mut again = Again {
+        let first = Again {
             who: sending.who,
             position: sending.position,
-            permit: sending.permit,
             permits: sending.permits,
             moment: self.moment,
             count: Count::default(),
         };
-        if let Some(before) = self.again.get(&key) {
-            let is_late = sending.is_late(before.moment, self.moment, self.case.trace.header.grain);
-            if before.permits == sending.permits && !is_late {
-                again.permit = before.permit;
-                again.count = before.count;
-            } else {
-                before.say(self.found)?;
-            }
+        let key = position_key(sending.id, sending.position);
+        let again = self.again.entry(key)?.or_insert(first);
+        if again.permits.count != sending.permits.count
+            || sending.is_late(again.moment, self.moment)
+        {
+            again.say(&mut self.found)?;
+            *again = first;
         }
-        again.count = again.count.and(line);
-        self.again.insert(key, again)?;
+        again.moment = self.moment;
+        again.count.add(line);
         Ok(())
     }
 
     /// A timer of an endpoint expires with a line.
-    pub(crate) fn expire(&mut self, id: EndpointId, timer: Timer, line: u64) -> Done {
-        let mut note = self.note(id);
-        match timer {
-            Timer::Rto => {
-                note.waited_from = match note.rto {
-                    Some(clock) => clock.since.max(note.last_sent),
-                    None => note.last_sent,
-                };
-                note.expiries = note.expiries.saturating_add(1);
-                note.allow(Permit::Rto(line));
-            }
-            Timer::Persist => {
-                note.probes = note.probes.saturating_add(1);
-                note.allow(Permit::Persist(line));
-            }
-            Timer::Msl2 | Timer::Giveup => {}
-        }
-        self.touch(id, note, line)
-    }
-
-    /// The endpoint of a host with these ports entered fast recovery.
-    pub(crate) fn recover(&mut self, host: Host, recovery: &Recovery) -> Done {
-        let Some(id) = self.endpoint_of(host, recovery.lport, recovery.rport) else {
-            return Ok(());
-        };
-        let mut note = self.note(id);
-        note.allow(Permit::Recovery);
-        self.put(id, note)
+    pub(crate) fn expire(
+        &mut self,
+        world: &World,
+        id: EndpointId,
+        timer: Timer,
+        line: u64,
+    ) -> Done {
+        self.note_mut(id)?.expire(timer, line);
+        self.touch(world, id, line)
     }
 }
 
 impl Note {
+    // A timer expires with a line.
+    fn expire(&mut self, timer: Timer, line: u64) {
+        match timer {
+            Timer::Rto => {
+                let since = self.rto.map_or(0, |clock| clock.since);
+                self.waited_from = since.max(self.last_sent);
+                self.expiries = self.expiries.saturating_add(1);
+                self.permits.add(Permit::Rto(line));
+            }
+            Timer::Persist => {
+                self.probes = self.probes.saturating_add(1);
+                self.permits.add(Permit::Persist(line));
+            }
+            Timer::Msl2 | Timer::Giveup => {}
+        }
+    }
+
     // Counts a probe that is sent again although nothing allowed it since the last one.
     fn count_probe(&mut self, sending: &Sending) {
         if self.persist.is_some() {
-            let unseen = u32::from(self.probed_at == sending.permits);
+            let unseen = u32::from(self.probed_at == sending.permits.count);
             self.probes = self.probes.saturating_add(unseen);
-            self.probed_at = sending.permits;
+            self.probed_at = sending.permits.count;
         }
     }
 
@@ -229,33 +210,41 @@ impl Note {
         if sending.una < sending.position || sending.end <= sending.una {
             return Ok(());
         }
-        let Some(chain) = self.chain else {
-            self.chain = self.begun(sending, now);
-            return Ok(());
-        };
-        if chain.una != sending.una {
-            self.chain = self.begun(sending, now);
-            return chain.say(found);
-        }
-        if chain.permits == sending.permits {
-            if sending.answers {
-                return Ok(());
+        let chain = self.chain.filter(|chain| chain.una == sending.una);
+        if let Some(chain) = chain {
+            if chain.permits == sending.permits.count {
+                if sending.answers {
+                    return Ok(());
+                }
+                let unseen = u32::from(sending.is_late(chain.moment, now.moment));
+                self.unseen = self.unseen.saturating_add(unseen);
+                self.expiries = self.expiries.saturating_add(unseen);
             }
-            let unseen = u32::from(sending.is_late(chain.moment, now.moment, grain));
-            self.unseen = self.unseen.saturating_add(unseen);
-            self.expiries = self.expiries.saturating_add(unseen);
         }
-        if let Permit::Rto(_) = sending.permit {
-            self.chain = Some(chain.longer(sending.permits, now, grain));
-            return Ok(());
+        match (chain, sending.permits.last) {
+            (Some(mut chain), Permit::Rto(_)) => {
+                chain.add(sending.permits.count, now, grain);
+                self.chain = Some(chain);
+            }
+            _ => {
+                self.say_chain(found)?;
+                self.chain = self.begun(sending, now);
+            }
         }
-        self.chain = None;
-        chain.say(found)
+        Ok(())
+    }
+
+    /// Remarks on the last retransmissions of the oldest segment.
+    pub(crate) fn say_chain(&self, found: &mut Found) -> Done {
+        match self.chain {
+            Some(chain) => chain.say(found),
+            None => Ok(()),
+        }
     }
 
     // The chain that a retransmission begins. None: no expiry allowed it.
     fn begun(&self, sending: &Sending, now: Now) -> Option<Chain> {
-        let Permit::Rto(_) = sending.permit else {
+        let Permit::Rto(_) = sending.permits.last else {
             return None;
         };
         Some(Chain {
@@ -264,7 +253,7 @@ impl Note {
             position: sending.position,
             moment: now.moment,
             wait: now.moment.saturating_sub(self.waited_from),
-            permits: sending.permits,
+            permits: sending.permits.count,
             early: Count::default(),
             waits: (0, 0),
         })

@@ -3,8 +3,9 @@
 use crate::clocks::{Clock, Stall};
 use crate::found::{Done, Found};
 use crate::notes::Note;
-use crate::review::Review;
+use crate::review::{Review, endpoint_at};
 use crate::words::{Time, Who};
+use endpoint_state::World;
 use spec_tcp::EndpointId;
 
 // Data waits at most a second for a fuller segment (RFC 9293, 3.8.6.2.1).
@@ -20,39 +21,36 @@ pub(crate) struct Now {
 
 impl Review<'_> {
     /// Compares an endpoint after a step with what is remembered of it. What ends there ends with this line.
-    pub(crate) fn touch(&mut self, id: EndpointId, before: Note, line: u64) -> Done {
+    pub(crate) fn touch(&mut self, world: &World, id: EndpointId, line: u64) -> Done {
         let moment = self.moment;
-        let Some(endpoint) = self.endpoint(id) else {
-            return self.put(id, before);
+        let Some(endpoint) = endpoint_at(world, id) else {
+            return Ok(());
         };
-        let after = before.seen(endpoint, moment);
         let who = Who::of(id.host, endpoint);
-        say_ended(self.found, Now { line, moment, who }, &before, &after)?;
-        self.put(id, after)
+        let note = self.note_mut(id)?;
+        let before = *note;
+        note.see(endpoint, moment);
+        let after = *note;
+        say_ended(&mut self.found, Now { line, moment, who }, &before, &after)
     }
 }
 
 // Remarks on the waits that ended.
 fn say_ended(found: &mut Found, now: Now, before: &Note, after: &Note) -> Done {
-    if !is_same(before.rto, after.rto) {
+    if since(before.rto) != since(after.rto) {
         say_late(found, now, before.rto, before.last_sent)?;
     }
-    if !is_same(before.persist, after.persist) {
+    if since(before.persist) != since(after.persist) {
         say_late(found, now, before.persist, before.last_sent)?;
     }
-    match after.stall {
-        Some(_) => Ok(()),
-        None => say_stall(found, now, before.stall),
+    if after.stall.is_none() {
+        say_stall(found, now, before.stall)?;
     }
+    Ok(())
 }
 
-// Whether a timer runs on.
-fn is_same(before: Option<Clock>, after: Option<Clock>) -> bool {
-    match (before, after) {
-        (Some(before), Some(after)) => before.since == after.since,
-        (None, None) => true,
-        _ => false,
-    }
+fn since(clock: Option<Clock>) -> Option<u64> {
+    clock.map(|clock| clock.since)
 }
 
 /// Remarks on the timers of an endpoint.
@@ -71,11 +69,8 @@ fn say_late(found: &mut Found, now: Now, clock: Option<Clock>, last_sent: u64) -
     if late <= clock.time {
         return Ok(());
     }
-    let (who, late) = (now.who, Time(late));
-    found.add(
-        now.line,
-        &format_args!("{who} sends nothing: {clock} is {late} overdue"),
-    )
+    let what = &format_args!("{clock} is {} overdue", Time(late));
+    found.add(now.line, now.who, "sends nothing:", what)
 }
 
 /// Remarks on a window that is open for long.
@@ -87,9 +82,6 @@ pub(crate) fn say_stall(found: &mut Found, now: Now, stall: Option<Stall>) -> Do
     if time <= OVERRIDE {
         return Ok(());
     }
-    let (who, time) = (now.who, Time(time));
-    found.add(
-        now.line,
-        &format_args!("{who} sends nothing for {time} with the window open: {stall}"),
-    )
+    let what = &format_args!("{} with the window open: {stall}", Time(time));
+    found.add(now.line, now.who, "sends nothing for", what)
 }

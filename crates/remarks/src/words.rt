@@ -10,16 +10,15 @@ use std::fmt;
 pub(crate) enum Who {
     Endpoint { host: Host, lport: u16, rport: u16 },
     Listener { host: Host, port: u16 },
+    /// The call of a thread, by the line that begins it.
+    Call { thread: u32, line: u64 },
 }
 
 impl Who {
     /// An endpoint of a host.
     pub(crate) fn of(host: Host, endpoint: &Endpoint) -> Who {
-        Who::Endpoint {
-            host,
-            lport: endpoint.lport,
-            rport: endpoint.rport,
-        }
+        let (lport, rport) = (endpoint.lport, endpoint.rport);
+        Who::Endpoint { host, lport, rport }
     }
 }
 
@@ -32,6 +31,7 @@ impl fmt::Display for Who {
             Who::Listener { host, port } => {
                 write!(f, "{}'s listener on port {port}", HostName(*host))
             }
+            Who::Call { thread, line } => write!(f, "thread {thread}'s call in line {line}"),
         }
     }
 }
@@ -70,26 +70,20 @@ impl fmt::Display for Stretch {
     }
 }
 
-/// What is sent again, by its first position.
+/// What is sent again, by its first position, and how many times; once is not said.
 #[derive(Clone, Copy)]
-pub(crate) struct Position(pub u64);
-
-impl fmt::Display for Position {
-    fn fmt<W: fmt::Write>(&self, f: &mut fmt::Formatter<W>) -> fmt::Result {
-        if self.0 == 0 {
-            return write!(f, "its SYN");
-        }
-        write!(f, "position {}", self.0)
-    }
+pub(crate) struct Repeated {
+    pub position: u64,
+    pub times: u64,
 }
 
-/// How many times something is done, after a word; once is not said.
-#[derive(Clone, Copy)]
-pub(crate) struct Times(pub u64);
-
-impl fmt::Display for Times {
+impl fmt::Display for Repeated {
     fn fmt<W: fmt::Write>(&self, f: &mut fmt::Formatter<W>) -> fmt::Result {
-        match self.0 {
+        match self.position {
+            0 => write!(f, "its SYN")?,
+            position => write!(f, "position {position}")?,
+        }
+        match self.times {
             1 => Ok(()),
             2 => write!(f, " twice"),
             times => write!(f, " {times} times"),
@@ -118,8 +112,7 @@ struct Thousandths(u64);
 
 impl fmt::Display for Thousandths {
     fn fmt<W: fmt::Write>(&self, f: &mut fmt::Formatter<W>) -> fmt::Result {
-        let whole = self.0 / 1_000;
-        let rest = self.0 % 1_000;
+        let (whole, rest) = (self.0 / 1_000, self.0 % 1_000);
         if rest == 0 {
             write!(f, "{whole}")
         } else if rest % 100 == 0 {
