@@ -1,8 +1,7 @@
 //! Retransmissions that are counted, and the remarks on them. Moments and times are microseconds.
 
-use crate::clocks::{is_short, required_wait};
 use crate::found::{Done, Found, Lines};
-use crate::waits::Now;
+use crate::waits::{Now, is_short, required_wait};
 use crate::words::{Repeated, Time, Who};
 use plain_words::word_if;
 use std::fmt;
@@ -80,17 +79,12 @@ pub(crate) struct Again {
 impl Again {
     /// Remarks on them, unless there is one alone.
     pub(crate) fn say(&self, found: &mut Found) -> Done {
-        if self.count.times < 2 {
+        let (Count { times, lines }, position) = (self.count, self.position);
+        if times < 2 {
             return Ok(());
         }
-        found.add_lines(self.count.lines, self.who, "retransmits", self)
-    }
-}
-
-impl fmt::Display for Again {
-    fn fmt<W: fmt::Write>(&self, f: &mut fmt::Formatter<W>) -> fmt::Result {
-        let (position, times) = (self.position, self.count.times);
-        write!(f, "{} {}", Repeated { position, times }, self.permits.last)
+        let what = &format_args!("{} {}", Repeated { position, times }, self.permits.last);
+        found.add_lines(lines, self.who, "retransmits", what)
     }
 }
 
@@ -130,22 +124,15 @@ impl Chain {
 
     /// Remarks on those that came too early, if any did.
     pub(crate) fn say(&self, found: &mut Found) -> Done {
-        if self.early.times == 0 {
+        let (Count { times, lines }, position) = (self.early, self.position);
+        if times == 0 {
             return Ok(());
         }
-        found.add_lines(self.early.lines, self.who, "retransmits", self)
-    }
-}
-
-impl fmt::Display for Chain {
-    fn fmt<W: fmt::Write>(&self, f: &mut fmt::Formatter<W>) -> fmt::Result {
-        let (position, times) = (self.position, self.early.times);
+        let again = Repeated { position, times };
         let at_first = word_if(1 < times, "first ");
         let (wait, required) = (Time(self.waits.0), Time(required_wait(self.waits.1)));
-        write!(f, "{} without back-off: ", Repeated { position, times })?;
-        write!(
-            f,
-            "{at_first}after {wait} instead of {required} (RFC 6298, 5.5)"
-        )
+        let waits = &format_args!("{at_first}after {wait} instead of {required} (RFC 6298, 5.5)");
+        let what = &format_args!("{again} without back-off: {waits}");
+        found.add_lines(lines, self.who, "retransmits", what)
     }
 }

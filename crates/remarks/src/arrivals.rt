@@ -3,10 +3,11 @@
 use crate::again::Permit;
 use crate::found::Done;
 use crate::notes::position_key;
-use crate::review::{Rest, Review, endpoint_at, endpoint_of};
+use crate::review::{Review, endpoint_at, endpoint_of};
 use crate::words::{Stretch, Who};
-use case_forms::{Flags, Host, Label, NamedLine, OutOfMemory, TakeChoice};
+use case_forms::{Flags, Host, Step, TakeChoice};
 use endpoint_state::World;
+use replayed::{Replay, ReplayFault};
 use spec_tcp::{Arrived, Emission, Endpoint, EndpointId};
 use std::fmt;
 
@@ -41,20 +42,16 @@ impl<'w> Arrival<'w> {
         })
     }
 
-    // What is left to do after it is processed.
-    fn rest(&self) -> Rest {
-        let was_shut = match self.receiver {
-            Some((_, endpoint)) => endpoint.timers.persist_armed.is_some(),
-            None => false,
-        };
-        Rest::Reached {
-            host: self.host,
-            lport: self.segment.rport,
-            rport: self.segment.lport,
-            line: self.line,
-            was_shut,
-        }
+    // Whether the endpoint's persist timer is armed.
+    fn is_shut(&self) -> bool {
+        self.receiver
+            .is_some_and(|(_, endpoint)| endpoint.timers.persist_armed.is_some())
     }
+}
+
+// Whether the peer offers a window to an endpoint.
+fn is_open(endpoint: &Endpoint) -> bool {
+    !endpoint.state.is_closed() && endpoint.window.snd_wnd != 0
 }
 
 // The bytes of a segment, and the position of its FIN.
@@ -71,7 +68,7 @@ impl Carried {
         let end = first.saturating_add(segment.payload.len() as u64);
         Carried {
             bytes: Stretch::up_to(first, end),
-            fin: if segment.flags.fin { Some(end) } else { None },
+            fin: segment.flags.fin.then_some(end),
         }
     }
 
@@ -126,64 +123,62 @@ impl fmt::Display for Acceptable {
 }
 
 impl Review<'_> {
-    /// A host processes, drops or answers a segment.
-    pub(crate) fn hear(
+    /// A host processes the segment of a line, and keeps what it carries or not.
+    pub(crate) fn process(
         &mut self,
-        world: &World,
-        label: &Label<NamedLine>,
-        arrival: &Arrival<'_>,
-    ) -> Result<Rest, OutOfMemory> {
-        self.arrive(arrival)?;
-        match label {
-            Label::T { choice, .. } => {
-                self.keep(arrival, choice.keep)?;
-                return Ok(arrival.rest());
+        replay: &mut Replay<'_>,
+        step: &Step,
+        (host, line): (Host, u64),
+        keeps: bool,
+    ) -> Result<(), ReplayFault> {
+        let Some(arrival) = Arrival::of(replay.world(), host, line) else {
+            return Ok(());
+        };
+        self.arrive(&arrival)?;
+        self.keep(&arrival, keeps)?;
+        let (lport, rport) = (arrival.segment.rport, arrival.segment.lport);
+        let was_shut = arrival.is_shut();
+        replay.apply(step)?;
+        let world = replay.world();
+        if let Some(id) = endpoint_of(world, host, lport, rport) {
+            if was_shut && endpoint_at(world, id).is_some_and(is_open) {
+                self.note(id)?.permits.add(Permit::Opening(line));
             }
-            Label::K { .. } => self.drop_arrival(world, arrival)?,
-            _ => {}
-        }
-        Ok(Rest::Nothing)
-    }
-
-    /// An endpoint was opened, or processed a segment.
-    pub(crate) fn reached(
-        &mut self,
-        world: &World,
-        id: EndpointId,
-        line: u64,
-        was_shut: bool,
-    ) -> Done {
-        let is_open = endpoint_at(world, id).is_some_and(|endpoint| {
-            !endpoint.state.is_closed() && endpoint.window.snd_wnd != 0
-        });
-        if was_shut && is_open {
-            self.note_mut(id)?.permits.add(Permit::Opening(line));
-        }
-        self.touch(world, id, line)
-    }
-
-    // Remembers that a segment arrived.
-    fn arrive(&mut self, arrival: &Arrival<'_>) -> Done {
-        let Arrival { host, line, .. } = *arrival;
-        let ports = (host as u8, arrival.segment.rport, arrival.segment.lport);
-        if arrival.segment.flags.rst {
-            self.resets.insert(ports, line)?;
-        } else {
-            self.resets.remove(&ports);
-        }
-        if let Some((id, _)) = arrival.receiver {
-            self.note_mut(id)?.heard = true;
+            self.touch(world, id, line)?;
         }
         Ok(())
     }
 
-    // A host drops a segment.
-    fn drop_arrival(&mut self, world: &World, arrival: &Arrival<'_>) -> Done {
-        let Arrival { host, line, .. } = *arrival;
+    /// Remembers that a segment arrived.
+    pub(crate) fn arrive(&mut self, arrival: &Arrival<'_>) -> Done {
+        let Arrival {
+            host,
+            line,
+            segment,
+            receiver,
+        } = *arrival;
+        let ports = (host as u8, segment.rport, segment.lport);
+        if segment.flags.rst {
+            self.resets.insert(ports, line)?;
+        } else {
+            self.resets.remove(&ports);
+        }
+        if let Some((id, _)) = receiver {
+            self.note(id)?.heard = true;
+        }
+        Ok(())
+    }
+
+    /// A host drops the segment of a line.
+    pub(crate) fn drop_arrival(&mut self, world: &World, host: Host, line: u64) -> Done {
+        let Some(arrival) = Arrival::of(world, host, line) else {
+            return Ok(());
+        };
+        self.arrive(&arrival)?;
         if world.admits_taking(host, self.moment, line, LEAST).is_err() {
             return Ok(());
         }
-        match self.met(world, arrival) {
+        match self.met(world, &arrival) {
             Some((who, what)) => self.found.add(line, who, "drops", &what),
             None => Ok(()),
         }
@@ -255,27 +250,24 @@ impl Review<'_> {
 
     // Remarks on bytes that an endpoint keeps beyond the windows that lines show.
     fn keep_beyond(&mut self, id: EndpointId, line: u64, who: Who, fresh: Carried) -> Done {
-        let edge = self.note(id).edge;
-        let Some(bytes) = fresh.bytes.and_then(|bytes| bytes.within(edge, u64::MAX)) else {
-            return Ok(());
-        };
-        let last = edge.saturating_sub(1);
-        let but = "but the segments it sent advertise only up to";
-        let what = &format_args!("{bytes}, {but} {last}");
-        self.found.add(line, who, "keeps", what)
+        let edge = self.note(id)?.edge;
+        if let Some(bytes) = fresh.bytes.and_then(|bytes| bytes.within(edge, u64::MAX)) {
+            let but = "but the segments it sent advertise only up to";
+            let what = &format_args!("{bytes}, {but} {}", edge.saturating_sub(1));
+            self.found.add(line, who, "keeps", what)?;
+        }
+        Ok(())
     }
 
     // Remembers what is kept beyond a gap, before which an endpoint expects this position.
     fn hold(&mut self, id: EndpointId, fresh: Carried, next: u64) -> Done {
-        if let Some(Stretch { first, end }) = fresh.bytes {
-            if next < first {
-                let end = end.max(self.held_up_to(id, first));
-                self.held.insert(position_key(id, first), end)?;
-            }
+        if let Some(bytes) = fresh.bytes.filter(|bytes| next < bytes.first) {
+            let held = self.held.entry(position_key(id, bytes.first))?.or_default();
+            *held = bytes.end.max(*held);
         }
         if let Some(fin) = fresh.fin {
-            let end = fin.saturating_add(1);
-            self.held.insert(position_key(id, fin), end)?;
+            self.held
+                .insert(position_key(id, fin), fin.saturating_add(1))?;
         }
         Ok(())
     }
@@ -287,11 +279,10 @@ impl Review<'_> {
     }
 
     // What of this isn't kept beyond a gap.
-    fn not_held(&self, id: EndpointId, fresh: Carried) -> Carried {
-        let bytes = fresh.bytes;
+    fn not_held(&self, id: EndpointId, Carried { bytes, fin }: Carried) -> Carried {
         Carried {
             bytes: bytes.filter(|bytes| self.held_up_to(id, bytes.first) < bytes.end),
-            fin: fresh.fin.filter(|fin| self.held_up_to(id, *fin) <= *fin),
+            fin: fin.filter(|fin| self.held_up_to(id, *fin) <= *fin),
         }
     }
 }

@@ -19,8 +19,6 @@
 
 mod again;
 mod arrivals;
-mod calls;
-mod clocks;
 mod ends;
 mod found;
 mod notes;

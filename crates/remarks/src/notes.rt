@@ -1,26 +1,11 @@
 //! What is remembered of an endpoint.
 
 use crate::again::{Chain, Permits};
-use crate::clocks::{Clock, Stall, persist_clock, rto_clock, stall_of};
-use case_forms::Host;
+use crate::waits::{Clock, Stall, persist_clock, rto_clock, stall_of};
 use spec_tcp::{Endpoint, EndpointId};
 
-/// An endpoint, by its host and its place there.
-pub(crate) type EndpointKey = (u8, u32);
-
-/// A position of an endpoint.
+/// A position of an endpoint, which is named by its host and its place there.
 pub(crate) type PositionKey = (u8, u32, u64);
-
-/// The key of an endpoint.
-pub(crate) fn key_of(id: EndpointId) -> EndpointKey {
-    (id.host as u8, id.number)
-}
-
-/// The endpoint with a key.
-pub(crate) fn id_of((host, number): EndpointKey) -> EndpointId {
-    let host = if host == 0 { Host::Zero } else { Host::One };
-    EndpointId { host, number }
-}
 
 /// The key of a position of an endpoint.
 pub(crate) fn position_key(id: EndpointId, position: u64) -> PositionKey {

@@ -3,12 +3,12 @@
 use crate::again::{Again, Permit};
 use crate::arrivals::Arrival;
 use crate::found::{Done, Found};
-use crate::notes::{EndpointKey, Note, PositionKey, key_of};
+use crate::notes::{Note, PositionKey};
 use crate::sendings::Sending;
-use case_forms::{Event, Extras, Host, Label, NamedLine, OutOfMemory, Recovery, Step};
+use case_forms::{Call, Event, Extras, Host, Label, NamedLine, OutOfMemory, Step};
 use endpoint_state::World;
-use replayed::{Case, Replay, ReplayFault};
-use spec_tcp::{Endpoint, EndpointId};
+use replayed::{Case, Replay, ReplayFault, socket_of};
+use spec_tcp::{Endpoint, EndpointId, SocketTarget};
 use std::alloc::Global;
 use std::collections::{BTreeMap, BTreeSet};
 
@@ -48,7 +48,8 @@ pub(crate) struct Review<'c> {
     /// The moment of the last step.
     pub moment: u64,
     pub found: Found,
-    pub notes: BTreeMap<EndpointKey, Note>,
+    /// By the host of an endpoint and its place there.
+    pub notes: BTreeMap<(u8, u32), Note>,
     /// The segments that were made, by their numbers, and the numbers of those that lines show.
     pub made: BTreeMap<u32, Sending>,
     pub shown: BTreeSet<u32>,
@@ -62,32 +63,8 @@ pub(crate) struct Review<'c> {
     pub resets: BTreeMap<(u8, u16, u16), u64>,
 }
 
-/// What is left to do after a step.
-#[derive(Clone, Copy)]
-pub(crate) enum Rest {
-    Nothing,
-    /// A line is used.
-    Line(NamedLine),
-    /// A segment is made.
-    Made(Sending),
-    /// A call has its effect on an endpoint, which it aborts or not.
-    Called {
-        id: EndpointId,
-        line: u64,
-        aborts: bool,
-    },
-    /// An endpoint with these ports is opened, or processes a segment; whether its window was closed.
-    Reached {
-        host: Host,
-        lport: u16,
-        rport: u16,
-        line: u64,
-        was_shut: bool,
-    },
-}
-
 impl Review<'_> {
-    // Replays the steps before the refused one, or all, if there is a verdict.
+    // Replays the steps before the refused one, or all.
     fn remarked(
         &mut self,
         alloc: Global,
@@ -95,7 +72,10 @@ impl Review<'_> {
     ) -> Result<Remarked, ReplayFault> {
         if self.case.verdict.is_ok() {
             self.read_shown()?;
-            self.run(replay)?;
+            for step in self.case.steps_before_refusal() {
+                self.moment = step.moment;
+                self.step(replay, step)?;
+            }
             self.finish(alloc, replay.world())?;
         }
         Ok(self.found.remarked(alloc)?)
@@ -111,59 +91,32 @@ impl Review<'_> {
         Ok(())
     }
 
-    fn run(&mut self, replay: &mut Replay<'_>) -> Result<(), ReplayFault> {
-        for step in self.case.steps_before_refusal() {
-            self.moment = step.moment;
-            let rest = self.before(replay.world(), &step.label)?;
-            replay.apply(step)?;
-            self.after(replay.world(), rest)?;
-        }
-        Ok(())
-    }
-
-    // Looks up and remembers what a step may change.
-    fn before(&mut self, world: &World, label: &Label<NamedLine>) -> Result<Rest, OutOfMemory> {
-        match label {
-            Label::L(named) => Ok(Rest::Line(*named)),
-            Label::D { thread, .. } => Ok(self.meant_by_call(world, *thread)),
-            Label::M { host, plan } => Ok(self.making(world, *host, plan)),
-            Label::T { host, line, .. } | Label::K { host, line } | Label::R { host, line } =>
-                match Arrival::of(world, *host, *line) {
-                    Some(arrival) => self.hear(world, label, &arrival),
-                    None => Ok(Rest::Nothing),
-                },
-            Label::F { host, recovery } => {
-                self.recover(world, *host, recovery)?;
-                Ok(Rest::Nothing)
+    fn step(&mut self, replay: &mut Replay<'_>, step: &Step) -> Result<(), ReplayFault> {
+        let world = replay.world();
+        match &step.label {
+            Label::D { thread, .. } => return self.effect(replay, step, *thread),
+            Label::T { host, line, choice } => {
+                return self.process(replay, step, (*host, *line), choice.keep);
             }
+            Label::M { host, plan } => self.make(world, *host, plan)?,
+            Label::K { host, line } => self.drop_arrival(world, *host, *line)?,
+            Label::R { host, line } => {
+                if let Some(arrival) = Arrival::of(world, *host, *line) {
+                    self.arrive(&arrival)?;
+                }
+            }
+            Label::F { host, recovery } => {
+                if let Some(id) = endpoint_of(world, *host, recovery.lport, recovery.rport) {
+                    self.note(id)?.permits.add(Permit::Recovery);
+                }
+            }
+            Label::L(_) => {}
         }
-    }
-
-    // An endpoint of a host enters fast recovery.
-    fn recover(&mut self, world: &World, host: Host, recovery: &Recovery) -> Done {
-        if let Some(id) = endpoint_of(world, host, recovery.lport, recovery.rport) {
-            self.note_mut(id)?.permits.add(Permit::Recovery);
+        replay.apply(step)?;
+        if let Label::L(named) = &step.label {
+            self.use_line(replay.world(), *named)?;
         }
         Ok(())
-    }
-
-    fn after(&mut self, world: &World, rest: Rest) -> Done {
-        match rest {
-            Rest::Nothing => Ok(()),
-            Rest::Line(named) => self.use_line(world, named),
-            Rest::Made(sending) => self.add_made(world.count(), sending),
-            Rest::Called { id, line, aborts } => self.called(world, id, line, aborts),
-            Rest::Reached {
-                host,
-                lport,
-                rport,
-                line,
-                was_shut,
-            } => match endpoint_of(world, host, lport, rport) {
-                Some(id) => self.reached(world, id, line, was_shut),
-                None => Ok(()),
-            },
-        }
     }
 
     fn use_line(&mut self, world: &World, named: NamedLine) -> Done {
@@ -173,31 +126,53 @@ impl Review<'_> {
         match (&line.event, named.extras) {
             (Event::CallBegin(_), _) => {
                 self.calls.insert(line.thread, line.number)?;
-                Ok(())
             }
             (Event::CallEnd(_), _) => {
                 self.calls.remove(&line.thread);
-                Ok(())
             }
-            (Event::Sent(..), Extras::One(made)) => self.send(world, made, line.number),
+            (Event::Sent(..), Extras::One(made)) => self.send(world, made, line.number)?,
             (Event::Expired(host, lport, rport, timer), _) => {
-                match endpoint_of(world, *host, *lport, *rport) {
-                    Some(id) => self.expire(world, id, *timer, line.number),
-                    None => Ok(()),
+                if let Some(id) = endpoint_of(world, *host, *lport, *rport) {
+                    self.note(id)?.expire(*timer, line.number);
+                    self.touch(world, id, line.number)?;
                 }
             }
-            (Event::Sent(..) | Event::Came(..), _) => Ok(()),
+            (Event::Sent(..) | Event::Came(..), _) => {}
         }
+        Ok(())
+    }
+
+    // A thread's call has its effect. It may end what its socket number names, so that is looked up before.
+    fn effect(
+        &mut self,
+        replay: &mut Replay<'_>,
+        step: &Step,
+        thread: u32,
+    ) -> Result<(), ReplayFault> {
+        let line = self.calls.get(&thread).copied().unwrap_or(0);
+        let call = call_in(self.case, line);
+        let socket = call.and_then(socket_of);
+        let named = socket.and_then(|socket| endpoint_named(replay.world(), socket));
+        replay.apply(step)?;
+        let world = replay.world();
+        let id = match call {
+            Some(Call::Connect(host, lport, rport)) => endpoint_of(world, *host, *lport, *rport),
+            _ => named,
+        };
+        if let Some(id) = id {
+            if let Some(Call::Abort(_)) = call {
+                let endpoint = endpoint_at(world, id);
+                self.note(id)?.aborted = endpoint.is_some_and(|it| it.state.is_closed());
+            }
+            self.touch(world, id, line)?;
+        }
+        Ok(())
     }
 
     /// What is remembered of an endpoint.
-    pub(crate) fn note(&self, id: EndpointId) -> Note {
-        self.notes.get(&key_of(id)).copied().unwrap_or_default()
-    }
-
-    /// What is remembered of an endpoint, to be changed.
-    pub(crate) fn note_mut(&mut self, id: EndpointId) -> Result<&mut Note, OutOfMemory> {
-        Ok(self.notes.entry(key_of(id))?.or_default())
+    pub(crate) fn note(&mut self, id: EndpointId) -> Result<&mut Note, OutOfMemory> {
+        let key = (id.host as u8, id.number);
+        Ok(self.notes.entry(key)?.or_default())
     }
 }
 
@@ -210,6 +185,26 @@ fn shown_by(case: &Case<'_>, step: &Step) -> Option<u32> {
     match (&line.event, named.extras) {
         (Event::Sent(..), Extras::One(number)) => Some(number),
         _ => None,
+    }
+}
+
+/// The call that begins in a line.
+pub(crate) fn call_in<'c>(case: &'c Case<'_>, line: u64) -> Option<&'c Call> {
+    match &case.line(line)?.event {
+        Event::CallBegin(call) => Some(call),
+        _ => None,
+    }
+}
+
+// The endpoint that a socket number names.
+fn endpoint_named(world: &World, socket: u32) -> Option<EndpointId> {
+    endpoint_named_at(world, Host::Zero, socket).or(endpoint_named_at(world, Host::One, socket))
+}
+
+fn endpoint_named_at(world: &World, host: Host, socket: u32) -> Option<EndpointId> {
+    match world.body(host).thing(socket)? {
+        SocketTarget::EndpointAt(number) => Some(EndpointId { host, number }),
+        SocketTarget::ListenerAt(_) => None,
     }
 }
 

@@ -3,7 +3,7 @@
 use crate::again::{Again, Chain, Count, Permit, Permits};
 use crate::found::{Done, Found};
 use crate::notes::{Note, position_key};
-use crate::review::{Rest, Review, endpoint_at, endpoint_of};
+use crate::review::{Review, endpoint_at, endpoint_of};
 use crate::waits::{Now, say_waits};
 use crate::words::Who;
 use case_forms::{Host, SegmentPlan, Timer};
@@ -18,11 +18,10 @@ pub(crate) struct Sending {
     /// The position of its number, and the position after it.
     position: u64,
     end: u64,
-    /// The position after the window that it advertises; 0 without ACK.
-    edge: u64,
     /// Its first position was made before.
     is_again: bool,
-    is_reset: bool,
+    /// Of a reset, the host and the ports that it is from.
+    reset: Option<(u8, u16, u16)>,
     /// The oldest position that was not acknowledged when it was made.
     una: u64,
     /// What allowed it to be sent again, and how many times anything did until then.
@@ -34,6 +33,38 @@ pub(crate) struct Sending {
 }
 
 impl Sending {
+    // The segment of a plan, before an endpoint makes it.
+    fn of(
+        id: EndpointId,
+        endpoint: &Endpoint,
+        plan: &SegmentPlan,
+        note: &Note,
+        grain: u64,
+    ) -> Sending {
+        let end = plan
+            .pos
+            .saturating_add(u64::from(plan.len))
+            .saturating_add(u64::from(plan.flags.syn))
+            .saturating_add(u64::from(plan.flags.fin));
+        let mut permits = note.permits;
+        if endpoint.recover <= plan.pos {
+            permits.last = Permit::Nothing;
+        }
+        let ports = (id.host as u8, plan.lport, plan.rport);
+        Sending {
+            id,
+            who: Who::of(id.host, endpoint),
+            position: plan.pos,
+            end,
+            is_again: plan.pos < end && plan.pos < endpoint.snd_max(),
+            reset: plan.flags.rst.then_some(ports),
+            una: endpoint.stream.snd_una,
+            permits,
+            answers: note.heard,
+            timeout: endpoint.timers.rto.saturating_sub(grain),
+        }
+    }
+
     // Whether the timer may have expired since a moment.
     fn is_late(&self, since: u64, moment: u64) -> bool {
         self.timeout <= moment.saturating_sub(since)
@@ -51,50 +82,23 @@ fn edge_of(endpoint: &Endpoint, plan: &SegmentPlan) -> u64 {
 }
 
 impl Review<'_> {
-    // The segment of a plan, before it is made. None: no endpoint makes it.
-    fn sending_of(&self, world: &World, host: Host, plan: &SegmentPlan) -> Option<Sending> {
-        let id = endpoint_of(world, host, plan.lport, plan.rport)?;
-        let endpoint = endpoint_at(world, id)?;
-        let note = self.note(id);
-        let end = plan
-            .pos
-            .saturating_add(u64::from(plan.len))
-            .saturating_add(u64::from(plan.flags.syn))
-            .saturating_add(u64::from(plan.flags.fin));
-        let mut permits = note.permits;
-        if endpoint.recover <= plan.pos {
-            permits.last = Permit::Nothing;
-        }
-        Some(Sending {
-            id,
-            who: Who::of(host, endpoint),
-            position: plan.pos,
-            end,
-            edge: edge_of(endpoint, plan),
-            is_again: plan.pos < end && plan.pos < endpoint.snd_max(),
-            is_reset: plan.flags.rst,
-            una: endpoint.stream.snd_una,
-            permits,
-            answers: note.heard,
-            timeout: (endpoint.timers.rto).saturating_sub(self.case.trace.header.grain),
-        })
-    }
-
     /// A host makes a segment.
-    pub(crate) fn making(&self, world: &World, host: Host, plan: &SegmentPlan) -> Rest {
-        match self.sending_of(world, host, plan) {
-            Some(sending) => Rest::Made(sending),
-            None => Rest::Nothing,
+    pub(crate) fn make(&mut self, world: &World, host: Host, plan: &SegmentPlan) -> Done {
+        let Some(id) = endpoint_of(world, host, plan.lport, plan.rport) else {
+            return Ok(());
+        };
+        let Some(endpoint) = endpoint_at(world, id) else {
+            return Ok(());
+        };
+        let number = world.count().saturating_add(1);
+        let is_shown = self.shown.contains(&number);
+        let grain = self.case.trace.header.grain;
+        let note = self.note(id)?;
+        if is_shown {
+            note.edge = note.edge.max(edge_of(endpoint, plan));
         }
-    }
-
-    /// Remembers the last segment that was made.
-    pub(crate) fn add_made(&mut self, number: u32, sending: Sending) -> Done {
+        let sending = Sending::of(id, endpoint, plan, note, grain);
         self.made.insert(number, sending)?;
-        if self.shown.contains(&number) {
-            let note = self.note_mut(sending.id)?;
-            note.edge = note.edge.max(sending.edge);
-        }
         Ok(())
     }
 
@@ -105,7 +109,7 @@ impl Review<'_> {
         };
         let (who, moment) = (sending.who, self.moment);
         let now = Now { line, moment, who };
-        let mut note = self.note(sending.id);
+        let mut note = *self.note(sending.id)?;
         if sending.position < sending.end {
             say_waits(&mut self.found, now, &note)?;
             note.sent_end = note.sent_end.max(sending.end);
@@ -118,25 +122,12 @@ impl Review<'_> {
             let grain = self.case.trace.header.grain;
             note.follow_chain(&mut self.found, &sending, now, grain)?;
         }
-        if sending.is_reset {
-            self.say_reset(who, line)?;
+        if let Some(reset) = sending.reset.and_then(|ports| self.resets.get(&ports)) {
+            let does = "sends a reset after the reset of line";
+            self.found.add(line, who, does, reset)?;
         }
-        *self.note_mut(sending.id)? = note;
+        *self.note(sending.id)? = note;
         self.touch(world, sending.id, line)
-    }
-
-    // An endpoint sends a reset.
-    fn say_reset(&mut self, who: Who, line: u64) -> Done {
-        let Who::Endpoint { host, lport, rport } = who else {
-            return Ok(());
-        };
-        match self.resets.get(&(host as u8, lport, rport)) {
-            Some(reset) => {
-                let does = "sends a reset after the reset of line";
-                self.found.add(line, who, does, reset)
-            }
-            None => Ok(()),
-        }
     }
 
     // Counts the retransmissions from a position. A SYN may be sent again for each one that arrives. After a whole
@@ -154,9 +145,8 @@ impl Review<'_> {
         };
         let key = position_key(sending.id, sending.position);
         let again = self.again.entry(key)?.or_insert(first);
-        if again.permits.count != sending.permits.count
-            || sending.is_late(again.moment, self.moment)
-        {
+        let is_late = sending.is_late(again.moment, self.moment);
+        if again.permits.count != sending.permits.count || is_late {
             again.say(&mut self.found)?;
             *again = first;
         }
@@ -164,23 +154,11 @@ impl Review<'_> {
         again.count.add(line);
         Ok(())
     }
-
-    /// A timer of an endpoint expires with a line.
-    pub(crate) fn expire(
-        &mut self,
-        world: &World,
-        id: EndpointId,
-        timer: Timer,
-        line: u64,
-    ) -> Done {
-        self.note_mut(id)?.expire(timer, line);
-        self.touch(world, id, line)
-    }
 }
 
 impl Note {
-    // A timer expires with a line.
-    fn expire(&mut self, timer: Timer, line: u64) {
+    /// A timer expires with a line.
+    pub(crate) fn expire(&mut self, timer: Timer, line: u64) {
         match timer {
             Timer::Rto => {
                 let since = self.rto.map_or(0, |clock| clock.since);

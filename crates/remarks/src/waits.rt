@@ -1,15 +1,155 @@
-//! Timers that are past their time, and open windows, with nothing sent.
+//! An endpoint's timers, and its waits with nothing sent: timers that are past their time, and open windows. Times and
+//! moments are microseconds.
 
-use crate::clocks::{Clock, Stall};
 use crate::found::{Done, Found};
 use crate::notes::Note;
 use crate::review::{Review, endpoint_at};
 use crate::words::{Time, Who};
+use case_forms::{State, Timer};
 use endpoint_state::World;
-use spec_tcp::EndpointId;
+use line_fields::timer_name;
+use spec_tcp::{Endpoint, EndpointId};
+use std::fmt;
+
+// No stack needs to expire earlier than after a second (RFC 6298, 2.4).
+const SHORTEST: u64 = 1_000_000;
+
+// Before the first sample of a round trip, a stack may still have a timeout of 3 seconds (RFC 6298, 2.1).
+const FIRST: u64 = 3_000_000;
+
+// No back-off has to go beyond a minute (RFC 6298, 2.5).
+const LONGEST: u64 = 60_000_000;
 
 // Data waits at most a second for a fuller segment (RFC 9293, 3.8.6.2.1).
 const OVERRIDE: u64 = 1_000_000;
+
+/// A timer that is armed.
+#[derive(Clone, Copy)]
+pub(crate) struct Clock {
+    pub timer: Timer,
+    /// Since when it is armed.
+    pub armed: u64,
+    /// Since when it runs with something to send.
+    pub since: u64,
+    /// After how long it is due.
+    pub time: u64,
+}
+
+impl fmt::Display for Clock {
+    fn fmt<W: fmt::Write>(&self, f: &mut fmt::Formatter<W>) -> fmt::Result {
+        let timer = timer_name(self.timer);
+        write!(f, "its {timer} timer ({})", Time(self.time))
+    }
+}
+
+/// The retransmission timer after so many expiries, of which the last `unseen` are in no line. None: it is off, or the
+/// window is 0, so that the persist timer counts.
+pub(crate) fn rto_clock(endpoint: &Endpoint, unseen: u32, expiries: u32) -> Option<Clock> {
+    let timers = &endpoint.timers;
+    if timers.persist_armed.is_some() {
+        return None;
+    }
+    let armed = timers.rto_armed?;
+    let time = backed_off(timers.rto, unseen);
+    Some(Clock {
+        timer: Timer::Rto,
+        armed,
+        since: armed,
+        time: match timers.srtt {
+            Some(_) => time,
+            None => time.max(backed_off(FIRST, expiries)),
+        },
+    })
+}
+
+/// The persist timer after so many probes; `before` is what it was. None: it is off, or there is nothing to probe for.
+pub(crate) fn persist_clock(
+    endpoint: &Endpoint,
+    before: Option<Clock>,
+    probes: u32,
+    moment: u64,
+) -> Option<Clock> {
+    let armed = endpoint.timers.persist_armed?;
+    if endpoint.flight() == 0 && waiting_bytes(endpoint) == 0 {
+        return None;
+    }
+    Some(Clock {
+        timer: Timer::Persist,
+        armed,
+        since: match before {
+            Some(clock) if clock.armed == armed => clock.since,
+            _ => moment,
+        },
+        time: backed_off(endpoint.timers.rto, probes),
+    })
+}
+
+// A timeout that doubled so many times (RFC 6298, 5.5; RFC 9293, 3.8.6.1), within its limits.
+fn backed_off(rto: u64, times: u32) -> u64 {
+    let doubled = match 1_u64.checked_shl(times) {
+        Some(factor) => rto.saturating_mul(factor),
+        None => LONGEST,
+    };
+    doubled.clamp(SHORTEST, LONGEST)
+}
+
+// How many bytes a send accepted and no segment carries yet.
+fn waiting_bytes(endpoint: &Endpoint) -> u64 {
+    let end = endpoint.stream.accepted.end();
+    end.saturating_sub(endpoint.snd_max().max(1))
+}
+
+/// Bytes wait although the window is open and nothing is in flight.
+#[derive(Clone, Copy)]
+pub(crate) struct Stall {
+    pub since: u64,
+    pub bytes: u64,
+    /// The window that the peer offers.
+    pub room: u64,
+}
+
+impl fmt::Display for Stall {
+    fn fmt<W: fmt::Write>(&self, f: &mut fmt::Formatter<W>) -> fmt::Result {
+        match self.bytes {
+            1 => write!(f, "1 byte waits")?,
+            bytes => write!(f, "{bytes} bytes wait")?,
+        }
+        write!(f, ", the window is {}", self.room)
+    }
+}
+
+/// The stall of an endpoint; `before` is the one that lasted until now.
+pub(crate) fn stall_of(endpoint: &Endpoint, before: Option<Stall>, moment: u64) -> Option<Stall> {
+    let bytes = waiting_bytes(endpoint);
+    let room = u64::from(endpoint.window.snd_wnd);
+    if !may_send(endpoint.state) || endpoint.flight() != 0 || bytes == 0 || room == 0 {
+        return None;
+    }
+    let since = before.map_or(moment, |stall| stall.since);
+    Some(Stall { since, bytes, room })
+}
+
+// Whether bytes may be sent in a state.
+fn may_send(state: State) -> bool {
+    use State::{CloseWait, Closing, Established, FinWait1, LastAck};
+    matches!(
+        state,
+        Established | FinWait1 | CloseWait | Closing | LastAck
+    )
+}
+
+/// The wait that back-off requires after one of `before` (RFC 6298, 5.5). A minute is always enough.
+pub(crate) fn required_wait(before: u64) -> u64 {
+    before.saturating_mul(2).min(LONGEST)
+}
+
+/// Whether a wait before a retransmission is too short after one of `before`. An eighth of what is required and a
+/// clock's granularity are left to late timers.
+pub(crate) fn is_short(wait: u64, before: u64, grain: u64) -> bool {
+    let doubled = before.saturating_mul(2);
+    let least = (doubled - doubled / 8).saturating_sub(grain);
+    wait < least.min(LONGEST)
+}
 
 /// Up to when nothing was sent: a line, a moment, and by whom.
 #[derive(Clone, Copy)]
@@ -27,7 +167,7 @@ impl Review<'_> {
             return Ok(());
         };
         let who = Who::of(id.host, endpoint);
-        let note = self.note_mut(id)?;
+        let note = self.note(id)?;
         let before = *note;
         note.see(endpoint, moment);
         let after = *note;

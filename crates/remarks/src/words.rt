@@ -46,11 +46,7 @@ pub(crate) struct Stretch {
 impl Stretch {
     /// The bytes from one position up to another, which is none of them. None: there are none.
     pub(crate) fn up_to(first: u64, end: u64) -> Option<Stretch> {
-        if first < end {
-            Some(Stretch { first, end })
-        } else {
-            None
-        }
+        (first < end).then_some(Stretch { first, end })
     }
 
     /// Those of the bytes that are in this range. None: there are none.
@@ -98,29 +94,22 @@ pub(crate) struct Time(pub u64);
 
 impl fmt::Display for Time {
     fn fmt<W: fmt::Write>(&self, f: &mut fmt::Formatter<W>) -> fmt::Result {
-        match self.0 {
-            0..=999 => write!(f, "{} us", self.0),
-            1_000..=999_999 => write!(f, "{} ms", Thousandths(self.0)),
-            time => write!(f, "{} s", Thousandths(time / 1_000)),
+        let (thousandths, unit) = match self.0 {
+            0..=999 => return write!(f, "{} us", self.0),
+            1_000..=999_999 => (self.0, "ms"),
+            time => (time / 1_000, "s"),
+        };
+        write!(f, "{}", thousandths / 1_000)?;
+        match (
+            thousandths / 100 % 10,
+            thousandths / 10 % 10,
+            thousandths % 10,
+        ) {
+            (0, 0, 0) => {}
+            (a, 0, 0) => write!(f, ".{a}")?,
+            (a, b, 0) => write!(f, ".{a}{b}")?,
+            (a, b, c) => write!(f, ".{a}{b}{c}")?,
         }
-    }
-}
-
-// So many thousandths as a decimal number, with no zero at its end.
-#[derive(Clone, Copy)]
-struct Thousandths(u64);
-
-impl fmt::Display for Thousandths {
-    fn fmt<W: fmt::Write>(&self, f: &mut fmt::Formatter<W>) -> fmt::Result {
-        let (whole, rest) = (self.0 / 1_000, self.0 % 1_000);
-        if rest == 0 {
-            write!(f, "{whole}")
-        } else if rest % 100 == 0 {
-            write!(f, "{whole}.{}", rest / 100)
-        } else if rest % 10 == 0 {
-            write!(f, "{whole}.{:02}", rest / 10)
-        } else {
-            write!(f, "{whole}.{rest:03}")
-        }
+        write!(f, " {unit}")
     }
 }
