@@ -1,11 +1,9 @@
 //! What arrives: dropped although it may be processed, or processed and not kept.
 
-use crate::again::Permit;
-use crate::found::Done;
-use crate::notes::position_key;
-use crate::review::{Review, endpoint_at, endpoint_of};
-use crate::words::{Stretch, Who};
-use case_forms::{Flags, Host, Step, TakeChoice};
+use crate::found::{Done, Stretch, Who};
+use crate::notes::{Permit, position_key};
+use crate::review::{Review, endpoint_of};
+use case_forms::{Flags, Host, OutOfMemory, Step, TakeChoice};
 use endpoint_state::World;
 use replayed::{Replay, ReplayFault};
 use spec_tcp::{Arrived, Emission, Endpoint, EndpointId};
@@ -21,37 +19,12 @@ const LEAST: TakeChoice = TakeChoice {
 /// A segment that waits in the inbox of a host, and the endpoint that it is for.
 #[derive(Clone, Copy)]
 pub(crate) struct Arrival<'w> {
-    pub host: Host,
+    host: Host,
     /// The line with which it arrived.
-    pub line: u64,
-    pub segment: &'w Emission,
+    line: u64,
+    segment: &'w Emission,
     /// None: there was never an endpoint with its ports.
-    pub receiver: Option<(EndpointId, &'w Endpoint)>,
-}
-
-impl<'w> Arrival<'w> {
-    /// The segment of a line. None: none waits.
-    pub(crate) fn of(world: &'w World, host: Host, line: u64) -> Option<Arrival<'w>> {
-        let segment = world.waiting(host, line)?;
-        let id = endpoint_of(world, host, segment.rport, segment.lport);
-        Some(Arrival {
-            host,
-            line,
-            segment,
-            receiver: id.and_then(|id| Some((id, endpoint_at(world, id)?))),
-        })
-    }
-
-    // Whether the endpoint's persist timer is armed.
-    fn is_shut(&self) -> bool {
-        self.receiver
-            .is_some_and(|(_, endpoint)| endpoint.timers.persist_armed.is_some())
-    }
-}
-
-// Whether the peer offers a window to an endpoint.
-fn is_open(endpoint: &Endpoint) -> bool {
-    !endpoint.state.is_closed() && endpoint.window.snd_wnd != 0
+    receiver: Option<(EndpointId, &'w Endpoint)>,
 }
 
 // The bytes of a segment, and the position of its FIN.
@@ -131,17 +104,19 @@ impl Review<'_> {
         (host, line): (Host, u64),
         keeps: bool,
     ) -> Result<(), ReplayFault> {
-        let Some(arrival) = Arrival::of(replay.world(), host, line) else {
+        let Some(arrival) = self.arrive(replay.world(), host, line)? else {
             return Ok(());
         };
-        self.arrive(&arrival)?;
         self.keep(&arrival, keeps)?;
         let (lport, rport) = (arrival.segment.rport, arrival.segment.lport);
-        let was_shut = arrival.is_shut();
+        let was_shut = arrival
+            .receiver
+            .is_some_and(|(_, endpoint)| endpoint.timers.persist_armed.is_some());
         replay.apply(step)?;
         let world = replay.world();
-        if let Some(id) = endpoint_of(world, host, lport, rport) {
-            if was_shut && endpoint_at(world, id).is_some_and(is_open) {
+        if let Some((id, endpoint)) = endpoint_of(world, host, lport, rport) {
+            let is_open = !endpoint.state.is_closed() && endpoint.window.snd_wnd != 0;
+            if was_shut && is_open {
                 self.note(id)?.permits.add(Permit::Opening(line));
             }
             self.touch(world, id, line)?;
@@ -149,51 +124,51 @@ impl Review<'_> {
         Ok(())
     }
 
-    /// Remembers that a segment arrived.
-    pub(crate) fn arrive(&mut self, arrival: &Arrival<'_>) -> Done {
-        let Arrival {
+    /// Remembers that the segment of a line arrived. None: no segment waits with this line.
+    pub(crate) fn arrive<'w>(
+        &mut self,
+        world: &'w World,
+        host: Host,
+        line: u64,
+    ) -> Result<Option<Arrival<'w>>, OutOfMemory> {
+        let Some(segment) = world.waiting(host, line) else {
+            return Ok(None);
+        };
+        let (lport, rport) = (segment.rport, segment.lport);
+        if segment.flags.rst {
+            self.resets.insert((host as u8, lport, rport), line)?;
+        } else {
+            self.resets.remove(&(host as u8, lport, rport));
+        }
+        let receiver = endpoint_of(world, host, lport, rport);
+        if let Some((id, _)) = receiver {
+            self.note(id)?.heard = true;
+        }
+        Ok(Some(Arrival {
             host,
             line,
             segment,
             receiver,
-        } = *arrival;
-        let ports = (host as u8, segment.rport, segment.lport);
-        if segment.flags.rst {
-            self.resets.insert(ports, line)?;
-        } else {
-            self.resets.remove(&ports);
-        }
-        if let Some((id, _)) = receiver {
-            self.note(id)?.heard = true;
-        }
-        Ok(())
+        }))
     }
 
-    /// A host drops the segment of a line.
-    pub(crate) fn drop_arrival(&mut self, world: &World, host: Host, line: u64) -> Done {
-        let Some(arrival) = Arrival::of(world, host, line) else {
-            return Ok(());
-        };
-        self.arrive(&arrival)?;
-        if world.admits_taking(host, self.moment, line, LEAST).is_err() {
-            return Ok(());
-        }
-        match self.met(world, &arrival) {
-            Some((who, what)) => self.found.add(line, who, "drops", &what),
+    /// A host drops a segment.
+    pub(crate) fn drop_arrival(&mut self, world: &World, arrival: &Arrival<'_>) -> Done {
+        match self.met(world, arrival) {
+            Some((who, what)) => self.found.add(arrival.line, who, "drops", &what),
             None => Ok(()),
         }
     }
 
-    // Who drops a segment. None: nobody is to process it, or a full queue is a reason to drop it.
+    // Who drops what. None: nobody is to process it, or a full queue is a reason to drop it.
     fn met(&self, world: &World, arrival: &Arrival<'_>) -> Option<(Who, Acceptable)> {
         let Arrival { host, segment, .. } = *arrival;
+        let admitted = world.admits_taking(host, self.moment, arrival.line, LEAST);
+        admitted.ok()?;
+        let version = self.case.trace.header.version;
         let (who, position, ack) = match arrival.receiver {
             Some((_, endpoint)) if !endpoint.state.is_closed() => {
-                let read = Arrived::checked_read(
-                    self.case.trace.header.version,
-                    endpoint,
-                    segment,
-                )?;
+                let read = Arrived::checked_read(version, endpoint, segment)?;
                 (Who::of(host, endpoint), read.pos(), read.ack())
             }
             _ => (self.listener_with_room(world, host, segment.rport)?, 0, 0),
@@ -211,24 +186,18 @@ impl Review<'_> {
         let body = world.body(host);
         let listener = body.listener_at(body.listener_on(port)?)?;
         let extra = u64::from(self.case.trace.header.extra);
-        if u64::from(listener.backlog).saturating_add(extra) <= listener.queue.len() as u64 {
-            return None;
-        }
-        Some(Who::Listener { host, port })
+        let room = u64::from(listener.backlog).saturating_add(extra);
+        ((listener.queue.len() as u64) < room).then_some(Who::Listener { host, port })
     }
 
     // Remarks on what an endpoint doesn't keep, and remembers what it keeps beyond a gap.
     fn keep(&mut self, arrival: &Arrival<'_>, keeps: bool) -> Done {
-        let Some((id, endpoint)) = arrival.receiver else {
-            return Ok(());
-        };
-        let Some(fresh) = self.fresh(endpoint, arrival.segment) else {
+        let Some((id, endpoint, fresh)) = self.fresh(arrival) else {
             return Ok(());
         };
         let who = Who::of(id.host, endpoint);
         if keeps {
-            self.keep_beyond(id, arrival.line, who, fresh)?;
-            return self.hold(id, fresh, endpoint.rcv_nxt());
+            return self.hold(id, arrival.line, who, fresh, endpoint.rcv_nxt());
         }
         let lost = self.not_held(id, fresh);
         if lost.bytes.is_none() && lost.fin.is_none() {
@@ -238,29 +207,27 @@ impl Review<'_> {
         self.found.add(arrival.line, who, does, &lost)
     }
 
-    // What a segment would bring to an endpoint. None: it may keep nothing.
-    fn fresh(&self, endpoint: &Endpoint, segment: &Emission) -> Option<Carried> {
+    // What a segment would bring to its endpoint. None: it may keep nothing.
+    fn fresh<'w>(&self, arrival: &Arrival<'w>) -> Option<(EndpointId, &'w Endpoint, Carried)> {
+        let (segment, (id, endpoint)) = (arrival.segment, arrival.receiver?);
         let may_keep = !endpoint.state.is_closed() && !endpoint.state.is_syn_sent();
         if !may_keep || endpoint.stream.receive.is_ended() || segment.flags.rst {
             return None;
         }
         let read = Arrived::checked_read(self.case.trace.header.version, endpoint, segment)?;
-        Some(Carried::of(segment, read.pos()).fresh(endpoint))
+        let fresh = Carried::of(segment, read.pos()).fresh(endpoint);
+        Some((id, endpoint, fresh))
     }
 
-    // Remarks on bytes that an endpoint keeps beyond the windows that lines show.
-    fn keep_beyond(&mut self, id: EndpointId, line: u64, who: Who, fresh: Carried) -> Done {
+    // Remarks on bytes that an endpoint keeps beyond the windows that lines show, and remembers what it keeps beyond a
+    // gap, before which it expects the position `next`.
+    fn hold(&mut self, id: EndpointId, line: u64, who: Who, fresh: Carried, next: u64) -> Done {
         let edge = self.note(id)?.edge;
         if let Some(bytes) = fresh.bytes.and_then(|bytes| bytes.within(edge, u64::MAX)) {
             let but = "but the segments it sent advertise only up to";
             let what = &format_args!("{bytes}, {but} {}", edge.saturating_sub(1));
             self.found.add(line, who, "keeps", what)?;
         }
-        Ok(())
-    }
-
-    // Remembers what is kept beyond a gap, before which an endpoint expects this position.
-    fn hold(&mut self, id: EndpointId, fresh: Carried, next: u64) -> Done {
         if let Some(bytes) = fresh.bytes.filter(|bytes| next < bytes.first) {
             let held = self.held.entry(position_key(id, bytes.first))?.or_default();
             *held = bytes.end.max(*held);

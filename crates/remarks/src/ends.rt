@@ -1,14 +1,13 @@
 //! What is left at the end of a case.
 
-use crate::found::{AT_THE_END, Done, Found};
+use crate::found::{AT_THE_END, Done, Found, Stretch, Who};
 use crate::notes::Note;
-use crate::review::{Review, call_in, endpoint_at};
-use crate::waits::{Now, say_stall, say_waits};
-use crate::words::{Stretch, Who};
+use crate::review::{Review, call_in};
+use crate::waits::{Now, say_late, say_stall};
 use case_forms::Host;
 use endpoint_state::World;
 use plain_words::CallWords;
-use spec_tcp::{Endpoint, EndpointId, Fault};
+use spec_tcp::{Endpoint, Fault};
 use std::alloc::Global;
 use verdict::Verdict;
 
@@ -19,7 +18,9 @@ impl Review<'_> {
             again.say(&mut self.found)?;
         }
         for note in self.notes.values() {
-            note.say_chain(&mut self.found)?;
+            if let Some(chain) = note.chain {
+                chain.say(&mut self.found)?;
+            }
         }
         if let Ok(Verdict::Yes { .. }) = self.case.verdict {
             self.say_left(alloc, world)?;
@@ -33,11 +34,7 @@ impl Review<'_> {
         let (line, moment) = (AT_THE_END, self.moment);
         for ((host, number), note) in self.notes.iter() {
             let host = if *host == 0 { Host::Zero } else { Host::One };
-            let id = EndpointId {
-                host,
-                number: *number,
-            };
-            if let Some(endpoint) = endpoint_at(world, id) {
+            if let Some(endpoint) = world.body(host).endpoint_at(*number) {
                 let who = Who::of(host, endpoint);
                 let now = Now { line, moment, who };
                 note.say_left(alloc, &mut self.found, now, endpoint)?;
@@ -48,9 +45,8 @@ impl Review<'_> {
 
     // Remarks on the calls that didn't end.
     fn say_calls(&mut self) -> Done {
-        for (thread, line) in self.calls.iter() {
-            if let Some(call) = call_in(self.case, *line) {
-                let (thread, line) = (*thread, *line);
+        for (&thread, &line) in self.calls.iter() {
+            if let Some(call) = call_in(self.case, line) {
                 let who = Who::Call { thread, line };
                 let call = &CallWords(call);
                 self.found.add(AT_THE_END, who, "never returned:", call)?;
@@ -66,23 +62,18 @@ impl Note {
         let is_closed = endpoint.state.is_closed();
         let has_ended = is_closed && !matches!(endpoint.fault, Some(Fault::Timeout));
         if !has_ended {
-            say_waits(found, now, self)?;
+            say_late(found, now, self)?;
             say_stall(found, now, self.stall)?;
             say_unsent(found, now.who, endpoint, self.sent_end)?;
         }
-        let has_failed = is_closed && !is_finished(endpoint);
+        let is_acknowledged = endpoint.stream.ended
+            && endpoint.stream.accepted.end() < endpoint.stream.snd_una;
+        let has_failed = is_closed && (endpoint.fault.is_some() || !is_acknowledged);
         if self.aborted || has_failed {
             return Ok(());
         }
         say_undelivered(alloc, found, now.who, endpoint)
     }
-}
-
-// Whether the connection didn't fail, and its FIN was acknowledged.
-fn is_finished(endpoint: &Endpoint) -> bool {
-    endpoint.fault.is_none()
-        && endpoint.stream.ended
-        && endpoint.stream.accepted.end() < endpoint.stream.snd_una
 }
 
 // Remarks on what wasn't acknowledged, and on what wasn't sent, which begins at this position.
@@ -111,9 +102,8 @@ fn say_unsent(found: &mut Found, who: Who, endpoint: &Endpoint, sent_end: u64) -
 fn say_undelivered(alloc: Global, found: &mut Found, who: Who, endpoint: &Endpoint) -> Done {
     let received = &endpoint.stream.receive;
     let waiting = received.read(alloc, usize::MAX)?.len() as u64;
-    let end = received
-        .next()
-        .saturating_sub(u64::from(received.is_ended()));
+    let fin = u64::from(received.is_ended());
+    let end = received.next().saturating_sub(fin);
     match Stretch::up_to(end.saturating_sub(waiting), end) {
         Some(bytes) => found.add(AT_THE_END, who, "received but never delivered", &bytes),
         None => Ok(()),

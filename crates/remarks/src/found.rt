@@ -1,34 +1,16 @@
-//! The remarks that were found, in the order of their places.
+//! The remarks that were found, in the order of their places, and parts of them in words. Bytes and FINs are named by
+//! their positions.
 
 use crate::review::Remarked;
-use crate::words::Who;
-use case_forms::OutOfMemory;
+use case_forms::{Host, OutOfMemory};
+use plain_words::HostName;
+use spec_tcp::Endpoint;
 use std::alloc::Global;
 use std::collections::BTreeMap;
 use std::fmt::{self, Display};
 
 /// Done, or memory ran out.
 pub(crate) type Done = Result<(), OutOfMemory>;
-
-/// The lines of a remark, from the first to the last.
-#[derive(Clone, Copy, Default)]
-pub(crate) struct Lines(pub u64, pub u64);
-
-/// The place of what is remarked at the end, after every line.
-pub(crate) const AT_THE_END: u64 = u64::MAX;
-
-impl Display for Lines {
-    fn fmt<W: fmt::Write>(&self, f: &mut fmt::Formatter<W>) -> fmt::Result {
-        let Lines(first, last) = *self;
-        if first == AT_THE_END {
-            write!(f, "at the end")
-        } else if first == last {
-            write!(f, "line {first}")
-        } else {
-            write!(f, "lines {first} to {last}")
-        }
-    }
-}
 
 /// Remarks in the order of finding, one after another in a text.
 #[derive(Drop)]
@@ -48,20 +30,14 @@ impl Found {
 
     /// One more remark, on one line.
     pub(crate) fn add(&mut self, line: u64, who: Who, does: &str, what: &impl Display) -> Done {
-        self.add_lines(Lines(line, line), who, does, what)
+        self.add_at(Lines(line, line), who, does, what)
     }
 
     /// One more remark: in these lines, who does what.
-    pub(crate) fn add_lines(
-        &mut self,
-        lines: Lines,
-        who: Who,
-        does: &str,
-        what: &impl Display,
-    ) -> Done {
-        let key = (lines.0, self.places.len() as u64);
+    pub(crate) fn add_at(&mut self, at: Lines, who: Who, does: &str, what: &impl Display) -> Done {
+        let key = (at.0, self.places.len() as u64);
         let begin = self.text.len();
-        writeln!(self.text, "{lines}: {who} {does} {what}")?;
+        writeln!(self.text, "{at}: {who} {does} {what}")?;
         self.places.insert(key, (begin, self.text.len()))?;
         Ok(())
     }
@@ -74,5 +50,152 @@ impl Found {
         }
         let count = self.places.len();
         Ok(Remarked { text, count })
+    }
+}
+
+/// The lines of a remark, from the first to the last.
+#[derive(Clone, Copy)]
+pub(crate) struct Lines(pub u64, pub u64);
+
+/// The place of what is remarked at the end, after every line.
+pub(crate) const AT_THE_END: u64 = u64::MAX;
+
+impl Display for Lines {
+    fn fmt<W: fmt::Write>(&self, f: &mut fmt::Formatter<W>) -> fmt::Result {
+        let Lines(first, last) = *self;
+        if first == AT_THE_END {
+            write!(f, "at the end")
+        } else if first == last {
+            write!(f, "line {first}")
+        } else {
+            write!(f, "lines {first} to {last}")
+        }
+    }
+}
+
+/// Who is meant.
+#[derive(Clone, Copy)]
+pub(crate) enum Who {
+    Endpoint { host: Host, lport: u16, rport: u16 },
+    Listener { host: Host, port: u16 },
+    /// The call of a thread, by the line that begins it.
+    Call { thread: u32, line: u64 },
+}
+
+impl Who {
+    /// An endpoint of a host.
+    pub(crate) fn of(host: Host, endpoint: &Endpoint) -> Who {
+        let (lport, rport) = (endpoint.lport, endpoint.rport);
+        Who::Endpoint { host, lport, rport }
+    }
+}
+
+impl Display for Who {
+    fn fmt<W: fmt::Write>(&self, f: &mut fmt::Formatter<W>) -> fmt::Result {
+        match self {
+            Who::Endpoint { host, lport, rport } => {
+                write!(f, "{}'s endpoint {lport} -> {rport}", HostName(*host))
+            }
+            Who::Listener { host, port } => {
+                write!(f, "{}'s listener on port {port}", HostName(*host))
+            }
+            Who::Call { thread, line } => write!(f, "thread {thread}'s call in line {line}"),
+        }
+    }
+}
+
+/// Bytes that follow each other, by the position of the first and the position after the last.
+#[derive(Clone, Copy)]
+pub(crate) struct Stretch {
+    pub first: u64,
+    pub end: u64,
+}
+
+impl Stretch {
+    /// The bytes from one position up to another, which is none of them. None: there are none.
+    pub(crate) fn up_to(first: u64, end: u64) -> Option<Stretch> {
+        (first < end).then_some(Stretch { first, end })
+    }
+
+    /// Those of the bytes that are in this range. None: there are none.
+    pub(crate) fn within(self, first: u64, end: u64) -> Option<Stretch> {
+        Stretch::up_to(self.first.max(first), self.end.min(end))
+    }
+}
+
+impl Display for Stretch {
+    fn fmt<W: fmt::Write>(&self, f: &mut fmt::Formatter<W>) -> fmt::Result {
+        let (first, last) = (self.first, self.end.saturating_sub(1));
+        if first == last {
+            write!(f, "byte {first}")
+        } else {
+            write!(f, "bytes {first} to {last}")
+        }
+    }
+}
+
+/// Retransmissions from a position, which are counted.
+#[derive(Clone, Copy)]
+pub(crate) struct Repeats {
+    pub who: Who,
+    pub position: u64,
+    pub times: u64,
+    pub lines: Lines,
+}
+
+impl Repeats {
+    /// One more, in this line.
+    pub(crate) fn add(&mut self, line: u64) {
+        let first = if self.times == 0 { line } else { self.lines.0 };
+        self.lines = Lines(first, line);
+        self.times = self.times.saturating_add(1);
+    }
+
+    /// Remarks on them.
+    pub(crate) fn say(&self, found: &mut Found, how: &impl Display) -> Done {
+        let what = &format_args!("{self} {how}");
+        found.add_at(self.lines, self.who, "retransmits", what)
+    }
+}
+
+// What is sent again, and how many times; once is not said.
+impl Display for Repeats {
+    fn fmt<W: fmt::Write>(&self, f: &mut fmt::Formatter<W>) -> fmt::Result {
+        match self.position {
+            0 => write!(f, "its SYN")?,
+            position => write!(f, "position {position}")?,
+        }
+        match self.times {
+            1 => Ok(()),
+            2 => write!(f, " twice"),
+            times => write!(f, " {times} times"),
+        }
+    }
+}
+
+/// A time of so many microseconds. From 1,000 on it is in milliseconds, and from 1,000,000 on in seconds, both with at
+/// most three decimals, rounded down.
+#[derive(Clone, Copy)]
+pub(crate) struct Time(pub u64);
+
+impl Display for Time {
+    fn fmt<W: fmt::Write>(&self, f: &mut fmt::Formatter<W>) -> fmt::Result {
+        let (thousandths, unit) = match self.0 {
+            0..=999 => return write!(f, "{} us", self.0),
+            1_000..=999_999 => (self.0, "ms"),
+            time => (time / 1_000, "s"),
+        };
+        write!(f, "{}", thousandths / 1_000)?;
+        match (
+            thousandths / 100 % 10,
+            thousandths / 10 % 10,
+            thousandths % 10,
+        ) {
+            (0, 0, 0) => {}
+            (a, 0, 0) => write!(f, ".{a}")?,
+            (a, b, 0) => write!(f, ".{a}{b}")?,
+            (a, b, c) => write!(f, ".{a}{b}{c}")?,
+        }
+        write!(f, " {unit}")
     }
 }

@@ -1,9 +1,7 @@
 //! The review of a case: its replay, and what is remembered beside it.
 
-use crate::again::{Again, Permit};
-use crate::arrivals::Arrival;
 use crate::found::{Done, Found};
-use crate::notes::{Note, PositionKey};
+use crate::notes::{Again, Note, Permit};
 use crate::sendings::Sending;
 use case_forms::{Call, Event, Extras, Host, Label, NamedLine, OutOfMemory, Step};
 use endpoint_state::World;
@@ -36,9 +34,7 @@ pub fn remark(alloc: Global, case: &Case<'_>) -> Result<Remarked, ReplayFault> {
         resets: BTreeMap::new(alloc),
     };
     let mut replay = Replay::new(alloc, case);
-    let remarked = review.remarked(alloc, &mut replay);
-    drop(replay);
-    remarked
+    review.run(alloc, &mut replay)
 }
 
 /// A case up to a step.
@@ -53,10 +49,10 @@ pub(crate) struct Review<'c> {
     /// The segments that were made, by their numbers, and the numbers of those that lines show.
     pub made: BTreeMap<u32, Sending>,
     pub shown: BTreeSet<u32>,
-    /// What was retransmitted last from a position of an endpoint.
-    pub again: BTreeMap<PositionKey, Again>,
+    /// What was retransmitted last from a position of an endpoint, by its `position_key`.
+    pub again: BTreeMap<(u8, u32, u64), Again>,
     /// Bytes and FINs that were kept beyond a gap, by their first position: the position after them.
-    pub held: BTreeMap<PositionKey, u64>,
+    pub held: BTreeMap<(u8, u32, u64), u64>,
     /// For each thread in a call, the line that begins it.
     pub calls: BTreeMap<u32, u64>,
     /// For each host and ports, its own and the peer's, the line of what arrived last, if that is a reset.
@@ -65,11 +61,7 @@ pub(crate) struct Review<'c> {
 
 impl Review<'_> {
     // Replays the steps before the refused one, or all.
-    fn remarked(
-        &mut self,
-        alloc: Global,
-        replay: &mut Replay<'_>,
-    ) -> Result<Remarked, ReplayFault> {
+    fn run(&mut self, alloc: Global, replay: &mut Replay<'_>) -> Result<Remarked, ReplayFault> {
         if self.case.verdict.is_ok() {
             self.read_shown()?;
             for step in self.case.steps_before_refusal() {
@@ -84,8 +76,17 @@ impl Review<'_> {
     // Remembers which segments lines show.
     fn read_shown(&mut self) -> Done {
         for step in self.case.steps.as_slice() {
-            if let Some(number) = shown_by(self.case, step) {
-                self.shown.insert(number)?;
+            if let Label::L(
+                NamedLine {
+                    number,
+                    extras: Extras::One(made),
+                },
+            ) = &step.label
+            {
+                let line = self.case.line(*number);
+                if line.is_some_and(|line| matches!(line.event, Event::Sent(..))) {
+                    self.shown.insert(*made)?;
+                }
             }
         }
         Ok(())
@@ -99,14 +100,16 @@ impl Review<'_> {
                 return self.process(replay, step, (*host, *line), choice.keep);
             }
             Label::M { host, plan } => self.make(world, *host, plan)?,
-            Label::K { host, line } => self.drop_arrival(world, *host, *line)?,
-            Label::R { host, line } => {
-                if let Some(arrival) = Arrival::of(world, *host, *line) {
-                    self.arrive(&arrival)?;
+            Label::K { host, line } => {
+                if let Some(arrival) = self.arrive(world, *host, *line)? {
+                    self.drop_arrival(world, &arrival)?;
                 }
             }
+            Label::R { host, line } => {
+                self.arrive(world, *host, *line)?;
+            }
             Label::F { host, recovery } => {
-                if let Some(id) = endpoint_of(world, *host, recovery.lport, recovery.rport) {
+                if let Some((id, _)) = endpoint_of(world, *host, recovery.lport, recovery.rport) {
                     self.note(id)?.permits.add(Permit::Recovery);
                 }
             }
@@ -132,7 +135,7 @@ impl Review<'_> {
             }
             (Event::Sent(..), Extras::One(made)) => self.send(world, made, line.number)?,
             (Event::Expired(host, lport, rport, timer), _) => {
-                if let Some(id) = endpoint_of(world, *host, *lport, *rport) {
+                if let Some((id, _)) = endpoint_of(world, *host, *lport, *rport) {
                     self.note(id)?.expire(*timer, line.number);
                     self.touch(world, id, line.number)?;
                 }
@@ -151,18 +154,16 @@ impl Review<'_> {
     ) -> Result<(), ReplayFault> {
         let line = self.calls.get(&thread).copied().unwrap_or(0);
         let call = call_in(self.case, line);
-        let socket = call.and_then(socket_of);
-        let named = socket.and_then(|socket| endpoint_named(replay.world(), socket));
+        let named = call.and_then(|call| endpoint_named(replay.world(), call));
         replay.apply(step)?;
         let world = replay.world();
-        let id = match call {
+        let changed = match call {
             Some(Call::Connect(host, lport, rport)) => endpoint_of(world, *host, *lport, *rport),
-            _ => named,
+            _ => named.and_then(|id| Some((id, endpoint_at(world, id)?))),
         };
-        if let Some(id) = id {
+        if let Some((id, endpoint)) = changed {
             if let Some(Call::Abort(_)) = call {
-                let endpoint = endpoint_at(world, id);
-                self.note(id)?.aborted = endpoint.is_some_and(|it| it.state.is_closed());
+                self.note(id)?.aborted = endpoint.state.is_closed();
             }
             self.touch(world, id, line)?;
         }
@@ -176,18 +177,6 @@ impl Review<'_> {
     }
 }
 
-// The number of the segment whose sending a step shows.
-fn shown_by(case: &Case<'_>, step: &Step) -> Option<u32> {
-    let Label::L(named) = &step.label else {
-        return None;
-    };
-    let line = case.line(named.number)?;
-    match (&line.event, named.extras) {
-        (Event::Sent(..), Extras::One(number)) => Some(number),
-        _ => None,
-    }
-}
-
 /// The call that begins in a line.
 pub(crate) fn call_in<'c>(case: &'c Case<'_>, line: u64) -> Option<&'c Call> {
     match &case.line(line)?.event {
@@ -196,12 +185,13 @@ pub(crate) fn call_in<'c>(case: &'c Case<'_>, line: u64) -> Option<&'c Call> {
     }
 }
 
-// The endpoint that a socket number names.
-fn endpoint_named(world: &World, socket: u32) -> Option<EndpointId> {
-    endpoint_named_at(world, Host::Zero, socket).or(endpoint_named_at(world, Host::One, socket))
+// The endpoint that a call names by its socket number.
+fn endpoint_named(world: &World, call: &Call) -> Option<EndpointId> {
+    let socket = socket_of(call)?;
+    endpoint_at_socket(world, Host::Zero, socket).or(endpoint_at_socket(world, Host::One, socket))
 }
 
-fn endpoint_named_at(world: &World, host: Host, socket: u32) -> Option<EndpointId> {
+fn endpoint_at_socket(world: &World, host: Host, socket: u32) -> Option<EndpointId> {
     match world.body(host).thing(socket)? {
         SocketTarget::EndpointAt(number) => Some(EndpointId { host, number }),
         SocketTarget::ListenerAt(_) => None,
@@ -209,9 +199,15 @@ fn endpoint_named_at(world: &World, host: Host, socket: u32) -> Option<EndpointI
 }
 
 /// The endpoint of a host that was created last with these ports. None: there was none.
-pub(crate) fn endpoint_of(world: &World, host: Host, lport: u16, rport: u16) -> Option<EndpointId> {
+pub(crate) fn endpoint_of(
+    world: &World,
+    host: Host,
+    lport: u16,
+    rport: u16,
+) -> Option<(EndpointId, &Endpoint)> {
     let number = world.body(host).place_of(lport, rport)?;
-    Some(EndpointId { host, number })
+    let id = EndpointId { host, number };
+    Some((id, endpoint_at(world, id)?))
 }
 
 /// The endpoint at a place.

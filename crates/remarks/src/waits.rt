@@ -1,10 +1,9 @@
 //! An endpoint's timers, and its waits with nothing sent: timers that are past their time, and open windows. Times and
 //! moments are microseconds.
 
-use crate::found::{Done, Found};
+use crate::found::{Done, Found, Time, Who};
 use crate::notes::Note;
 use crate::review::{Review, endpoint_at};
-use crate::words::{Time, Who};
 use case_forms::{State, Timer};
 use endpoint_state::World;
 use line_fields::timer_name;
@@ -35,61 +34,60 @@ pub(crate) struct Clock {
     pub time: u64,
 }
 
-impl fmt::Display for Clock {
-    fn fmt<W: fmt::Write>(&self, f: &mut fmt::Formatter<W>) -> fmt::Result {
-        let timer = timer_name(self.timer);
-        write!(f, "its {timer} timer ({})", Time(self.time))
+impl Note {
+    /// The timer of an endpoint at a moment: the persist timer if it is armed, otherwise the retransmission timer. None:
+    /// it is off, or there is nothing to probe for.
+    pub(crate) fn clock_of(&self, endpoint: &Endpoint, moment: u64) -> Option<Clock> {
+        let timers = &endpoint.timers;
+        let Some(armed) = timers.persist_armed else {
+            return self.rto_clock(endpoint);
+        };
+        if endpoint.flight() == 0 && waiting_bytes(endpoint) == 0 {
+            return None;
+        }
+        let before = self
+            .armed(Timer::Persist)
+            .filter(|clock| clock.armed == armed);
+        Some(Clock {
+            timer: Timer::Persist,
+            armed,
+            since: before.map_or(moment, |clock| clock.since),
+            time: backed_off(timers.rto, self.probes),
+        })
     }
-}
 
-/// The retransmission timer after so many expiries, of which the last `unseen` are in no line. None: it is off, or the
-/// window is 0, so that the persist timer counts.
-pub(crate) fn rto_clock(endpoint: &Endpoint, unseen: u32, expiries: u32) -> Option<Clock> {
-    let timers = &endpoint.timers;
-    if timers.persist_armed.is_some() {
-        return None;
+    // The retransmission timer after all its expiries, of which the last ones are in no line.
+    fn rto_clock(&self, endpoint: &Endpoint) -> Option<Clock> {
+        let timers = &endpoint.timers;
+        let armed = timers.rto_armed?;
+        let time = backed_off(timers.rto, self.unseen);
+        Some(Clock {
+            timer: Timer::Rto,
+            armed,
+            since: armed,
+            time: match timers.srtt {
+                Some(_) => time,
+                None => time.max(backed_off(FIRST, self.expiries)),
+            },
+        })
     }
-    let armed = timers.rto_armed?;
-    let time = backed_off(timers.rto, unseen);
-    Some(Clock {
-        timer: Timer::Rto,
-        armed,
-        since: armed,
-        time: match timers.srtt {
-            Some(_) => time,
-            None => time.max(backed_off(FIRST, expiries)),
-        },
-    })
-}
 
-/// The persist timer after so many probes; `before` is what it was. None: it is off, or there is nothing to probe for.
-pub(crate) fn persist_clock(
-    endpoint: &Endpoint,
-    before: Option<Clock>,
-    probes: u32,
-    moment: u64,
-) -> Option<Clock> {
-    let armed = endpoint.timers.persist_armed?;
-    if endpoint.flight() == 0 && waiting_bytes(endpoint) == 0 {
-        return None;
+    /// The stall of an endpoint at a moment.
+    pub(crate) fn stall_of(&self, endpoint: &Endpoint, moment: u64) -> Option<Stall> {
+        let bytes = waiting_bytes(endpoint);
+        let room = u64::from(endpoint.window.snd_wnd);
+        if !may_send(endpoint.state) || endpoint.flight() != 0 || bytes == 0 || room == 0 {
+            return None;
+        }
+        let since = self.stall.map_or(moment, |stall| stall.since);
+        Some(Stall { since, bytes, room })
     }
-    Some(Clock {
-        timer: Timer::Persist,
-        armed,
-        since: match before {
-            Some(clock) if clock.armed == armed => clock.since,
-            _ => moment,
-        },
-        time: backed_off(endpoint.timers.rto, probes),
-    })
 }
 
 // A timeout that doubled so many times (RFC 6298, 5.5; RFC 9293, 3.8.6.1), within its limits.
 fn backed_off(rto: u64, times: u32) -> u64 {
-    let doubled = match 1_u64.checked_shl(times) {
-        Some(factor) => rto.saturating_mul(factor),
-        None => LONGEST,
-    };
+    let factor = 1_u64.checked_shl(times);
+    let doubled = factor.map_or(LONGEST, |factor| rto.saturating_mul(factor));
     doubled.clamp(SHORTEST, LONGEST)
 }
 
@@ -118,23 +116,11 @@ impl fmt::Display for Stall {
     }
 }
 
-/// The stall of an endpoint; `before` is the one that lasted until now.
-pub(crate) fn stall_of(endpoint: &Endpoint, before: Option<Stall>, moment: u64) -> Option<Stall> {
-    let bytes = waiting_bytes(endpoint);
-    let room = u64::from(endpoint.window.snd_wnd);
-    if !may_send(endpoint.state) || endpoint.flight() != 0 || bytes == 0 || room == 0 {
-        return None;
-    }
-    let since = before.map_or(moment, |stall| stall.since);
-    Some(Stall { since, bytes, room })
-}
-
 // Whether bytes may be sent in a state.
 fn may_send(state: State) -> bool {
-    use State::{CloseWait, Closing, Established, FinWait1, LastAck};
     matches!(
         state,
-        Established | FinWait1 | CloseWait | Closing | LastAck
+        State::Established | State::FinWait1 | State::CloseWait | State::Closing | State::LastAck
     )
 }
 
@@ -177,11 +163,12 @@ impl Review<'_> {
 
 // Remarks on the waits that ended.
 fn say_ended(found: &mut Found, now: Now, before: &Note, after: &Note) -> Done {
-    if since(before.rto) != since(after.rto) {
-        say_late(found, now, before.rto, before.last_sent)?;
-    }
-    if since(before.persist) != since(after.persist) {
-        say_late(found, now, before.persist, before.last_sent)?;
+    let runs_on = match (before.clock, after.clock) {
+        (Some(was), Some(is)) => was.timer as u8 == is.timer as u8 && was.since == is.since,
+        _ => false,
+    };
+    if !runs_on {
+        say_late(found, now, before)?;
     }
     if after.stall.is_none() {
         say_stall(found, now, before.stall)?;
@@ -189,27 +176,18 @@ fn say_ended(found: &mut Found, now: Now, before: &Note, after: &Note) -> Done {
     Ok(())
 }
 
-fn since(clock: Option<Clock>) -> Option<u64> {
-    clock.map(|clock| clock.since)
-}
-
-/// Remarks on the timers of an endpoint.
-pub(crate) fn say_waits(found: &mut Found, now: Now, note: &Note) -> Done {
-    say_late(found, now, note.rto, note.last_sent)?;
-    say_late(found, now, note.persist, note.last_sent)
-}
-
-// Remarks on a timer that ran for more than twice its time with nothing sent.
-fn say_late(found: &mut Found, now: Now, clock: Option<Clock>, last_sent: u64) -> Done {
-    let Some(clock) = clock else {
+/// Remarks on a timer that ran for more than twice its time with nothing sent.
+pub(crate) fn say_late(found: &mut Found, now: Now, note: &Note) -> Done {
+    let Some(clock) = note.clock else {
         return Ok(());
     };
-    let ran = now.moment.saturating_sub(clock.since.max(last_sent));
+    let ran = now.moment.saturating_sub(clock.since.max(note.last_sent));
     let late = ran.saturating_sub(clock.time);
     if late <= clock.time {
         return Ok(());
     }
-    let what = &format_args!("{clock} is {} overdue", Time(late));
+    let (timer, time, late) = (timer_name(clock.timer), Time(clock.time), Time(late));
+    let what = &format_args!("its {timer} timer ({time}) is {late} overdue");
     found.add(now.line, now.who, "sends nothing:", what)
 }
 
