@@ -185,12 +185,9 @@ impl Display for Time {
             1_000..=999_999 => (self.0, "ms"),
             time => (time / 1_000, "s"),
         };
-        write!(f, "{}", thousandths / 1_000)?;
-        match (
-            thousandths / 100 % 10,
-            thousandths / 10 % 10,
-            thousandths % 10,
-        ) {
+        let (whole, rest) = (thousandths / 1_000, thousandths % 1_000);
+        write!(f, "{whole}")?;
+        match (rest / 100, rest / 10 % 10, rest % 10) {
             (0, 0, 0) => {}
             (a, 0, 0) => write!(f, ".{a}")?,
             (a, b, 0) => write!(f, ".{a}{b}")?,

@@ -76,22 +76,18 @@ impl Review<'_> {
     // Remembers which segments lines show.
     fn read_shown(&mut self) -> Done {
         for step in self.case.steps.as_slice() {
-            if let Label::L(
-                NamedLine {
-                    number,
-                    extras: Extras::One(made),
-                },
-            ) = &step.label
+            if let Label::L(named) = &step.label
+                && let Extras::One(made) = named.extras
+                && let Some(line) = self.case.line(named.number)
+                && let Event::Sent(..) = &line.event
             {
-                let line = self.case.line(*number);
-                if line.is_some_and(|line| matches!(line.event, Event::Sent(..))) {
-                    self.shown.insert(*made)?;
-                }
+                self.shown.insert(made)?;
             }
         }
         Ok(())
     }
 
+    // Reviews most steps before they change the world, and the lines after that.
     fn step(&mut self, replay: &mut Replay<'_>, step: &Step) -> Result<(), ReplayFault> {
         let world = replay.world();
         match &step.label {

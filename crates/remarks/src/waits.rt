@@ -35,8 +35,8 @@ pub(crate) struct Clock {
 }
 
 impl Note {
-    /// The timer of an endpoint at a moment: the persist timer if it is armed, otherwise the retransmission timer. None:
-    /// it is off, or there is nothing to probe for.
+    /// The timer of an endpoint at a moment: the persist timer if it is armed, otherwise the retransmission timer.
+    /// None: it is off, or there is nothing to probe for.
     pub(crate) fn clock_of(&self, endpoint: &Endpoint, moment: u64) -> Option<Clock> {
         let timers = &endpoint.timers;
         let Some(armed) = timers.persist_armed else {
