@@ -1,131 +1,111 @@
 //! What is left at the end of a case.
 
-use crate::found::{AT_THE_END, Done, Found};
-use crate::notes::{Note, id_of};
-use crate::review::Review;
-use crate::waits::{Now, say_stall, say_waits};
-use crate::words::{Stretch, Who};
-use case_forms::Event;
+use crate::found::{AT_THE_END, Done, Found, Stretch, Who};
+use crate::notes::Note;
+use crate::review::{Review, call_in};
+use crate::waits::{Now, say_late, say_stall};
+use case_forms::Host;
+use endpoint_state::World;
 use plain_words::CallWords;
-use replayed::Case;
 use spec_tcp::{Endpoint, Fault};
 use std::alloc::Global;
 use verdict::Verdict;
 
 impl Review<'_> {
     /// Adds what was counted up to here, and if the case is a yes, what is left at its end.
-    pub(crate) fn finish(&mut self, alloc: Global) -> Done {
+    pub(crate) fn finish(&mut self, alloc: Global, world: &World) -> Done {
         for again in self.again.values() {
-            again.say(self.found)?;
+            again.say(&mut self.found)?;
         }
-        let is_yes = matches!(self.case.verdict, Ok(Verdict::Yes { .. }));
-        for (key, note) in self.notes.iter() {
+        for note in self.notes.values() {
             if let Some(chain) = note.chain {
-                chain.say(self.found)?;
-            }
-            let id = id_of(*key);
-            match self.replay.world().body(id.host).endpoint_at(id.number) {
-                Some(endpoint) if is_yes => {
-                    let who = Who::of(id.host, endpoint);
-                    say_left(alloc, self.found, (who, self.moment), endpoint, note)?;
-                }
-                _ => {}
+                chain.say(&mut self.found)?;
             }
         }
-        if is_yes {
-            for (thread, line) in self.calls.iter() {
-                say_call(self.found, self.case, *thread, *line)?;
+        if let Ok(Verdict::Yes { .. }) = self.case.verdict {
+            self.say_left(alloc, world)?;
+            self.say_calls()?;
+        }
+        Ok(())
+    }
+
+    // Remarks on what endpoints have left.
+    fn say_left(&mut self, alloc: Global, world: &World) -> Done {
+        let (line, moment) = (AT_THE_END, self.moment);
+        for ((host, number), note) in self.notes.iter() {
+            let host = if *host == 0 { Host::Zero } else { Host::One };
+            if let Some(endpoint) = world.body(host).endpoint_at(*number) {
+                let who = Who::of(host, endpoint);
+                let now = Now { line, moment, who };
+                note.say_left(alloc, &mut self.found, now, endpoint)?;
+            }
+        }
+        Ok(())
+    }
+
+    // Remarks on the calls that didn't end.
+    fn say_calls(&mut self) -> Done {
+        for (&thread, &line) in self.calls.iter() {
+            if let Some(call) = call_in(self.case, line) {
+                let who = Who::Call { thread, line };
+                let call = &CallWords(call);
+                self.found.add(AT_THE_END, who, "never returned:", call)?;
             }
         }
         Ok(())
     }
 }
 
-// Remarks on what an endpoint has left.
-fn say_left(
-    alloc: Global,
-    found: &mut Found,
-    (who, moment): (Who, u64),
-    endpoint: &Endpoint,
-    note: &Note,
-) -> Done {
-    let line = AT_THE_END;
-    let has_ended = endpoint.state.is_closed() && !matches!(endpoint.fault, Some(Fault::Timeout));
-    if !has_ended {
-        let now = Now { line, moment, who };
-        say_waits(found, now, note)?;
-        say_stall(found, now, note.stall)?;
-        say_unsent(found, who, endpoint, note)?;
+impl Note {
+    // Remarks on what an endpoint has left.
+    fn say_left(&self, alloc: Global, found: &mut Found, now: Now, endpoint: &Endpoint) -> Done {
+        let is_closed = endpoint.state.is_closed();
+        let has_ended = is_closed && !matches!(endpoint.fault, Some(Fault::Timeout));
+        if !has_ended {
+            say_late(found, now, self)?;
+            say_stall(found, now, self.stall)?;
+            say_unsent(found, now.who, endpoint, self.sent_end)?;
+        }
+        let is_acknowledged = endpoint.stream.ended
+            && endpoint.stream.accepted.end() < endpoint.stream.snd_una;
+        let has_failed = is_closed && (endpoint.fault.is_some() || !is_acknowledged);
+        if self.aborted || has_failed {
+            return Ok(());
+        }
+        say_undelivered(alloc, found, now.who, endpoint)
     }
-    let has_failed = endpoint.state.is_closed() && !is_finished(endpoint);
-    if note.aborted || has_failed {
-        return Ok(());
-    }
-    say_undelivered(alloc, found, who, endpoint)
 }
 
-// Whether the connection didn't fail, and its FIN was acknowledged.
-fn is_finished(endpoint: &Endpoint) -> bool {
-    endpoint.fault.is_none()
-        && endpoint.stream.ended
-        && endpoint.stream.accepted.end() < endpoint.stream.snd_una
-}
-
-// Remarks on what wasn't acknowledged and what wasn't sent.
-fn say_unsent(found: &mut Found, who: Who, endpoint: &Endpoint, note: &Note) -> Done {
-    let line = AT_THE_END;
-    let end = endpoint.stream.accepted.end();
-    let una = endpoint.stream.snd_una;
-    let sent = note.sent_end.max(1).min(end);
+// Remarks on what wasn't acknowledged, and on what wasn't sent, which begins at this position.
+fn say_unsent(found: &mut Found, who: Who, endpoint: &Endpoint, sent_end: u64) -> Done {
+    let (end, una) = (endpoint.stream.accepted.end(), endpoint.stream.snd_una);
+    let (unacknowledged, line) = ("received no acknowledgment of", AT_THE_END);
+    let sent = sent_end.max(1).min(end);
     if let Some(bytes) = Stretch::up_to(una.max(1), sent) {
-        found.add(
-            line,
-            &format_args!("{who} received no acknowledgment of {bytes}"),
-        )?;
+        found.add(line, who, unacknowledged, &bytes)?;
     }
     if let Some(bytes) = Stretch::up_to(sent, end) {
-        found.add(line, &format_args!("{who} accepted but never sent {bytes}"))?;
+        found.add(line, who, "accepted but never sent", &bytes)?;
     }
     if !endpoint.stream.ended || end < una {
         return Ok(());
     }
-    let what = if end < note.sent_end {
-        "received no acknowledgment of"
+    let does = if end < sent_end {
+        unacknowledged
     } else {
         "ended sending but never sent"
     };
-    found.add(line, &format_args!("{who} {what} its FIN (position {end})"))
+    found.add(line, who, does, &format_args!("its FIN (position {end})"))
 }
 
 // Remarks on the bytes that an endpoint received in order and its program wasn't given.
 fn say_undelivered(alloc: Global, found: &mut Found, who: Who, endpoint: &Endpoint) -> Done {
     let received = &endpoint.stream.receive;
     let waiting = received.read(alloc, usize::MAX)?.len() as u64;
-    let end = endpoint
-        .rcv_nxt()
-        .saturating_sub(u64::from(received.is_ended()));
+    let fin = u64::from(received.is_ended());
+    let end = received.next().saturating_sub(fin);
     match Stretch::up_to(end.saturating_sub(waiting), end) {
-        Some(bytes) => {
-            found.add(
-                AT_THE_END,
-                &format_args!("{who} received but never delivered {bytes}"),
-            )
-        }
+        Some(bytes) => found.add(AT_THE_END, who, "received but never delivered", &bytes),
         None => Ok(()),
     }
-}
-
-// Remarks on a call that didn't end; the line of this number begins it.
-fn say_call(found: &mut Found, case: &Case<'_>, thread: u32, number: u64) -> Done {
-    let Some(line) = case.line(number) else {
-        return Ok(());
-    };
-    let Event::CallBegin(call) = &line.event else {
-        return Ok(());
-    };
-    let call = CallWords(call);
-    found.add(
-        AT_THE_END,
-        &format_args!("thread {thread}'s call in line {number} never returned: {call}"),
-    )
 }

@@ -1,16 +1,16 @@
-//! The remarks that were found, in the order of their places.
+//! The remarks that were found, in the order of their places, and parts of them in words. Bytes and FINs are named by
+//! their positions.
 
 use crate::review::Remarked;
-use case_forms::OutOfMemory;
+use case_forms::{Host, OutOfMemory};
+use plain_words::HostName;
+use spec_tcp::Endpoint;
 use std::alloc::Global;
 use std::collections::BTreeMap;
-use std::fmt;
+use std::fmt::{self, Display};
 
 /// Done, or memory ran out.
 pub(crate) type Done = Result<(), OutOfMemory>;
-
-/// The place of what is remarked at the end, after every line.
-pub(crate) const AT_THE_END: u64 = u64::MAX;
 
 /// Remarks in the order of finding, one after another in a text.
 #[derive(Drop)]
@@ -28,48 +28,39 @@ impl Found {
         }
     }
 
-    /// One more remark, on this line.
-    pub(crate) fn add(&mut self, line: u64, remark: &impl fmt::Display) -> Done {
-        self.add_lines((line, line), remark)
+    /// One more remark, on one line.
+    pub(crate) fn add(&mut self, line: u64, who: Who, does: &str, what: &impl Display) -> Done {
+        self.add_at(Lines(line, line), who, does, what)
     }
 
-    /// One more remark, on the lines from the first to the last.
-    pub(crate) fn add_lines(
-        &mut self,
-        (first, last): (u64, u64),
-        remark: &impl fmt::Display,
-    ) -> Done {
-        let number = self.places.len() as u64;
+    /// One more remark: in these lines, who does what.
+    pub(crate) fn add_at(&mut self, at: Lines, who: Who, does: &str, what: &impl Display) -> Done {
+        let key = (at.0, self.places.len() as u64);
         let begin = self.text.len();
-        writeln!(self.text, "{}: {remark}", Lines(first, last))?;
-        self.places
-            .insert((first, number), (begin, self.text.len()))?;
+        writeln!(self.text, "{at}: {who} {does} {what}")?;
+        self.places.insert(key, (begin, self.text.len()))?;
         Ok(())
     }
 
     /// All of them.
     pub(crate) fn remarked(&self, alloc: Global) -> Result<Remarked, OutOfMemory> {
         let mut text = String::new(alloc);
-        self.write_all(&mut text)?;
-        Ok(Remarked {
-            text,
-            count: self.places.len(),
-        })
-    }
-
-    fn write_all(&self, out: &mut String) -> Done {
         for (begin, end) in self.places.values() {
-            out.push_str(self.text.get(*begin..*end).unwrap_or(""))?;
+            text.push_str(self.text.get(*begin..*end).unwrap_or(""))?;
         }
-        Ok(())
+        let count = self.places.len();
+        Ok(Remarked { text, count })
     }
 }
 
-// The lines from the first to the last.
+/// The lines of a remark, from the first to the last.
 #[derive(Clone, Copy)]
-struct Lines(u64, u64);
+pub(crate) struct Lines(pub u64, pub u64);
 
-impl fmt::Display for Lines {
+/// The place of what is remarked at the end, after every line.
+pub(crate) const AT_THE_END: u64 = u64::MAX;
+
+impl Display for Lines {
     fn fmt<W: fmt::Write>(&self, f: &mut fmt::Formatter<W>) -> fmt::Result {
         let Lines(first, last) = *self;
         if first == AT_THE_END {
@@ -79,5 +70,129 @@ impl fmt::Display for Lines {
         } else {
             write!(f, "lines {first} to {last}")
         }
+    }
+}
+
+/// Who is meant.
+#[derive(Clone, Copy)]
+pub(crate) enum Who {
+    Endpoint { host: Host, lport: u16, rport: u16 },
+    Listener { host: Host, port: u16 },
+    /// The call of a thread, by the line that begins it.
+    Call { thread: u32, line: u64 },
+}
+
+impl Who {
+    /// An endpoint of a host.
+    pub(crate) fn of(host: Host, endpoint: &Endpoint) -> Who {
+        let (lport, rport) = (endpoint.lport, endpoint.rport);
+        Who::Endpoint { host, lport, rport }
+    }
+}
+
+impl Display for Who {
+    fn fmt<W: fmt::Write>(&self, f: &mut fmt::Formatter<W>) -> fmt::Result {
+        match self {
+            Who::Endpoint { host, lport, rport } => {
+                write!(f, "{}'s endpoint {lport} -> {rport}", HostName(*host))
+            }
+            Who::Listener { host, port } => {
+                write!(f, "{}'s listener on port {port}", HostName(*host))
+            }
+            Who::Call { thread, line } => write!(f, "thread {thread}'s call in line {line}"),
+        }
+    }
+}
+
+/// Bytes that follow each other, by the position of the first and the position after the last.
+#[derive(Clone, Copy)]
+pub(crate) struct Stretch {
+    pub first: u64,
+    pub end: u64,
+}
+
+impl Stretch {
+    /// The bytes from one position up to another, which is none of them. None: there are none.
+    pub(crate) fn up_to(first: u64, end: u64) -> Option<Stretch> {
+        (first < end).then_some(Stretch { first, end })
+    }
+
+    /// Those of the bytes that are in this range. None: there are none.
+    pub(crate) fn within(self, first: u64, end: u64) -> Option<Stretch> {
+        Stretch::up_to(self.first.max(first), self.end.min(end))
+    }
+}
+
+impl Display for Stretch {
+    fn fmt<W: fmt::Write>(&self, f: &mut fmt::Formatter<W>) -> fmt::Result {
+        let (first, last) = (self.first, self.end.saturating_sub(1));
+        if first == last {
+            write!(f, "byte {first}")
+        } else {
+            write!(f, "bytes {first} to {last}")
+        }
+    }
+}
+
+/// Retransmissions from a position, which are counted.
+#[derive(Clone, Copy)]
+pub(crate) struct Repeats {
+    pub who: Who,
+    pub position: u64,
+    pub times: u64,
+    pub lines: Lines,
+}
+
+impl Repeats {
+    /// One more, in this line.
+    pub(crate) fn add(&mut self, line: u64) {
+        let first = if self.times == 0 { line } else { self.lines.0 };
+        self.lines = Lines(first, line);
+        self.times = self.times.saturating_add(1);
+    }
+
+    /// Remarks on them.
+    pub(crate) fn say(&self, found: &mut Found, how: &impl Display) -> Done {
+        let what = &format_args!("{self} {how}");
+        found.add_at(self.lines, self.who, "retransmits", what)
+    }
+}
+
+// What is sent again, and how many times; once is not said.
+impl Display for Repeats {
+    fn fmt<W: fmt::Write>(&self, f: &mut fmt::Formatter<W>) -> fmt::Result {
+        match self.position {
+            0 => write!(f, "its SYN")?,
+            position => write!(f, "position {position}")?,
+        }
+        match self.times {
+            1 => Ok(()),
+            2 => write!(f, " twice"),
+            times => write!(f, " {times} times"),
+        }
+    }
+}
+
+/// A time of so many microseconds. From 1,000 on it is in milliseconds, and from 1,000,000 on in seconds, both with at
+/// most three decimals, rounded down.
+#[derive(Clone, Copy)]
+pub(crate) struct Time(pub u64);
+
+impl Display for Time {
+    fn fmt<W: fmt::Write>(&self, f: &mut fmt::Formatter<W>) -> fmt::Result {
+        let (thousandths, unit) = match self.0 {
+            0..=999 => return write!(f, "{} us", self.0),
+            1_000..=999_999 => (self.0, "ms"),
+            time => (time / 1_000, "s"),
+        };
+        let (whole, rest) = (thousandths / 1_000, thousandths % 1_000);
+        write!(f, "{whole}")?;
+        match (rest / 100, rest / 10 % 10, rest % 10) {
+            (0, 0, 0) => {}
+            (a, 0, 0) => write!(f, ".{a}")?,
+            (a, b, 0) => write!(f, ".{a}{b}")?,
+            (a, b, c) => write!(f, ".{a}{b}{c}")?,
+        }
+        write!(f, " {unit}")
     }
 }

@@ -10,23 +10,18 @@
 //! Private modules:
 //!
 //! - `review`: the replay of the case, and what is remembered beside it
-//! - `found`: the remarks that were found; `words`: parts of them in words
-//! - `notes`: what is remembered of an endpoint; `clocks`: its timers and waits; `again`: its retransmissions, counted
+//! - `found`: the remarks that were found, and parts of them in words
+//! - `notes`: what is remembered of an endpoint and its retransmissions
 //! - `arrivals`: what is dropped, or processed and not kept; `sendings`: what is sent, and sent again
-//! - `calls`: the endpoint that a call changes
 //! - `waits`: timers and open windows with nothing sent; `ends`: what is left at the end
 #![tactic(auto)]
 
-mod again;
 mod arrivals;
-mod calls;
-mod clocks;
 mod ends;
 mod found;
 mod notes;
 mod review;
 mod sendings;
 mod waits;
-mod words;
 
 pub use review::{Remarked, remark};

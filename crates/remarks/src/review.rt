@@ -1,12 +1,12 @@
 //! The review of a case: its replay, and what is remembered beside it.
 
-use crate::again::Again;
 use crate::found::{Done, Found};
-use crate::notes::{EndpointKey, Note, key_of};
+use crate::notes::{Again, Note, Permit};
 use crate::sendings::Sending;
-use case_forms::{Event, Extras, Host, Label, Line, NamedLine, Step};
-use replayed::{Case, Replay, ReplayFault};
-use spec_tcp::{Endpoint, EndpointId};
+use case_forms::{Call, Event, Extras, Host, Label, NamedLine, OutOfMemory, Step};
+use endpoint_state::World;
+use replayed::{Case, Replay, ReplayFault, socket_of};
+use spec_tcp::{Endpoint, EndpointId, SocketTarget};
 use std::alloc::Global;
 use std::collections::{BTreeMap, BTreeSet};
 
@@ -21,157 +21,192 @@ pub struct Remarked {
 
 /// Remarks on a case with a yes, or up to the step that is refused. There is none on a case without a verdict.
 pub fn remark(alloc: Global, case: &Case<'_>) -> Result<Remarked, ReplayFault> {
-    let mut found = Found::new(alloc);
-    if case.verdict.is_ok() {
-        review_case(alloc, case, &mut found)?;
-    }
-    Ok(found.remarked(alloc)?)
-}
-
-fn review_case(alloc: Global, case: &Case<'_>, found: &mut Found) -> Result<(), ReplayFault> {
     let mut review = Review {
         case,
-        replay: Replay::new(alloc, case),
         moment: 0,
-        found,
+        found: Found::new(alloc),
         notes: BTreeMap::new(alloc),
         made: BTreeMap::new(alloc),
         shown: BTreeSet::new(alloc),
         again: BTreeMap::new(alloc),
         held: BTreeMap::new(alloc),
         calls: BTreeMap::new(alloc),
-        arrived: BTreeMap::new(alloc),
+        resets: BTreeMap::new(alloc),
     };
-    review.run(alloc)
+    let mut replay = Replay::new(alloc, case);
+    review.run(alloc, &mut replay)
 }
 
 /// A case up to a step.
 #[derive(Drop)]
 pub(crate) struct Review<'c> {
     pub case: &'c Case<'c>,
-    pub replay: Replay<'c>,
     /// The moment of the last step.
     pub moment: u64,
-    pub found: &'c mut Found,
-    pub notes: BTreeMap<EndpointKey, Note>,
+    pub found: Found,
+    /// By the host of an endpoint and its place there.
+    pub notes: BTreeMap<(u8, u32), Note>,
     /// The segments that were made, by their numbers, and the numbers of those that lines show.
     pub made: BTreeMap<u32, Sending>,
     pub shown: BTreeSet<u32>,
-    /// What was retransmitted last from a position of an endpoint.
+    /// What was retransmitted last from a position of an endpoint, by its `position_key`.
     pub again: BTreeMap<(u8, u32, u64), Again>,
-    /// Bytes and FINs that were kept beyond a gap, by their endpoint and first position: the position after them.
+    /// Bytes and FINs that were kept beyond a gap, by their first position: the position after them.
     pub held: BTreeMap<(u8, u32, u64), u64>,
     /// For each thread in a call, the line that begins it.
     pub calls: BTreeMap<u32, u64>,
-    /// For each host and ports, its own and the peer's, the line of what arrived last, and whether that is a reset.
-    pub arrived: BTreeMap<(u8, u16, u16), (u64, bool)>,
+    /// For each host and ports, its own and the peer's, the line of what arrived last, if that is a reset.
+    pub resets: BTreeMap<(u8, u16, u16), u64>,
 }
 
 impl Review<'_> {
     // Replays the steps before the refused one, or all.
-    fn run(&mut self, alloc: Global) -> Result<(), ReplayFault> {
-        read_shown(self.case, &mut self.shown)?;
-        for step in self.case.steps_before_refusal() {
-            self.moment = step.moment;
-            self.step(step)?;
+    fn run(&mut self, alloc: Global, replay: &mut Replay<'_>) -> Result<Remarked, ReplayFault> {
+        if self.case.verdict.is_ok() {
+            self.read_shown()?;
+            for step in self.case.steps_before_refusal() {
+                self.moment = step.moment;
+                self.step(replay, step)?;
+            }
+            self.finish(alloc, replay.world())?;
         }
-        self.finish(alloc)?;
+        Ok(self.found.remarked(alloc)?)
+    }
+
+    // Remembers which segments lines show.
+    fn read_shown(&mut self) -> Done {
+        for step in self.case.steps.as_slice() {
+            if let Label::L(named) = &step.label
+                && let Extras::One(made) = named.extras
+                && let Some(line) = self.case.line(named.number)
+                && let Event::Sent(..) = &line.event
+            {
+                self.shown.insert(made)?;
+            }
+        }
         Ok(())
     }
 
-    fn step(&mut self, step: &Step) -> Result<(), ReplayFault> {
+    // Reviews most steps before they change the world, and the lines after that.
+    fn step(&mut self, replay: &mut Replay<'_>, step: &Step) -> Result<(), ReplayFault> {
+        let world = replay.world();
         match &step.label {
-            Label::L(named) => self.line_step(step, *named),
-            Label::D { thread, .. } => self.effect(step, *thread),
-            Label::M { host, plan } => self.make(step, *host, plan),
-            Label::T { host, line, choice } => self.process(step, *host, *line, choice.keep),
+            Label::D { thread, .. } => return self.effect(replay, step, *thread),
+            Label::T { host, line, choice } => {
+                return self.process(replay, step, (*host, *line), choice.keep);
+            }
+            Label::M { host, plan } => self.make(world, *host, plan)?,
             Label::K { host, line } => {
-                self.drop_arrival(*host, *line)?;
-                self.replay.apply(step)
-            }
-            Label::R { host, line } => {
-                self.arrive(*host, *line)?;
-                self.replay.apply(step)
-            }
-            Label::F { host, recovery } => {
-                self.replay.apply(step)?;
-                self.recover(*host, recovery)?;
-                Ok(())
-            }
-        }
-    }
-
-    fn line_step(&mut self, step: &Step, named: NamedLine) -> Result<(), ReplayFault> {
-        self.replay.apply(step)?;
-        if let Some(line) = self.case.line(named.number) {
-            self.line(line, named.extras)?;
-        }
-        Ok(())
-    }
-
-    fn line(&mut self, line: &Line, extras: Extras) -> Done {
-        let (thread, number) = (line.thread, line.number);
-        match (&line.event, extras) {
-            (Event::CallBegin(_), _) => {
-                self.calls.insert(thread, number)?;
-                Ok(())
-            }
-            (Event::CallEnd(_), _) => {
-                self.calls.remove(&thread);
-                Ok(())
-            }
-            (Event::Sent(..), Extras::One(made)) => self.send(made, number),
-            (Event::Expired(host, lport, rport, timer), _) => {
-                match self.endpoint_of(*host, *lport, *rport) {
-                    Some(id) => self.expire(id, *timer, number),
-                    None => Ok(()),
+                if let Some(arrival) = self.arrive(world, *host, *line)? {
+                    self.drop_arrival(world, &arrival)?;
                 }
             }
-            (Event::Sent(..) | Event::Came(..), _) => Ok(()),
+            Label::R { host, line } => {
+                self.arrive(world, *host, *line)?;
+            }
+            Label::F { host, recovery } => {
+                if let Some((id, _)) = endpoint_of(world, *host, recovery.lport, recovery.rport) {
+                    self.note(id)?.permits.add(Permit::Recovery);
+                }
+            }
+            Label::L(_) => {}
         }
+        replay.apply(step)?;
+        if let Label::L(named) = &step.label {
+            self.use_line(replay.world(), *named)?;
+        }
+        Ok(())
     }
 
-    /// The endpoint of a host that was created last with these ports. None: there was none.
-    pub(crate) fn endpoint_of(&self, host: Host, lport: u16, rport: u16) -> Option<EndpointId> {
-        let number = self.replay.world().body(host).place_of(lport, rport)?;
-        Some(EndpointId { host, number })
+    fn use_line(&mut self, world: &World, named: NamedLine) -> Done {
+        let Some(line) = self.case.line(named.number) else {
+            return Ok(());
+        };
+        match (&line.event, named.extras) {
+            (Event::CallBegin(_), _) => {
+                self.calls.insert(line.thread, line.number)?;
+            }
+            (Event::CallEnd(_), _) => {
+                self.calls.remove(&line.thread);
+            }
+            (Event::Sent(..), Extras::One(made)) => self.send(world, made, line.number)?,
+            (Event::Expired(host, lport, rport, timer), _) => {
+                if let Some((id, _)) = endpoint_of(world, *host, *lport, *rport) {
+                    self.note(id)?.expire(*timer, line.number);
+                    self.touch(world, id, line.number)?;
+                }
+            }
+            (Event::Sent(..) | Event::Came(..), _) => {}
+        }
+        Ok(())
     }
 
-    /// The endpoint at a place.
-    pub(crate) fn endpoint(&self, id: EndpointId) -> Option<&Endpoint> {
-        self.replay.world().body(id.host).endpoint_at(id.number)
+    // A thread's call has its effect. It may end what its socket number names, so that is looked up before.
+    fn effect(
+        &mut self,
+        replay: &mut Replay<'_>,
+        step: &Step,
+        thread: u32,
+    ) -> Result<(), ReplayFault> {
+        let line = self.calls.get(&thread).copied().unwrap_or(0);
+        let call = call_in(self.case, line);
+        let named = call.and_then(|call| endpoint_named(replay.world(), call));
+        replay.apply(step)?;
+        let world = replay.world();
+        let changed = match call {
+            Some(Call::Connect(host, lport, rport)) => endpoint_of(world, *host, *lport, *rport),
+            _ => named.and_then(|id| Some((id, endpoint_at(world, id)?))),
+        };
+        if let Some((id, endpoint)) = changed {
+            if let Some(Call::Abort(_)) = call {
+                self.note(id)?.aborted = endpoint.state.is_closed();
+            }
+            self.touch(world, id, line)?;
+        }
+        Ok(())
     }
 
     /// What is remembered of an endpoint.
-    pub(crate) fn note(&self, id: EndpointId) -> Note {
-        self.notes.get(&key_of(id)).copied().unwrap_or_default()
-    }
-
-    /// Remembers this of an endpoint.
-    pub(crate) fn put(&mut self, id: EndpointId, note: Note) -> Done {
-        self.notes.insert(key_of(id), note)?;
-        Ok(())
+    pub(crate) fn note(&mut self, id: EndpointId) -> Result<&mut Note, OutOfMemory> {
+        let key = (id.host as u8, id.number);
+        Ok(self.notes.entry(key)?.or_default())
     }
 }
 
-// Remembers which segments lines show.
-fn read_shown(case: &Case<'_>, shown: &mut BTreeSet<u32>) -> Done {
-    for step in case.steps.as_slice() {
-        if let Some(number) = shown_by(case, step) {
-            shown.insert(number)?;
-        }
-    }
-    Ok(())
-}
-
-// The number of the segment whose sending a step shows.
-fn shown_by(case: &Case<'_>, step: &Step) -> Option<u32> {
-    let Label::L(named) = &step.label else {
-        return None;
-    };
-    let line = case.line(named.number)?;
-    match (&line.event, named.extras) {
-        (Event::Sent(..), Extras::One(number)) => Some(number),
+/// The call that begins in a line.
+pub(crate) fn call_in<'c>(case: &'c Case<'_>, line: u64) -> Option<&'c Call> {
+    match &case.line(line)?.event {
+        Event::CallBegin(call) => Some(call),
         _ => None,
     }
+}
+
+// The endpoint that a call names by its socket number.
+fn endpoint_named(world: &World, call: &Call) -> Option<EndpointId> {
+    let socket = socket_of(call)?;
+    endpoint_at_socket(world, Host::Zero, socket).or(endpoint_at_socket(world, Host::One, socket))
+}
+
+fn endpoint_at_socket(world: &World, host: Host, socket: u32) -> Option<EndpointId> {
+    match world.body(host).thing(socket)? {
+        SocketTarget::EndpointAt(number) => Some(EndpointId { host, number }),
+        SocketTarget::ListenerAt(_) => None,
+    }
+}
+
+/// The endpoint of a host that was created last with these ports. None: there was none.
+pub(crate) fn endpoint_of(
+    world: &World,
+    host: Host,
+    lport: u16,
+    rport: u16,
+) -> Option<(EndpointId, &Endpoint)> {
+    let number = world.body(host).place_of(lport, rport)?;
+    let id = EndpointId { host, number };
+    Some((id, endpoint_at(world, id)?))
+}
+
+/// The endpoint at a place.
+pub(crate) fn endpoint_at(world: &World, id: EndpointId) -> Option<&Endpoint> {
+    world.body(id.host).endpoint_at(id.number)
 }
