@@ -53,7 +53,8 @@ pub two_are_enough : first_broken_step (judging NoControl) limits.duplicates_beg
 two_are_enough = refl
 
 -- what stays where nothing of congestion control is judged: the offered window
-pub the_offered_window_ends : first_broken_step (judging NoControl) limits.offered_window_holds_lines limits.offered_window_holds_steps ≡ Some (29, rules.Offered)
+pub the_offered_window_ends : first_broken_step (judging NoControl) limits.offered_window_holds_lines limits.offered_window_holds_steps
+    ≡ Some (29, rules.Offered)
 the_offered_window_ends = refl
 
 -- no window at a listener
