@@ -123,6 +123,26 @@ fn judge(trace: &Trace, shift: Option<u8>) -> &'static str {
 
 // What is wrong with a recording of one round in which every second segment of a host is lost, but not the first; `yes`
 // if nothing is.
+fn told_once<R: Threads + Wait + Sync>(
+    rt: &R,
+    alloc: Global,
+    version: Version,
+    shift: Option<u8>,
+) -> &'static str
+    requires { is_half version ≡ false }
+{
+    let plan = Plan {
+        rounds: 1,
+        lose: 2,
+        version,
+    };
+    match record(rt, alloc, plan) {
+        Ok(recording) => judge(&recording.recorded.trace, shift),
+        Err(_) => "no recording",
+    }
+}
+
+// The same, if host 1 had its turn in one of several recordings.
 fn told<R: Threads + Wait + Sync>(
     rt: &R,
     alloc: Global,
@@ -132,15 +152,7 @@ fn told<R: Threads + Wait + Sync>(
     requires { is_half version ≡ false }
 {
     for _ in 0..TRIES {
-        let plan = Plan {
-            rounds: 1,
-            lose: 2,
-            version,
-        };
-        let said = match record(rt, alloc, plan) {
-            Ok(recording) => judge(&recording.recorded.trace, shift),
-            Err(_) => "no recording",
-        };
+        let said = told_once(rt, alloc, version, shift);
         if said != UNANSWERED {
             return said;
         }
