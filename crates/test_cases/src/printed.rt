@@ -66,7 +66,10 @@ fn shown_and_drawn(alloc: Global, case: &Case<'_>) -> Result<String, AllocError>
 
 // Whether a terminal shows each byte or ends a line there.
 fn is_printable(bytes: &[u8]) -> bool {
-    bytes
-        .iter()
-        .all(|byte| *byte == b'\n' || (0x20..0x7f).contains(byte))
+    for byte in bytes {
+        if *byte != b'\n' && !(0x20..0x7f).contains(byte) {
+            return false;
+        }
+    }
+    true
 }

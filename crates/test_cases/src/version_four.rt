@@ -56,16 +56,14 @@ impl Rewritten {
 
     /// Whether a SYN of the trace carries a shift (RFC 7323, 2.2).
     pub fn carries_a_shift(&self) -> bool {
-        self.trace
-            .lines
-            .as_slice()
-            .iter()
-            .any(|line| match &line.event {
-                Event::Sent(_, wire) | Event::Came(_, wire) => {
-                    wire.seg.has(Flag::Syn) && wire.seg.scale.is_some()
+        for line in self.trace.lines.as_slice() {
+            if let Event::Sent(_, wire) | Event::Came(_, wire) = &line.event {
+                if wire.seg.has(Flag::Syn) && wire.seg.scale.is_some() {
+                    return true;
                 }
-                Event::CallBegin(_) | Event::CallEnd(_) | Event::Expired(..) => false,
-            })
+            }
+        }
+        false
     }
 }
 
@@ -153,9 +151,12 @@ fn moved_name(trace: &Trace, named: NamedLine, by: u64) -> NamedLine {
 
 // Whether the line of this number shows the arrival of a segment.
 fn is_arrival(trace: &Trace, number: u64) -> bool {
-    let place = number.checked_sub(trace.header.first_event_line());
-    let line = place
-        .and_then(|place| usize::try_from(place).ok())
-        .and_then(|place| trace.lines.as_slice().get(place));
-    line.is_some_and(|line| matches!(line.event, Event::Came(..)))
+    let Some(place) = number.checked_sub(trace.header.first_event_line()) else {
+        return false;
+    };
+    let place = usize::try_from(place).unwrap_or(usize::MAX);
+    match trace.lines.as_slice().get(place) {
+        Some(line) => matches!(line.event, Event::Came(..)),
+        None => false,
+    }
 }
