@@ -27,6 +27,9 @@ const CREWS: [[&str; 3]; 3] = [
 // What is printed for the three cases of `three_cases.txt`, and the status.
 const THREE: &str = "yes 4 2\nno 3 0 no-call\nbad witness 7 0 7 cut\n2";
 
+/// How many bytes of each of two texts are read at once.
+pub const PIECES: [usize; 3] = [1, 7, 4096];
+
 // Inputs with lines that end a case and lines that don't, each with the expected output and status.
 const ENDS: [(&str, &str); 10] = [
     ("", "0"),
@@ -47,40 +50,7 @@ const ENDS: [(&str, &str); 10] = [
     ("END\n", "bad trace 1 0 3 header\n2"),
 ];
 
-// A way to check one case.
-#[derive(Drop)]
-enum Way {
-    // By `check_case`.
-    CheckCase,
-    // By the command `check`.
-    Check,
-    // As two texts, which are read in pieces of so many bytes.
-    TwoTexts(usize),
-}
-
-const WAYS: [(&str, Way); 5] = [
-    ("check_case", Way::CheckCase),
-    ("check", Way::Check),
-    ("two texts in pieces of a byte", Way::TwoTexts(1)),
-    ("two texts in pieces of 7 bytes", Way::TwoTexts(7)),
-    ("two texts in pieces of 4096 bytes", Way::TwoTexts(4096)),
-];
-
-impl Way {
-    // What is printed for a case, then the status.
-    fn answer(&self, alloc: Global, text: &[u8]) -> Result<String, AllocError> {
-        match self {
-            Way::CheckCase => judged(alloc, text),
-            Way::Check => by_check(alloc, text),
-            Way::TwoTexts(size) => {
-                let texts = Texts::of(text);
-                by_pair(alloc, texts.trace, texts.witness, *size)
-            }
-        }
-    }
-}
-
-/// Checks all cases: each on its own, in each way; in one input of `many` those that a line `end` can follow; and the
+/// Checks all cases: each on its own, in several ways; in one input of `many` those that a line `end` can follow; and the
 /// inputs of `many` above.
 pub fn ask_cases<H: Threads + Wait + Sync>(
     rt: &H,
@@ -101,10 +71,20 @@ fn ask_each(cases: &[Case], report: &mut Report<'_>) -> Done {
     Ok(())
 }
 
+// Checks a case by `check_case`, by the command `check`, and as two texts.
 fn ask_case(case: &Case, report: &mut Report<'_>) -> Done {
-    for (name, way) in &WAYS {
-        let found = way.answer(report.alloc, case.text.as_slice())?;
-        case.compare(name, found.as_str(), report)?;
+    let found = judged(report.alloc, case.text.as_slice())?;
+    case.compare("check_case", found.as_str(), report)?;
+    let found = by_check(report.alloc, case.text.as_slice())?;
+    case.compare("check", found.as_str(), report)?;
+    ask_two_texts(case, report)
+}
+
+fn ask_two_texts(case: &Case, report: &mut Report<'_>) -> Done {
+    let texts = Texts::of(case.text.as_slice());
+    for size in PIECES {
+        let found = by_pair(report.alloc, texts.trace, texts.witness, size)?;
+        case.compare("two texts", found.as_str(), report)?;
     }
     Ok(())
 }

@@ -1,6 +1,6 @@
 //! Traces and witnesses as two texts into which no case would be split, as two files may be.
 
-use crate::asking::by_pair;
+use crate::asking::{PIECES, by_pair};
 use crate::report::{Done, Report};
 
 // The first line of a witness.
@@ -99,7 +99,7 @@ fn ask_beginnings(trace: &str, report: &mut Report<'_>) -> Done {
 
 // Checks two texts, in pieces of several sizes.
 fn ask(trace: &str, witness: &str, wanted: &str, report: &mut Report<'_>) -> Done {
-    for size in [1, 7, 4096] {
+    for size in PIECES {
         let found = by_pair(report.alloc, trace.as_bytes(), witness.as_bytes(), size)?;
         report.compare(trace, witness, wanted, found.as_str())?;
     }
