@@ -4,90 +4,96 @@
 //! `beginnings/NAME.txt`, counted from 0, has the line that is expected for the beginning that ends after k whole
 //! lines.
 
+use crate::report::{Done, Report};
 use crate::table::Case;
 use std::alloc::{AllocError, Global};
-use std::{fs, io};
 
-// A line of a case: the text that it belongs to, and its number there.
-#[derive(Clone, Copy)]
+// The examples, each with its expected lines.
+const EXAMPLES: [(&str, &str); 2] = [
+    ("examples/two_threads", "beginnings/two_threads.txt"),
+    (
+        "examples/handshake_and_five_bytes",
+        "beginnings/handshake_and_five_bytes.txt",
+    ),
+];
+
+// Where a beginning ends: in which text, and there after how many bytes of which line.
+#[derive(Drop)]
 struct Place {
     text: &'static str,
     number: u64,
+    length: u64,
 }
 
 impl Place {
-    // The place of the line after this one. The line `witness 1` is the last of the trace if it is cut off, and else
-    // the first of the witness.
-    fn next(self, line: &str) -> Place {
-        if line == "witness 1" {
-            return Place {
-                text: "witness",
-                number: 2,
-            };
+    // Goes on by a byte, the last one of this beginning. The line `witness 1` is the last of the trace if it is cut
+    // off, and else the first of the witness.
+    fn pass(&mut self, beginning: &[u8]) {
+        if !beginning.ends_with(b"\n") {
+            self.length = self.length.saturating_add(1);
+            return;
         }
-        Place {
-            text: self.text,
-            number: self.number.saturating_add(1),
+        self.length = 0;
+        self.number = self.number.saturating_add(1);
+        if beginning.ends_with(b"\nwitness 1\n") {
+            self.text = "witness";
+            self.number = 2;
         }
     }
 }
 
-/// Adds each beginning of the example of that name.
-pub fn push_beginnings(rt: &HostRuntime, name: &str, cases: &mut Vec<Case>) -> io::Result<()> {
-    let alloc = rt.alloc();
-    let case = fs::read_to_string(rt, format!(in alloc; "examples/{name}.case")?.as_str())?;
-    let answers = fs::read_to_string(rt, format!(in alloc; "beginnings/{name}.txt")?.as_str())?;
-    Ok(push_all(alloc, name, case.as_str(), answers.as_str(), cases)?)
+/// Adds each beginning of the examples.
+pub fn push_beginnings(cases: &mut Vec<Case>, report: &mut Report<'_>) -> Done {
+    for (name, lines) in &EXAMPLES {
+        let case = report.read_case(name)?;
+        let lines = report.read_text(lines)?;
+        push_all(report.alloc, name, case.as_slice(), lines.as_str(), cases)?;
+    }
+    Ok(())
 }
 
-// Adds each beginning of a case, with the answers to those that end after whole lines.
-fn push_all(
-    alloc: Global,
-    name: &str,
-    case: &str,
-    answers: &str,
-    cases: &mut Vec<Case>,
-) -> Result<(), AllocError> {
-    let mut answers = answers.lines();
-    let mut beginning = Vec::new(alloc);
+// Adds each beginning of a case, with the lines that are expected for those that end after whole lines.
+fn push_all(alloc: Global, name: &str, case: &[u8], lines: &str, cases: &mut Vec<Case>) -> Done {
+    let mut lines = lines.lines();
     let mut place = Place {
         text: "trace",
         number: 1,
+        length: 0,
     };
-    cases.push(begin(alloc, name, &beginning, answers.next().unwrap_or(""))?)?;
-    for line in case.lines() {
-        push_inside(alloc, name, &mut beginning, place, line, cases)?;
-        beginning.push(b'\n')?;
-        place = place.next(line);
-        cases.push(begin(alloc, name, &beginning, answers.next().unwrap_or(""))?)?;
+    for size in 0..=case.len() {
+        let beginning = case.get(..size).unwrap_or(case);
+        if size > 0 {
+            place.pass(beginning);
+        }
+        let whole = if place.length == 0 {
+            lines.next()
+        } else {
+            None
+        };
+        cases.push(begun(alloc, name, beginning, &place, whole)?)?;
     }
     Ok(())
 }
 
-// Adds the beginnings that end inside a line, each with the answer that the line is cut off.
-fn push_inside(
+// A beginning that ends at a place as a case. The line is the expected one if it ends after whole lines.
+fn begun(
     alloc: Global,
     name: &str,
-    beginning: &mut Vec<u8>,
-    place: Place,
-    line: &str,
-    cases: &mut Vec<Case>,
-) -> Result<(), AllocError> {
-    let mut length = 0u64;
-    for byte in line.as_bytes() {
-        beginning.push(*byte)?;
-        length = length.saturating_add(1);
-        let wanted = format!(in alloc; "bad {} {} 0 {length} cut", place.text, place.number)?;
-        cases.push(begin(alloc, name, beginning, wanted.as_str())?)?;
-    }
-    Ok(())
-}
-
-// A beginning as a case.
-fn begin(alloc: Global, name: &str, beginning: &Vec<u8>, wanted: &str) -> Result<Case, AllocError> {
-    Ok(Case {
-        name: format!(in alloc; "the first {} bytes of {name}", beginning.len())?,
-        text: Vec::from_slice(alloc, beginning.as_slice())?,
-        wanted: String::from_str(alloc, wanted)?,
-    })
+    beginning: &[u8],
+    place: &Place,
+    whole: Option<&str>,
+) -> Result<Case, AllocError> {
+    let Place {
+        text,
+        number,
+        length,
+    } = place;
+    let name = format!(in alloc; "the first {} bytes of {name}", beginning.len())?;
+    let cut = format!(in alloc; "bad {text} {number} 0 {length} cut")?;
+    Case::new(
+        alloc,
+        name.as_str(),
+        beginning,
+        whole.unwrap_or(cut.as_str()),
+    )
 }

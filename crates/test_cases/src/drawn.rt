@@ -1,27 +1,27 @@
 //! Which lines `tcpwit_lab draw` shows of a case with more than 400.
 
+use crate::long_lines::HEADER;
+use crate::report::{Done, Report};
 use drawing::{Range, draw};
 use replayed::Case;
 use std::alloc::{AllocError, Global};
-
-const HEADER: &str = "trace 1\nskew 0\nmsl 120000000\ngrain 1000\nminrto 1000000\nextra 0\n";
 
 // How many calls the case has. Each has two lines; the first call has lines 7 and 8.
 const CALLS: u64 = 500;
 
 // What is wrong with the case, and at which call, counted from 0.
-#[derive(Clone, Copy, PartialEq, Eq, Debug)]
+#[derive(Drop)]
 enum Fault {
     Nothing,
-    /// The call's effect has another answer.
+    // The call's effect has another answer.
     Answer(u64),
-    /// The call has no effect.
+    // The call has no effect.
     Effect(u64),
-    /// The witness names the line that begins the first call instead of the one that ends this call.
+    // The witness names the line that begins the first call instead of the one that ends this call.
     Again(u64),
-    /// The witness ends before the call.
+    // The witness ends before the call.
     Cut(u64),
-    /// The witness can't be read.
+    // The witness can't be read.
     Witness,
 }
 
@@ -43,73 +43,70 @@ const PICTURES: [(Fault, Option<u64>, Option<u64>, &str); 13] = [
     (Fault::Answer(480), Some(20), Some(900), "20 900"),
 ];
 
-/// Draws the case with each fault. The result is the number of pictures.
-pub fn ask_drawn(alloc: Global, differing: &mut Vec<String>) -> Result<usize, AllocError> {
-    for (fault, from, to, wanted) in &PICTURES {
+/// Draws the case with each fault.
+pub fn ask_drawn(report: &mut Report<'_>) -> Done {
+    for (number, (fault, from, to, wanted)) in PICTURES.iter().enumerate() {
         let range = Range {
             from: *from,
             to: *to,
         };
-        let found = found_in(alloc, *fault, range)?;
-        if found.as_str() != *wanted {
-            differing.push(format!(in alloc;
-                "a picture of {fault:?}, {from:?} to {to:?}: wanted lines {wanted:?}, found {found:?}"
-            )?)?;
-        }
+        let name = format!(in report.alloc; "picture {number}")?;
+        let text = case_with(report.alloc, fault)?;
+        let found = drawn(report.alloc, text.as_slice(), range)?;
+        report.compare(name.as_str(), "the lines drawn", wanted, found.as_str())?;
     }
-    Ok(PICTURES.len())
-}
-
-// The first and the last line that the picture of a case with a fault shows.
-fn found_in(alloc: Global, fault: Fault, range: Range) -> Result<String, AllocError> {
-    let text = case_with(alloc, fault)?;
-    match Case::read(alloc, text.as_slice()) {
-        Ok(case) => lines_drawn(alloc, draw(alloc, &case, range)?.as_str()),
-        Err(_) => String::from_str(alloc, "no picture"),
-    }
+    report.count(
+        PICTURES.len(),
+        "pictures of a long case show the lines that are wanted, and of ",
+    )
 }
 
 // The case with a fault.
-fn case_with(alloc: Global, fault: Fault) -> Result<Vec<u8>, AllocError> {
+fn case_with(alloc: Global, fault: &Fault) -> Result<Vec<u8>, AllocError> {
     let mut text = Vec::from_slice(alloc, HEADER.as_bytes())?;
     for _ in 0..CALLS {
         text.extend_from_slice(b"10 1 B status 9\n10 1 E badsocket\n")?;
     }
     text.extend_from_slice(b"witness 1\n")?;
-    for call in 0..CALLS {
-        if fault == Fault::Cut(call) {
-            break;
-        }
-        push_steps(alloc, &mut text, call, fault)?;
-    }
-    if fault == Fault::Witness {
-        text.extend_from_slice(b"no step\n")?;
-    }
+    push_witness(alloc, &mut text, fault)?;
     Ok(text)
 }
 
-// Writes the steps of a call.
-fn push_steps(
-    alloc: Global,
-    text: &mut Vec<u8>,
-    call: u64,
-    fault: Fault,
-) -> Result<(), AllocError> {
-    let begin = call.saturating_mul(2).saturating_add(7);
-    let end = if fault == Fault::Again(call) {
-        7
-    } else {
-        begin.saturating_add(1)
+// Writes the steps of all calls.
+fn push_witness(alloc: Global, text: &mut Vec<u8>, fault: &Fault) -> Done {
+    let calls = match fault {
+        Fault::Cut(at) => *at,
+        _ => CALLS,
     };
-    let effect = if fault == Fault::Effect(call) {
-        ""
-    } else if fault == Fault::Answer(call) {
-        "10 D 1 ok\n"
-    } else {
-        "10 D 1 badsocket\n"
+    for call in 0..calls {
+        push_steps(alloc, text, call, fault)?;
+    }
+    match fault {
+        Fault::Witness => text.extend_from_slice(b"no step\n"),
+        _ => Ok(()),
+    }
+}
+
+// Writes the steps of a call.
+fn push_steps(alloc: Global, text: &mut Vec<u8>, call: u64, fault: &Fault) -> Done {
+    let begin = call.saturating_mul(2).saturating_add(7);
+    let end = begin.saturating_add(1);
+    let (effect, end) = match fault {
+        Fault::Answer(at) if *at == call => ("10 D 1 ok\n", end),
+        Fault::Effect(at) if *at == call => ("", end),
+        Fault::Again(at) if *at == call => ("10 D 1 badsocket\n", 7),
+        _ => ("10 D 1 badsocket\n", end),
     };
     let steps = format!(in alloc; "10 L {begin}\n{effect}10 L {end}\n")?;
     text.extend_from_slice(steps.as_bytes())
+}
+
+// The first and the last line that the picture of a case shows.
+fn drawn(alloc: Global, text: &[u8], range: Range) -> Result<String, AllocError> {
+    match Case::read(alloc, text) {
+        Ok(case) => lines_drawn(alloc, draw(alloc, &case, range)?.as_str()),
+        Err(_) => String::from_str(alloc, "no picture"),
+    }
 }
 
 // The first and the last line that a picture shows; 0 if it shows none.

@@ -1,60 +1,37 @@
 //! Traces without a witness: recordings of the Linux kernel in `data/kernel/`, and written traces in `data/found/`. A
 //! witness is found for each, and the verdict on both is compared with its line of `expected.txt` in that folder.
 
-use checker::check_case;
+use crate::asking::judged;
+use crate::report::{Done, Report};
 use std::alloc::{AllocError, Global};
-use std::io::ErrorKind;
-use std::{fs, io};
 use witness_search::find;
 
-/// Finds a witness for each trace of a folder. The result is the number of traces.
-pub fn ask_folder(
-    rt: &HostRuntime,
-    folder: &str,
-    differing: &mut Vec<String>,
-) -> io::Result<usize> {
-    let alloc = rt.alloc();
-    let table = fs::read_to_string(rt, format!(in alloc; "{folder}/expected.txt")?.as_str())?;
-    let mut count = 0usize;
+/// Finds a witness for each trace of a folder, and counts them.
+pub fn ask_folder(folder: &str, what: &str, report: &mut Report<'_>) -> Done {
+    let path = format!(in report.alloc; "{folder}/expected.txt")?;
+    let table = report.read_text(path.as_str())?;
+    let mut count: usize = 0;
     for row in table.as_str().lines() {
-        let Some((name, wanted)) = row.split_once('\t') else {
-            return Err(io::Error::new(ErrorKind::InvalidData, "a line without a tab"));
-        };
-        ask_trace(
-            rt,
-            format!(in alloc; "{folder}/{name}")?.as_str(),
-            wanted,
-            differing,
-        )?;
+        ask_trace(folder, row, report)?;
         count = count.saturating_add(1);
     }
-    Ok(count)
+    report.count(count, what)
 }
 
-// Finds a witness for the trace at a path.
-fn ask_trace(
-    rt: &HostRuntime,
-    path: &str,
-    wanted: &str,
-    differing: &mut Vec<String>,
-) -> io::Result<()> {
-    let alloc = rt.alloc();
-    let trace = fs::read(rt, format!(in alloc; "{path}.trace")?.as_str())?;
-    let found = verdict_found(alloc, trace.as_slice())?;
-    drop(trace);
-    if found.as_str() != wanted {
-        differing.push(format!(in alloc; "{path}: wanted {wanted:?}, found {found:?}")?)?;
-    }
-    Ok(())
+// Finds a witness for the trace that a row of the table names.
+fn ask_trace(folder: &str, row: &str, report: &mut Report<'_>) -> Done {
+    let (name, wanted) = row.split_once('\t').unwrap_or((row, ""));
+    let path = format!(in report.alloc; "{folder}/{name}.trace")?;
+    let trace = report.read(path.as_str())?;
+    let found = verdict_found(report.alloc, trace.as_slice())?;
+    let line = found.as_str().lines().next().unwrap_or("");
+    report.compare(path.as_str(), "find", wanted, line)
 }
 
-// The verdict on the case that is found for a trace.
+// The verdict on the case that is found for a trace, as it would be printed.
 fn verdict_found(alloc: Global, trace: &[u8]) -> Result<String, AllocError> {
-    let Ok(case) = find(alloc, trace) else {
-        return String::from_str(alloc, "no case");
-    };
-    match check_case(alloc, case.as_slice()) {
-        Ok(verdict) => format!(in alloc; "{verdict}"),
-        Err(fault) => format!(in alloc; "{fault}"),
+    match find(alloc, trace) {
+        Ok(case) => judged(alloc, case.as_slice()),
+        Err(_) => String::from_str(alloc, "no case"),
     }
 }

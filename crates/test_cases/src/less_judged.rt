@@ -3,56 +3,58 @@
 //! With `congestion full`, a case of an older version has the same answer, with the numbers of trace lines moved. If
 //! less is judged, a yes stays the same yes.
 
+use crate::asking::{decided, judged};
+use crate::report::{Done, Report};
 use crate::table::Case;
 use crate::version_four::{Rewritten, moved, rename, rewrite};
 use case_forms::{Judged, Version};
 use checker::{CaseFault, check_case};
-use std::alloc::{AllocError, Global};
 use trace_reader::version_named;
 use verdict::Verdict;
 
-type Answer = Result<Verdict, CaseFault>;
-
-/// How many case files each of the two tests covered.
-#[derive(Clone, Copy)]
-pub struct Covered {
-    /// Those of versions 1 to 3 whose answer was compared with that in version 4.
-    pub same: usize,
-    /// Those whose answers with the three words were compared with each other.
-    pub words: usize,
+// How many case files each of the two tests covered.
+#[derive(Drop)]
+struct Covered {
+    // Those of versions 1 to 3 whose answer was compared with that in version 4.
+    same: usize,
+    // Those whose answers with the three words were compared with each other.
+    words: usize,
 }
 
-/// Checks each case as version 4 with each word. A text with a fault can't be rewritten; but if a line of the header is
-/// at fault that version 4 has too, the fault must stay the same after the text names version 4.
-pub fn ask_version_four(
-    alloc: Global,
-    cases: &[Case],
-    differing: &mut Vec<String>,
-) -> Result<Covered, AllocError> {
+/// Checks each case as version 4 with each word.
+pub fn ask_version_four(cases: &[Case], report: &mut Report<'_>) -> Done {
     let mut covered = Covered { same: 0, words: 0 };
     for case in cases {
-        let text = case.text.as_slice();
-        match check_case(alloc, text) {
-            Ok(verdict) => {
-                ask_words(alloc, case, verdict, &mut covered, differing)?;
-            }
-            Err(CaseFault::Trace(fault)) if is_shared(version_named(text), fault.span.line) => {
-                let found = check_case(alloc, rename(alloc, text)?.as_slice());
-                let wanted = Err(CaseFault::Trace(fault));
-                compare(
-                    alloc,
-                    case,
-                    "by its first line alone",
-                    wanted,
-                    found,
-                    differing,
-                )?;
-                covered.same = covered.same.saturating_add(1);
-            }
-            Err(_) => {}
-        }
+        ask_case(case, &mut covered, report)?;
     }
-    Ok(covered)
+    report.count(
+        covered.same,
+        "case files of versions 1 to 3 have the same answer in version 4, and of ",
+    )?;
+    report.count(
+        covered.words,
+        "case files none loses a yes when less is judged\n",
+    )
+}
+
+// A text with a fault can't be rewritten; but if a line of the header is at fault that version 4 has too, the fault must
+// stay the same after the text names version 4.
+fn ask_case(case: &Case, covered: &mut Covered, report: &mut Report<'_>) -> Done {
+    let text = case.text.as_slice();
+    match check_case(report.alloc, text) {
+        Ok(verdict) => ask_words(case, verdict, covered, report),
+        Err(CaseFault::Trace(fault)) if is_shared(version_named(text), fault.span.line) => {
+            covered.same = covered.same.saturating_add(1);
+            ask_renamed(case, report)
+        }
+        Err(_) => Ok(()),
+    }
+}
+
+fn ask_renamed(case: &Case, report: &mut Report<'_>) -> Done {
+    let text = rename(report.alloc, case.text.as_slice())?;
+    let found = judged(report.alloc, text.as_slice())?;
+    case.compare("version 4, by its first line alone", found.as_str(), report)
 }
 
 // Whether a line of the header has the same form in version 4. Line 1 names the version, and line 8 of version 3 is
@@ -67,42 +69,64 @@ fn is_shared(version: Version, line: u64) -> bool {
 
 // Checks a case that has this verdict as version 4 with each word.
 fn ask_words(
-    alloc: Global,
     case: &Case,
     verdict: Verdict,
     covered: &mut Covered,
-    differing: &mut Vec<String>,
-) -> Result<(), AllocError> {
-    let Ok(mut rewritten) = rewrite(alloc, case.text.as_slice()) else {
-        differing.push(format!(in alloc; "{} has a verdict and can't be read", case.name)?)?;
-        return Ok(());
-    };
-    let full = answer(alloc, &mut rewritten, Judged::Full)?;
-    let recovery = answer(alloc, &mut rewritten, Judged::Recovery)?;
-    let nothing = answer(alloc, &mut rewritten, Judged::NoControl)?;
-    if is_same(&rewritten) {
-        let wanted = Ok(moved_verdict(verdict, rewritten.moved_by));
-        compare(alloc, case, "with `full`", wanted, full, differing)?;
-        covered.same = covered.same.saturating_add(1);
+    report: &mut Report<'_>,
+) -> Done {
+    match rewrite(report.alloc, case.text.as_slice()) {
+        Ok(mut rewritten) => ask_rewritten(case, verdict, &mut rewritten, covered, report),
+        Err(_) => case.compare("version 4", "a fault", report),
     }
-    if is_yes(&full) {
-        compare(alloc, case, "with `recovery`", full, recovery, differing)?;
-    }
-    if is_yes(&recovery) {
-        compare(alloc, case, "with `none`", recovery, nothing, differing)?;
-    }
-    covered.words = covered.words.saturating_add(1);
-    Ok(())
 }
 
-// The answer to a case as version 4 with this word.
-fn answer(
-    alloc: Global,
+fn ask_rewritten(
+    case: &Case,
+    verdict: Verdict,
     rewritten: &mut Rewritten,
-    congestion: Judged,
-) -> Result<Answer, AllocError> {
-    let text = rewritten.text(alloc, congestion)?;
-    Ok(check_case(alloc, text.as_slice()))
+    covered: &mut Covered,
+    report: &mut Report<'_>,
+) -> Done {
+    let full = rewritten.answer(report.alloc, Judged::Full)?;
+    if is_same(rewritten) {
+        let wanted = decided(report.alloc, moved_verdict(verdict, rewritten.moved_by))?;
+        report.compare(
+            case.name.as_str(),
+            "version 4, full",
+            wanted.as_str(),
+            full.as_str(),
+        )?;
+        covered.same = covered.same.saturating_add(1);
+    }
+    covered.words = covered.words.saturating_add(1);
+    ask_less(case, full.as_str(), rewritten, report)
+}
+
+// Checks that an answer with `full` and that with `recovery` stay if they are a yes and less is judged.
+fn ask_less(case: &Case, full: &str, rewritten: &mut Rewritten, report: &mut Report<'_>) -> Done {
+    let recovery = rewritten.answer(report.alloc, Judged::Recovery)?;
+    compare_yes(case, "version 4, recovery", full, recovery.as_str(), report)?;
+    let nothing = rewritten.answer(report.alloc, Judged::NoControl)?;
+    compare_yes(
+        case,
+        "version 4, none",
+        recovery.as_str(),
+        nothing.as_str(),
+        report,
+    )
+}
+
+fn compare_yes(
+    case: &Case,
+    word: &str,
+    wanted: &str,
+    found: &str,
+    report: &mut Report<'_>,
+) -> Done {
+    if wanted.starts_with("yes ") {
+        report.compare(case.name.as_str(), word, wanted, found)?;
+    }
+    Ok(())
 }
 
 // Whether version 4 must give the same answer as the version that was read. Version 1 doesn't look at the shift that a
@@ -113,10 +137,6 @@ fn is_same(rewritten: &Rewritten) -> bool {
         Version::Two | Version::Three => true,
         Version::Four | Version::FourHalf => false,
     }
-}
-
-fn is_yes(answer: &Answer) -> bool {
-    matches!(answer, Ok(Verdict::Yes { .. }))
 }
 
 // The verdict after the event lines moved.
@@ -133,22 +153,4 @@ fn moved_verdict(verdict: Verdict, by: u64) -> Verdict {
             rule,
         },
     }
-}
-
-// Adds a line if a case as version 4 doesn't have the expected answer.
-fn compare(
-    alloc: Global,
-    case: &Case,
-    way: &str,
-    wanted: Answer,
-    found: Answer,
-    differing: &mut Vec<String>,
-) -> Result<(), AllocError> {
-    if found != wanted {
-        differing.push(format!(in alloc;
-            "{}, as version 4 {way}: wanted {wanted:?}, found {found:?}",
-            case.name
-        )?)?;
-    }
-    Ok(())
 }

@@ -1,153 +1,109 @@
 //! Lines of the greatest length, and one byte longer. The LF isn't counted, and a line without one is measured whole.
 
+use crate::report::{Done, Report};
 use crate::table::Case;
 use std::alloc::{AllocError, Global};
 
-const HEADER: &str = "trace 1\nskew 0\nmsl 120000000\ngrain 1000\nminrto 1000000\nextra 0\n";
+/// The header of a trace of version 1.
+pub const HEADER: &str = "trace 1\nskew 0\nmsl 120000000\ngrain 1000\nminrto 1000000\nextra 0\n";
 
-// So many letters, which may be hex digits: what is between the header and them, what follows them, and the expected
-// line.
-#[derive(Clone, Copy)]
-struct Long {
-    before: &'static str,
-    letters: usize,
-    after: &'static str,
-    wanted: &'static str,
-}
+// An empty witness, and the end of the line before it.
+const WITNESS: &str = "\nwitness 1\n";
 
-const LONG: [Long; 18] = [
-    Long {
-        before: "",
-        letters: 140_000,
-        after: "\nwitness 1\n",
-        wanted: "bad trace 7 0 140000 number",
-    },
-    Long {
-        before: "",
-        letters: 140_001,
-        after: "\nwitness 1\n",
-        wanted: "bad trace 7 0 140001 line-too-long",
-    },
-    Long {
-        before: "",
-        letters: 140_000,
-        after: "\r\nwitness 1\n",
-        wanted: "bad trace 7 0 140000 number",
-    },
-    Long {
-        before: "",
-        letters: 140_000,
-        after: "\r\r\nwitness 1\n",
-        wanted: "bad trace 7 0 140001 line-too-long",
-    },
-    Long {
-        before: "",
-        letters: 140_000,
-        after: "",
-        wanted: "bad trace 7 0 140000 cut",
-    },
-    Long {
-        before: "",
-        letters: 140_000,
-        after: "\r",
-        wanted: "bad trace 7 0 140001 line-too-long",
-    },
-    Long {
-        before: "",
-        letters: 140_001,
-        after: "",
-        wanted: "bad trace 7 0 140001 line-too-long",
-    },
-    Long {
-        before: "witness 1\n",
-        letters: 140_000,
-        after: "\n",
-        wanted: "bad witness 2 0 140000 number",
-    },
-    Long {
-        before: "witness 1\n",
-        letters: 140_001,
-        after: "\n",
-        wanted: "bad witness 2 0 140001 line-too-long",
-    },
-    Long {
-        before: "",
-        letters: 200_001,
-        after: "\r\n9 x\nwitness 1\n",
-        wanted: "bad trace 7 0 200001 line-too-long",
-    },
-    Long {
-        before: "10 1 B send 5 ",
-        letters: 131_070,
-        after: "\nwitness 1\n",
-        wanted: "no 0 7 unplaced",
-    },
-    Long {
-        before: "10 1 B send 5 ",
-        letters: 131_072,
-        after: "\nwitness 1\n",
-        wanted: "bad trace 7 14 131086 hex",
-    },
-    Long {
-        before: "10 1 E data ",
-        letters: 131_070,
-        after: "\nwitness 1\n",
-        wanted: "no 0 7 unplaced",
-    },
-    Long {
-        before: "10 1 E data ",
-        letters: 131_072,
-        after: "\nwitness 1\n",
-        wanted: "bad trace 7 12 131084 hex",
-    },
-    Long {
-        before: "10 3 O 0 0fa00050fffffffe000000005002ffff00000000",
-        letters: 130_990,
-        after: "\nwitness 1\n",
-        wanted: "no 0 7 unplaced",
-    },
-    Long {
-        before: "10 3 O 0 0fa00050fffffffe000000005002ffff00000000",
-        letters: 130_992,
-        after: "\nwitness 1\n",
-        wanted: "bad trace 7 9 131041 segment too-long",
-    },
-    Long {
-        before: "witness 1\n10 D 1 data ",
-        letters: 131_070,
-        after: "\n10\n",
-        wanted: "bad witness 3 2 2 field",
-    },
-    Long {
-        before: "witness 1\n10 D 1 data ",
-        letters: 131_072,
-        after: "\n10\n",
-        wanted: "bad witness 2 12 131084 hex",
-    },
+// So many letters, which may be hex digits: what is between the header and them, their count, what follows them, and
+// the expected line.
+const LONG: [(&str, usize, &str, &str); 18] = [
+    ("", 140_000, WITNESS, "bad trace 7 0 140000 number"),
+    ("", 140_001, WITNESS, "bad trace 7 0 140001 line-too-long"),
+    (
+        "",
+        140_000,
+        "\r\nwitness 1\n",
+        "bad trace 7 0 140000 number",
+    ),
+    (
+        "",
+        140_000,
+        "\r\r\nwitness 1\n",
+        "bad trace 7 0 140001 line-too-long",
+    ),
+    ("", 140_000, "", "bad trace 7 0 140000 cut"),
+    ("", 140_000, "\r", "bad trace 7 0 140001 line-too-long"),
+    ("", 140_001, "", "bad trace 7 0 140001 line-too-long"),
+    (
+        "witness 1\n",
+        140_000,
+        "\n",
+        "bad witness 2 0 140000 number",
+    ),
+    (
+        "witness 1\n",
+        140_001,
+        "\n",
+        "bad witness 2 0 140001 line-too-long",
+    ),
+    (
+        "",
+        200_001,
+        "\r\n9 x\nwitness 1\n",
+        "bad trace 7 0 200001 line-too-long",
+    ),
+    ("10 1 B send 5 ", 131_070, WITNESS, "no 0 7 unplaced"),
+    (
+        "10 1 B send 5 ",
+        131_072,
+        WITNESS,
+        "bad trace 7 14 131086 hex",
+    ),
+    ("10 1 E data ", 131_070, WITNESS, "no 0 7 unplaced"),
+    (
+        "10 1 E data ",
+        131_072,
+        WITNESS,
+        "bad trace 7 12 131084 hex",
+    ),
+    (
+        "10 3 O 0 0fa00050fffffffe000000005002ffff00000000",
+        130_990,
+        WITNESS,
+        "no 0 7 unplaced",
+    ),
+    (
+        "10 3 O 0 0fa00050fffffffe000000005002ffff00000000",
+        130_992,
+        WITNESS,
+        "bad trace 7 9 131041 segment too-long",
+    ),
+    (
+        "witness 1\n10 D 1 data ",
+        131_070,
+        "\n10\n",
+        "bad witness 3 2 2 field",
+    ),
+    (
+        "witness 1\n10 D 1 data ",
+        131_072,
+        "\n10\n",
+        "bad witness 2 12 131084 hex",
+    ),
 ];
 
 /// Adds a case for each.
-pub fn push_long_lines(alloc: Global, cases: &mut Vec<Case>) -> Result<(), AllocError> {
-    for long in &LONG {
-        cases.push(Case {
-            name: format!(in alloc;
-                "a line of {} letters behind {:?} and before {:?}",
-                long.letters, long.before, long.after
-            )?,
-            text: long.text(alloc)?,
-            wanted: String::from_str(alloc, long.wanted)?,
-        })?;
+pub fn push_long_lines(cases: &mut Vec<Case>, report: &mut Report<'_>) -> Done {
+    for (before, letters, after, line) in &LONG {
+        let name = format!(in report.alloc; "{before:?}, {letters} letters, {after:?}")?;
+        let text = text_of(report.alloc, before, *letters, after)?;
+        cases.push(Case::new(report.alloc, name.as_str(), text.as_slice(), line)?)?;
     }
-    Ok(())
+    report.count(LONG.len(), "long lines, ")
 }
 
-impl Long {
-    fn text(&self, alloc: Global) -> Result<Vec<u8>, AllocError> {
-        let letters = vec![in alloc; b'a'; self.letters]?;
-        let mut text = Vec::from_slice(alloc, HEADER.as_bytes())?;
-        text.extend_from_slice(self.before.as_bytes())?;
-        text.extend_from_slice(letters.as_slice())?;
-        text.extend_from_slice(self.after.as_bytes())?;
-        Ok(text)
-    }
+// The header, and a line with so many letters.
+fn text_of(alloc: Global, before: &str, count: usize, after: &str) -> Result<Vec<u8>, AllocError> {
+    let letters = vec![in alloc; b'a'; count]?;
+    let mut text = Vec::from_slice(alloc, HEADER.as_bytes())?;
+    text.extend_from_slice(before.as_bytes())?;
+    text.extend_from_slice(letters.as_slice())?;
+    text.extend_from_slice(after.as_bytes())?;
+    Ok(text)
 }

@@ -9,14 +9,14 @@
 //! Else standard error has a line for each answer that differs, with the name of the case, how it was checked, what was
 //! expected and what was found, and the program ends with status 1.
 //!
+//! - `report`: what the checks found
 //! - `table`: cases, and those of the files
 //! - `beginnings`: each beginning of a case
 //! - `long_lines`: lines of the greatest length, and one byte longer
 //! - `pairs`: a trace and a witness as two texts, into which no case would be split
 //! - `asking`: by `check_case`, by the command `check`, as two texts in pieces, and by the command `many`
 //! - `command_lines`: command lines, read as the program reads its own
-//! - `stored`: texts that `tcpwit_lab` must print: for a case (`told`), and suspicious behavior that breaks no rule
-//!   (`remarked`)
+//! - `stored`: texts that `tcpwit_lab` must print for a case
 //! - `kernel`: witnesses found for recordings of the Linux kernel and for written traces
 //! - `drawn`: which lines of a long case are drawn; `printed`: bytes that no terminal interprets
 //! - `version_four`: rewrites a case as version 4
@@ -32,158 +32,68 @@ mod less_judged;
 mod long_lines;
 mod pairs;
 mod printed;
-mod remarked;
+mod report;
 mod stored;
 mod table;
-mod told;
 mod version_four;
 
-use less_judged::Covered;
+use kernel::ask_folder;
+use report::{Done, Report};
+use std::io;
 use std::process::ExitCode;
 use std::sync::Wait;
 use std::thread::Threads;
-use std::{fs, io};
-use stored::{Table, ask_stored};
+use stored::ask_stored;
 use table::Case;
 
-// What is printed for the three cases of `three_cases.txt`, and the status.
-const THREE: &str = "yes 4 2\nno 3 0 no-call\nbad witness 7 0 7 cut\n2";
-
-// How many cases, texts and command lines were checked.
-#[derive(Clone, Copy)]
-struct CaseCounts {
-    files: usize,
-    beginnings: usize,
-    long_lines: usize,
-    covered: Covered,
-    pairs: usize,
-    command_lines: usize,
-}
-
-// How many cases, traces and pictures `tcpwit_lab` was checked with.
-#[derive(Clone, Copy)]
-struct LabCounts {
-    told: u64,
-    remarked: u64,
-    recorded: usize,
-    written: usize,
-    drawn: usize,
-    with_esc: usize,
-}
-
 fn main(rt: HostRuntime) -> io::Result<ExitCode> {
-    let mut differing = Vec::new(rt.alloc());
-    let cases = ask_cases(&rt, &rt, &mut differing)?;
-    let lab = ask_lab(&rt, &mut differing)?;
-    print_differing(&rt, differing.as_slice())?;
-    if !differing.is_empty() {
-        return Ok(ExitCode::FAILURE);
-    }
-    print_case_counts(&rt, cases, lab)?;
-    print_lab_counts(&rt, lab)?;
-    Ok(ExitCode::SUCCESS)
-}
-
-// Reads the cases, and checks them in several ways. Both handles are the same; only `main` knows that it has threads.
-fn ask_cases<H: Threads + Wait + Sync>(
-    rt: &HostRuntime,
-    threads: &H,
-    differing: &mut Vec<String>,
-) -> io::Result<CaseCounts> {
-    let mut cases = table::read_table(rt)?;
-    let counts = ask_and_count(rt, threads, &mut cases, differing);
+    let mut cases = Vec::new(rt.alloc());
+    let mut report = Report::new(&rt);
+    let asked = ask_all(&rt, &mut cases, &mut report);
+    let untold = table::report_untold(&rt, cases.as_slice(), &mut report);
+    let printed = report.print();
     drop(cases);
-    counts
+    drop(report);
+    asked?;
+    untold?;
+    printed
 }
 
-fn ask_and_count<H: Threads + Wait + Sync>(
-    rt: &HostRuntime,
-    threads: &H,
+// Reads the cases, and checks them and all else in several ways.
+fn ask_all<H: Threads + Wait + Sync>(
+    rt: &H,
     cases: &mut Vec<Case>,
-    differing: &mut Vec<String>,
-) -> io::Result<CaseCounts> {
-    let alloc = rt.alloc();
-    table::push_untold(rt, cases.as_slice(), differing)?;
+    report: &mut Report<'_>,
+) -> Done {
+    table::push_files(cases, report)?;
     let files = cases.len();
-    let covered = less_judged::ask_version_four(alloc, cases.as_slice(), differing)?;
-    for name in ["two_threads", "handshake_and_five_bytes"] {
-        beginnings::push_beginnings(rt, name, cases)?;
-    }
-    let beginnings = cases.len().saturating_sub(files);
-    long_lines::push_long_lines(alloc, cases)?;
-    asking::ask_each(alloc, cases.as_slice(), differing)?;
-    asking::ask_many(threads, alloc, cases.as_slice(), differing)?;
-    asking::ask_ends(threads, alloc, differing)?;
-    ask_three(rt, threads, differing)?;
-    Ok(CaseCounts {
-        files,
-        beginnings,
-        long_lines: cases.len().saturating_sub(files).saturating_sub(beginnings),
-        covered,
-        pairs: pairs::ask_pairs(rt, "handshake_and_five_bytes", differing)?,
-        command_lines: ask_command_lines(rt, threads, differing)?,
-    })
-}
-
-fn ask_three<H: Threads + Wait + Sync>(
-    rt: &HostRuntime,
-    threads: &H,
-    differing: &mut Vec<String>,
-) -> io::Result<()> {
-    let three = fs::read(rt, "three_cases.txt")?;
-    Ok(asking::ask_crews(threads, rt.alloc(), three.as_slice(), THREE, differing)?)
-}
-
-fn ask_command_lines<H: Threads + Wait + Sync>(
-    rt: &HostRuntime,
-    threads: &H,
-    differing: &mut Vec<String>,
-) -> io::Result<usize> {
-    let table = fs::read_to_string(rt, "command_lines.txt")?;
-    command_lines::ask_rows(threads, rt.alloc(), table.as_str(), differing)
-}
-
-// Runs `tcpwit_lab` on cases, traces and texts with ESC.
-fn ask_lab(rt: &HostRuntime, differing: &mut Vec<String>) -> io::Result<LabCounts> {
-    Ok(LabCounts {
-        told: ask_stored(rt, Table::Told, differing)?,
-        remarked: ask_stored(rt, Table::Remarked, differing)?,
-        recorded: kernel::ask_folder(rt, "kernel", differing)?,
-        written: kernel::ask_folder(rt, "found", differing)?,
-        drawn: drawn::ask_drawn(rt.alloc(), differing)?,
-        with_esc: printed::ask_printed(rt, "handshake_and_five_bytes", differing)?,
-    })
-}
-
-fn print_differing(rt: &HostRuntime, differing: &[String]) -> io::Result<()> {
-    for line in differing {
-        eprintln!(rt; "{line}")?;
-    }
-    Ok(())
-}
-
-fn print_case_counts(rt: &HostRuntime, cases: CaseCounts, lab: LabCounts) -> io::Result<()> {
-    print!(rt;
-        "{} case files, {} beginnings of two of them, {} long lines, {} pairs of texts and {} command lines are \
-            answered as wanted, ",
-        cases.files, cases.beginnings, cases.long_lines, cases.pairs, cases.command_lines
+    report.count(files, "case files, ")?;
+    beginnings::push_beginnings(cases, report)?;
+    report.count(
+        cases.len().saturating_sub(files),
+        "beginnings of two of them, ",
     )?;
-    println!(rt;
-        "{} cases explained, shown or drawn as wanted, {} cases remarked on as wanted, and {} recordings of the kernel \
-            explained by what is found",
-        lab.told, lab.remarked, lab.recorded
+    long_lines::push_long_lines(cases, report)?;
+    asking::ask_cases(rt, cases.as_slice(), report)?;
+    pairs::ask_pairs(report)?;
+    command_lines::ask_rows(rt, report)?;
+    ask_stored(
+        "told.txt",
+        "cases explained, shown or drawn as wanted, ",
+        report,
     )?;
-    println!(rt;
-        "{} case files of versions 1 to 3 have the same answer in version 4, and of {} case files none loses a yes \
-            when less is judged",
-        cases.covered.same, cases.covered.words
-    )
-}
-
-fn print_lab_counts(rt: &HostRuntime, lab: LabCounts) -> io::Result<()> {
-    println!(rt;
-        "{} written traces are explained by what is found, {} pictures of a long case show the lines that are wanted, \
-            and of {} texts with ESC no control byte is printed",
-        lab.written, lab.drawn, lab.with_esc
-    )
+    ask_stored("remarked.txt", "cases remarked on as wanted, and ", report)?;
+    ask_folder(
+        "kernel",
+        "recordings of the kernel explained by what is found\n",
+        report,
+    )?;
+    less_judged::ask_version_four(cases.as_slice().get(..files).unwrap_or(&[]), report)?;
+    ask_folder(
+        "found",
+        "written traces are explained by what is found, ",
+        report,
+    )?;
+    drawn::ask_drawn(report)?;
+    printed::ask_printed(report)
 }

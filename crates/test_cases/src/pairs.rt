@@ -1,8 +1,10 @@
 //! Traces and witnesses as two texts into which no case would be split, as two files may be.
 
-use crate::asking::{PIECES, by_pair, witness_begins};
-use std::alloc::{AllocError, Global};
-use std::{fs, io};
+use crate::asking::{PIECES, by_pair};
+use crate::report::{Done, Report};
+
+// The first line of a witness.
+const LINE: &str = "witness 1";
 
 // A trace without events.
 const EMPTY: &str = "trace 1\nskew 0\nmsl 1\ngrain 0\nminrto 0\nextra 0\n";
@@ -71,63 +73,35 @@ const PAIRS: [(&str, &str, &str); 18] = [
     ),
 ];
 
-/// Checks each pair, and the trace of a whole case with each beginning of its witness's first line. The result is the
-/// number of pairs.
-pub fn ask_pairs(rt: &HostRuntime, name: &str, differing: &mut Vec<String>) -> io::Result<usize> {
-    let alloc = rt.alloc();
+/// Checks each pair, and the trace of an example with each beginning of a witness's first line.
+pub fn ask_pairs(report: &mut Report<'_>) -> Done {
     for (trace, witness, wanted) in &PAIRS {
-        ask(
-            alloc,
-            trace.as_bytes(),
-            witness.as_bytes(),
-            wanted,
-            differing,
-        )?;
+        ask(trace, witness, wanted, report)?;
     }
-    let case = fs::read(rt, format!(in alloc; "examples/{name}.case")?.as_str())?;
-    let beginnings = ask_beginnings(alloc, case.as_slice(), differing)?;
-    Ok(PAIRS.len().saturating_add(beginnings))
+    let case = report.read_text("examples/handshake_and_five_bytes.case")?;
+    let (trace, _) = case.as_str().split_once(LINE).unwrap_or(("", ""));
+    ask_beginnings(trace, report)?;
+    let count = PAIRS.len().saturating_add(LINE.len()).saturating_add(1);
+    report.count(count, "pairs of texts and ")
 }
 
-// Checks the trace of a case with each beginning of its witness's first line. The result is the number of beginnings.
-fn ask_beginnings(
-    alloc: Global,
-    case: &[u8],
-    differing: &mut Vec<String>,
-) -> Result<usize, AllocError> {
-    let (trace, witness) = case.split_at(witness_begins(case));
-    let line = witness.split(|byte| *byte == b'\n').next().unwrap_or(&[]);
-    for length in 0..=line.len() {
-        let kind = if length == 0 { "header" } else { "cut" };
-        let wanted = format!(in alloc; "bad witness 1 0 {length} {kind}\n2")?;
-        ask(
-            alloc,
-            trace,
-            line.get(..length).unwrap_or(&[]),
-            wanted.as_str(),
-            differing,
-        )?;
+// Checks a trace with each beginning of a witness's first line.
+fn ask_beginnings(trace: &str, report: &mut Report<'_>) -> Done {
+    ask(trace, "", "bad witness 1 0 0 header\n2", report)?;
+    let mut beginning = String::new(report.alloc);
+    for letter in LINE.chars() {
+        beginning.push(letter)?;
+        let wanted = format!(in report.alloc; "bad witness 1 0 {} cut\n2", beginning.len())?;
+        ask(trace, beginning.as_str(), wanted.as_str(), report)?;
     }
-    Ok(line.len().saturating_add(1))
+    Ok(())
 }
 
 // Checks two texts, in pieces of several sizes.
-fn ask(
-    alloc: Global,
-    trace: &[u8],
-    witness: &[u8],
-    wanted: &str,
-    differing: &mut Vec<String>,
-) -> Result<(), AllocError> {
+fn ask(trace: &str, witness: &str, wanted: &str, report: &mut Report<'_>) -> Done {
     for size in PIECES {
-        let found = by_pair(alloc, trace, witness, size)?;
-        if found.as_str() != wanted {
-            let text = String::from_utf8_lossy(alloc, witness)?;
-            differing.push(format!(in alloc;
-                "{} bytes of a trace, and the witness {text:?}: wanted {wanted:?}, found {found:?}",
-                trace.len()
-            )?)?;
-        }
+        let found = by_pair(report.alloc, trace.as_bytes(), witness.as_bytes(), size)?;
+        report.compare(trace, witness, wanted, found.as_str())?;
     }
     Ok(())
 }

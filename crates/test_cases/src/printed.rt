@@ -1,24 +1,22 @@
 //! A text in which one byte is ESC, which a terminal would interpret: `tcpwit_lab` prints no such byte.
 
+use crate::report::{Done, Report};
 use drawing::{Range, draw, show};
 use plain_words::fault_line;
 use replayed::{Case, Texts};
 use std::alloc::{AllocError, Global};
-use std::{fs, io};
 use witness_search::find;
 
 const ESC: u8 = 0x1b;
 
-/// Puts ESC at each place of the example of that name, and runs `find`, `show` and `draw`. The result is the number of
-/// texts.
-pub fn ask_printed(rt: &HostRuntime, name: &str, differing: &mut Vec<String>) -> io::Result<usize> {
-    let alloc = rt.alloc();
-    let case = fs::read(rt, format!(in alloc; "examples/{name}.case")?.as_str())?;
+/// Puts ESC at each place of an example, and runs `find`, `show` and `draw`.
+pub fn ask_printed(report: &mut Report<'_>) -> Done {
+    let case = report.read_case("examples/handshake_and_five_bytes")?;
     for place in 0..case.len() {
-        let text = with_esc(alloc, case.as_slice(), place)?;
-        ask_text(alloc, text.as_slice(), place, differing)?;
+        let text = with_esc(report.alloc, case.as_slice(), place)?;
+        ask_text(text.as_slice(), place, report)?;
     }
-    Ok(case.len())
+    report.count(case.len(), "texts with ESC no control byte is printed\n")
 }
 
 // The text with ESC at a place.
@@ -30,37 +28,48 @@ fn with_esc(alloc: Global, text: &[u8], place: usize) -> Result<Vec<u8>, AllocEr
     Ok(text)
 }
 
-fn ask_text(
-    alloc: Global,
-    text: &[u8],
-    place: usize,
-    differing: &mut Vec<String>,
-) -> Result<(), AllocError> {
-    let mut printed = match find(alloc, Texts::of(text).trace) {
-        Ok(case) => case,
-        Err(fault) => fault_line(alloc, "bad trace ", &fault)?.into_bytes(),
-    };
-    push_shown(alloc, text, &mut printed)?;
-    if !printed.as_slice().iter().all(|byte| is_printable(*byte)) {
-        differing.push(format!(in alloc; "ESC at byte {place}: a control byte is printed")?)?;
+fn ask_text(text: &[u8], place: usize, report: &mut Report<'_>) -> Done {
+    let found = found(report.alloc, text)?;
+    let shown = shown(report.alloc, text)?;
+    if !is_printable(found.as_slice()) || !is_printable(shown.as_bytes()) {
+        let name = format!(in report.alloc; "ESC at byte {place}")?;
+        report.compare(name.as_str(), "printed", "no control byte", "one")?;
     }
     Ok(())
 }
 
-// Writes what `show` and `draw` print for a case.
-fn push_shown(alloc: Global, text: &[u8], printed: &mut Vec<u8>) -> Result<(), AllocError> {
+// What `find` prints for the trace of a case.
+fn found(alloc: Global, text: &[u8]) -> Result<Vec<u8>, AllocError> {
+    match find(alloc, Texts::of(text).trace) {
+        Ok(case) => Ok(case),
+        Err(fault) => Ok(fault_line(alloc, "bad trace ", &fault)?.into_bytes()),
+    }
+}
+
+// What `show` and `draw` print for a case.
+fn shown(alloc: Global, text: &[u8]) -> Result<String, AllocError> {
+    match Case::read(alloc, text) {
+        Ok(case) => shown_and_drawn(alloc, &case),
+        Err(_) => Ok(String::new(alloc)),
+    }
+}
+
+fn shown_and_drawn(alloc: Global, case: &Case<'_>) -> Result<String, AllocError> {
     let range = Range {
         from: None,
         to: None,
     };
-    if let Ok(case) = Case::read(alloc, text) {
-        printed.extend_from_slice(show(alloc, &case)?.as_bytes())?;
-        printed.extend_from_slice(draw(alloc, &case, range)?.as_bytes())?;
-    }
-    Ok(())
+    let mut text = show(alloc, case)?;
+    text.push_str(draw(alloc, case, range)?.as_str())?;
+    Ok(text)
 }
 
-// Whether a terminal shows this byte or ends a line there.
-fn is_printable(byte: u8) -> bool {
-    byte == b'\n' || (0x20..0x7f).contains(&byte)
+// Whether a terminal shows each byte or ends a line there.
+fn is_printable(bytes: &[u8]) -> bool {
+    for byte in bytes {
+        if *byte != b'\n' && !(0x20..0x7f).contains(byte) {
+            return false;
+        }
+    }
+    true
 }

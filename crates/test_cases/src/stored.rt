@@ -1,74 +1,103 @@
-//! Stored texts: what `tcpwit_lab` must print. A table has a block for each: a line `== HEAD`, and then the text.
+//! Stored texts: what `tcpwit_lab` must print for a case. A table has a block for each: a line `== HEAD`, and then the
+//! text. HEAD is `WORD NAME` in `told.txt`, with a command and the name of a case, and `STATUS NAME VERDICT` in
+//! `remarked.txt`, for the command `remark`.
 
-use crate::{remarked, told};
+use crate::report::{Done, Report};
+use drawing::{Range, draw, show};
+use plain_words::fault_line;
+use remarks::{Remarked, remark};
+use replayed::{Case, ReplayFault};
 use std::alloc::{AllocError, Global};
-use std::{fs, io};
+use verdict::Verdict;
+use why::{Origin, explain};
 
-/// A table of texts, whose blocks have these heads.
-#[derive(Clone, Copy)]
-pub enum Table {
-    /// `told.txt`: `WORD NAME`, with a command and the name of a case.
-    Told,
-    /// `remarked.txt`: `STATUS NAME VERDICT`, with the name of a case and its verdict.
-    Remarked,
-}
-
-impl Table {
-    fn file(self) -> &'static str {
-        match self {
-            Table::Told => "told.txt",
-            Table::Remarked => "remarked.txt",
-        }
-    }
-
-    // The block with this head as it should be, by what is printed for the text that it names.
-    fn found(self, alloc: Global, head: &str, text: &[u8]) -> Result<String, AllocError> {
-        match self {
-            Table::Told => told::block(alloc, head, text),
-            Table::Remarked => remarked::block(alloc, head, text),
-        }
-    }
-}
-
-/// Compares each block of a table with what is printed now. The result is the number of blocks.
-pub fn ask_stored(rt: &HostRuntime, table: Table, differing: &mut Vec<String>) -> io::Result<u64> {
-    let text = fs::read_to_string(rt, table.file())?;
-    let mut count: u64 = 0;
-    for block in text.as_str().split("== ").skip(1) {
-        ask_block(rt, table, block, differing)?;
+/// Compares each block of a table with what is printed now, and counts them.
+pub fn ask_stored(file: &str, what: &str, report: &mut Report<'_>) -> Done {
+    let table = report.read_text(file)?;
+    let mut count: usize = 0;
+    for block in table.as_str().split("== ").skip(1) {
+        ask_block(file, block, report)?;
         count = count.saturating_add(1);
     }
-    Ok(count)
+    report.count(count, what)
 }
 
-fn ask_block(
-    rt: &HostRuntime,
-    table: Table,
-    block: &str,
-    differing: &mut Vec<String>,
-) -> io::Result<()> {
+fn ask_block(file: &str, block: &str, report: &mut Report<'_>) -> Done {
     let head = block.lines().next().unwrap_or("");
-    let text = read_named(rt, head)?;
-    let found = table.found(rt.alloc(), head, text.as_slice())?;
-    Ok(compare(rt.alloc(), table, block, found.as_str(), differing)?)
-}
-
-// The case that a head names.
-fn read_named(rt: &HostRuntime, head: &str) -> io::Result<Vec<u8>> {
     let name = head.split(' ').nth(1).unwrap_or("");
-    let path = format!(in rt.alloc(); "{name}.case")?;
-    fs::read(rt, path.as_str())
+    let case = report.read_case(name)?;
+    let found = block_of(report.alloc, head, name, case.as_slice())?;
+    report.compare(head, file, block, found.as_str())
 }
 
-fn compare(
-    alloc: Global,
-    table: Table,
-    wanted: &str,
-    found: &str,
-    differing: &mut Vec<String>,
-) -> Result<(), AllocError> {
-    if found != wanted {
-        differing.push(format!(in alloc; "{}: wanted {wanted:?}, found {found:?}", table.file())?)?;
+// The block with this head as it should be. The word `simulated` means `explain --simulated`.
+fn block_of(alloc: Global, head: &str, name: &str, text: &[u8]) -> Result<String, AllocError> {
+    match head.split(' ').next() {
+        Some("explain") => explained(alloc, head, text, Origin::Captured),
+        Some("simulated") => explained(alloc, head, text, Origin::Simulated),
+        Some("show" | "draw") => shown(alloc, head, text),
+        _ => remarked(alloc, name, text),
     }
-    Ok(())
+}
+
+fn explained(alloc: Global, head: &str, text: &[u8], origin: Origin) -> Result<String, AllocError> {
+    match explain(alloc, text, origin) {
+        Ok(said) => format!(in alloc; "{head}\n{}", said.text),
+        Err(fault) => format!(in alloc; "{fault}"),
+    }
+}
+
+fn shown(alloc: Global, head: &str, text: &[u8]) -> Result<String, AllocError> {
+    match Case::read(alloc, text) {
+        Ok(case) => show_or_draw(alloc, head, &case),
+        Err(_) => String::from_str(alloc, "the trace can't be read"),
+    }
+}
+
+fn show_or_draw(alloc: Global, head: &str, case: &Case<'_>) -> Result<String, AllocError> {
+    let range = Range {
+        from: None,
+        to: None,
+    };
+    let text = if head.starts_with("show ") {
+        show(alloc, case)?
+    } else {
+        draw(alloc, case, range)?
+    };
+    format!(in alloc; "{head}\n{text}")
+}
+
+fn remarked(alloc: Global, name: &str, text: &[u8]) -> Result<String, AllocError> {
+    match Case::read(alloc, text) {
+        Ok(case) => remarks_on(alloc, name, &case),
+        Err(fault) => {
+            let line = fault_line(alloc, "bad trace ", &fault)?;
+            format!(in alloc; "2 {name} {line}")
+        }
+    }
+}
+
+fn remarks_on(alloc: Global, name: &str, case: &Case<'_>) -> Result<String, AllocError> {
+    match case.verdict {
+        Ok(verdict) => of_remarks(alloc, name, verdict, remark(alloc, case)),
+        Err(fault) => fault_line(alloc, "bad witness ", &fault),
+    }
+}
+
+fn of_remarks(
+    alloc: Global,
+    name: &str,
+    verdict: Verdict,
+    remarked: Result<Remarked, ReplayFault>,
+) -> Result<String, AllocError> {
+    match remarked {
+        Ok(remarked) if remarked.text.as_str().lines().count() != remarked.count => {
+            format!(in alloc; "{name} has another count of remarks than lines")
+        }
+        Ok(remarked) => {
+            let status = if remarked.count == 0 { 0 } else { 1 };
+            format!(in alloc; "{status} {name} {verdict}\n{}", remarked.text)
+        }
+        Err(fault) => format!(in alloc; "{fault}"),
+    }
 }

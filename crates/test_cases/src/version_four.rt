@@ -3,12 +3,13 @@
 //! The header has three lines more than in version 1, two more than in version 2, and one more than in version 3. So
 //! the numbers of event lines move, and so do the numbers by which a witness names them.
 
-use crate::asking::witness_begins;
+use crate::asking::judged;
 use case_forms::{
     Event, Extras, Judged, Label, NamedLine, OutOfMemory, Step, Steps, Trace, Version, Witness,
 };
 use checker::print_case;
 use line_fields::TextFault;
+use replayed::Texts;
 use segment::Flag;
 use std::alloc::{AllocError, Global};
 use trace_reader::read_trace;
@@ -27,10 +28,10 @@ pub struct Rewritten {
 
 /// Rewrites a case as version 4. The error is the fault of the trace or of the witness.
 pub fn rewrite(alloc: Global, text: &[u8]) -> Result<Rewritten, TextFault> {
-    let (trace, witness) = text.split_at(witness_begins(text));
-    let mut trace = read_trace(alloc, trace)?;
+    let texts = Texts::of(text);
+    let mut trace = read_trace(alloc, texts.trace)?;
     let read_as = trace.header.version;
-    let witness = read_witness_for(alloc, read_as, witness)?;
+    let witness = read_witness_for(alloc, read_as, texts.witness)?;
     let version = rewritten_version(read_as);
     let moved_by = version
         .first_event_line()
@@ -46,30 +47,29 @@ pub fn rewrite(alloc: Global, text: &[u8]) -> Result<Rewritten, TextFault> {
 }
 
 impl Rewritten {
-    /// The text of the case if this much of congestion control is judged.
-    pub fn text(&mut self, alloc: Global, congestion: Judged) -> Result<Vec<u8>, OutOfMemory> {
+    /// The answer to the case if this much of congestion control is judged, as it would be printed, then its status.
+    pub fn answer(&mut self, alloc: Global, congestion: Judged) -> Result<String, OutOfMemory> {
         self.trace.header.congestion = congestion;
-        print_case(alloc, &self.trace, &self.witness)
+        let text = print_case(alloc, &self.trace, &self.witness)?;
+        judged(alloc, text.as_slice())
     }
 
     /// Whether a SYN of the trace carries a shift (RFC 7323, 2.2).
     pub fn carries_a_shift(&self) -> bool {
-        self.trace
-            .lines
-            .as_slice()
-            .iter()
-            .any(|line| match &line.event {
-                Event::Sent(_, wire) | Event::Came(_, wire) => {
-                    wire.seg.has(Flag::Syn) && wire.seg.scale.is_some()
+        for line in self.trace.lines.as_slice() {
+            if let Event::Sent(_, wire) | Event::Came(_, wire) = &line.event {
+                if wire.seg.has(Flag::Syn) && wire.seg.scale.is_some() {
+                    return true;
                 }
-                Event::CallBegin(_) | Event::CallEnd(_) | Event::Expired(..) => false,
-            })
+            }
+        }
+        false
     }
 }
 
 /// The same text, except that its first line and the first line of its witness name version 4.
 pub fn rename(alloc: Global, text: &[u8]) -> Result<Vec<u8>, AllocError> {
-    let witness = witness_begins(text);
+    let witness = Texts::of(text).trace.len();
     let mut renamed = Vec::from_slice(alloc, text)?;
     for place in ["trace ".len(), witness.saturating_add("witness ".len())] {
         if let Some(digit) = renamed.as_mut_slice().get_mut(place) {
@@ -151,9 +151,12 @@ fn moved_name(trace: &Trace, named: NamedLine, by: u64) -> NamedLine {
 
 // Whether the line of this number shows the arrival of a segment.
 fn is_arrival(trace: &Trace, number: u64) -> bool {
-    let place = number.checked_sub(trace.header.first_event_line());
-    let line = place
-        .and_then(|place| usize::try_from(place).ok())
-        .and_then(|place| trace.lines.as_slice().get(place));
-    line.is_some_and(|line| matches!(line.event, Event::Came(..)))
+    let Some(place) = number.checked_sub(trace.header.first_event_line()) else {
+        return false;
+    };
+    let place = usize::try_from(place).unwrap_or(usize::MAX);
+    match trace.lines.as_slice().get(place) {
+        Some(line) => matches!(line.event, Event::Came(..)),
+        None => false,
+    }
 }

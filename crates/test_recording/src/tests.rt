@@ -1,5 +1,6 @@
 //! - `verdicts`: what the checker says about a recording
 //! - `talks`: whole recordings, with segments lost, duplicated or held back, and with a channel that closes
+//! - `side`: a recorder, with the seat of its one application thread
 //! - `pair`: two recorders whose turns one thread does
 //! - `turns`: resets, a refused connection, children in a queue, a stranger
 //! - `endings`: a close at both ends at once, a window of 0 that is probed, a loss that fast recovery mends
@@ -19,6 +20,7 @@ mod looks;
 mod pair;
 mod profile;
 mod seats;
+mod side;
 mod talks;
 mod turns;
 mod verdicts;

@@ -4,8 +4,8 @@ use case_forms::{Event, Host, Label, Line, Step, Timer};
 use recorder::Recorded;
 use segment::Flag;
 
-/// How often a timer expired.
-pub fn expiries(lines: &[Line], timer: Timer) -> u32 {
+// How often a timer expired.
+fn expiries(lines: &[Line], timer: Timer) -> u32 {
     let mut count: u32 = 0;
     for line in lines {
         if matches!(&line.event, Event::Expired(_, _, _, expired) if *expired == timer) {
@@ -15,8 +15,8 @@ pub fn expiries(lines: &[Line], timer: Timer) -> u32 {
     count
 }
 
-/// Whether fast recovery begins.
-pub fn recovers(steps: &[Step]) -> bool {
+// Whether fast recovery begins.
+fn recovers(steps: &[Step]) -> bool {
     for step in steps {
         if matches!(&step.label, Label::F { .. }) {
             return true;
@@ -38,19 +38,19 @@ pub fn opens_with(lines: &[Line], port: u16, number: u32) -> bool {
     false
 }
 
-/// How often each kind of event appeared in talks by chance.
-#[derive(Clone, Copy, Debug, PartialEq, Eq)]
+/// How often each kind of event appeared.
+#[derive(Drop)]
 pub struct Kinds {
     /// Retransmission timers that expired.
-    timeouts: u32,
+    pub timeouts: u32,
     /// Recordings in which fast recovery begins.
-    recoveries: u32,
+    pub recoveries: u32,
     /// Persist timers that expired.
-    probes: u32,
+    pub probes: u32,
     /// Recordings in which both hosts sent a FIN before one arrived.
-    closes: u32,
+    pub closes: u32,
     /// Waits in TIME-WAIT that ended.
-    ends: u32,
+    pub ends: u32,
 }
 
 impl Kinds {
@@ -76,10 +76,22 @@ impl Kinds {
         self.ends = self.ends.saturating_add(expiries(lines, Timer::Msl2));
     }
 
-    /// Whether each kind appeared.
-    pub fn are_all(&self) -> bool {
-        let sent = self.timeouts > 0 && self.recoveries > 0 && self.probes > 0;
-        sent && self.closes > 0 && self.ends > 0
+    /// A kind that didn't appear; `yes` if all did.
+    pub fn missing(&self) -> &'static str {
+        match (
+            self.timeouts,
+            self.recoveries,
+            self.probes,
+            self.closes,
+            self.ends,
+        ) {
+            (0, _, _, _, _) => "no timeout",
+            (_, 0, _, _, _) => "no recovery",
+            (_, _, 0, _, _) => "no probe",
+            (_, _, _, 0, _) => "no close at once",
+            (_, _, _, _, 0) => "no end of a wait",
+            _ => "yes",
+        }
     }
 }
 

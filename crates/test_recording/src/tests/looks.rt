@@ -5,9 +5,9 @@ ghost use Rattle.case_forms.specs.declared.calls.Host.TheVariants.{Zero, One};
 ghost use Rattle.spec_network.specs.Tables.{lane};
 ghost use Rattle.test_recording.specs.Scenes.{test_header};
 
-use crate::tests::pair::Side;
-use crate::tests::turns::header;
-use case_forms::{Call, Host};
+use crate::tests::pair::Pair;
+use crate::tests::side::Side;
+use case_forms::Call;
 use recorder::{Recorder, Seat, Site};
 use std::alloc::Global;
 use std::marker::Brand;
@@ -98,13 +98,9 @@ fn look_and_ask<L: Site + Send + Sync, M: Site + Send + Sync, R: Threads + Wait 
     requires hosts { (L.host ≡ Zero) × (M.host ≡ One) }
     requires headers { (L.header ≡ test_header) × (M.header ≡ test_header) }
 {
-    let zero: Side<L> = Side::new(rt, alloc, Host::Zero, header(), first, 2)?;
-    let other: Option<Side<M>> = Side::new(rt, alloc, Host::One, header(), second, 3);
-    let Some(one) = other else {
-        drop(zero);
-        return None;
-    };
-    let Side { recorder, seat } = one;
+    let pair: Pair<'_, L, M, R> = Pair::new(rt, alloc, first, second)?;
+    let Pair { zero, one, .. } = pair;
+    let Side { recorder, seat, .. } = one;
     let seen = is_answered_meanwhile(rt, &zero.recorder, &recorder, seat);
     drop(zero);
     drop(recorder);

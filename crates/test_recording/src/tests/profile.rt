@@ -123,6 +123,26 @@ fn judge(trace: &Trace, shift: Option<u8>) -> &'static str {
 
 // What is wrong with a recording of one round in which every second segment of a host is lost, but not the first; `yes`
 // if nothing is.
+fn told_once<R: Threads + Wait + Sync>(
+    rt: &R,
+    alloc: Global,
+    version: Version,
+    shift: Option<u8>,
+) -> &'static str
+    requires { is_half version ≡ false }
+{
+    let plan = Plan {
+        rounds: 1,
+        lose: 2,
+        version,
+    };
+    match record(rt, alloc, plan) {
+        Ok(recording) => judge(&recording.recorded.trace, shift),
+        Err(_) => "no recording",
+    }
+}
+
+// The same, if host 1 had its turn in one of several recordings.
 fn told<R: Threads + Wait + Sync>(
     rt: &R,
     alloc: Global,
@@ -132,15 +152,7 @@ fn told<R: Threads + Wait + Sync>(
     requires { is_half version ≡ false }
 {
     for _ in 0..TRIES {
-        let plan = Plan {
-            rounds: 1,
-            lose: 2,
-            version,
-        };
-        let said = match record(rt, alloc, plan) {
-            Ok(recording) => judge(&recording.recorded.trace, shift),
-            Err(_) => "no recording",
-        };
+        let said = told_once(rt, alloc, version, shift);
         if said != UNANSWERED {
             return said;
         }
@@ -148,10 +160,15 @@ fn told<R: Threads + Wait + Sync>(
     UNANSWERED
 }
 
+// What is wrong in version 1, and with a shift in version 2.
+fn told_in_both<R: Threads + Wait + Sync>(rt: &R, alloc: Global) -> (&'static str, &'static str) {
+    let first = told(rt, alloc, Version::One, None);
+    let second = told(rt, alloc, Version::Two, Some(2));
+    (first, second)
+}
+
 #[test]
 fn hosts_tell_their_numbers_and_options(rt: HostRuntime) -> Result<(), Fail> {
-    let first = told(&rt, rt.alloc(), Version::One, None);
-    let second = told(&rt, rt.alloc(), Version::Two, Some(2));
-    assert_eq!(rt; (first, second), ("yes", "yes"));
+    assert_eq!(rt; told_in_both(&rt, rt.alloc()), ("yes", "yes"));
     Ok(())
 }

@@ -5,8 +5,7 @@ ghost use Rattle.std.specs.Prelude.{◌≡◌};
 ghost use Rattle.case_forms.specs.declared.calls.Host.TheVariants.{Zero};
 ghost use Rattle.test_recording.specs.Scenes.{test_header};
 
-use crate::tests::pair::Side;
-use crate::tests::turns::header;
+use crate::tests::side::Side;
 use case_forms::Host;
 use recorder::{Cause, RecFault, Recorder, Seat, Seats, Site, Unfinished};
 use std::alloc::Global;
@@ -15,46 +14,66 @@ use std::sync::Wait;
 use std::sync::ledger::Blank;
 use std::test::Fail;
 
-// The seats with one more, if one was returned because another is missing. None: others were returned, or memory ran
-// out.
-fn with_second<L: Site>(seats: Seats<L>, cause: Cause, second: Seat<L>) -> Option<Vec<Seat<L>>> {
+// Whether a recorder was returned with one seat, because another is missing.
+fn lacks_a_seat<L: Site>(unfinished: &Unfinished<L>) -> bool {
+    matches!(unfinished.cause, Cause::SeatMissing) && unfinished.seats.as_slice().len() == 1
+}
+
+// The seats with one more. If there is no memory for it, it is missing again.
+fn with_second<L: Site>(seats: Seats<L>, second: Seat<L>) -> Vec<Seat<L>> {
     let mut seats = seats.into_vec();
-    if seats.len() != 1 || cause != Cause::SeatMissing {
-        return None;
+    let _ = seats.push(second);
+    seats
+}
+
+// Whether a recorder ends with these seats. What it returns is dropped by a call, so that the proof meets it once.
+fn ends<L: Site, R: Wait>(rt: &R, recorder: Recorder<L>, seats: Vec<Seat<L>>) -> bool
+    requires { L.parts ≡ 65535 }
+{
+    match recorder.finish(rt, seats) {
+        Ok(book) => {
+            drop(book);
+            true
+        }
+        Err(unfinished) => {
+            drop(unfinished);
+            false
+        }
     }
-    seats.push(second).ok()?;
-    Some(seats)
 }
 
 // Whether a recorder that was returned with one of its two seats ends with both.
 fn ends_then<L: Site, R: Wait>(rt: &R, unfinished: Unfinished<L>, second: Seat<L>) -> bool
     requires { L.parts ≡ 65535 }
 {
+    let lacks_a_seat = lacks_a_seat(&unfinished);
     let Unfinished {
         recorder,
         seats,
-        cause,
+        ..
     } = unfinished;
-    match with_second(seats, cause, second) {
-        Some(seats) => recorder.finish(rt, seats).is_ok(),
-        None => false,
-    }
+    ends(rt, recorder, with_second(seats, second)) && lacks_a_seat
 }
 
-// Whether a recorder of two seats is returned with the first if the second is missing, and ends with both. None: memory
-// ran out.
+// Whether a recorder of two seats is returned with the first if the second is missing, and ends with both.
 fn ends_with_both<L: Site, R: Wait>(
     rt: &R,
     alloc: Global,
     recorder: Recorder<L>,
     first: Seat<L>,
     second: Seat<L>,
-) -> Option<bool>
+) -> bool
     requires { L.parts ≡ 65535 }
 {
-    match recorder.finish(rt, vec![in alloc; first].ok()?) {
-        Ok(_) => Some(false),
-        Err(unfinished) => Some(ends_then(rt, unfinished, second)),
+    let mut seats = Vec::new(alloc);
+    let _ = seats.push(first);
+    match recorder.finish(rt, seats) {
+        Ok(book) => {
+            drop(book);
+            drop(second);
+            false
+        }
+        Err(unfinished) => ends_then(rt, unfinished, second),
     }
 }
 
@@ -68,20 +87,24 @@ fn are_refused<L: Site, R: Wait>(rt: &R, recorder: &Recorder<L>) -> bool {
     true
 }
 
-// The same for a new recorder.
+// The same for a new recorder. None: there is no seat, or memory ran out.
 fn finish_twice<L: Site, R: Wait>(rt: &R, alloc: Global, blank: Blank) -> Option<bool>
     requires name { blank.name ≡ L.name }
     requires parts { (blank.parts ≡ L.parts) × (L.parts ≡ 65535) }
     requires host { L.host ≡ Zero }
     requires header { L.header ≡ test_header }
 {
-    let side: Side<L> = Side::new(rt, alloc, Host::Zero, header(), blank, 2)?;
-    let Side { recorder, seat } = side;
-    if !are_refused(rt, &recorder) {
-        return Some(false);
+    let side: Side<L> = Side::new(rt, alloc, Host::Zero, blank, 2)?;
+    let Side { recorder, seat, .. } = side;
+    let are_refused = are_refused(rt, &recorder);
+    match recorder.seat(rt, 10) {
+        Ok(second) => Some(ends_with_both(rt, alloc, recorder, seat, second) && are_refused),
+        Err(_) => {
+            drop(seat);
+            drop(recorder);
+            None
+        }
     }
-    let second = recorder.seat(rt, 10).ok()?;
-    ends_with_both(rt, alloc, recorder, seat, second)
 }
 
 // The same, for the host of a run.

@@ -1,5 +1,8 @@
 //! Whole recordings.
 
+ghost use Rattle.std.specs.Prelude.{◌≡◌, false};
+ghost use Rattle.case_forms.specs.Versions.{is_half};
+
 use crate::tests::fates::Drawn;
 use crate::tests::verdicts::answer;
 use case_forms::{Answer, Event, Line, Version};
@@ -9,7 +12,7 @@ use std::ops::Range;
 use std::sync::Wait;
 use std::test::Fail;
 use std::thread::Threads;
-use two_hosts::{Plan, RecordFault, Recording, Talk, Wire, record, record_books};
+use two_hosts::{Books, Plan, RecordFault, Recording, Talk, Wire, record, record_books};
 
 // How many segments a host receives at most.
 const MOST: u64 = 2_000_000;
@@ -65,7 +68,7 @@ fn judge(alloc: Global, recording: &Recording, rounds: u16) -> Result<&'static s
 }
 
 // What becomes of the segments of two hosts that talk.
-#[derive(Clone, Copy, Debug, PartialEq, Eq)]
+#[derive(Drop)]
 enum Way {
     // Every segment with this count is lost; none if it is 0.
     Losing(u32),
@@ -75,7 +78,25 @@ enum Way {
     InTurn,
     // Fates drawn from a seed.
     Drawn(u32),
+    // The other host closes its end after host 0's third segment.
+    Closing,
 }
+
+const WAYS: [(&str, u16, Way); 9] = [
+    ("losing 3", 20, Way::Losing(3)),
+    ("losing none", 20, Way::Losing(0)),
+    ("losing 2", 20, Way::Losing(2)),
+    ("losing 5", 20, Way::Losing(5)),
+    ("losing 50", 20, Way::Losing(50)),
+    ("losing 3 in version 2", 20, Way::LosingScaled(3)),
+    ("losing none in version 2", 20, Way::LosingScaled(0)),
+    (
+        "losing 50 of many in version 2",
+        1_000,
+        Way::LosingScaled(50),
+    ),
+    ("in turn", 20, Way::InTurn),
+];
 
 // Sent twice, sent after two others, lost, and passed on twice, in turn.
 #[derive(Clone, Copy, Drop)]
@@ -101,14 +122,24 @@ fn talked<F: WireFate + Send + Drop, G: WireFate + Send + Drop, R: Threads + Wai
     alloc: Global,
     talk: Talk<F, G>,
 ) -> Result<Recording, RecordFault> {
-    let books = record_books(rt, alloc, Version::One, talk)?;
-    let answers = books.zero.total().saturating_add(books.one.total());
-    let recorded = merge(alloc, books.zero, books.one)?;
-    Ok(Recording {
-        recorded,
-        ended: books.ended && answers == books.receipts.len() as u64,
-        receipts: books.receipts,
-    })
+    let Books {
+        zero,
+        one,
+        ended,
+        receipts,
+    } = record_books(rt, alloc, Version::One, talk)?;
+    let answers = zero.total().saturating_add(one.total());
+    match merge(alloc, zero, one) {
+        Ok(recorded) => Ok(Recording {
+            recorded,
+            ended: ended && answers == receipts.len() as u64,
+            receipts,
+        }),
+        Err(fault) => {
+            drop(receipts);
+            Err(RecordFault::from(fault))
+        }
+    }
 }
 
 // The recording of so many rounds in version 1, with these fates in both directions.
@@ -119,23 +150,50 @@ fn fated<F: WireFate + Send + Drop, R: Threads + Wait + Sync>(
     there: F,
     back: F,
 ) -> Result<Recording, RecordFault> {
-    let there = Wire {
-        fate: there,
-        taken: MOST,
-    };
-    let back = Wire {
-        fate: back,
-        taken: MOST,
-    };
-    talked(
-        rt,
-        alloc,
-        Talk {
-            rounds,
-            there,
-            back,
+    let talk = Talk {
+        rounds,
+        there: Wire {
+            fate: there,
+            taken: MOST,
         },
-    )
+        back: Wire {
+            fate: back,
+            taken: MOST,
+        },
+    };
+    talked(rt, alloc, talk)
+}
+
+// The recording of so many rounds with a channel that closes.
+fn closing<R: Threads + Wait + Sync>(
+    rt: &R,
+    alloc: Global,
+    rounds: u16,
+) -> Result<Recording, RecordFault> {
+    let talk = Talk {
+        rounds,
+        there: Wire::losing(0, 3),
+        back: Wire::losing(0, MOST),
+    };
+    talked::<LoseEach, LoseEach, R>(rt, alloc, talk)
+}
+
+// The recording of so many rounds in this version.
+fn planned<R: Threads + Wait + Sync>(
+    rt: &R,
+    alloc: Global,
+    rounds: u16,
+    lose: u32,
+    version: Version,
+) -> Result<Recording, RecordFault>
+    requires { is_half version ≡ false }
+{
+    let plan = Plan {
+        rounds,
+        lose,
+        version,
+    };
+    record(rt, alloc, plan)
 }
 
 // The recording of so many rounds.
@@ -143,18 +201,27 @@ fn recording_of<R: Threads + Wait + Sync>(
     rt: &R,
     alloc: Global,
     rounds: u16,
-    way: Way,
+    way: &Way,
 ) -> Result<Recording, RecordFault> {
-    let plan = |lose, version| Plan {
-        rounds,
-        lose,
-        version,
-    };
     match way {
-        Way::Losing(lose) => record(rt, alloc, plan(lose, Version::One)),
-        Way::LosingScaled(lose) => record(rt, alloc, plan(lose, Version::Two)),
+        Way::Losing(lose) => planned(rt, alloc, rounds, *lose, Version::One),
+        Way::LosingScaled(lose) => planned(rt, alloc, rounds, *lose, Version::Two),
         Way::InTurn => fated(rt, alloc, rounds, InTurn { turn: 0 }, InTurn { turn: 0 }),
-        Way::Drawn(seed) => fated(rt, alloc, rounds, Drawn::new(seed), Drawn::new(!seed)),
+        Way::Drawn(seed) => fated(rt, alloc, rounds, Drawn::new(*seed), Drawn::new(!*seed)),
+        Way::Closing => closing(rt, alloc, rounds),
+    }
+}
+
+// What is wrong with a talk of so many rounds; `yes` if nothing is.
+fn said_once<R: Threads + Wait + Sync>(
+    rt: &R,
+    alloc: Global,
+    rounds: u16,
+    way: &Way,
+) -> &'static str {
+    match recording_of(rt, alloc, rounds, way) {
+        Ok(recording) => judge(alloc, &recording, rounds).unwrap_or("out of memory"),
+        Err(_) => "no recording",
     }
 }
 
@@ -162,14 +229,10 @@ fn recording_of<R: Threads + Wait + Sync>(
 /// of their threads wait, so a host gives up if that waits for long.
 pub const TRIES: u32 = 5;
 
-// What is wrong with a talk of so many rounds; `yes` if nothing is. Each recording is explained, even if its rounds
-// didn't end.
-fn said<R: Threads + Wait + Sync>(rt: &R, alloc: Global, rounds: u16, way: Way) -> &'static str {
+// The same, if its rounds end in one of several recordings. Each recording is explained, even if its rounds didn't end.
+fn said<R: Threads + Wait + Sync>(rt: &R, alloc: Global, rounds: u16, way: &Way) -> &'static str {
     for _ in 0..TRIES {
-        let said = match recording_of(rt, alloc, rounds, way) {
-            Ok(recording) => judge(alloc, &recording, rounds).unwrap_or("out of memory"),
-            Err(_) => "no recording",
-        };
+        let said = said_once(rt, alloc, rounds, way);
         if said != UNENDED {
             return said;
         }
@@ -177,19 +240,31 @@ fn said<R: Threads + Wait + Sync>(rt: &R, alloc: Global, rounds: u16, way: Way) 
     UNENDED
 }
 
-// Talks with fates drawn from so many seeds. A test has a minute, which a busy machine may need for a hundred.
+// The first of these seeds with whose fates something is wrong, and what. A test has a minute, which a busy machine may
+// need for a hundred.
 fn draws<R: Threads + Wait + Sync>(
     rt: &R,
     alloc: Global,
     seeds: Range<u32>,
 ) -> (u32, &'static str) {
     for seed in seeds {
-        let said = said(rt, alloc, 2, Way::Drawn(seed));
+        let said = said(rt, alloc, 2, &Way::Drawn(seed));
         if said != "yes" {
             return (seed, said);
         }
     }
     (0, "yes")
+}
+
+// The first way in which something is wrong, and what.
+fn ways<R: Threads + Wait + Sync>(rt: &R, alloc: Global) -> (&'static str, &'static str) {
+    for (name, rounds, way) in &WAYS {
+        let said = said(rt, alloc, *rounds, way);
+        if said != "yes" {
+            return (name, said);
+        }
+    }
+    ("none", "yes")
 }
 
 #[test]
@@ -206,43 +281,31 @@ fn further_drawn_fates_are_explained(rt: HostRuntime) -> Result<(), Fail> {
 
 #[test]
 fn rounds_with_losses_are_explained(rt: HostRuntime) -> Result<(), Fail> {
-    for (rounds, way) in [
-        (20, Way::Losing(3)),
-        (20, Way::Losing(0)),
-        (20, Way::Losing(2)),
-        (20, Way::Losing(5)),
-        (20, Way::Losing(50)),
-        (20, Way::LosingScaled(3)),
-        (20, Way::LosingScaled(0)),
-        (1_000, Way::LosingScaled(50)),
-        (20, Way::InTurn),
-    ] {
-        assert_eq!(rt; said(&rt, rt.alloc(), rounds, way), "yes", "{way:?}");
-    }
+    assert_eq!(rt; ways(&rt, rt.alloc()), ("none", "yes"));
     Ok(())
+}
+
+// What is wrong with a talk whose rounds must not end; `yes` if nothing is.
+fn unended<R: Threads + Wait + Sync>(rt: &R, alloc: Global, way: &Way) -> &'static str {
+    let said = said_once(rt, alloc, 20, way);
+    if said == UNENDED {
+        return "yes";
+    }
+    if said == "yes" {
+        return "all rounds ended";
+    }
+    said
 }
 
 #[test]
 fn a_recording_that_does_not_end_is_explained(rt: HostRuntime) -> Result<(), Fail> {
-    let said = match recording_of(&rt, rt.alloc(), 20, Way::Losing(1)) {
-        Ok(recording) => judge(rt.alloc(), &recording, 20)?,
-        Err(_) => "no recording",
-    };
-    assert_eq!(rt; said, UNENDED, "all segments lost");
+    let said = unended(&rt, rt.alloc(), &Way::Losing(1));
+    assert_eq!(rt; said, "yes", "all segments lost");
     Ok(())
 }
 
 #[test]
 fn a_channel_that_closes_ends_all(rt: HostRuntime) -> Result<(), Fail> {
-    let talk = Talk {
-        rounds: 20,
-        there: Wire::losing(0, 3),
-        back: Wire::losing(0, MOST),
-    };
-    let said = match talked::<LoseEach, LoseEach, HostRuntime>(&rt, rt.alloc(), talk) {
-        Ok(recording) => judge(rt.alloc(), &recording, 20)?,
-        Err(_) => "no recording",
-    };
-    assert_eq!(rt; said, UNENDED);
+    assert_eq!(rt; unended(&rt, rt.alloc(), &Way::Closing), "yes");
     Ok(())
 }

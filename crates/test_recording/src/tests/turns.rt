@@ -1,17 +1,14 @@
-//! Resets, a refused connection, children in a queue, a stranger.
+//! Scenes of two hosts whose turns one thread does: resets, a refused connection, children in a queue, a stranger.
 
 ghost use Rattle.std.specs.Prelude.{◌≡◌, IfSome};
 ghost use Rattle.case_forms.specs.declared.calls.Host.TheVariants.{Zero, One};
-ghost use Rattle.spec_network.specs.Tables.{lane};
 ghost use Rattle.test_recording.specs.Scenes.{test_header};
 
-use crate::tests::chances::talk_by_chance;
-use crate::tests::endings::{close_at_once, lose_the_first, probe_a_window};
-use crate::tests::kinds::{Kinds, expiries, opens_with, recovers};
-use crate::tests::pair::{FIRST_ISS, Pair, Side};
+use crate::tests::kinds::{Kinds, opens_with};
+use crate::tests::pair::Pair;
+use crate::tests::side::{FIRST_ISS, Told};
 use crate::tests::verdicts::answer;
-use crate::tests::wires::{all_twice, comes_in_after};
-use case_forms::{Answer, Call, Header, Host, Initial, Judged, Timer, Version};
+use case_forms::{Call, Host};
 use recorder::{HostBook, MergeFault, Recorded, Site, merge};
 use std::alloc::Global;
 use std::marker::Brand;
@@ -20,7 +17,7 @@ use std::sync::ledger::Blank;
 use std::test::Fail;
 
 // What happens.
-#[derive(Clone, Copy, Debug, PartialEq, Eq)]
+#[derive(Drop)]
 enum Scene {
     // No listener is open.
     Refused,
@@ -45,102 +42,71 @@ enum Scene {
     Chance(u32),
 }
 
-/// The header of these recordings.
-pub fn header() -> Header
-    ensures { result ≡ test_header }
-{
-    Header {
-        version: Version::One,
-        skew: 0,
-        msl: 2_000_000,
-        grain: 1_000,
-        minrto: 200_000,
-        extra: 1,
-        initial: Initial::Rfc5681,
-        congestion: Judged::Full,
+const SCENES: [(&str, Scene); 9] = [
+    ("refused", Scene::Refused),
+    ("reset", Scene::Reset),
+    ("two children", Scene::TwoChildren),
+    ("connected", Scene::Connected(4_000, 80)),
+    ("close at once", Scene::CloseAtOnce),
+    ("probe", Scene::Probe),
+    ("recovery", Scene::Recovery),
+    ("away for 2 s", Scene::Away(2_000, true)),
+    ("away for longer", Scene::Away(2_001, false)),
+];
+
+impl<L: Site, M: Site, R: Wait> Pair<'_, L, M, R> {
+    // Host 0 opens a connection to a port without a listener, and awaits.
+    fn refused(&mut self) -> Option<bool> {
+        let socket = self
+            .zero
+            .socket(self.rt, Call::Connect(Host::Zero, 4_000, 80))?;
+        self.exchange(1)?;
+        let told = self.zero.call(self.rt, Call::Await(socket))?;
+        Some(matches!(told, Told::Refused))
     }
-}
 
-// Host 0 opens a connection to a port without a listener, and awaits.
-fn refused<L: Site, M: Site, R: Wait>(rt: &R, alloc: Global, pair: &mut Pair<L, M>) -> Option<bool>
-    requires lanes { (lane pair.old.zero.seat.thread ≡ L.host) × (lane pair.old.one.seat.thread ≡ M.host) }
-    requires hosts { (L.host ≡ Zero) × (M.host ≡ One) }
-{
-    let socket = pair.zero.socket(rt, Call::Connect(Host::Zero, 4_000, 80))?;
-    pair.exchange(rt, alloc, 1)?;
-    let told = pair.zero.call(rt, Call::Await(socket))?;
-    Some(matches!(told, Answer::Refused))
-}
+    // Host 1 accepts and aborts; host 0 reads.
+    fn reset(&mut self) -> Option<bool> {
+        let (socket, child) = self.accepted()?;
+        let aborted = self.one.call(self.rt, Call::Abort(child))?;
+        self.exchange(1)?;
+        let told = self.zero.call(self.rt, Call::Recv(socket, 1))?;
+        Some(matches!((aborted, told), (Told::Done, Told::Reset)))
+    }
 
-// Host 1 accepts and aborts; host 0 reads.
-fn reset<L: Site, M: Site, R: Wait>(rt: &R, alloc: Global, pair: &mut Pair<L, M>) -> Option<bool>
-    requires lanes { (lane pair.old.zero.seat.thread ≡ L.host) × (lane pair.old.one.seat.thread ≡ M.host) }
-    requires hosts { (L.host ≡ Zero) × (M.host ≡ One) }
-{
-    let (socket, child) = pair.accepted(rt, alloc)?;
-    let aborted = pair.one.call(rt, Call::Abort(child))?;
-    pair.exchange(rt, alloc, 1)?;
-    let told = pair.zero.call(rt, Call::Recv(socket, 1))?;
-    Some(matches!((aborted, told), (Answer::Done, Answer::Reset)))
-}
+    // Host 0 opens twice before host 1, which listens with a queue for one, accepts.
+    fn two_children(&mut self) -> Option<bool> {
+        let (listener, _) = self.opened(4_000, 80)?;
+        self.zero
+            .socket(self.rt, Call::Connect(Host::Zero, 4_001, 80))?;
+        self.exchange(3)?;
+        let first = self.one.socket(self.rt, Call::Accept(listener))?;
+        let second = self.one.socket(self.rt, Call::Accept(listener))?;
+        Some(first != second)
+    }
 
-// Host 0 opens twice before host 1, which listens with a queue for one, accepts.
-fn two_children<L: Site, M: Site, R: Wait>(
-    rt: &R,
-    alloc: Global,
-    pair: &mut Pair<L, M>,
-) -> Option<bool>
-    requires lanes { (lane pair.old.zero.seat.thread ≡ L.host) × (lane pair.old.one.seat.thread ≡ M.host) }
-    requires hosts { (L.host ≡ Zero) × (M.host ≡ One) }
-{
-    let (listener, _) = pair.opened(rt, 4_000, 80)?;
-    let _ = pair.zero.socket(rt, Call::Connect(Host::Zero, 4_001, 80))?;
-    pair.exchange(rt, alloc, 3)?;
-    let first = pair.one.socket(rt, Call::Accept(listener))?;
-    let second = pair.one.socket(rt, Call::Accept(listener))?;
-    Some(first != second)
-}
+    // One handshake.
+    fn connected(&mut self, lport: u16, rport: u16) -> Option<bool> {
+        let (_, socket) = self.opened(lport, rport)?;
+        self.exchange(1)?;
+        let told = self.zero.call(self.rt, Call::Await(socket))?;
+        Some(matches!(told, Told::Done))
+    }
 
-// One handshake.
-fn connected<L: Site, M: Site, R: Wait>(
-    rt: &R,
-    alloc: Global,
-    pair: &mut Pair<L, M>,
-    lport: u16,
-    rport: u16,
-) -> Option<bool>
-    requires lanes { (lane pair.old.zero.seat.thread ≡ L.host) × (lane pair.old.one.seat.thread ≡ M.host) }
-    requires hosts { (L.host ≡ Zero) × (M.host ≡ One) }
-{
-    let (_, socket) = pair.opened(rt, lport, rport)?;
-    pair.exchange(rt, alloc, 1)?;
-    let told = pair.zero.call(rt, Call::Await(socket))?;
-    Some(matches!(told, Answer::Done))
-}
-
-// Whether a scene goes as it should. None: a call was refused, or memory ran out.
-fn act<L: Site, M: Site, R: Wait>(
-    rt: &R,
-    alloc: Global,
-    pair: &mut Pair<L, M>,
-    scene: Scene,
-) -> Option<bool>
-    requires lanes { (lane pair.old.zero.seat.thread ≡ L.host) × (lane pair.old.one.seat.thread ≡ M.host) }
-    requires hosts { (L.host ≡ Zero) × (M.host ≡ One) }
-{
-    match scene {
-        Scene::Refused => refused(rt, alloc, pair),
-        Scene::Reset => reset(rt, alloc, pair),
-        Scene::TwoChildren => two_children(rt, alloc, pair),
-        Scene::Connected(lport, rport) => connected(rt, alloc, pair, lport, rport),
-        Scene::CloseAtOnce => close_at_once(rt, alloc, pair),
-        Scene::Probe => probe_a_window(rt, alloc, pair),
-        Scene::Recovery => lose_the_first(rt, alloc, pair),
-        Scene::Twice => all_twice(rt, alloc, pair),
-        Scene::Away(milliseconds, comes) => {
-            Some(comes_in_after(rt, alloc, pair, milliseconds)? == comes)
+    // Whether a scene goes as it should. None: a call was refused, or memory ran out.
+    fn act(&mut self, scene: &Scene) -> Option<bool> {
+        match scene {
+            Scene::Refused => self.refused(),
+            Scene::Reset => self.reset(),
+            Scene::TwoChildren => self.two_children(),
+            Scene::Connected(lport, rport) => self.connected(*lport, *rport),
+            Scene::CloseAtOnce => self.close_at_once(),
+            Scene::Probe => self.probe_a_window(),
+            Scene::Recovery => self.lose_the_first(),
+            Scene::Twice => self.all_twice(),
+            Scene::Away(milliseconds, comes) => Some(self.comes_in_after(*milliseconds)? == *comes),
+            Scene::Chance(seed) => self.talk_by_chance(*seed),
         }
-        Scene::Chance(seed) => talk_by_chance(rt, alloc, pair, seed),
     }
 }
 
@@ -150,7 +116,7 @@ fn play<L: Site, M: Site, R: Wait>(
     alloc: Global,
     first: Blank,
     second: Blank,
-    scene: Scene,
+    scene: &Scene,
 ) -> Option<(HostBook, HostBook, bool)>
     requires names { (first.name ≡ L.name) × (second.name ≡ M.name) }
     requires blanks { (first.parts ≡ L.parts) × (second.parts ≡ M.parts) }
@@ -161,30 +127,14 @@ fn play<L: Site, M: Site, R: Wait>(
     ensures headers { IfSome result (λ b.
         (b.0.core.recorded.header ≡ test_header) × (b.1.core.recorded.header ≡ test_header)) }
 {
-    let zero: Side<L> = Side::new(rt, alloc, Host::Zero, header(), first, 2)?;
-    let other: Option<Side<M>> = Side::new(rt, alloc, Host::One, header(), second, 3);
-    let Some(one) = other else {
-        drop(zero);
-        return None;
-    };
-    let mut pair = Pair { zero, one };
-    let went = act(rt, alloc, &mut pair, scene).unwrap_or(false);
-    let Pair { zero, one } = pair;
-    let Some(zero) = zero.finish(rt, alloc) else {
-        drop(one);
-        return None;
-    };
-    match one.finish(rt, alloc) {
-        Some(one) => Some((zero, one, went)),
-        None => {
-            drop(zero);
-            None
-        }
-    }
+    let mut pair: Pair<'_, L, M, R> = Pair::new(rt, alloc, first, second)?;
+    let went = pair.act(scene).unwrap_or(false);
+    let (zero, one) = pair.finish()?;
+    Some((zero, one, went))
 }
 
 // The same, for new recorders.
-fn books<R: Wait>(rt: &R, alloc: Global, scene: Scene) -> Option<(HostBook, HostBook, bool)>
+fn books<R: Wait>(rt: &R, alloc: Global, scene: &Scene) -> Option<(HostBook, HostBook, bool)>
     ensures hosts { IfSome result (λ b. (b.0.core.recorded.me ≡ Zero) × (b.1.core.recorded.me ≡ One)) }
     ensures headers { IfSome result (λ b.
         (b.0.core.recorded.header ≡ test_header) × (b.1.core.recorded.header ≡ test_header)) }
@@ -194,12 +144,12 @@ fn books<R: Wait>(rt: &R, alloc: Global, scene: Scene) -> Option<(HostBook, Host
 }
 
 // Whether what was recorded shows what a scene is for.
-fn shows(recorded: &Recorded, scene: Scene) -> bool {
+fn shows(recorded: &Recorded, kinds: &Kinds, scene: &Scene) -> bool {
     let lines = recorded.trace.lines.as_slice();
     match scene {
-        Scene::CloseAtOnce => expiries(lines, Timer::Msl2) == 2,
-        Scene::Probe => expiries(lines, Timer::Persist) > 0,
-        Scene::Recovery => recovers(recorded.witness.steps.as_slice()),
+        Scene::CloseAtOnce => kinds.ends == 2,
+        Scene::Probe => kinds.probes > 0,
+        Scene::Recovery => kinds.recoveries > 0,
         Scene::TwoChildren => {
             opens_with(lines, 4_000, FIRST_ISS) && opens_with(lines, 4_001, FIRST_ISS + 65_536)
         }
@@ -212,21 +162,19 @@ fn shows(recorded: &Recorded, scene: Scene) -> bool {
     }
 }
 
-// What the checker says about the two books of a scene, merged.
-fn merged(alloc: Global, zero: HostBook, one: HostBook, scene: Scene) -> &'static str
-    requires hosts { (zero.core.recorded.me ≡ Zero) × (one.core.recorded.me ≡ One) }
-    requires headers { (zero.core.recorded.header ≡ test_header) × (one.core.recorded.header ≡ test_header) }
-{
-    match merge(alloc, zero, one) {
-        Ok(recorded) if !shows(&recorded, scene) => "another recording",
-        Ok(recorded) => answer(alloc, &recorded).unwrap_or("out of memory"),
-        Err(MergeFault::OutOfMemory) => "out of memory",
-        Err(MergeFault::Stranger { .. }) => "not merged",
+// What is wrong with a recording of a scene, of which the kinds are added; `yes` if nothing is.
+fn judged(
+    alloc: Global,
+    recorded: &Recorded,
+    went: bool,
+    scene: &Scene,
+    kinds: &mut Kinds,
+) -> &'static str {
+    kinds.add(recorded);
+    if !shows(recorded, kinds, scene) {
+        return "another recording";
     }
-}
-
-// What the checker says about a recording; if that is yes, whether it went as it should.
-fn judged(said: &'static str, went: bool) -> &'static str {
+    let said = answer(alloc, recorded).unwrap_or("out of memory");
     if said == "yes" && !went {
         return "another answer";
     }
@@ -234,28 +182,31 @@ fn judged(said: &'static str, went: bool) -> &'static str {
 }
 
 // What is wrong with a scene; `yes` if nothing is.
-fn seen<R: Wait>(rt: &R, alloc: Global, scene: Scene) -> &'static str {
+fn seen<R: Wait>(rt: &R, alloc: Global, scene: &Scene, kinds: &mut Kinds) -> &'static str {
     let Some((zero, one, went)) = books(rt, alloc, scene) else {
         return "no books";
     };
-    judged(merged(alloc, zero, one, scene), went)
+    match merge(alloc, zero, one) {
+        Ok(recorded) => judged(alloc, &recorded, went, scene, kinds),
+        Err(MergeFault::OutOfMemory) => "out of memory",
+        Err(MergeFault::Stranger { .. }) => "not merged",
+    }
+}
+
+// The first scene with which something is wrong, and what.
+fn first_wrong<R: Wait>(rt: &R, alloc: Global) -> (&'static str, &'static str) {
+    for (name, scene) in &SCENES {
+        let said = seen(rt, alloc, scene, &mut Kinds::none());
+        if said != "yes" {
+            return (name, said);
+        }
+    }
+    ("none", "yes")
 }
 
 #[test]
 fn scenes_are_explained(rt: HostRuntime) -> Result<(), Fail> {
-    for scene in [
-        Scene::Refused,
-        Scene::Reset,
-        Scene::TwoChildren,
-        Scene::Connected(4_000, 80),
-        Scene::CloseAtOnce,
-        Scene::Probe,
-        Scene::Recovery,
-        Scene::Away(2_000, true),
-        Scene::Away(2_001, false),
-    ] {
-        assert_eq!(rt; seen(&rt, rt.alloc(), scene), "yes", "{scene:?}");
-    }
+    assert_eq!(rt; first_wrong(&rt, rt.alloc()), ("none", "yes"));
     Ok(())
 }
 
@@ -263,60 +214,27 @@ fn scenes_are_explained(rt: HostRuntime) -> Result<(), Fail> {
 // (`tools/refused_memory/copies.py`).
 #[test]
 fn segments_sent_twice_are_explained(rt: HostRuntime) -> Result<(), Fail> {
-    assert_eq!(rt; seen(&rt, rt.alloc(), Scene::Twice), "yes");
+    let said = seen(&rt, rt.alloc(), &Scene::Twice, &mut Kinds::none());
+    assert_eq!(rt; said, "yes");
     Ok(())
 }
 
-/// What the checker says about a random talk, which adds to what appeared: `yes` if nothing is wrong.
-pub fn said_by_chance<R: Wait>(
-    rt: &R,
-    alloc: Global,
-    seed: u32,
-    kinds: &mut Kinds,
-) -> &'static str {
-    let Some((zero, one, went)) = books(rt, alloc, Scene::Chance(seed)) else {
-        return "no books";
-    };
-    match merge(alloc, zero, one) {
-        Ok(recorded) => {
-            kinds.add(&recorded);
-            judged(answer(alloc, &recorded).unwrap_or("out of memory"), went)
+// The first seed of a random talk with which something is wrong, and what; else which kind appeared in none.
+fn first_wrong_talk<R: Wait>(rt: &R, alloc: Global) -> (u32, &'static str) {
+    let mut kinds = Kinds::none();
+    for seed in 0..40 {
+        let said = seen(rt, alloc, &Scene::Chance(seed), &mut kinds);
+        if said != "yes" {
+            return (seed, said);
         }
-        Err(MergeFault::OutOfMemory) => "out of memory",
-        Err(MergeFault::Stranger { .. }) => "not merged",
     }
+    (40, kinds.missing())
 }
 
 #[test]
 fn talks_by_chance_are_explained(rt: HostRuntime) -> Result<(), Fail> {
-    let mut kinds = Kinds::none();
-    for seed in 0..40 {
-        assert_eq!(rt;
-            said_by_chance(&rt, rt.alloc(), seed, &mut kinds),
-            "yes",
-            "seed {seed}"
-        );
-    }
-    assert!(rt; kinds.are_all(), "{kinds:?}");
+    assert_eq!(rt; first_wrong_talk(&rt, rt.alloc()), (40, "yes"));
     Ok(())
-}
-
-// The book of host 0 of one connection between these ports.
-fn book_of_zero<R: Wait>(rt: &R, alloc: Global, lport: u16, rport: u16) -> Option<HostBook>
-    ensures { IfSome result (λ b. (b.core.recorded.me ≡ Zero) × (b.core.recorded.header ≡ test_header)) }
-{
-    let (zero, one, _) = books(rt, alloc, Scene::Connected(lport, rport))?;
-    drop(one);
-    Some(zero)
-}
-
-// The book of host 1.
-fn book_of_one<R: Wait>(rt: &R, alloc: Global, lport: u16, rport: u16) -> Option<HostBook>
-    ensures { IfSome result (λ b. (b.core.recorded.me ≡ One) × (b.core.recorded.header ≡ test_header)) }
-{
-    let (zero, one, _) = books(rt, alloc, Scene::Connected(lport, rport))?;
-    drop(zero);
-    Some(one)
 }
 
 // The line of the first stranger of two books.
@@ -330,11 +248,15 @@ fn stranger_in(alloc: Global, zero: HostBook, one: HostBook) -> Option<u64>
     }
 }
 
-// The line of the first stranger of books of two runs.
+// The line of the first stranger of books of two runs, with other ports.
 fn stranger<R: Wait>(rt: &R, alloc: Global) -> Option<u64> {
-    let zero = book_of_zero(rt, alloc, 4_000, 80)?;
-    match book_of_one(rt, alloc, 4_001, 81) {
-        Some(one) => stranger_in(alloc, zero, one),
+    let (zero, other, _) = books(rt, alloc, &Scene::Connected(4_000, 80))?;
+    drop(other);
+    match books(rt, alloc, &Scene::Connected(4_001, 81)) {
+        Some((other, one, _)) => {
+            drop(other);
+            stranger_in(alloc, zero, one)
+        }
         None => {
             drop(zero);
             None
