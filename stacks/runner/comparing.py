@@ -29,12 +29,15 @@ def differences(outcomes, known):
             if brief(outcome) != known.get(outcome.scenario.name)]
 
 
-def failure(outcome, least, known):
-    """Why an outcome is a failure; empty if it isn't one. `known`: the lines of the file of --against, or None."""
+def failure(outcome, least, known, remarks_fail=False):
+    """Why an outcome is a failure; empty if it isn't one. `known`: the lines of the file of --against, or None. `remarks_fail`: remarks are failures."""
     if known is not None:
         before = known.get(outcome.scenario.name, "nothing")
-        return "" if brief(outcome) == before else f"{brief(outcome)} (before: {before})"
-    if outcome.is_good(least) or outcome.is_unjudged():
-        return ""
-    cause = f": {'; '.join(outcome.wrong())}" if outcome.word() == "yes, but" else ""
-    return f"{outcome.shown()}{cause} (yes at: {outcome.strictest or '-'})"
+        if brief(outcome) != before:
+            return f"{brief(outcome)} (before: {before})"
+    elif not outcome.is_good(least) and not outcome.is_unjudged():
+        cause = f": {'; '.join(outcome.wrong())}" if outcome.word() == "yes, but" else ""
+        return f"{outcome.shown()}{cause} (yes at: {outcome.strictest or '-'})"
+    if remarks_fail and outcome.remarks:
+        return f"{outcome.shown()}, remarks: {'; '.join(outcome.remarks)}"
+    return ""

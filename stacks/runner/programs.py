@@ -61,10 +61,17 @@ def judge_of(words, values):
     return judge
 
 
+def folder_of(stack):
+    """The folder that builds a stack: the suite's own of this name or, if the word has a slash, the one at that path. None: it names a program."""
+    folder = stack if os.path.dirname(stack) else os.path.join(TOP, stack)
+    return os.path.abspath(folder) if os.path.isdir(folder) else None
+
+
 def stack_of(words, folder):
     """The command that runs the stack, and its profile. A stack with a folder is built in `folder`."""
-    own = os.path.join(TOP, words.stack)
-    if os.path.isdir(own):
+    if own := folder_of(words.stack):
+        if not os.path.isfile(os.path.join(own, "build")):
+            stop(f"{words.stack} is a folder without a script `build`: name a program, or a folder with `build` and `profile`")
         built = subprocess.run([os.path.join(own, "build"), folder])
         if built.returncode or not os.path.isfile(os.path.join(folder, "stack")):
             stop(f"{own}/build didn't build the stack")

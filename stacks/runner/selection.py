@@ -6,6 +6,7 @@ import shutil
 
 import language
 from files import TOP, naming, read, stop, why_no_file
+from programs import folder_of
 from texts import shown
 
 ENDING = ".scenario"
@@ -41,8 +42,7 @@ def scenarios_of(words):
 def memory(stack):
     """The file that lists the scenarios that failed in this stack's last run."""
     caches = os.environ.get("XDG_CACHE_HOME") or os.path.expanduser("~/.cache")
-    own = os.path.join(TOP, stack)
-    path = os.path.realpath(own if os.path.isdir(own) else shutil.which(stack) or stack)
+    path = os.path.realpath(folder_of(stack) or shutil.which(stack) or stack)
     return os.path.join(caches, "tcpwit", "failed-" + hashlib.sha256(os.fsencode(path)).hexdigest()[:20])
 
 

@@ -406,6 +406,20 @@ class TheCommand(unittest.TestCase):
         found = [case.findtext("system-out") for case in xml.etree.ElementTree.parse(f"{self.folder}/report.xml").iter("testcase")]
         self.assertEqual(found, ["line 7: a -> b\nat the end: x", "line 8: y"])
         self.assertIn("\n    line 7: a -> b\n    at the end: x\n", self.reported("-v", outcomes=outcomes)[1])
+        self.assertIn("\n2 of 2 scenarios have remarks, 3 in all; -v prints them\n", out)
+        self.assertNotIn("have remarks", self.reported()[1])
+
+    def test_remarks_fail_on_request(self):
+        report = f"{self.folder}/report.xml"
+        outcomes = [self.outcome("yes 5 3", "full", "one"), self.outcome("yes 9 9", "full", "two")]
+        outcomes[0].remarks = ["line 7: a -> b", "at the end: x"]
+        self.assertEqual(self.reported("--junit", report, outcomes=outcomes)[0], 0)
+        self.assertEqual(self.reported("--junit", report, "--remarks", "fail", outcomes=outcomes)[0], 1)
+        found = xml.etree.ElementTree.parse(report)
+        self.assertEqual([it.get("message") for it in found.iter("failure")], ["yes 5 3, remarks: line 7: a -> b; at the end: x"])
+        file = f"{self.folder}/expected"
+        self.reported("--write-against", file, outcomes=outcomes)
+        self.assertEqual([self.reported("--against", file, *more, outcomes=outcomes)[0] for more in ([], ["--remarks", "fail"])], [0, 1])
 
     def test_the_compared_values_are_shown(self):
         refused = self.outcome("no 9 0 congestion", "", "one")
@@ -755,6 +769,27 @@ for line in sys.stdin:
     def test_a_stack_that_cannot_be_started(self):
         status, _, error = self.run_it(self.adapter("nothing to run"), "open-plain", *self.programs())
         self.assertEqual((status, error), (2, f"{self.folder}/adapter: Exec format error\n"))
+
+    def test_a_word_with_a_slash_is_a_path(self):
+        for name in ("toy", "lwip"):
+            self.assertEqual(programs.folder_of(name), os.path.join(TOP, name))
+        with tempfile.TemporaryDirectory() as folder:
+            stack = os.path.join(folder, "toy")
+            with open(stack, "w") as file:
+                file.write("#!/bin/sh\n")
+            os.chmod(stack, 0o755)
+            done = os.getcwd()
+            os.chdir(folder)
+            try:
+                self.assertIsNone(programs.folder_of("./toy"))
+                self.assertEqual(programs.stack_of(SimpleNamespace(stack="./toy", profile=None), folder), [os.path.realpath(stack)])
+                self.assertNotEqual(selection.memory("./toy"), selection.memory("toy"))
+                os.mkdir("lwip")
+                with self.assertRaises(SystemExit), contextlib.redirect_stderr(io.StringIO()) as error:
+                    programs.stack_of(SimpleNamespace(stack="./lwip", profile=None), folder)
+                self.assertIn("./lwip is a folder without a script `build`", error.getvalue())
+            finally:
+                os.chdir(done)
 
     def test_what_cannot_be_run(self):
         self.assertEqual(self.run_it("lwip", "--least", "cubic")[0], 2)
