@@ -39,7 +39,7 @@ def show_sums(outcomes):
         say(BUT)
     remarked = [len(outcome.remarks) for outcome in outcomes if outcome.remarks]
     if remarked:
-        say(f"{len(remarked)} of {len(words)} scenarios have remarks, {sum(remarked)} in all; -v prints them")
+        say(f"{len(remarked)} of {len(words)} scenarios {'has' if len(remarked) == 1 else 'have'} remarks, {sum(remarked)} in all; -v prints them")
     less = [(level, sum(outcome.strictest == level for outcome in outcomes)) for level in judging.LEVELS[1:]]
     if any(count for _, count in less):
         say("of those with no, " + ", ".join(f"{count} {'has' if count == 1 else 'have'} a yes at {level}" for level, count in less if count))
