@@ -50,8 +50,8 @@ const ENDS: [(&str, &str); 10] = [
     ("END\n", "bad trace 1 0 3 header\n2"),
 ];
 
-/// Checks all cases: each on its own, in several ways; in one input of `many` those that a line `end` can follow; and the
-/// inputs of `many` above.
+/// Checks all cases: each on its own, in several ways, and in one input of `many` those that a line `end` can follow.
+/// Also checks the inputs of `many` above.
 pub fn ask_cases<H: Threads + Wait + Sync>(
     rt: &H,
     cases: &[Case],

@@ -40,6 +40,11 @@ impl Place {
             self.number = 2;
         }
     }
+
+    // The line that is expected for a beginning that ends inside a line.
+    fn cut(&self, alloc: Global) -> Result<String, AllocError> {
+        format!(in alloc; "bad {} {} 0 {} cut", self.text, self.number, self.length)
+    }
 }
 
 /// Adds each beginning of the examples.
@@ -83,13 +88,8 @@ fn begun(
     place: &Place,
     whole: Option<&str>,
 ) -> Result<Case, AllocError> {
-    let Place {
-        text,
-        number,
-        length,
-    } = place;
+    let cut = place.cut(alloc)?;
     let name = format!(in alloc; "the first {} bytes of {name}", beginning.len())?;
-    let cut = format!(in alloc; "bad {text} {number} 0 {length} cut")?;
     Case::new(
         alloc,
         name.as_str(),

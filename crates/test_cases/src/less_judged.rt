@@ -37,8 +37,8 @@ pub fn ask_version_four(cases: &[Case], report: &mut Report<'_>) -> Done {
     )
 }
 
-// A text with a fault can't be rewritten; but if a line of the header is at fault that version 4 has too, the fault must
-// stay the same after the text names version 4.
+// A text with a fault can't be rewritten. But if a line of the header is at fault that version 4 has too, the fault
+// must stay the same after the text names version 4.
 fn ask_case(case: &Case, covered: &mut Covered, report: &mut Report<'_>) -> Done {
     let text = case.text.as_slice();
     match check_case(report.alloc, text) {

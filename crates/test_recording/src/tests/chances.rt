@@ -77,8 +77,8 @@ impl<L: Site, M: Site, R: Wait> Pair<'_, L, M, R> {
         Some((full, rest))
     }
 
-    /// Host 0 fills host 1's ring over a wire that loses, duplicates and delays segments. It sends ten more bytes, which
-    /// wait until host 1 reads, and both close; with an odd seed at once.
+    /// Host 0 fills host 1's ring over a wire that loses, duplicates and delays segments. It sends ten more bytes,
+    /// which wait until host 1 reads, and both close; with an odd seed at once.
     pub fn talk_by_chance(&mut self, seed: u32) -> Option<bool> {
         let (socket, child) = self.accepted()?;
         let told = self.fill_by_chance(socket, child, seed)?;

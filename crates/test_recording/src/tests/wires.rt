@@ -43,8 +43,8 @@ impl<L: Site, M: Site, R: Wait> Pair<'_, L, M, R> {
         Some(matches!(sent, Told::Given(64)) && read == 64)
     }
 
-    /// Whether host 1 accepts a SYN that host 0 sent, once its clock has advanced by so many milliseconds; a SYN that it
-    /// doesn't accept leaves no event.
+    /// Whether host 1 accepts a SYN that host 0 sent, once its clock has advanced by so many milliseconds; a SYN that
+    /// it doesn't accept leaves no event.
     pub fn comes_in_after(&mut self, milliseconds: u64) -> Option<bool> {
         self.zero
             .socket(self.rt, Call::Connect(Host::Zero, 4_000, 80))?;
