@@ -71,7 +71,7 @@ def stack_of(words, folder):
     """The command that runs the stack, and its profile. A stack with a folder is built in `folder`."""
     if own := folder_of(words.stack):
         if not os.path.isfile(os.path.join(own, "build")):
-            stop(f"{words.stack} is a folder without a script `build`: name a program, or a folder with `build` and `profile`")
+            stop(f"{words.stack} is a folder, but {own}/build is no file: name a program, or a folder with `build` and `profile`")
         built = subprocess.run([os.path.join(own, "build"), folder])
         if built.returncode or not os.path.isfile(os.path.join(folder, "stack")):
             stop(f"{own}/build didn't build the stack")

@@ -787,7 +787,7 @@ for line in sys.stdin:
                 os.mkdir("lwip")
                 with self.assertRaises(SystemExit), contextlib.redirect_stderr(io.StringIO()) as error:
                     programs.stack_of(SimpleNamespace(stack="./lwip", profile=None), folder)
-                self.assertIn("./lwip is a folder without a script `build`", error.getvalue())
+                self.assertIn("./lwip is a folder, but ", error.getvalue())
             finally:
                 os.chdir(done)
 
