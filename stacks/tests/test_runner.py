@@ -795,7 +795,7 @@ for line in sys.stdin:
         self.assertEqual(self.run_it("lwip", "--least", "cubic")[0], 2)
         for words, cause in ((["/nowhere"], "neither a folder"), (["true", "--profile", "/nowhere", "data-bulk"], "/nowhere: No such file"),
                              (["true", "data-bluk"], "'data-bluk' is neither a file"), (["true", "data-bulk", ""], "'' is neither"),
-                             (["runner"], "runner/build"), (["scenarios/../scenarios"], "build"),
+                             (["runner"], "runner/build"), ([os.path.join(TOP, "scenarios")], "scenarios/build"),
                              (["true", "--jobs", "0"], "'0' isn't a number"), (["true", "--jobs", "x"], "'x' isn't a number"),
                              (["true", "data-bulk", "--check", "true", "--lab", "true"], "true is older than this suite"),
                              (["true", "data-bulk", "--check", "true", *self.programs()[2:]], "true check printed nothing and ended with status 0"),
