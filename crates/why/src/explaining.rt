@@ -7,6 +7,7 @@ use crate::scene::{Object, Scene};
 use crate::unjudged::say_unjudged;
 use crate::{Done, building, calls, inbox, numbers, order, processing, timers, wire};
 use case_forms::{Answer, Event, Host, Label, Line, OutOfMemory, Step};
+use checker::{CaseFault, check_case};
 use line_fields::{FaultKind, TextFault};
 use plain_words::{Shown, fault_line};
 use replayed::{Case, ReplayFault, Texts, line_at};
@@ -23,25 +24,26 @@ pub struct Said {
 
 /// Explains the verdict on a case, whose segments have this origin.
 pub fn explain(alloc: Global, text: &[u8], origin: Origin) -> Result<Said, ReplayFault> {
-    match Case::read(alloc, text) {
-        Ok(case) => explain_case(alloc, &case, origin),
-        Err(fault) => say_fault(alloc, "bad trace ", Texts::of(text).trace, &fault),
-    }
-}
-
-fn explain_case(alloc: Global, case: &Case, origin: Origin) -> Result<Said, ReplayFault> {
-    match &case.verdict {
+    match check_case(alloc, text) {
         Ok(verdict @ Verdict::Yes { .. }) => {
             let text = format!(in alloc; "{verdict}\n")?;
             Ok(Said { text, status: 0 })
         }
         Ok(verdict @ Verdict::No { rule, .. }) => {
-            let mut text = format!(in alloc; "{verdict}\n")?;
-            quote(&mut text, case, verdict)?;
-            explain_no(alloc, &mut text, case, *rule, origin)?;
-            Ok(Said { text, status: 1 })
+            let mut said = format!(in alloc; "{verdict}\n")?;
+            // Both texts were read before, so that only memory can fail.
+            let case = Case::judged(alloc, text, verdict).map_err(|_| ReplayFault::OutOfMemory)?;
+            quote(&mut said, &case, &verdict)?;
+            explain_no(alloc, &mut said, &case, rule, origin)?;
+            Ok(Said { text: said, status: 1 })
         }
-        Err(fault) => say_fault(alloc, "bad witness ", case.texts.witness, fault),
+        Err(CaseFault::Trace(fault)) => {
+            say_fault(alloc, "bad trace ", Texts::of(text).trace, &fault)
+        }
+        Err(CaseFault::Witness(fault)) => {
+            say_fault(alloc, "bad witness ", Texts::of(text).witness, &fault)
+        }
+        Err(CaseFault::Read | CaseFault::OutOfMemory) => Err(ReplayFault::OutOfMemory),
     }
 }
 
