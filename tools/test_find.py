@@ -1,11 +1,13 @@
 #!/usr/bin/python3
-"""Tests `tcpwit_lab find`: how it ends, where it adds lines, which lines are copies of which, and segments that an attacker chose."""
+"""Tests `tcpwit_lab find`: how it ends, where it adds lines, which lines are copies of which, segments that an attacker chose, which of
+several witnesses it prefers, and hosts that process late or measure few round trips."""
 import glob
 import os
 import random
 import re
 import resource
 import shlex
+import struct
 import subprocess
 import sys
 import unittest
@@ -118,6 +120,136 @@ class Copies(unittest.TestCase):
             self.assertEqual((said, lines), ("", case.header + case.events))
             found = copies(witness)
             self.assertEqual({line: found[line] for line in wanted}, wanted)
+
+
+class Recording:
+    """A trace of host 0 alone. Port 4000 is connected to port 80, 40 ms away, and each of its segments acknowledges byte `acked`."""
+
+    HEADER = "trace 3,skew 0,msl 120000000,grain 1000,minrto 1000000,extra 0,initial 5681,half 0".split(",")
+    CLOCK = 40_000
+
+    def __init__(self, port=4000, begin=0, opener=6):
+        self.lines, self.port, self.moment, self.thread = [], port, begin, port
+        self.call(f"open 0 {port} 80", f"ok {opener}")
+        self.sent(0, None, flags=0x02)
+        self.came(0, 1, flags=0x12, after=self.CLOCK)
+        self.sent(1, 1)
+        self.opener = opener
+
+    def line(self, thread, text, after):
+        self.moment += after
+        self.lines.append(f"{self.moment} {thread} {text}")
+        return len(self.HEADER) + len(self.lines)
+
+    def call(self, asked, answer, after=10):
+        self.line(self.thread, f"B {asked}", after)
+        self.line(self.thread, f"E {answer}", 1)
+
+    def segment(self, host, ports, numbers, flags, payload):
+        seq, ack = numbers[0] + (1000, 50_000)[host], 0 if numbers[1] is None else numbers[1] + (50_000, 1000)[host]
+        return struct.pack(">HHIIBBHHH", *ports, seq, ack, 0x50, flags, 65_535, 0, 0).hex() + payload.hex()
+
+    def sent(self, seq, ack, payload=b"", flags=0x10, after=10):
+        return self.line(3, f"O 0 {self.segment(0, (self.port, 80), (seq, ack), flags, payload)}", after)
+
+    def came(self, seq, ack, payload=b"", flags=0x10, after=10):
+        return self.line(5, f"I 0 {self.segment(1, (80, self.port), (seq, ack), flags, payload)}", after)
+
+    def text(self):
+        return "".join(line + "\n" for line in self.HEADER + self.lines)
+
+
+def moments(witness):
+    """When each line has its step, and when each segment is built that a line shows."""
+    lines, built, of_line = {}, [], {}
+    for moment, word, *rest in (step.split() for step in witness):
+        if word == "M":
+            built.append(int(moment))
+        elif word == "L":
+            lines[int(rest[0])] = int(moment)
+            if len(rest) == 2:
+                of_line[int(rest[0])] = built[int(rest[1]) - 1]
+    return lines, of_line
+
+
+def takings(witness):
+    """For the line of each arrival that is processed: when, whether its bytes are kept, and whether it's measured."""
+    steps = [step.split() for step in witness]
+    return {int(step[3]): (int(step[0]), step[5] == "1", step[6] == "1") for step in steps if step[1] == "T"}
+
+
+class LateHosts(unittest.TestCase):
+    """A capture shows arrivals before the stack has processed them."""
+
+    def found(self, recording):
+        lines, witness, said = find(recording.text(), "--budget", "0")
+        self.assertTrue(said.startswith("every line is explained") or not said, said)
+        sent = {line: moment for line, moment in moments(witness)[0].items() if f" O 0 " in lines[line - 1]}
+        self.assertEqual(moments(witness)[1], sent, "a segment was built before it was sent")
+        return takings(witness)
+
+    def test_retransmissions_after_a_burst(self):
+        """Three segments were retransmitted while eight arrivals waited; none of them acknowledges the arrivals."""
+        it = Recording()
+        payload = b"r" * 100
+        it.call(f"send {it.opener} {3 * payload.hex()}", "ok 300")
+        for at in (1, 101, 201):
+            it.sent(at, 1, payload)
+        burst = [it.came(1 + 100 * at, 1, b"b" * 100, after=1_100_000 if at == 0 else 2) for at in range(8)]
+        for at in (1, 101, 201):
+            it.sent(at, 1, payload, after=3)
+        it.sent(301, 801)
+        last = it.moment - 10
+        self.assertEqual({line: taken for line, taken in self.found(it).items() if line in burst}, dict.fromkeys(burst, (last, True, False)))
+
+    def test_a_dropped_segment(self):
+        """The host dropped the first of sixteen segments. No acknowledgment was built long before it was sent."""
+        it = Recording()
+        dropped = it.came(1, 1, b"0123456789", after=1000)
+        for at in range(1, 16):
+            it.came(1 + 10 * at, 1, b"0123456789", after=5_000)
+            it.sent(1, 1, after=20)
+        again = it.came(1, 1, b"0123456789", after=5_000)
+        it.sent(1, 161, after=20)
+        kept = {line: is_kept for line, (_, is_kept, _) in self.found(it).items()}
+        self.assertEqual((kept[dropped], kept[again], list(kept.values()).count(False)), (False, True, 1))
+
+
+class Samples(unittest.TestCase):
+    """RFC 6298, 3 lets a host measure one round trip at a time."""
+
+    def slow_acknowledgments(self, it):
+        """Four segments at once: the first is measured, and the others' acknowledgments come 0.9 s later. Then one is lost."""
+        payload = b"x" * 500
+        it.call(f"send {it.opener} {5 * payload.hex()}", "ok 2500")
+        for at in range(4):
+            it.sent(1 + 500 * at, 1, payload)
+        it.came(1, 501, after=it.CLOCK)
+        late = [it.came(1, 1001 + 500 * at, after=10 if at else 900_000) for at in range(3)]
+        it.sent(2001, 1, payload)
+        it.sent(2001, 1, payload, after=1_000_000)
+        it.came(1, 2501, after=it.CLOCK)
+        return late
+
+    def test_one_round_trip_at_a_time(self):
+        it = Recording()
+        late = self.slow_acknowledgments(it)
+        _, witness, said = find(it.text())
+        self.assertTrue(said.startswith("every line is explained"), said)
+        measured = [line for line, (_, _, is_measured) in takings(witness).items() if is_measured]
+        self.assertEqual(len(measured), 2)
+        self.assertFalse(set(measured) & set(late))
+
+    def test_the_budget_begins_anew(self):
+        """Ten connections have this problem. Each needs fewer steps than the budget, and all together need more."""
+        parts = [Recording(4000 + at, 10_000_000 * at, 6 + at) for at in range(10)]
+        for part in parts:
+            self.slow_acknowledgments(part)
+        trace = "".join(line + "\n" for line in Recording.HEADER + [line for part in parts for line in part.lines])
+        said = find(trace, "--budget", "5000")[2]
+        tried = re.fullmatch("every line is explained; other choices tried: ([0-9]+)\n", said)
+        self.assertTrue(tried, said)
+        self.assertGreater(int(tried[1]) * trace.count("\n"), 5000)
 
 
 if __name__ == "__main__":

@@ -13,6 +13,8 @@ use std::collections::BTreeMap;
 pub enum Fate {
     /// What is usual, whatever was chosen before.
     Usual,
+    /// It is processed at once: what was built before and is sent later is built then.
+    Prompt,
     /// It is processed, and its bytes and its FIN are not kept.
     NotKept,
     /// It is dropped.
@@ -79,6 +81,7 @@ pub(crate) struct Arrival {
     pub is_not_grown: bool,
     pub is_of_last: bool,
     pub is_widened: bool,
+    pub is_prompt: bool,
 }
 
 impl Arrival {
@@ -95,7 +98,13 @@ impl Arrival {
             Fate::NotGrown => self.is_not_grown = true,
             Fate::OfLast => self.is_of_last = true,
             Fate::Widened => self.is_widened = true,
+            Fate::Prompt => self.is_prompt = true,
         }
+    }
+
+    /// Whether it may be processed after later lines.
+    pub(crate) fn may_be_late(&self) -> bool {
+        !(self.is_dropped || self.is_not_kept || self.is_prompt)
     }
 }
 

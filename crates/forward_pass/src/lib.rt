@@ -8,7 +8,7 @@
 //! - `pass`: what a pass knows, and the order in which it does things
 //!   - `sending`: a segment is built when its line shows that it was sent
 //!   - `unseen`: segments that were built, and that no line shows
-//!   - `arriving`: an arrival is processed at once, answered by a reset or dropped
+//!   - `arriving`: an arrival is processed at once or late, answered by a reset or dropped
 //!   - `calling`: a call has its effect as soon as the model permits the answer that its end shows
 //!   - `expiring`: expiries that the trace shows, and lines that are added for others
 //! - `choices`: what is chosen at lines where more than one step is possible
@@ -16,6 +16,7 @@
 //! - `outgoing`: what later lines show: ends of calls, segments that are sent
 //! - `calls`: calls that had no effect yet
 //! - `copies`: sent segments that have no copy yet
+//! - `late`: arrivals that are processed late
 //! - `key`: endpoints, by their host and ports
 //! - `stop`: why a step isn't done
 #![tactic(auto)]
@@ -25,6 +26,7 @@ mod calls;
 mod choices;
 mod copies;
 mod key;
+mod late;
 mod outgoing;
 mod pass;
 mod progress;

@@ -11,6 +11,7 @@ use crate::calls::{Calls, key_of_call};
 use crate::choices::{Choices, Deed, Remedy};
 use crate::copies::Copies;
 use crate::key::EndpointKey;
+use crate::late::{Late, Waiting};
 use crate::outgoing::{LaterLines, Outgoing};
 use crate::progress::{Findings, Progress};
 use crate::stop::{Done, Stop};
@@ -38,8 +39,10 @@ pub(crate) struct Pass<'t> {
     outgoing: Outgoing<'t>,
     copies: Copies<'t>,
     calls: Calls,
-    /// For the place of an arrival that waits until a later line, the number of its line.
-    waiting: BTreeMap<usize, u64>,
+    /// For its place, an arrival that waits until a later line.
+    waiting: BTreeMap<usize, Waiting>,
+    /// Arrivals that are processed late.
+    late: Late,
 }
 
 impl<'t> Pass<'t> {
@@ -54,6 +57,7 @@ impl<'t> Pass<'t> {
             copies: Copies::new(alloc),
             calls: Calls::new(alloc),
             waiting: BTreeMap::new(alloc),
+            late: Late::new(alloc),
         }
     }
 
@@ -159,8 +163,8 @@ impl<'t> Pass<'t> {
             return Ok(());
         };
         match (&line.event, self.waiting.remove(&waiting)) {
-            (Event::Came(host, _), Some(number)) => {
-                self.resolve_arrival(*host, number, self.choices.arrival(waiting))
+            (Event::Came(..), Some(arrived)) => {
+                self.take_turn(arrived, self.choices.arrival(waiting))
             }
             (Event::CallBegin(call), _) if self.calls.is_open(line.thread, waiting) => {
                 self.try_first(waiting, line.thread, call)

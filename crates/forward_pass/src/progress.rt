@@ -41,6 +41,8 @@ pub struct Findings {
     pub meant: Vec<MeantCall>,
     /// The places of arrivals that ended beyond the window.
     pub beyond: Vec<usize>,
+    /// The places of arrivals that were processed late.
+    pub late: Vec<usize>,
 }
 
 impl Findings {
@@ -51,6 +53,7 @@ impl Findings {
             added: Vec::new(alloc),
             meant: Vec::new(alloc),
             beyond: Vec::new(alloc),
+            late: Vec::new(alloc),
         }
     }
 }

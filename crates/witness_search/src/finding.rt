@@ -9,8 +9,8 @@ use std::alloc::Global;
 use std::mem::replace;
 use trace_reader::read_trace;
 
-/// How many steps are spent on going back, unless another budget is given.
-pub const USUAL_BUDGET: u64 = 500_000;
+/// How many steps are spent on going back for one line, unless another budget is given.
+pub const USUAL_BUDGET: u64 = 2_000_000;
 
 /// How a search ended.
 #[derive(Clone, Copy, Debug, PartialEq, Eq)]
@@ -44,8 +44,8 @@ pub fn find(alloc: Global, text: &[u8]) -> Result<Vec<u8>, TextFault> {
     Ok(found.case)
 }
 
-/// Like `find`, but spends at most this many steps on going back, and also returns how the search ended. With 0, the
-/// search goes over the lines once.
+/// Like `find`, but spends at most this many steps on going back for one line, and 20 times as many in all, and also
+/// returns how the search ended. With 0, the search goes over the lines once.
 pub fn find_within(alloc: Global, text: &[u8], budget: u64) -> Result<Found, TextFault> {
     let trace = read_trace(alloc, text)?;
     let later = LaterLines::of(alloc, trace.lines.as_slice())?;

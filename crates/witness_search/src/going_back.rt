@@ -2,7 +2,8 @@
 //!
 //! Each attempt goes over all lines anew, so its result depends on the choices alone, and the same budget gives the
 //! same case. Single candidates are tried first, the nearest to the line first, and those that explain a further line
-//! are kept. If none does, two candidates are tried at once.
+//! are kept. If none does, two candidates are tried at once. The budget begins anew whenever a further line is
+//! explained.
 
 use crate::alternatives::{Known, push_candidates};
 use crate::candidates::{Candidates, Done};
@@ -19,6 +20,9 @@ const PAIRED: usize = 40;
 
 // How many looks at a line count as one step.
 const LOOKS: u64 = 4;
+
+// How many budgets are spent in all, at most.
+const BUDGETS: u64 = 20;
 
 // Choices that explain the lines before a place, and what can be chosen besides.
 #[derive(Clone, Copy)]
@@ -54,10 +58,12 @@ pub(crate) struct Retries<'t> {
     pub tried: u64,
     /// How many steps they took.
     cost: u64,
+    /// How many of these led to the best attempt.
+    cost_of_best: u64,
 }
 
 impl<'t> Retries<'t> {
-    /// A search that spends at most this many steps on going back.
+    /// A search that spends at most this many steps on going back for one line, and 20 times as many in all.
     pub(crate) fn new(sought: Sought<'t>, budget: u64) -> Retries<'t> {
         let alloc = sought.alloc;
         Retries {
@@ -74,6 +80,7 @@ impl<'t> Retries<'t> {
             listed: BTreeMap::new(alloc),
             tried: 0,
             cost: 0,
+            cost_of_best: 0,
         }
     }
 
@@ -81,7 +88,7 @@ impl<'t> Retries<'t> {
     /// steps.
     pub(crate) fn run(&mut self) -> Done {
         self.best.search(self.sought, &self.chosen)?;
-        for _ in 0..self.budget {
+        for _ in 0..self.most() {
             if !self.go_further()? {
                 break;
             }
@@ -89,9 +96,19 @@ impl<'t> Retries<'t> {
         Ok(())
     }
 
+    // How many steps are spent in all, at most.
+    fn most(&self) -> u64 {
+        self.budget.saturating_mul(BUDGETS)
+    }
+
+    // How many steps are spent unless a further line is explained.
+    fn limit(&self) -> u64 {
+        self.cost_of_best.saturating_add(self.budget).min(self.most())
+    }
+
     /// Whether the budget is spent.
     pub(crate) fn is_spent(&self) -> bool {
-        self.cost >= self.budget
+        self.cost >= self.limit()
     }
 
     // Whether there is nothing more to do.
@@ -110,7 +127,7 @@ impl<'t> Retries<'t> {
             return Ok(false);
         }
         self.begin_anew()?;
-        let left = self.budget.saturating_sub(self.cost);
+        let left = self.limit().saturating_sub(self.cost);
         self.try_singles(self.cost.saturating_add(left / 2))?;
         if self.is_over() {
             return Ok(false);
@@ -186,6 +203,7 @@ impl<'t> Retries<'t> {
         if best.is_some_and(|failure| self.last.explains(failure.place)) {
             swap(&mut self.best, &mut self.last);
             self.chosen.set(&self.choices)?;
+            self.cost_of_best = self.cost;
         }
         Ok(is_further)
     }
@@ -215,7 +233,7 @@ impl<'t> Retries<'t> {
 
     // Adds one candidate after the other, and goes back if no further one helps. It ends at this many steps.
     fn try_singles(&mut self, most: u64) -> Done {
-        for _ in 0..self.budget {
+        for _ in 0..self.most() {
             if self.is_over() || self.cost >= most {
                 break;
             }

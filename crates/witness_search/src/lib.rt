@@ -7,6 +7,7 @@
 //! - `going_back`: if a line can't be explained, other choices are tried before it, within a budget
 //! - `alternatives`: what else could have been chosen before a line
 //! - `together`: what else could have been chosen at several lines at once
+//! - `measuring`: round trips that a host may not have measured
 //! - `candidates`: a list of these, each with one choice or several
 //! - `case_text`: the text of the case
 #![tactic(auto)]
@@ -16,6 +17,7 @@ mod candidates;
 mod case_text;
 mod finding;
 mod going_back;
+mod measuring;
 mod together;
 
 pub use finding::{Ending, Found, USUAL_BUDGET, find, find_within};

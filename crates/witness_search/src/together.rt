@@ -10,8 +10,8 @@ use verdict::Rule;
 // How many choices are made at once before a failure, at most, and how many after it.
 const TOGETHER: usize = 256;
 
-// Half of all sequence numbers: the farthest that a number may be ahead.
-const HALF: u32 = 0x8000_0000;
+/// Half of all sequence numbers: the farthest that a number may be ahead.
+pub(crate) const HALF: u32 = 0x8000_0000;
 
 /// Which arrivals are chosen at once.
 #[derive(Clone, Copy)]
@@ -31,14 +31,14 @@ enum Side {
     After,
 }
 
-// How many numbers a segment's bytes and its FIN have.
-fn length_of(wire: &Wire) -> u32 {
+/// How many numbers a segment's bytes and its FIN have.
+pub(crate) fn length_of(wire: &Wire) -> u32 {
     let len = u32::try_from(wire.seg.payload.len()).unwrap_or(u32::MAX);
     len.saturating_add(u32::from(wire.seg.has(Flag::Fin)))
 }
 
-// The number after those of a segment.
-fn end_of(wire: &Wire) -> u32 {
+/// The number after those of a segment's bytes and its FIN.
+pub(crate) fn end_of(wire: &Wire) -> u32 {
     wire.seg.seq.0.wrapping_add(length_of(wire))
 }
 
@@ -67,16 +67,31 @@ impl Known<'_> {
         if self.failure.rule == Rule::BytesDiffer {
             self.gather(out, Kind::Covers, Fate::NotKept)?;
             self.gather(out, Kind::EndsBeyond, Fate::NotKept)?;
+            self.hurry_all(out)?;
             return self.widen(out);
         }
+        self.hurry_all(out)?;
         self.widen(out)?;
         self.drop_all(out)?;
         match (self.failure.rule, self.failure.key) {
-            (Rule::CallAnswer | Rule::OldData | Rule::TimerOff, Some(at)) => {
-                self.expire_each(out, at)
+            (Rule::OldData, Some(at)) => {
+                self.expire_each(out, at)?;
+                self.measure_less(out, at)
             }
+            (Rule::CallAnswer | Rule::TimerOff, Some(at)) => self.expire_each(out, at),
+            (Rule::TimerEarly, Some(at)) => self.measure_less(out, at),
             _ => Ok(()),
         }
+    }
+
+    // One candidate: the last arrivals that were processed late are processed at once.
+    fn hurry_all(&self, out: &mut Candidates) -> Done {
+        let places = self.findings.late.iter().rev().take(REACH);
+        let places = places.filter(|place| self.is_at_failing_endpoint(**place));
+        for place in places.take(TOGETHER) {
+            out.add(*place, Deed::Fate(Fate::Prompt))?;
+        }
+        out.end()
     }
 
     // The last arrivals that end beyond the window: an unseen segment advertised a larger one.
@@ -127,8 +142,8 @@ impl Known<'_> {
         }
     }
 
-    // One candidate: all arrivals of a kind before the failure have this fate.
-    fn gather(&self, out: &mut Candidates, kind: Kind, fate: Fate) -> Done {
+    /// One candidate: all arrivals of a kind before the failure have this fate.
+    pub(crate) fn gather(&self, out: &mut Candidates, kind: Kind, fate: Fate) -> Done {
         self.add(out, kind, fate, Side::Before)?;
         out.end()
     }

@@ -1,10 +1,12 @@
-//! An arrival is processed at once, answered by a reset if one follows, or dropped.
+//! An arrival is processed, answered by a reset if one follows, or dropped: at once, or late, after segments that were
+//! built before.
 
 use super::Pass;
 use super::sending::position_of;
 use crate::calls::listener_at;
 use crate::choices::Arrival;
 use crate::key::EndpointKey;
+use crate::late::Waiting;
 use crate::outgoing::Shown;
 use crate::progress::saturated;
 use crate::stop::{Done, Stop, permitted};
@@ -15,6 +17,10 @@ use segment::Flag;
 use seqno::number;
 use spec_tcp::{Arrived, Emission};
 use verdict::Rule;
+
+// For how many microseconds an arrival waits for segments that were built before. A capture shows a segment some
+// microseconds before the stack processes it, and longer on a busy machine.
+const LATE: u64 = 20_000;
 
 // Whether a segment acknowledges exactly what its sender received, or nothing if that has met no peer.
 fn acknowledges_next(endpoint: &Endpoint, wire: &Wire) -> bool {
@@ -48,11 +54,65 @@ impl<'t> Pass<'t> {
         if self.widening(host, line).is_some() {
             self.progress.findings.beyond.push(place)?;
         }
+        let moment = self.progress.moment();
+        let waiting = Waiting { place, host, line, moment };
         if self.choices.waits(place) {
-            self.waiting.insert(place, line)?;
+            self.waiting.insert(place, waiting)?;
             return Ok(());
         }
+        self.take_turn(waiting, how)
+    }
+
+    /// An arrival is processed, unless others are late at its endpoint, or it is late itself.
+    pub(crate) fn take_turn(&mut self, waiting: Waiting, how: Arrival) -> Done {
+        let Waiting { place, host, line, .. } = waiting;
+        if let Some((key, _)) = self.progress.waiting(host, line) {
+            if how.may_be_late() && (self.late.first(key).is_some() || self.is_late(waiting)) {
+                self.progress.findings.late.push(place)?;
+                return Ok(self.late.put(key, waiting)?);
+            }
+        }
         self.resolve_arrival(host, line, how)
+    }
+
+    // Whether the next segment of the receiver of an arrival was built before, and is sent soon after it.
+    fn is_late(&self, waiting: Waiting) -> bool {
+        let Some((shown, _)) = self.earlier(waiting.host, waiting.line) else {
+            return false;
+        };
+        self.moment_of(shown).saturating_sub(waiting.moment) <= LATE
+    }
+
+    // When a segment is sent.
+    fn moment_of(&self, shown: Shown<'_>) -> u64 {
+        self.sought.lines.get(shown.place).map_or(0, |line| line.moment)
+    }
+
+    /// An endpoint sent a segment: it processes what is late there, up to the first that was built after the next
+    /// segment.
+    pub(crate) fn catch_up(&mut self, key: EndpointKey) -> Done {
+        for _ in 0..self.late.count(key) {
+            let Some(waiting) = self.late.first(key).filter(|first| !self.is_late(*first)) else {
+                break;
+            };
+            self.late.remove_first(key);
+            let how = self.choices.arrival(waiting.place);
+            self.resolve_arrival(waiting.host, waiting.line, how)?;
+        }
+        Ok(())
+    }
+
+    /// An endpoint processes the first arrival that is late there, and what was built before is built now. The result
+    /// is whether there was one.
+    pub(crate) fn hurry(&mut self, key: EndpointKey) -> Result<bool, Stop> {
+        let Some(waiting) = self.late.first(key) else {
+            return Ok(false);
+        };
+        self.late.remove_first(key);
+        let mut how = self.choices.arrival(waiting.place);
+        how.is_prompt = true;
+        self.resolve_arrival(waiting.host, waiting.line, how)?;
+        Ok(true)
     }
 
     // The arrival of the current line waits at its host. The result is the line's number.
@@ -92,12 +152,12 @@ impl<'t> Pass<'t> {
         sent.last(place).unwrap_or(0)
     }
 
-    /// An arrival is processed, answered or dropped.
-    pub(crate) fn resolve_arrival(&mut self, host: Host, line: u64, mut how: Arrival) -> Done {
+    // An arrival is processed, answered or dropped.
+    fn resolve_arrival(&mut self, host: Host, line: u64, mut how: Arrival) -> Done {
         if how.is_dropped {
             return self.progress.drop_arrival(host, line);
         }
-        how.is_not_kept |= !self.make_earlier(host, line)?;
+        how.is_not_kept |= !self.make_earlier(host, line, how)?;
         if how.is_widened {
             self.widen(host, line)?;
         }
@@ -197,13 +257,13 @@ impl<'t> Pass<'t> {
     }
 
     // Builds what is sent later and was built before this arrival was processed. The result is whether the arrival is
-    // kept.
-    fn make_earlier(&mut self, host: Host, line: u64) -> Result<bool, Stop> {
+    // kept. It isn't if a segment that doesn't acknowledge it is sent too late to have been built before.
+    fn make_earlier(&mut self, host: Host, line: u64, how: Arrival) -> Result<bool, Stop> {
         for _ in 0..self.sought.lines.len() {
             let Some((shown, is_needed)) = self.earlier(host, line) else {
                 return Ok(true);
             };
-            if !self.try_making(shown)? {
+            if (is_needed && !how.is_prompt) || !self.try_making(shown)? {
                 return Ok(!is_needed);
             }
         }

@@ -106,6 +106,9 @@ impl Pass<'_> {
             return Ok(());
         }
         let key = key_of_call(self.progress.world(), thread);
+        if let Some(key) = key {
+            self.hurry_call(thread, key)?;
+        }
         if let (Some(key), Some(timer)) = (key, timer_for(answer)) {
             self.try_expiry(key, timer)?;
         }
@@ -118,6 +121,16 @@ impl Pass<'_> {
             self.progress.push_step(Label::D { thread, answer })?;
         }
         done
+    }
+
+    // What is late at an endpoint is processed until the call of a thread has its effect.
+    fn hurry_call(&mut self, thread: u32, key: EndpointKey) -> Done {
+        for _ in 0..self.late.count(key) {
+            if !self.calls.open.contains_key(&thread) || !self.hurry(key)? {
+                break;
+            }
+        }
+        Ok(())
     }
 
     // Whether a call has its effect now, with the answer with which it ends.

@@ -65,7 +65,7 @@ impl<'t> Pass<'t> {
         if wire.seg.has(Flag::Syn) {
             self.outgoing.syns.insert(key, wire.seg.seq)?;
         }
-        Ok(())
+        self.catch_up(key)
     }
 
     // Builds the segment that a line shows. If that isn't permitted yet, remedies come first.
@@ -84,7 +84,7 @@ impl<'t> Pass<'t> {
             let Err(Stop::Broken(rule)) = made else {
                 return made;
             };
-            if !self.remedy(key, plan, rule)? {
+            if !self.remedy(key, plan, rule)? && !self.hurry(key)? {
                 break;
             }
         }
