@@ -14,7 +14,7 @@ pub(crate) static TCPWIT_LAB: CommandLine = CommandLine {
             arguments: &[Argument {
                 name: "budget",
                 form: Form::Option("N"),
-                help: "How many steps are spent on going back [default: 500000]",
+                help: "How many steps are spent on going back for one line [default: 2000000]",
             }],
             after: FIND,
         },
@@ -67,7 +67,7 @@ pub(crate) static TCPWIT_LAB: CommandLine = CommandLine {
                 Argument {
                     name: "budget",
                     form: Form::Option("N"),
-                    help: "How many steps are spent on going back at each level [default: 500000]",
+                    help: "How many steps are spent on going back for one line [default: 2000000]",
                 },
                 Argument {
                     name: "case",
