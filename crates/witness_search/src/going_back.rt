@@ -103,7 +103,9 @@ impl<'t> Retries<'t> {
 
     // How many steps are spent unless a further line is explained.
     fn limit(&self) -> u64 {
-        self.cost_of_best.saturating_add(self.budget).min(self.most())
+        self.cost_of_best
+            .saturating_add(self.budget)
+            .min(self.most())
     }
 
     /// Whether the budget is spent.

@@ -24,7 +24,9 @@ impl Timing {
     // (RFC 6298, 3: Karn's algorithm).
     fn send(&mut self, wire: &Wire) {
         let end = end_of(wire).wrapping_add(u32::from(wire.seg.has(Flag::Syn)));
-        let is_new = self.max.is_none_or(|max| end != max && end.wrapping_sub(max) < HALF);
+        let is_new = self
+            .max
+            .is_none_or(|max| end != max && end.wrapping_sub(max) < HALF);
         if end == wire.seg.seq.0 {
             return;
         }
@@ -39,7 +41,9 @@ impl Timing {
     // A segment arrives. The result is whether it acknowledges what is measured.
     fn receive(&mut self, wire: &Wire) -> bool {
         let ack = wire.seg.ack.0;
-        let is_measured = self.timed.is_some_and(|timed| ack.wrapping_sub(timed) < HALF);
+        let is_measured = self
+            .timed
+            .is_some_and(|timed| ack.wrapping_sub(timed) < HALF);
         if is_measured {
             self.timed = None;
         }

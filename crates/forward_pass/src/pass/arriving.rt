@@ -22,6 +22,16 @@ use verdict::Rule;
 // microseconds before the stack processes it, and longer on a busy machine.
 const LATE: u64 = 20_000;
 
+// When an arrival is processed.
+#[derive(Clone, Copy)]
+enum Turn {
+    Now,
+    /// After other arrivals of this endpoint, or after a segment that was built before and is sent soon.
+    Late(EndpointKey),
+    /// A segment was built before, but isn't sent soon.
+    TooLate,
+}
+
 // Whether a segment acknowledges exactly what its sender received, or nothing if that has met no peer.
 fn acknowledges_next(endpoint: &Endpoint, wire: &Wire) -> bool {
     match endpoint.irs {
@@ -55,7 +65,12 @@ impl<'t> Pass<'t> {
             self.progress.findings.beyond.push(place)?;
         }
         let moment = self.progress.moment();
-        let waiting = Waiting { place, host, line, moment };
+        let waiting = Waiting {
+            place,
+            host,
+            line,
+            moment,
+        };
         if self.choices.waits(place) {
             self.waiting.insert(place, waiting)?;
             return Ok(());
@@ -65,27 +80,51 @@ impl<'t> Pass<'t> {
 
     /// An arrival is processed, unless others are late at its endpoint, or it is late itself.
     pub(crate) fn take_turn(&mut self, waiting: Waiting, how: Arrival) -> Done {
-        let Waiting { place, host, line, .. } = waiting;
-        if let Some((key, _)) = self.progress.waiting(host, line) {
-            if how.may_be_late() && (self.late.first(key).is_some() || self.is_late(waiting)) {
-                self.progress.findings.late.push(place)?;
-                return Ok(self.late.put(key, waiting)?);
-            }
+        if !how.may_be_late() {
+            return self.resolve_arrival(waiting.host, waiting.line, how);
         }
-        self.resolve_arrival(host, line, how)
+        match self.turn_of(waiting) {
+            Turn::Now => self.process(waiting.host, waiting.line, how),
+            Turn::Late(key) => {
+                self.progress.findings.late.push(waiting.place)?;
+                Ok(self.late.put(key, waiting)?)
+            }
+            Turn::TooLate => self.resolve_arrival(waiting.host, waiting.line, how),
+        }
+    }
+
+    // When an arrival is processed that just came.
+    fn turn_of(&self, waiting: Waiting) -> Turn {
+        let Some((key, _)) = self.progress.waiting(waiting.host, waiting.line) else {
+            return Turn::Now;
+        };
+        if self.late.first(key).is_some() {
+            return Turn::Late(key);
+        }
+        match self.earlier(waiting.host, waiting.line) {
+            None => Turn::Now,
+            Some((shown, _)) if self.is_soon(shown, waiting) => Turn::Late(key),
+            Some(_) => Turn::TooLate,
+        }
+    }
+
+    // Whether a segment is sent soon after an arrival.
+    fn is_soon(&self, shown: Shown<'_>, waiting: Waiting) -> bool {
+        self.moment_of(shown).saturating_sub(waiting.moment) <= LATE
     }
 
     // Whether the next segment of the receiver of an arrival was built before, and is sent soon after it.
     fn is_late(&self, waiting: Waiting) -> bool {
-        let Some((shown, _)) = self.earlier(waiting.host, waiting.line) else {
-            return false;
-        };
-        self.moment_of(shown).saturating_sub(waiting.moment) <= LATE
+        let earlier = self.earlier(waiting.host, waiting.line);
+        earlier.is_some_and(|(shown, _)| self.is_soon(shown, waiting))
     }
 
     // When a segment is sent.
     fn moment_of(&self, shown: Shown<'_>) -> u64 {
-        self.sought.lines.get(shown.place).map_or(0, |line| line.moment)
+        self.sought
+            .lines
+            .get(shown.place)
+            .map_or(0, |line| line.moment)
     }
 
     /// An endpoint sent a segment: it processes what is late there, up to the first that was built after the next
@@ -152,12 +191,17 @@ impl<'t> Pass<'t> {
         sent.last(place).unwrap_or(0)
     }
 
-    // An arrival is processed, answered or dropped.
+    // What was built before an arrival is built, and the arrival is processed, answered or dropped.
     fn resolve_arrival(&mut self, host: Host, line: u64, mut how: Arrival) -> Done {
         if how.is_dropped {
             return self.progress.drop_arrival(host, line);
         }
         how.is_not_kept |= !self.make_earlier(host, line, how)?;
+        self.process(host, line, how)
+    }
+
+    // An arrival is processed, or answered or dropped if that isn't permitted.
+    fn process(&mut self, host: Host, line: u64, how: Arrival) -> Done {
         if how.is_widened {
             self.widen(host, line)?;
         }
