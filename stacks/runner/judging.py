@@ -1,4 +1,5 @@
 """Turns a run into a verdict: the header of the trace, a witness from `tcpwit_lab find`, the answer of `tcpwit check`."""
+import copy
 import os
 import re
 from dataclasses import dataclass, field
@@ -95,8 +96,16 @@ def trace_of(values, half, lines, level=FULL):
 
 
 class Judge:
-    def __init__(self, check, lab, watch=None):
+    def __init__(self, check, lab, watch=None, budget=None):
+        """The commands of tcpwit and tcpwit_lab, the limits of a scenario, and the budget of the search (its usual one if None)."""
         self.check, self.lab, self.watch = check, lab, watch
+        self.find = ["find", *(["--budget", str(budget)] if budget is not None else [])]
+
+    def watched(self, watch):
+        """The same judge, within the limits of a scenario."""
+        judge = copy.copy(self)
+        judge.watch = watch
+        return judge
 
     def call(self, program, words, text):
         """A program's output and status, with these arguments."""
@@ -114,18 +123,18 @@ class Judge:
 
     def unfit(self):
         """The program that is older than the suite, which needs format version 4 and `explain --simulated`; empty if none is."""
-        case, _ = self.call(self.lab, ["find"], trace_of(USUAL, False, [], LEVELS[-1]))
+        case, _ = self.call(self.lab, self.find, trace_of(USUAL, False, [], LEVELS[-1]))
         if not case.startswith(f"trace {BY_LEVEL}\n") or any(self.call(self.lab, words, case)[0].startswith("bad usage") for words in (EXPLAIN, REMARK)):
             return " ".join(self.lab)
         return "" if self.answer(case).startswith("yes") else " ".join(self.check)
 
     def empty(self, values):
         """The verdict on an empty trace with these values of a profile."""
-        return self.answer(self.call(self.lab, ["find"], trace_of(values, False, [], LEVELS[-1]))[0])
+        return self.answer(self.call(self.lab, self.find, trace_of(values, False, [], LEVELS[-1]))[0])
 
     def found(self, run, values, level):
         """A case and its verdict."""
-        case, _ = self.call(self.lab, ["find"], trace_of(values, run.peer, run.lines, level))
+        case, _ = self.call(self.lab, self.find, trace_of(values, run.peer, run.lines, level))
         return case, self.answer(case)
 
     def judge(self, outcome, run, values):

@@ -52,7 +52,7 @@ def judge_of(words, values):
     """The judge; None with --only-trace."""
     if words.only_trace:
         return None
-    judge = judging.Judge(*programs(words))
+    judge = judging.Judge(*programs(words), budget=words.budget)
     if unfit := judge.unfit():
         stop(f"{unfit} is older than this suite: build tcpwit and tcpwit_lab again from the same sources")
     answer = judge.empty(values)

@@ -18,7 +18,7 @@ class Task:
     """What all scenarios of a run have in common."""
     command: list
     values: dict            # of the profile
-    programs: tuple         # tcpwit and tcpwit_lab; empty if nothing is to be judged
+    judge: object           # a judging.Judge; None if nothing is to be judged
     out: str
     limits: limits.Limits
     run_end: float          # when the run's time is up
@@ -34,7 +34,7 @@ def task_of(words, folder):
     values = judging.profile(files.read(words.profile) if words.profile else "", words.profile)
     judge = programs.judge_of(words, values)
     bounds = limits.Limits(words.command_limit, words.scenario_limit, words.run_limit, words.events)
-    return Task(command, values, (judge.check, judge.lab) if judge else (), words.out, bounds, time.monotonic() + words.run_limit)
+    return Task(command, values, judge, words.out, bounds, time.monotonic() + words.run_limit)
 
 
 def outcomes_of(wanted, task, jobs):
@@ -57,7 +57,7 @@ def one(scenario, task):
         run = simulation.Run(scenario, task.command, watch, task.values["options"])
         record(outcome, run, task)
         if not outcome.verdict:
-            judge_and_keep(outcome, run, task.values, judging.Judge(*task.programs, watch) if task.programs else None, task.out)
+            judge_and_keep(outcome, run, task.values, task.judge.watched(watch) if task.judge else None, task.out)
     except limits.Broken as cause:
         outcome.verdict = f"broken {cause}"
     except processes.Stopped:

@@ -421,6 +421,21 @@ class TheCommand(unittest.TestCase):
         self.reported("--write-against", file, outcomes=outcomes)
         self.assertEqual([self.reported("--against", file, *more, outcomes=outcomes)[0] for more in ([], ["--remarks", "fail"])], [0, 1])
 
+    def test_the_budget_of_the_search(self):
+        asked, judge = f"{self.folder}/asked", f"{self.folder}/judge"
+        with open(judge, "w") as file:
+            file.write(f"#!/bin/sh\necho $@ >> {asked}\n[ $1 = check ] && echo yes 1 1 || exec cat\n")
+        os.chmod(judge, 0o755)
+        ran = self.adapter(answer="= - ok"), "hostile-closed-ack", "--check", judge, "--lab", judge
+        for words, wanted in (([], "find"), (["--budget", "0"], "find --budget 0"), (["--budget", "7000000"], "find --budget 7000000")):
+            self.run_it(*ran, *words)
+            with open(asked) as file:
+                self.assertEqual({line.strip() for line in file if line.startswith("find")}, {wanted})
+            os.remove(asked)
+        for wrong in ("-1", "01", "1.5", "x", str(1 << 64)):
+            self.assertEqual(self.run_it(*ran, "--budget=" + wrong)[0], 2)
+        self.assertIn("nothing is searched", self.run_it(*ran, "--budget", "1", "--only-trace")[2])
+
     def test_the_compared_values_are_shown(self):
         refused = self.outcome("no 9 0 congestion", "", "one")
         refused.why, refused.seconds = "the step: 1 M\n  sending: SND.UNA 1\n\nnew bytes end at 2681", 1.5
