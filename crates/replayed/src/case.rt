@@ -54,11 +54,7 @@ impl<'t> Case<'t> {
 
     /// Reads a case that `checker` has judged, without judging it again. An error is as in `read`, and a fault of the
     /// witness is one too.
-    pub fn judged(
-        alloc: Global,
-        text: &'t [u8],
-        verdict: Verdict,
-    ) -> Result<Case<'t>, TextFault> {
+    pub fn judged(alloc: Global, text: &'t [u8], verdict: Verdict) -> Result<Case<'t>, TextFault> {
         let texts = Texts::of(text);
         let trace = read_trace(alloc, texts.trace)?;
         let witness = read_witness_for(alloc, trace.header.version, texts.witness)?;

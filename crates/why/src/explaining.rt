@@ -35,7 +35,10 @@ pub fn explain(alloc: Global, text: &[u8], origin: Origin) -> Result<Said, Repla
             let case = Case::judged(alloc, text, verdict).map_err(|_| ReplayFault::OutOfMemory)?;
             quote(&mut said, &case, &verdict)?;
             explain_no(alloc, &mut said, &case, rule, origin)?;
-            Ok(Said { text: said, status: 1 })
+            Ok(Said {
+                text: said,
+                status: 1,
+            })
         }
         Err(CaseFault::Trace(fault)) => {
             say_fault(alloc, "bad trace ", Texts::of(text).trace, &fault)
