@@ -119,6 +119,17 @@ class Clone(unittest.TestCase):
         self.assertIn("tcpwit: building it", error)
         self.assertNotIn("tcpwit_lab: building it", error)
 
+    def test_a_build_reports_its_progress(self):
+        self.toolchain()
+        for name, text in (("bin/rt", RT), ("toolchain/bin/clang", MAKER)):
+            slow = text.replace("#!/bin/sh\n", "#!/bin/sh\nsleep 0.5\n")
+            self.write(f"kit/{name}", slow.format(kit=f"{self.folder}/kit", folder=self.folder))
+        code = "import sys; sys.path.insert(0, 'tools'); import unproved; unproved.PERIOD = 0.2; unproved.kept('tcpwit')"
+        status, out, error = self.run_in_clone(sys.executable, "-c", code)
+        self.assertEqual((status, out), (0, ""), error)
+        for step in ("step 1 of 2, translating: 0 s", "step 2 of 2, optimizing: 0 s"):
+            self.assertIn(step, error)
+
     @unittest.skipUnless(os.geteuid() == 0, "needs root")
     def test_under_sudo_the_owner_builds(self):
         self.toolchain()

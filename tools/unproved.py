@@ -20,10 +20,13 @@ import shutil
 import subprocess
 import sys
 import tempfile
+import time
 
 TOP = os.path.dirname(os.path.dirname(os.path.abspath(__file__)))
 FLAGS = """--target=x86_64-unknown-linux-gnu -march=x86-64 -ffunction-sections -fdata-sections --no-default-config -no-canonical-prefixes
  -fintegrated-cc1 -c -x ir -fPIE""".split()
+# How many seconds pass between two lines that report that a build goes on.
+PERIOD = 15
 # The status if there is no program. `tcpwit` itself never ends with it, so it can't be mistaken for a verdict.
 NO_PROGRAM = 127
 INSTALL = """  Without the toolchain, install the Debian package, which contains the proved programs (packaging/README.md).
@@ -47,6 +50,21 @@ def need_toolchain(name):
     """Ends if a program can't be built."""
     if shutil.which("rt") is None:
         stop(f"{name} isn't built, and the Rattle toolchain, whose command is rt, isn't in PATH.\n{INSTALL.format(name=name)}")
+
+
+def watched(step, words, **options):
+    """Runs a program and returns its result. Until it ends, standard error reports the step and its time."""
+    begun = time.monotonic()
+    with subprocess.Popen(words, **options) as child:
+        while True:
+            try:
+                out, err = child.communicate(timeout=PERIOD)
+                return subprocess.CompletedProcess(words, child.returncode, out, err)
+            except subprocess.TimeoutExpired:
+                print(f"  {step}: {time.monotonic() - begun:.0f} s", file=sys.stderr, flush=True)
+            except BaseException:
+                child.kill()
+                raise
 
 
 def kit():
@@ -81,9 +99,8 @@ def module_of(name, folder):
     """The module of a program, as a file in the folder."""
     kept = f"{folder}/kept.bc"
     kit_beside(f"{folder}/kit", kept)
-    tried = subprocess.run(
-        [f"{folder}/kit/bin/rt", "try", name], cwd=f"{TOP}/crates/{name}", stdin=subprocess.DEVNULL, capture_output=True, text=True
-    )
+    pipes = {"stdin": subprocess.DEVNULL, "stdout": subprocess.PIPE, "stderr": subprocess.PIPE}
+    tried = watched("step 1 of 2, translating", [f"{folder}/kit/bin/rt", "try", name], cwd=f"{TOP}/crates/{name}", text=True, **pipes)
     if not os.path.exists(kept):
         stop(f"{tried.stdout}{tried.stderr}`rt try` made no module of {name}")
     return kept
@@ -107,7 +124,8 @@ def build(name, out, level="-O1"):
     os.makedirs(os.path.dirname(os.path.abspath(out)), exist_ok=True)
     with tempfile.TemporaryDirectory() as folder:
         module = module_of(name, folder)
-        subprocess.run([f"{kit()}/toolchain/bin/clang", *FLAGS, level, module, "-o", f"{folder}/program.o"], check=True)
+        compiled = watched("step 2 of 2, optimizing", [f"{kit()}/toolchain/bin/clang", *FLAGS, level, module, "-o", f"{folder}/program.o"])
+        compiled.check_returncode()
         linked([f"{folder}/program.o"], f"{folder}/program")
         beside = f"{out}.{os.getpid()}"
         shutil.move(f"{folder}/program", beside)
@@ -159,7 +177,7 @@ def build_once(name, program):
     with open(f"{program}.lock", "w", encoding="utf-8") as lock:
         fcntl.flock(lock, fcntl.LOCK_EX)
         if not is_current(program, name):
-            print(f"{name}: building it without proofs, once, as {program}; this takes a minute or two", file=sys.stderr, flush=True)
+            print(f"{name}: building it without proofs, once, as {program}; this takes two to six minutes", file=sys.stderr, flush=True)
             build(name, program)
 
 

@@ -42,7 +42,8 @@ def show_sums(outcomes):
         say(f"{len(remarked)} of {len(words)} scenarios {'has' if len(remarked) == 1 else 'have'} remarks, {sum(remarked)} in all; -v prints them")
     less = [(level, sum(outcome.strictest == level for outcome in outcomes)) for level in judging.LEVELS[1:]]
     if any(count for _, count in less):
-        say("of those with no, " + ", ".join(f"{count} {'has' if count == 1 else 'have'} a yes at {level}" for level, count in less if count))
+        levels = [f"{count} {'is' if count == 1 else 'are'} a yes at {level}" for level, count in less if count]
+        say(f"of the {words.count('no')} with no, {', '.join(levels)}")
 
 
 def warning(outcomes):

@@ -374,7 +374,7 @@ class TheCommand(unittest.TestCase):
         status, out = self.reported()
         self.assertEqual((status, [line[66:74].strip() for line in out.split("\n")[:4]]), (1, ["yes at", "full", "recovery", "-"]))
         self.assertEqual(out.split("\n")[0].split(), ["scenario", "verdict", "yes", "at", "missing", "open", "remarks"])
-        self.assertIn("of those with no, 1 has a yes at recovery", out)
+        self.assertIn("of the 1 with no, 1 is a yes at recovery", out)
 
     def test_the_status_goes_by_the_least_word(self):
         self.assertEqual([self.reported("--least", word)[0] for word in judging.LEVELS], [1, 0, 0])

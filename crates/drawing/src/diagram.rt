@@ -24,20 +24,25 @@ const TOP: u64 = 60;
 const ROW: u64 = 20;
 
 // The arrows, where the key has them, and what they mean.
-const KEY: [(Fate, u64, &str); 6] = [
-    (Fate::Taken, 446, "taken"),
-    (Fate::Dropped, 512, "dropped"),
-    (Fate::Reset, 590, "reset"),
-    (Fate::Waits, 654, "waits"),
-    (Fate::Lost, 720, "lost"),
-    (Fate::Seen, 776, "not reached"),
+const KEY: [(Fate, u64, &str); 7] = [
+    (Fate::Lost, 230, "lost"),
+    (Fate::Seen, 286, "not reached"),
+    (Fate::Taken, 446, "processed"),
+    (Fate::NotKept, 530, "not kept"),
+    (Fate::Dropped, 608, "dropped"),
+    (Fate::Reset, 684, "reset"),
+    (Fate::Waits, 746, "waits"),
 ];
 
 // A picture that is written, and what is known of the case so far.
 #[derive(Drop)]
 struct Drawing<'d> {
     out: &'d mut String,
+    /// The texts, which follow all lines and arrows, so that none is struck through.
+    texts: &'d mut String,
     range: Drawn,
+    /// The line below which the refusal has a row of its own. None: nothing is refused.
+    marked: Option<u64>,
     fates: &'d Fates,
     numbers: Numbers,
     callers: Callers,
@@ -45,11 +50,13 @@ struct Drawing<'d> {
 
 /// The case as a picture in SVG, of the lines in a range.
 pub fn draw(alloc: Global, case: &Case, range: Range) -> Result<String, OutOfMemory> {
-    let mut out = String::new(alloc);
     let fates = Fates::of(alloc, case)?;
+    let (mut out, mut texts) = (String::new(alloc), String::new(alloc));
     let mut drawing = Drawing {
         out: &mut out,
+        texts: &mut texts,
         range: Drawn::of(range, case, &fates),
+        marked: marked_line(case, &fates),
         fates: &fates,
         numbers: Numbers::new(alloc, case.trace.header.version),
         callers: Callers::new(alloc),
@@ -57,6 +64,15 @@ pub fn draw(alloc: Global, case: &Case, range: Range) -> Result<String, OutOfMem
     drawing.all(case)?;
     drop(drawing);
     Ok(out)
+}
+
+// The line after which something is refused. None: nothing is.
+fn marked_line(case: &Case, fates: &Fates) -> Option<u64> {
+    match case.refusal() {
+        Refusal::Nowhere => None,
+        Refusal::At { .. } => Some(fates.last),
+        Refusal::Unplaced(line) => Some(line),
+    }
 }
 
 // So many pixels from the line of a host, on the side of the other host.
@@ -82,15 +98,20 @@ impl Drawing<'_> {
             self.line(line)?;
         }
         self.refusal(case)?;
+        self.out.push_str(self.texts.as_str())?;
         end(self.out)
     }
 
-    // The height of a line's row.
+    // The height of a line's row. The refusal has a row below the marked line.
     fn row(&self, number: u64) -> u64 {
         let Drawn { from, to } = self.range;
-        let drawn = number.max(from).min(to.saturating_add(1));
-        let above = drawn.saturating_sub(from).saturating_mul(ROW);
-        TOP.saturating_add(above)
+        let number = number.min(to.saturating_add(1));
+        let refusal = match self.marked {
+            Some(marked) if marked < number => 1,
+            _ => 0,
+        };
+        let above = number.saturating_sub(from).saturating_add(refusal);
+        TOP.saturating_add(above.saturating_mul(ROW))
     }
 
     // The size, the hosts that are recorded, and the key.
@@ -115,12 +136,12 @@ impl Drawing<'_> {
             Fate::Lost => line(self.out, fate.class(), from, to)?,
             _ => arrow(self.out, fate.class(), from, to)?,
         }
-        text(self.out, "key", at(x.saturating_add(24), 23), &meaning)
+        text(self.texts, "key", at(x.saturating_add(24), 23), &meaning)
     }
 
     fn host(&mut self, host: Host, bottom: u64) -> Done {
         let x = inside(host, 0);
-        text(self.out, "head mid", at(x, 24), &HostName(host))?;
+        text(self.texts, "head mid", at(x, 24), &HostName(host))?;
         line(self.out, "host", at(x, 34), at(x, bottom))
     }
 
@@ -130,7 +151,7 @@ impl Drawing<'_> {
         let is_drawn = self.range.has(number);
         if is_drawn {
             let (at, moment) = (at(6, self.row(number).saturating_add(4)), line.moment);
-            text(self.out, "when", at, &format_args!("{number}  {moment}"))?;
+            text(self.texts, "when", at, &format_args!("{number}  {moment}"))?;
         }
         self.numbers.read(line)?;
         match &line.event {
@@ -166,7 +187,7 @@ impl Drawing<'_> {
             return Ok(());
         }
         let at = at(outside(host, 80), self.row(number).saturating_add(4));
-        text(self.out, word_if(host == Host::Zero, "left"), at, words)
+        text(self.texts, word_if(host == Host::Zero, "left"), at, words)
     }
 
     // The bar of a call, with the dot of its effect.
@@ -194,7 +215,7 @@ impl Drawing<'_> {
             None => Ok(()),
             Some(Fate::Lost) => {
                 line(self.out, "lost", from, to)?;
-                text(self.out, "no mid", at(to.x, to.y.saturating_add(4)), &"x")
+                text(self.texts, "no mid", at(to.x, to.y.saturating_add(4)), &"x")
             }
             Some(fate) => arrow(self.out, fate.class(), from, to),
         }
@@ -218,7 +239,7 @@ impl Drawing<'_> {
     fn segment(&mut self, side: Host, at: Point, host: Host, wire: &Wire) -> Done {
         let (numbers, seg) = (&self.numbers, &wire.seg);
         let words = SegmentWords { numbers, host, seg };
-        text(self.out, word_if(side == Host::One, "left"), at, &words)
+        text(self.texts, word_if(side == Host::One, "left"), at, &words)
     }
 
     // A timer at its host.
@@ -227,7 +248,7 @@ impl Drawing<'_> {
         let class = if is_left { "timer left" } else { "timer" };
         let at = at(outside(host, 80), self.row(number).saturating_add(4));
         let name = timer_name(timer);
-        text(self.out, class, at, &format_args!("timer {name} expires"))
+        text(self.texts, class, at, &format_args!("timer {name} expires"))
     }
 
     // What is refused: a step with its rule, or a line that no step uses.
@@ -236,19 +257,24 @@ impl Drawing<'_> {
             Refusal::Nowhere => Ok(()),
             Refusal::At { step, rule } => {
                 let words = StepWords(&step.label);
-                self.mark(self.fates.last, &format_args!("refused ({rule}): {words}"))
+                self.mark(&format_args!("refused ({rule}): {words}"))
             }
             Refusal::Unplaced(line) => {
-                let words = format_args!("refused (unplaced): no step uses line {line}");
-                self.mark(line, &words)
+                self.mark(&format_args!("refused (unplaced): no step uses line {line}"))
             }
         }
     }
 
-    // A red line after this line, and its text.
-    fn mark(&mut self, number: u64, words: &impl fmt::Display) -> Done {
-        let (middle, y) = ((ZERO + ONE) / 2, self.row(number).saturating_add(ROW / 2));
+    // A red line after the marked line, and its text.
+    fn mark(&mut self, words: &impl fmt::Display) -> Done {
+        let row = self.row(self.marked.unwrap_or(0));
+        let (middle, y) = ((ZERO + ONE) / 2, row.saturating_add(ROW / 2));
         line(self.out, "refused", at(120, y), at(WIDTH - 20, y))?;
-        text(self.out, "no mid", at(middle, y.saturating_add(14)), words)
+        text(
+            self.texts,
+            "no mid",
+            at(middle, y.saturating_add(14)),
+            words,
+        )
     }
 }

@@ -3,6 +3,7 @@
 use crate::Done;
 use case_forms::{Event, Extras, Label, Line, NamedLine, OutOfMemory, Step};
 use replayed::Case;
+use segment::Flag;
 use std::alloc::Global;
 use std::collections::{BTreeMap, BTreeSet};
 
@@ -13,6 +14,8 @@ pub(crate) enum Fate {
     Seen,
     Waits,
     Taken,
+    /// It was processed, and the step didn't keep its bytes and its FIN.
+    NotKept,
     Dropped,
     Reset,
     /// It was lost in transit.
@@ -26,6 +29,7 @@ impl Fate {
             Fate::Seen => "seen",
             Fate::Waits => "waits",
             Fate::Taken => "taken",
+            Fate::NotKept => "unkept",
             Fate::Dropped => "dropped",
             Fate::Reset => "reset",
             Fate::Lost => "lost",
@@ -105,7 +109,11 @@ impl Fates {
                     self.effects.insert(*begin, self.last)?;
                 }
             }
-            Label::T { line, .. } => self.put(*line, Fate::Taken)?,
+            Label::T { line, choice, .. } => {
+                let is_kept = choice.keep || !carries_anything(case, *line);
+                let fate = if is_kept { Fate::Taken } else { Fate::NotKept };
+                self.put(*line, fate)?
+            }
             Label::K { line, .. } => self.put(*line, Fate::Dropped)?,
             Label::R { line, .. } => self.put(*line, Fate::Reset)?,
             Label::M { .. } | Label::F { .. } => {}
@@ -134,6 +142,17 @@ impl Fates {
     fn put(&mut self, line: u64, fate: Fate) -> Done {
         self.fates.insert(line, fate)?;
         Ok(())
+    }
+}
+
+// Whether the segment that a line received carries bytes or a FIN, and isn't a reset.
+fn carries_anything(case: &Case, line: u64) -> bool {
+    match case.line(line).map(|line| &line.event) {
+        Some(Event::Came(_, wire)) => {
+            let is_full = !wire.seg.payload.is_empty() || wire.seg.has(Flag::Fin);
+            is_full && !wire.seg.has(Flag::Rst)
+        }
+        _ => false,
     }
 }
 

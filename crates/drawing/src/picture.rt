@@ -29,9 +29,11 @@ pub(crate) fn begin(out: &mut String, width: u64, height: u64) -> Done {
 }
 
 const STYLE: &str =
-    "<style>text{font:11px sans-serif;fill:#222}.head{font:bold 14px sans-serif}.when{font:10px monospace;fill:#999}\
+    "<style>text{font:11px sans-serif;fill:#222;stroke:#fff;stroke-width:3;paint-order:stroke}\
+.head{font:bold 14px sans-serif}.when{font:10px monospace;fill:#999}\
 .left{text-anchor:end}.mid{text-anchor:middle}.host{stroke:#222;stroke-width:2}\
 .bar{stroke:#88b;stroke-width:4}.taken{stroke:#186;stroke-width:1.5}\
+.unkept{stroke:#186;stroke-width:1.5;stroke-dasharray:2 3}\
 .dropped{stroke:#999;stroke-width:1.5;stroke-dasharray:5 3}\
 .reset{stroke:#c60;stroke-width:1.5}.waits{stroke:#36c;stroke-width:1.5}\
 .lost{stroke:#a22;stroke-width:1.5}.seen{stroke:#555}.key{font:10px sans-serif}\
@@ -39,6 +41,8 @@ const STYLE: &str =
 .refused{stroke:#d00;stroke-width:2}</style>\
 <rect width=\"100%\" height=\"100%\" fill=\"#fff\"/><defs>\
 <marker id=\"m-taken\" markerWidth=\"9\" markerHeight=\"8\" refX=\"8\" refY=\"4\" orient=\"auto\">\
+<path d=\"M0 0L9 4L0 8z\" fill=\"#186\"/></marker>\
+<marker id=\"m-unkept\" markerWidth=\"9\" markerHeight=\"8\" refX=\"8\" refY=\"4\" orient=\"auto\">\
 <path d=\"M0 0L9 4L0 8z\" fill=\"#186\"/></marker>\
 <marker id=\"m-dropped\" markerWidth=\"9\" markerHeight=\"8\" refX=\"8\" refY=\"4\" orient=\"auto\">\
 <path d=\"M0 0L9 4L0 8z\" fill=\"#999\"/></marker>\

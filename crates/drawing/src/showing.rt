@@ -2,7 +2,7 @@
 
 use crate::Done;
 use case_forms::{Label, Line, OutOfMemory, Step};
-use plain_words::{EventWords, Numbers, StepWords};
+use plain_words::{EventWords, Numbers, StepWords, word_if};
 use replayed::{Case, Refusal};
 use std::alloc::Global;
 use std::collections::BTreeSet;
@@ -44,11 +44,12 @@ impl Showing<'_> {
         Ok(())
     }
 
-    // Writes the lines that no step uses.
+    // Writes the lines that no step uses. Without a witness, these are all lines.
     fn rest(&mut self, case: &Case) -> Done {
+        let not_used = word_if(!case.texts.witness.is_empty(), "not used: ");
         for line in case.trace.lines.as_slice() {
             if !self.shown.contains(&line.number) {
-                write!(self.out, "not used: ")?;
+                self.out.push_str(not_used)?;
                 self.line(line, line.moment)?;
             }
         }

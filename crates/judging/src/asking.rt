@@ -1,6 +1,6 @@
 //! The levels, one after the other until one has a yes.
 
-use crate::sentences::{say_conclusion, say_row};
+use crate::sentences::{lines_kept, say_conclusion, say_row};
 use crate::trying::{JudgeFault, Tried, try_level};
 use case_forms::Judged;
 use std::alloc::Global;
@@ -12,6 +12,8 @@ use verdict::Verdict;
 pub struct Judgement {
     /// A line for each level that was tried, then what the answers mean.
     pub text: String,
+    /// Which lines of the trace the case has, as a line.
+    pub kept: String,
     /// The strictest level with a yes. None: no level has one.
     pub level: Option<Judged>,
     /// The case of the last level that was tried: the trace in version 4, and its witness.
@@ -39,23 +41,29 @@ pub fn judge(alloc: Global, text: &[u8], budget: u64) -> Result<Judgement, Judge
     for level in [Judged::Full, Judged::Recovery] {
         let tried = try_level(alloc, text, &header, level, budget)?;
         say_row(&mut said, &tried)?;
-        first = first.or(tried.refused);
-        if tried.refused.is_none() {
+        first = first.or(tried.facts.refused);
+        if tried.facts.refused.is_none() {
             say_conclusion(alloc, &mut said, &tried, &header, first)?;
-            return Ok(concluded(said, tried));
+            return concluded(alloc, said, tried);
         }
     }
     let tried = try_level(alloc, text, &header, Judged::NoControl, budget)?;
     say_row(&mut said, &tried)?;
     say_conclusion(alloc, &mut said, &tried, &header, first)?;
-    Ok(concluded(said, tried))
+    concluded(alloc, said, tried)
 }
 
-fn concluded(text: String, tried: Tried) -> Judgement {
-    let level = match tried.verdict {
+fn concluded(alloc: Global, text: String, tried: Tried) -> Result<Judgement, JudgeFault> {
+    let kept = lines_kept(alloc, tried.facts.lines)?;
+    let level = match tried.facts.verdict {
         Verdict::Yes { .. } => Some(tried.level),
         Verdict::No { .. } => None,
     };
     let case = tried.case;
-    Judgement { text, level, case }
+    Ok(Judgement {
+        text,
+        kept,
+        level,
+        case,
+    })
 }

@@ -13,12 +13,18 @@
 //! - `asking`: the levels, one after the other
 //! - `rewriting`: a trace in version 4
 //! - `trying`: one level: the case that is found, and its verdict
+//! - `case_lines`: whether that case has every line of the trace
+//! - `connections`: how many connections it has, and how many were established
 //! - `sentences`: what a yes says, and what a no refuses
 #![tactic(auto)]
 
 mod asking;
+mod case_lines;
+mod connections;
 mod rewriting;
 mod sentences;
+#[cfg(test)]
+mod tests;
 mod trying;
 
 pub use asking::{Judgement, judge};

@@ -33,8 +33,8 @@ fn judged_by(header: &Header, level: Judged) -> Header {
     }
 }
 
-// The text from the line of this number on.
-fn events_of(text: &[u8], first: u64) -> &[u8] {
+/// The text from the line of this number on.
+pub(crate) fn events_of(text: &[u8], first: u64) -> &[u8] {
     let above = usize::try_from(first.saturating_sub(1)).unwrap_or(usize::MAX);
     let mut at: usize = 0;
     for raw in text.lines_with_terminator().take(above) {

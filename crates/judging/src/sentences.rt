@@ -1,5 +1,7 @@
 //! What a yes says, and what a no refuses, in a sentence.
 
+use crate::case_lines::CaseLines;
+use crate::connections::Connections;
 use crate::trying::Tried;
 use case_forms::{Header, Judged, OutOfMemory};
 use itoa::Buffer;
@@ -20,7 +22,12 @@ fn level_name(level: Judged) -> &'static str {
 
 /// Writes a level and its verdict, as a line.
 pub(crate) fn say_row(out: &mut String, tried: &Tried) -> Result<(), OutOfMemory> {
-    writeln!(out, "{:<10}{}", level_name(tried.level), tried.verdict)
+    writeln!(
+        out,
+        "{:<10}{}",
+        level_name(tried.level),
+        tried.facts.verdict
+    )
 }
 
 /// Writes what the verdict of the last level means. `first` is what `full` refused, if it did.
@@ -31,14 +38,19 @@ pub(crate) fn say_conclusion(
     header: &Header,
     first: Option<Refused>,
 ) -> Result<(), OutOfMemory> {
-    match tried.verdict {
-        Verdict::Yes { .. } => out.push_str(meaning(tried.level))?,
+    let facts = tried.facts;
+    match facts.verdict {
+        Verdict::Yes { .. } => {
+            out.push_str(meaning(tried.level))?;
+            say_connections(out, facts.connections)?;
+        }
         Verdict::No { .. } => say_none(out, tried.ending)?,
     }
     if header.version.is_half() {
         out.push_str("Only host 0 was recorded; the other host isn't judged.\n")?;
     }
-    let last = sentence(alloc, tried.refused)?;
+    say_added(out, facts.lines)?;
+    let last = sentence(alloc, facts.refused)?;
     let first = sentence(alloc, first)?;
     if !last.is_empty() {
         writeln!(out, "Under {}: {last}", level_name(tried.level))?;
@@ -56,10 +68,41 @@ fn meaning(level: Judged) -> &'static str {
         Judged::Recovery => "The run follows RFC 9293 and 6298 as this profile reads them.\n\
 Data is retransmitted only if a timer expired, fast recovery began, or a closed window opened.\n\
 The congestion window isn't judged.\n",
-        Judged::NoControl => "The run follows RFC 9293 and 6298 as this profile reads them.\n\
+        Judged::NoControl => "The run follows RFC 9293 as this profile reads it.\n\
 The congestion window isn't judged.\n\
 The choice of when to retransmit data isn't judged either.\n",
     }
+}
+
+// Writes how many connections were established, unless all were.
+fn say_connections(out: &mut String, connections: Connections) -> Result<(), OutOfMemory> {
+    let (begun, established) = (Grouped(connections.begun), Grouped(connections.established));
+    if connections.begun == 0 {
+        out.push_str("No connection was opened.\n")
+    } else if connections.established < connections.begun {
+        writeln!(
+            out,
+            "{established} of {begun} connections were established."
+        )
+    } else {
+        Ok(())
+    }
+}
+
+// Writes how many lines the search added to those of the trace, if any.
+fn say_added(out: &mut String, lines: CaseLines) -> Result<(), OutOfMemory> {
+    if lines.added == 0 {
+        return Ok(());
+    }
+    let (s, added) = (word_if(lines.added != 1, "s"), Grouped(lines.added));
+    write!(out, "The search added {added} timeout{s}")?;
+    writeln!(out, " (`T` line{s}) that the trace doesn't show.")
+}
+
+/// That a case has every line of its trace.
+pub(crate) fn lines_kept(alloc: Global, lines: CaseLines) -> Result<String, OutOfMemory> {
+    let kept = Grouped(lines.kept);
+    format!(in alloc; "The case has all {kept} event lines of the trace, in order.\n")
 }
 
 // Writes that no level has a yes, and why the search ended without one.
@@ -68,7 +111,8 @@ fn say_none(out: &mut String, ending: Ending) -> Result<(), OutOfMemory> {
     out.push_str(match ending {
         Ending::Whole => "",
         Ending::Exhausted { .. } =>
-            "The search tried every choice that it knows. Another witness may still exist.\n",
+            "The search ran out of alternatives. It makes at most two changes at once, near the refused line;\n\
+a witness that needs other changes may still exist.\n",
         Ending::BudgetSpent { .. } =>
             "The search spent its budget. With a larger one (--budget), it may find a witness.\n",
         Ending::TooManySteps { .. } =>

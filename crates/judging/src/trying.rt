@@ -1,6 +1,8 @@
 //! A trace at one level.
 
-use crate::rewriting::rewritten;
+use crate::case_lines::{CaseLines, case_lines};
+use crate::connections::{Connections, connections_of};
+use crate::rewriting::{events_of, rewritten};
 use case_forms::{Header, Judged};
 use line_fields::{FaultKind, TextFault};
 use replayed::{Case, Refused, ReplayFault, refused_by};
@@ -20,6 +22,9 @@ pub enum JudgeFault {
     Witness(TextFault),
     #[error("{0}")]
     Replay(#[from] ReplayFault),
+    /// The case that was found isn't one of this trace, which is a fault of the search.
+    #[error("the case that was found doesn't have every line of the trace")]
+    Altered,
 }
 
 impl From<AllocError> for JudgeFault {
@@ -45,9 +50,17 @@ pub(crate) struct Tried {
     pub case: Vec<u8>,
     /// How the search ended.
     pub ending: Ending,
+    pub facts: Facts,
+}
+
+/// What is known of a case that was found.
+#[derive(Clone, Copy)]
+pub(crate) struct Facts {
     pub verdict: Verdict,
     /// What the verdict refuses. None: it is yes.
     pub refused: Option<Refused>,
+    pub lines: CaseLines,
+    pub connections: Connections,
 }
 
 /// Looks for a witness of a trace at a level, with so many search steps for going back, and judges it.
@@ -60,24 +73,31 @@ pub(crate) fn try_level(
 ) -> Result<Tried, JudgeFault> {
     let trace = rewritten(alloc, text, header, level)?;
     let found = find_within(alloc, trace.as_slice(), budget)?;
-    let (verdict, refused) = judged(alloc, found.case.as_slice())?;
+    let events = events_of(text, header.first_event_line());
+    let facts = judged(alloc, found.case.as_slice(), events)?;
     Ok(Tried {
         level,
         case: found.case,
         ending: found.ending,
-        verdict,
-        refused,
+        facts,
     })
 }
 
-// The verdict on a case that was found, and what it refuses.
-fn judged(alloc: Global, text: &[u8]) -> Result<(Verdict, Option<Refused>), JudgeFault> {
+// The verdict on a case that was found for a trace with these event lines, what it refuses, and what the case has.
+fn judged(alloc: Global, text: &[u8], events: &[u8]) -> Result<Facts, JudgeFault> {
     let case = Case::read(alloc, text)?;
     let refused = refused_by(alloc, &case);
+    let connections = connections_of(alloc, &case);
+    let lines = case_lines(
+        events,
+        events_of(case.texts.trace, case.trace.header.first_event_line()),
+    );
     let verdict = case.verdict;
     drop(case);
-    match verdict {
-        Ok(verdict) => Ok((verdict, refused?)),
-        Err(fault) => Err(JudgeFault::Witness(fault)),
-    }
+    Ok(Facts {
+        verdict: verdict.map_err(JudgeFault::Witness)?,
+        refused: refused?,
+        lines: lines.ok_or(JudgeFault::Altered)?,
+        connections: connections?,
+    })
 }

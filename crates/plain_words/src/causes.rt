@@ -51,6 +51,10 @@ pub enum Known {
     Msl2Off,
     /// The timer is giveup, and isn't running.
     GiveupOff,
+    /// The segment acknowledges nothing new, or is a reset.
+    NothingNew,
+    /// The timer is rto, and expires too early for the first time since a new acknowledgment.
+    FirstExpiry,
     /// The timer is persist, and expires too early.
     PersistEarly,
     /// The timer is 2msl, and expires too early.
@@ -73,11 +77,11 @@ refuses free ones; or the witness has the effect at the wrong place",
                 "the stack accepts a connection before its handshake is done, or out of order; or the \
 witness has the effect at the wrong place",
             Known::Send =>
-                "the stack accepts data after a shut or a reset, or obeys a reset outside its window; or \
-the witness has the effect at the wrong place",
+                "the stack accepts data after a shut or a reset, or obeys a reset outside its window (Linux: \
+just below, after a FIN); or the witness has the effect at the wrong place",
             Known::Receive =>
-                "the stack delivers data twice, too early or not at all, or obeys a reset outside its \
-window; or the witness has the effect at the wrong place",
+                "the stack delivers data twice, too early or not at all (Linux: MSG_OOB), or obeys a reset \
+outside its window (Linux: just below, after a FIN); or the witness has the effect at the wrong place",
             Known::Close =>
                 "the socket number was never returned, or was closed before; or the witness has the effect \
 at the wrong place",
@@ -110,6 +114,10 @@ drops data (`keep` 0 in the witness)",
                 "the witness lacks the segment that leads to TIME-WAIT, or has it later",
             Known::GiveupOff =>
                 "the stack gives up after fewer than three expiries, or with nothing outstanding",
+            Known::NothingNew =>
+                "the witness has sample 1 for a reset, or for a segment that acknowledges nothing new",
+            Known::FirstExpiry =>
+                "the timeout is below `minrto` or RFC 6298's formula, or uses a sample of data sent twice",
             Known::PersistEarly => "the stack probes a closed window before its timeout",
             Known::Msl2Early => "TIME-WAIT is shorter than 2 `msl`",
             Known::NothingOutstanding => "everything was already acknowledged",
@@ -123,7 +131,7 @@ drops data (`keep` 0 in the witness)",
             Known::LowerAck => "the stack processed a segment later than the capture shows",
             Known::Gap => "the capture lost the segments before this one",
             Known::Oversized => JOINED_SEGMENTS,
-            Known::PersistEarly | Known::Msl2Early => COARSE_CLOCK,
+            Known::FirstExpiry | Known::PersistEarly | Known::Msl2Early => COARSE_CLOCK,
             _ => "",
         }
     }

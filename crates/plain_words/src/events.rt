@@ -88,7 +88,7 @@ impl fmt::Display for StepWords<'_> {
                 let answer = AnswerWords(answer);
                 write!(f, "the call of thread {thread} has its effect:{answer}")
             }
-            Label::M { host, plan } => write!(f, "{} makes {}", HostName(*host), PlanWords(plan)),
+            Label::M { host, plan } => write!(f, "{} builds {}", HostName(*host), PlanWords(plan)),
             Label::T { host, line, choice } => {
                 let kept = if choice.keep { "kept" } else { "not kept" };
                 let measured = word_if(choice.sample, ", measured");

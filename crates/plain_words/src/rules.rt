@@ -136,8 +136,8 @@ the wrong place",
         .rfc("9293, 3.3.2, 3.10"),
         Rule::State => Meaning::of(
             "the state of the connection doesn't allow this segment",
-            "the stack does what this state doesn't allow, such as a reset with ACK, or the witness has the \
-step at the wrong place",
+            "the stack does what this state doesn't allow, such as a reset with ACK, or a reset at \
+`connect(AF_UNSPEC)` (Linux); or the witness has the step at the wrong place",
         )
         .special(&[Known::TimeWait])
         .rfc("9293, 3.3.2, 3.5, 3.5.2, 3.10.4, 3.10.5, 3.10.7.1 to 3.10.7.3"),
@@ -184,8 +184,8 @@ line)",
         .rfc("9293, 3.8.1, 3.8.4; 6298, 5; 5681, 3.2"),
         Rule::Offered => Meaning::of(
             "the segment ends beyond the window that its peer offers",
-            "the stack ignores the peer's window, doesn't apply its shift, or uses a window that the peer \
-shrank",
+            "the stack ignores the peer's window, doesn't apply its shift, uses a window that the peer shrank, \
+or updates it although SND.WL1 is greater (Linux, once a hole is filled)",
         )
         .captured(
             "the trace is of version 1 and windows are scaled, or an acknowledgment was recorded too late",
@@ -258,8 +258,9 @@ ignored the window",
         .rfc("5681, 3.1, 3.2; 6928, 2"),
         Rule::Sample => Meaning::of(
             "a round trip is measured by data that was sent twice, or by none",
-            "a round trip was measured with data that was sent twice (RFC 6298, 3)",
+            "a round trip was measured with data that was sent twice, which Karn's rule forbids (RFC 6298, 3)",
         )
+        .special(&[Known::NothingNew])
         .rfc("6298, 3"),
         Rule::TimerOff => Meaning::of(
             "a timer expires that isn't running",
@@ -274,7 +275,7 @@ too early",
 sample of data sent twice",
         )
         .captured(COARSE_CLOCK)
-        .special(&[Known::PersistEarly, Known::Msl2Early])
+        .special(&[Known::FirstExpiry, Known::PersistEarly, Known::Msl2Early])
         .rfc("6298, 2, 4, 5; 9293, 3.6.1, 3.8.6.1"),
         Rule::Recovery => Meaning::of(
             "fast recovery begins where it may not",

@@ -1,7 +1,8 @@
 //! What the program does with its words and its standard input.
 
 use crate::saying::{
-    DONE, NO, USAGE, say, say_bad_device, say_bad_memory, say_bad_replay, say_bad_trace, say_fault,
+    DONE, NO, USAGE, say, say_altered, say_bad_device, say_bad_memory, say_bad_replay,
+    say_bad_trace, say_fault,
 };
 use crate::words::{Asked, Judging, asked_by};
 use counted::Counted;
@@ -97,8 +98,8 @@ fn write_remarks<H: Eprint, W: Write>(
     }
 }
 
-// Judges a trace, writes the case of the last level if a file is named for it, and prints the answer. The status is 0
-// if the level that `--least` names or a stricter one has a yes, and 1 if none has.
+// Judges a trace and prints the answer. If a file is named for the case of the last level, it writes that, and prints
+// which lines it has. The status is 0 if the level that `--least` names or a stricter one has a yes, and 1 if none has.
 fn write_judgement<H: Files + Eprint, W: Write>(
     rt: &H,
     alloc: Global,
@@ -111,6 +112,7 @@ fn write_judgement<H: Files + Eprint, W: Write>(
         Err(JudgeFault::Trace(fault)) => return say_bad_trace(rt, alloc, "judge", text, &fault, w),
         Err(JudgeFault::Witness(fault)) => return say_fault(rt, alloc, "bad witness ", &fault, w),
         Err(JudgeFault::Replay(fault)) => return say_bad_replay(rt, w, fault),
+        Err(JudgeFault::Altered) => return say_altered(rt, w),
     };
     if let Some(name) = judging.case {
         if let Err(error) = fs::write(rt, name, judgement.case.as_slice()) {
@@ -122,7 +124,11 @@ fn write_judgement<H: Files + Eprint, W: Write>(
     } else {
         NO
     };
-    say(rt, w, judgement.text.as_bytes(), status)
+    let said = say(rt, w, judgement.text.as_bytes(), status);
+    match judging.case {
+        Some(_) if said == status => say(rt, w, judgement.kept.as_bytes(), status),
+        _ => said,
+    }
 }
 
 // Writes a case. If lines were left or the search went back, standard error has how far it came.

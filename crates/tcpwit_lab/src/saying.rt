@@ -1,6 +1,7 @@
 //! What is written, and the status with which the program then ends.
 
 use counted::Counted;
+use judging::JudgeFault;
 use line_fields::{FaultKind, TextFault};
 use plain_words::fault_line;
 use replayed::{ReplayFault, line_at};
@@ -71,6 +72,12 @@ pub(crate) fn say_bad_replay<H: Eprint, W: Write>(
             say(rt, w, b"too many steps\n", REFUSED)
         }
     }
+}
+
+/// Writes that the case that was found isn't one of the trace.
+pub(crate) fn say_altered<H: Eprint, W: Write>(rt: &H, w: &mut Counted<W>) -> u8 {
+    let _ = eprintln!(rt; "{}", JudgeFault::Altered);
+    say(rt, w, b"altered trace\n", REFUSED)
 }
 
 /// Writes the fault of a text as a line that begins with these words.

@@ -1,13 +1,15 @@
-//! If `congestion` refuses a segment: the congestion windows with other growth rules that it would fit. They are kept
-//! for one endpoint while a case is replayed, in constant time for each segment sent or acknowledged.
+//! If `congestion` or `offered` refuses a segment: the windows with other rules that it would fit. They are kept for
+//! one endpoint while a case is replayed, in constant time for each segment sent or acknowledged.
 
 use crate::Done;
 use crate::changes::{Change, Values};
+use crate::processing::acknowledges_more;
 use crate::scene::{Object, Scene};
 use crate::segment_window::SegmentWindow;
 use case_forms::{Host, Label, POSITIONS, Step};
-use endpoint_state::World;
+use endpoint_state::{Endpoint, World};
 use replayed::end_of;
+use spec_tcp::Arrived;
 use std::alloc::Global;
 use verdict::Rule;
 use window_rules::{Congestion, congestion_edge, counted_after, may_grow, on_duplicate};
@@ -23,6 +25,16 @@ pub(crate) struct OtherWindows {
     /// The greatest window if slow start adds SMSS bytes for each acknowledgment of new data, in bytes (RFC 5681, 3.1).
     upper: Congestion,
     segments: SegmentWindow,
+    /// SND.WND if any new acknowledgment updates it, even if SND.WL1 is greater (Linux).
+    latest: u32,
+    /// SND.WND, SND.WL1 and SND.WL2 of the endpoint.
+    offered: (u32, u64, u64),
+}
+
+// SND.WND, SND.WL1 and SND.WL2.
+fn offered_to(endpoint: &Endpoint) -> (u32, u64, u64) {
+    let window = &endpoint.window;
+    (window.snd_wnd, window.snd_wl1, window.snd_wl2)
 }
 
 impl OtherWindows {
@@ -44,7 +56,30 @@ impl OtherWindows {
             },
             upper: congestion,
             segments: SegmentWindow::new(alloc),
+            latest: 0,
+            offered: (0, 0, 0),
         })
+    }
+
+    /// Notes the window of a segment, before the step that processes it.
+    pub(crate) fn note(&mut self, world: &World, step: &Step) {
+        if let Some(window) = self.acknowledging_window(world, step) {
+            self.latest = window;
+        }
+    }
+
+    // The window, in bytes, of the new acknowledgment that the endpoint processes. None: the step does something else.
+    fn acknowledging_window(&self, world: &World, step: &Step) -> Option<u32> {
+        let Label::T { host, line, .. } = &step.label else {
+            return None;
+        };
+        let m = world.waiting(*host, *line)?;
+        if *host != self.host || m.rport != self.lport || m.lport != self.rport {
+            return None;
+        }
+        let endpoint = world.body(*host).endpoint_of(m.rport, m.lport)?;
+        let m = Arrived::checked_read(world.header().version, endpoint, m)?;
+        acknowledges_more(endpoint, &m).then_some(endpoint.peer_window(&m))
     }
 
     /// Follows the world after one step.
@@ -57,6 +92,11 @@ impl OtherWindows {
         self.segments.follow(change, &self.now, &after)?;
         self.upper = self.grown(change, &after);
         self.now = after;
+        let offered = offered_to(endpoint);
+        if self.offered != offered {
+            self.offered = offered;
+            self.latest = offered.0;
+        }
         Ok(())
     }
 
@@ -90,6 +130,9 @@ impl OtherWindows {
 /// bytes fits none.
 pub(crate) fn say_fitting(out: &mut String, scene: &Scene, rule: Rule) -> Done {
     match (scene.object(), &scene.others) {
+        (Object::Building(it), Some(others)) if rule == Rule::Offered => {
+            fits_latest(out, others, end_of(it.plan))
+        }
         (Object::Building(it), Some(others))
             if rule == Rule::Congestion && u32::from(it.plan.len) <= others.now.congestion.smss => {
             fits_upper(out, others, end_of(it.plan))?;
@@ -97,6 +140,18 @@ pub(crate) fn say_fitting(out: &mut String, scene: &Scene, rule: Rule) -> Done {
         }
         _ => Ok(()),
     }
+}
+
+fn fits_latest(out: &mut String, others: &OtherWindows, end: u64) -> Done {
+    let latest = others.latest;
+    if end <= others.now.una.saturating_add(u64::from(latest)) {
+        write!(
+            out,
+            "it would fit the window {latest} of the last new acknowledgment"
+        )?;
+        out.push_str(" (Linux). RFC 9293, 3.10.7.4, doesn't use that: SND.WL1 is greater\n")?;
+    }
+    Ok(())
 }
 
 fn fits_upper(out: &mut String, others: &OtherWindows, end: u64) -> Done {

@@ -106,7 +106,7 @@ fn unanswerable_at(out: &mut String, scene: &Scene, endpoint: &Endpoint, m: &Emi
         out.push_str("no reset answers a segment; one may in SYN-SENT, ")?;
         return out.push_str("in SYN-RECEIVED, at a listener, or without an endpoint\n");
     }
-    out.push_str("a reset answers only an ACK that isn't of the own SYN\n")?;
+    out.push_str("a reset answers only an ACK that isn't of its own SYN\n")?;
     if !m.flags.ack {
         return out.push_str("it has no ACK\n");
     }

@@ -2,7 +2,8 @@
 
 use crate::Done;
 use crate::fitting::say_fitting;
-use crate::scene::{Building, Object, Scene};
+use crate::processing::acknowledges_more;
+use crate::scene::{Building, Object, Processing, Scene};
 use case_forms::{Call, Judged, Timer, Wire};
 use plain_words::{Known, about};
 use replayed::{Reason, misplaced};
@@ -41,15 +42,27 @@ fn is_known(scene: &Scene, known: Known) -> bool {
         Object::Building(it) => is_known_of(it, is_none, known),
         Object::Sent(made, _, wire) => is_ack(made, wire, known),
         Object::Expiring(it) => match it.timer {
-            Timer::Rto => false,
+            Timer::Rto => known == Known::FirstExpiry && it.endpoint.backoffs == 0,
             Timer::Persist => matches!(known, Known::PersistOff | Known::PersistEarly),
             Timer::Msl2 => matches!(known, Known::Msl2Off | Known::Msl2Early),
             Timer::Giveup => known == Known::GiveupOff,
         },
-        Object::Processing(_) | Object::Listening(..) => known == Known::Processing,
+        Object::Processing(it) => match known {
+            Known::NothingNew => gives_no_sample(scene, it),
+            _ => known == Known::Processing,
+        },
+        Object::Listening(..) => matches!(known, Known::Processing | Known::NothingNew),
         Object::Recovering(..) => known == Known::NothingOutstanding && is_none,
         Object::Other => known == Known::Building && scene.builds(),
         Object::End(..) | Object::Came(..) | Object::Answered(..) => false,
+    }
+}
+
+// Whether a segment doesn't acknowledge anything by which a round trip could be measured.
+fn gives_no_sample(scene: &Scene, it: Processing) -> bool {
+    match scene.as_read(it.endpoint, it.m) {
+        Some(m) => !acknowledges_more(it.endpoint, &m),
+        None => false,
     }
 }
 

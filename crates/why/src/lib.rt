@@ -15,8 +15,8 @@
 //! - `order`, `calls`, `building`, `wire`, `processing`, `numbers`, `timers`: what the rules compare
 //! - `answers`: the answers that a call may have
 //! - `known`: what is known at the step of the causes of its rule
-//! - `fitting`, `segment_window`, `changes`: the other congestion windows that a segment would fit, kept while the case
-//!   is replayed
+//! - `fitting`, `segment_window`, `changes`: the other windows that a segment would fit, kept while the case is
+//!   replayed
 //! - `unjudged`: the level that leaves a refusal unjudged
 #![tactic(auto)]
 

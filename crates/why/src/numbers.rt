@@ -92,11 +92,15 @@ pub(crate) fn ack_range(out: &mut String, endpoint: &Endpoint, m: &Arrived) -> D
     })
 }
 
-/// The acknowledgment number, and the one that acknowledges the own SYN.
+/// The acknowledgment number, and the one that acknowledges the endpoint's own SYN.
 pub(crate) fn ack_of_syn(out: &mut String, endpoint: &Endpoint, m: &Arrived) -> Done {
     write!(out, "its acknowledgment number is {}; ", m.ack_seq().0)?;
     match endpoint.iss {
-        Some(iss) => writeln!(out, "{} acknowledges the own SYN", iss.0.wrapping_add(1)),
-        None => out.push_str("the own SYN wasn't built yet\n"),
+        Some(iss) => writeln!(
+            out,
+            "{} acknowledges the endpoint's own SYN",
+            iss.0.wrapping_add(1)
+        ),
+        None => out.push_str("the endpoint's own SYN wasn't built yet\n"),
     }
 }

@@ -77,10 +77,16 @@ pub(crate) fn growth(out: &mut String, it: Processing, m: &Arrived, moment: u64)
     writeln!(out, "counted before {counted}")
 }
 
+/// Whether a segment is a new acknowledgment, which may measure a round trip.
+pub(crate) fn acknowledges_more(endpoint: &Endpoint, m: &Arrived) -> bool {
+    let flags = m.flags();
+    flags.ack && !flags.rst && endpoint.stream.snd_una < m.ack()
+}
+
 /// What the segment newly acknowledges.
 pub(crate) fn sample(out: &mut String, endpoint: &Endpoint, m: &Arrived) -> Done {
-    let (una, ack, flags) = (endpoint.stream.snd_una, m.ack(), m.flags());
-    if flags.ack && !flags.rst && una < ack {
+    let (una, ack) = (endpoint.stream.snd_una, m.ack());
+    if acknowledges_more(endpoint, m) {
         write!(out, "it acknowledges from {una} up to {ack}, ")?;
         out.push_str("and a position there was sent more than once\n")
     } else {

@@ -23,7 +23,7 @@ pub(crate) struct Scene<'c> {
     replay: Replay<'c>,
     /// For each line used, the line of the witness that used it.
     pub used: BTreeMap<u64, u64>,
-    /// If the step builds a segment, other congestion windows of the endpoint that builds it.
+    /// If the step builds a segment, other windows of the endpoint that builds it.
     pub others: Option<OtherWindows>,
 }
 
@@ -93,6 +93,9 @@ impl<'c> Scene<'c> {
     /// Does the steps before the refused one.
     pub(crate) fn run(&mut self) -> Result<(), ReplayFault> {
         for (place, step) in self.before.iter().enumerate() {
+            if let Some(others) = &mut self.others {
+                others.note(self.replay.world(), step);
+            }
             self.replay.apply(step)?;
             if let Label::L(named) = &step.label {
                 self.used.insert(named.number, witness_line(Some(place)))?;
