@@ -6,6 +6,7 @@ use crate::review::{Review, endpoint_of};
 use case_forms::{Flags, Host, OutOfMemory, Step, TakeChoice};
 use endpoint_state::World;
 use replayed::{Replay, ReplayFault};
+use seqno::number;
 use spec_tcp::{Arrived, Emission, Endpoint, EndpointId};
 use std::fmt;
 
@@ -25,6 +26,15 @@ pub(crate) struct Arrival<'w> {
     segment: &'w Emission,
     /// None: there was never an endpoint with its ports.
     receiver: Option<(EndpointId, &'w Endpoint)>,
+}
+
+/// A reset that arrived.
+#[derive(Clone, Copy)]
+pub(crate) struct Reset {
+    /// The line with which it arrived.
+    pub line: u64,
+    /// The endpoint was to send a reset before that.
+    pub was_due: bool,
 }
 
 // The bytes of a segment, and the position of its FIN.
@@ -135,12 +145,14 @@ impl Review<'_> {
             return Ok(None);
         };
         let (lport, rport) = (segment.rport, segment.lport);
-        if segment.flags.rst {
-            self.resets.insert((host as u8, lport, rport), line)?;
-        } else {
-            self.resets.remove(&(host as u8, lport, rport));
-        }
         let receiver = endpoint_of(world, host, lport, rport);
+        let ports = (host as u8, lport, rport);
+        if segment.flags.rst {
+            let was_due = receiver.is_some_and(|(_, endpoint)| endpoint.reset_due);
+            self.resets.insert(ports, Reset { line, was_due })?;
+        } else {
+            self.resets.remove(&ports);
+        }
         if let Some((id, _)) = receiver {
             self.note(id)?.heard = true;
         }
@@ -160,7 +172,7 @@ impl Review<'_> {
         }
     }
 
-    // Who drops what. None: nobody is to process it, or a full queue is a reason to drop it.
+    // Who drops what. None: nobody is to process it, or a full queue or a challenge is a reason to drop it.
     fn met(&self, world: &World, arrival: &Arrival<'_>) -> Option<(Who, Acceptable)> {
         let Arrival { host, segment, .. } = *arrival;
         let admitted = world.admits_taking(host, self.moment, arrival.line, LEAST);
@@ -168,6 +180,9 @@ impl Review<'_> {
         let version = self.case.trace.header.version;
         let (who, position, ack) = match arrival.receiver {
             Some((_, endpoint)) if !endpoint.state.is_closed() => {
+                if may_challenge(endpoint, segment) {
+                    return None;
+                }
                 let read = Arrived::checked_read(version, endpoint, segment)?;
                 (Who::of(host, endpoint), read.pos(), read.ack())
             }
@@ -252,4 +267,12 @@ impl Review<'_> {
             fin: fin.filter(|fin| self.held_up_to(id, *fin) <= *fin),
         }
     }
+}
+
+// Whether an endpoint may answer a reset with a challenge instead of processing it: one that hasn't exactly the next
+// expected number (RFC 5961, 3.2).
+fn may_challenge(endpoint: &Endpoint, segment: &Emission) -> bool {
+    let next = endpoint.irs.map(|irs| number(irs, endpoint.rcv_nxt()));
+    let is_next = next.is_some_and(|next| next.0 == segment.seq.0);
+    segment.flags.rst && !endpoint.state.is_syn_sent() && !is_next
 }

@@ -21,6 +21,10 @@ impl Review<'_> {
             if let Some(chain) = note.chain {
                 chain.say(&mut self.found)?;
             }
+            if let Some(burst) = note.burst {
+                burst.say(&mut self.found)?;
+            }
+            note.say_equal_acks(&mut self.found)?;
         }
         if let Ok(Verdict::Yes { .. }) = self.case.verdict {
             self.say_left(alloc, world)?;
@@ -60,10 +64,15 @@ impl Note {
     // Remarks on what an endpoint has left.
     fn say_left(&self, alloc: Global, found: &mut Found, now: Now, endpoint: &Endpoint) -> Done {
         let is_closed = endpoint.state.is_closed();
-        let has_ended = is_closed && !matches!(endpoint.fault, Some(Fault::Timeout));
-        if !has_ended {
+        let has_given_up = is_closed && matches!(endpoint.fault, Some(Fault::Timeout));
+        if !is_closed {
             say_late(found, now, self)?;
             say_stall(found, now, self.stall)?;
+        }
+        if !is_closed || has_given_up {
+            say_unacknowledged(found, now.who, endpoint, self.sent_end)?;
+        }
+        if !is_closed {
             say_unsent(found, now.who, endpoint, self.sent_end)?;
         }
         let is_acknowledged = endpoint.stream.ended
@@ -76,26 +85,31 @@ impl Note {
     }
 }
 
-// Remarks on what wasn't acknowledged, and on what wasn't sent, which begins at this position.
-fn say_unsent(found: &mut Found, who: Who, endpoint: &Endpoint, sent_end: u64) -> Done {
+// Remarks on what was sent, up to this position, and wasn't acknowledged.
+fn say_unacknowledged(found: &mut Found, who: Who, endpoint: &Endpoint, sent_end: u64) -> Done {
     let (end, una) = (endpoint.stream.accepted.end(), endpoint.stream.snd_una);
-    let (unacknowledged, line) = ("received no acknowledgment of", AT_THE_END);
-    let sent = sent_end.max(1).min(end);
-    if let Some(bytes) = Stretch::up_to(una.max(1), sent) {
-        found.add(line, who, unacknowledged, &bytes)?;
+    let does = "received no acknowledgment of";
+    if let Some(bytes) = Stretch::up_to(una.max(1), sent_end.min(end)) {
+        found.add(AT_THE_END, who, does, &bytes)?;
     }
-    if let Some(bytes) = Stretch::up_to(sent, end) {
-        found.add(line, who, "accepted but never sent", &bytes)?;
+    if endpoint.stream.ended && una <= end && end < sent_end {
+        let fin = &format_args!("its FIN (position {end})");
+        found.add(AT_THE_END, who, does, fin)?;
     }
-    if !endpoint.stream.ended || end < una {
-        return Ok(());
+    Ok(())
+}
+
+// Remarks on what wasn't sent, which begins at this position.
+fn say_unsent(found: &mut Found, who: Who, endpoint: &Endpoint, sent_end: u64) -> Done {
+    let end = endpoint.stream.accepted.end();
+    if let Some(bytes) = Stretch::up_to(sent_end.max(1), end) {
+        found.add(AT_THE_END, who, "accepted but never sent", &bytes)?;
     }
-    let does = if end < sent_end {
-        unacknowledged
-    } else {
-        "ended sending but never sent"
-    };
-    found.add(line, who, does, &format_args!("its FIN (position {end})"))
+    if endpoint.stream.ended && sent_end <= end {
+        let fin = &format_args!("its FIN (position {end})");
+        found.add(AT_THE_END, who, "ended sending but never sent", fin)?;
+    }
+    Ok(())
 }
 
 // Remarks on the bytes that an endpoint received in order and its program wasn't given.

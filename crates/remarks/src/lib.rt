@@ -13,10 +13,13 @@
 //! - `found`: the remarks that were found, and parts of them in words
 //! - `notes`: what is remembered of an endpoint and its retransmissions
 //! - `arrivals`: what is dropped, or processed and not kept; `sendings`: what is sent, and sent again
-//! - `waits`: timers and open windows with nothing sent; `ends`: what is left at the end
+//! - `bursts`: what is sent again beyond the loss window; `acknowledgments`: those that nothing asked for
+//! - `waits`: timers and open windows with nothing sent, a SYN given up; `ends`: what is left at the end
 #![tactic(auto)]
 
+mod acknowledgments;
 mod arrivals;
+mod bursts;
 mod ends;
 mod found;
 mod notes;

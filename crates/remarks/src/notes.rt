@@ -1,9 +1,11 @@
 //! What is remembered of an endpoint and its retransmissions, and the remarks on these. Moments and times are
 //! microseconds.
 
+use crate::acknowledgments::EqualAcks;
+use crate::bursts::Burst;
 use crate::found::{Done, Found, Repeats, Time};
 use crate::sendings::Sending;
-use crate::waits::{Clock, Now, Stall, is_short, required_wait};
+use crate::waits::{Clock, Now, Probes, Stall, is_short, required_wait};
 use case_forms::Timer;
 use plain_words::word_if;
 use spec_tcp::{Endpoint, EndpointId};
@@ -21,12 +23,14 @@ pub(crate) struct Note {
     pub sent_end: u64,
     /// The position after the windows of the segments that lines show.
     pub edge: u64,
-    /// When something that takes positions was last sent; 0 if nothing was.
+    /// When its SYN was first sent.
+    pub begun: Option<u64>,
+    /// When something that takes positions, or an empty probe, was last sent; 0 if nothing was.
     pub last_sent: u64,
     /// The persist timer if it is armed, otherwise the retransmission timer.
     pub clock: Option<Clock>,
-    /// How many probes were due since the persist timer was armed, also with no line for its expiry.
-    pub probes: u32,
+    /// The probes since the window closed.
+    pub probes: Probes,
     /// How many times anything let it retransmit when it last sent a probe again.
     pub probed_at: u64,
     pub stall: Option<Stall>,
@@ -34,12 +38,18 @@ pub(crate) struct Note {
     /// Since when nothing was sent before the retransmission timer expired last.
     pub waited_from: u64,
     pub chain: Option<Chain>,
+    pub burst: Option<Burst>,
+    /// The oldest position that was not acknowledged when the retransmission timer expired last with a line.
+    pub expired_at: u64,
     /// How many times the retransmission timer expired, also with no line for it.
     pub expiries: u32,
     /// How many times it may have expired with no line since it was armed: so late was the oldest segment sent again.
     pub unseen: u32,
     /// Something arrived since it last sent something that takes positions.
     pub heard: bool,
+    pub equal_acks: Option<EqualAcks>,
+    /// How many segments arrived that ask for an acknowledgment.
+    pub asked: u64,
     /// Its program aborted it.
     pub aborted: bool,
 }
@@ -51,9 +61,10 @@ impl Note {
         if self.armed(Timer::Rto).map(|clock| clock.armed) != timers.rto_armed {
             self.unseen = 0;
         }
-        if timers.persist_armed.is_none() {
-            self.probes = 0;
-        }
+        self.probes = match timers.persist_armed {
+            Some(_) => self.probes.with(timers.rto),
+            None => Probes::default(),
+        };
         self.clock = self.clock_of(endpoint, moment);
         self.stall = self.stall_of(endpoint, moment);
     }
@@ -63,30 +74,52 @@ impl Note {
         self.clock.filter(|clock| clock.timer as u8 == timer as u8)
     }
 
-    /// A timer expires with a line.
-    pub(crate) fn expire(&mut self, timer: Timer, line: u64) {
+    /// Something that takes positions is sent.
+    pub(crate) fn send(&mut self, sending: &Sending, moment: u64) {
+        if sending.position == 0 {
+            self.begun = self.begun.or(Some(moment));
+        }
+        self.sent_end = self.sent_end.max(sending.end);
+        self.last_sent = moment;
+        self.heard = false;
+    }
+
+    /// A timer expires with a line; this is the oldest position that is not acknowledged.
+    pub(crate) fn expire(&mut self, timer: Timer, now: Now, una: u64) {
         match timer {
             Timer::Rto => {
                 let since = self.armed(timer).map_or(0, |clock| clock.since);
                 self.waited_from = since.max(self.last_sent);
+                self.expired_at = una;
                 self.expiries = self.expiries.saturating_add(1);
-                self.permits.add(Permit::Rto(line));
+                self.permits.add(Permit::Rto(now.line));
             }
             Timer::Persist => {
-                self.probes = self.probes.saturating_add(1);
-                self.permits.add(Permit::Persist(line));
+                self.add_probe(now.moment);
+                self.permits.add(Permit::Persist(now.line));
             }
             Timer::Msl2 | Timer::Giveup => {}
         }
     }
 
-    /// Counts a probe that is sent again although nothing allowed it since the last one.
-    pub(crate) fn count_probe(&mut self, sending: &Sending) {
+    /// Counts a probe that is sent although nothing allowed it since the last one.
+    pub(crate) fn count_probe(&mut self, sending: &Sending, moment: u64) {
         if self.armed(Timer::Persist).is_some() {
-            let unseen = u32::from(self.probed_at == sending.permits.count);
-            self.probes = self.probes.saturating_add(unseen);
+            if self.probed_at == sending.permits.count {
+                self.add_probe(moment);
+            }
             self.probed_at = sending.permits.count;
+            self.last_sent = moment;
         }
+    }
+
+    // One more probe is due at a moment.
+    fn add_probe(&mut self, moment: u64) {
+        let since = self
+            .armed(Timer::Persist)
+            .map_or(moment, |clock| clock.since);
+        let wait = moment.saturating_sub(since.max(self.last_sent));
+        self.probes = self.probes.longer(wait);
     }
 
     /// Compares the waits before retransmissions of the oldest segment. Returns those that have come to an end.

@@ -1,5 +1,6 @@
 //! The review of a case: its replay, and what is remembered beside it.
 
+use crate::arrivals::Reset;
 use crate::found::{Done, Found};
 use crate::notes::{Again, Note, Permit};
 use crate::sendings::Sending;
@@ -55,8 +56,8 @@ pub(crate) struct Review<'c> {
     pub held: BTreeMap<(u8, u32, u64), u64>,
     /// For each thread in a call, the line that begins it.
     pub calls: BTreeMap<u32, u64>,
-    /// For each host and ports, its own and the peer's, the line of what arrived last, if that is a reset.
-    pub resets: BTreeMap<(u8, u16, u16), u64>,
+    /// For each host and ports, its own and the peer's, what arrived last, if that is a reset.
+    pub resets: BTreeMap<(u8, u16, u16), Reset>,
 }
 
 impl Review<'_> {
@@ -132,11 +133,11 @@ impl Review<'_> {
             (Event::Sent(..), Extras::One(made)) => self.send(world, made, line.number)?,
             (Event::Expired(host, lport, rport, timer), _) => {
                 if let Some((id, _)) = endpoint_of(world, *host, *lport, *rport) {
-                    self.note(id)?.expire(*timer, line.number);
-                    self.touch(world, id, line.number)?;
+                    self.expire(world, id, *timer, line.number)?;
                 }
             }
-            (Event::Sent(..) | Event::Came(..), _) => {}
+            (Event::Came(host, _), _) => self.count_asked(world, *host, line.number)?,
+            (Event::Sent(..), _) => {}
         }
         Ok(())
     }

@@ -1,31 +1,45 @@
 //! What is made and sent, and what is sent again.
 
-use crate::found::{Done, Lines, Repeats, Who};
+use crate::acknowledgments::PureAck;
+use crate::bursts::beyond_loss_window;
+use crate::found::{Done, Found, Lines, Repeats, Stretch, Time, Who};
 use crate::notes::{Again, Note, Permit, Permits, position_key};
 use crate::review::{Review, endpoint_of};
 use crate::waits::{Now, say_late};
-use case_forms::{Host, SegmentPlan};
+use case_forms::{Host, SegmentPlan, Timer};
 use endpoint_state::World;
 use spec_tcp::{Endpoint, EndpointId, window_in};
+
+// For how many microseconds a segment may wait after it was built. A capture shows a segment after its stack built it,
+// on a busy machine a few milliseconds later.
+const WAIT: u64 = 5_000;
 
 /// A segment that an endpoint made.
 #[derive(Clone, Copy)]
 pub(crate) struct Sending {
     id: EndpointId,
     who: Who,
+    /// When it was made.
+    made: u64,
     /// The position of its number, and the position after it.
     pub position: u64,
     pub end: u64,
     /// Its first position was made before.
     is_again: bool,
-    /// Of a reset, the host and the ports that it is from.
-    reset: Option<(u8, u16, u16)>,
+    /// It is empty and begins with an acknowledged position: a keep-alive, or a probe of a closed window.
+    is_probe: bool,
+    /// Of a reset, the line of the reset that it follows.
+    reset: Option<u64>,
     /// The oldest position that was not acknowledged when it was made.
     pub una: u64,
     /// What allowed it to be sent again, and how many times anything did until then.
     pub permits: Permits,
     /// Something arrived since the endpoint last sent.
     pub answers: bool,
+    /// Its bytes beyond the window that an expiry left.
+    pub beyond: Option<Stretch>,
+    /// What it acknowledges, if it does nothing else.
+    pure_ack: Option<PureAck>,
     /// The retransmission timeout, in microseconds.
     rto: u64,
 }
@@ -39,17 +53,20 @@ impl Sending {
         if endpoint.recover <= plan.pos {
             permits.last = Permit::Nothing;
         }
-        let ports = (id.host as u8, plan.lport, plan.rport);
         Sending {
             id,
             who: Who::of(id.host, endpoint),
+            made: 0,
             position: plan.pos,
             end,
             is_again: plan.pos < end && plan.pos < endpoint.snd_max(),
-            reset: plan.flags.rst.then_some(ports),
+            is_probe: plan.pos == end && plan.pos < endpoint.stream.snd_una,
+            reset: None,
             una: endpoint.stream.snd_una,
             permits,
             answers: note.heard,
+            beyond: beyond_loss_window(endpoint, plan, note),
+            pure_ack: PureAck::of(endpoint, plan),
             rto: endpoint.timers.rto,
         }
     }
@@ -62,6 +79,16 @@ impl Sending {
             times: 0,
             lines: Lines(0, 0),
         }
+    }
+
+    // Remarks on a segment that was built long before it is sent.
+    fn say_wait(&self, found: &mut Found, now: Now) -> Done {
+        let waited = now.moment.saturating_sub(self.made);
+        if waited <= WAIT {
+            return Ok(());
+        }
+        let what = &format_args!("{} after building it", Time(waited));
+        found.add(now.line, now.who, "sends this segment", what)
     }
 
     /// Whether a timeout, less a clock's granularity, went by since a moment.
@@ -85,13 +112,25 @@ impl Review<'_> {
         };
         let number = world.count().saturating_add(1);
         let is_shown = self.shown.contains(&number);
+        let reset = self.reset_before(host, plan, endpoint);
         let note = self.note(id)?;
         if is_shown && plan.flags.ack {
             note.edge = note.edge.max(edge_of(endpoint, plan));
         }
-        let sending = Sending::of(id, endpoint, plan, note);
+        let mut sending = Sending::of(id, endpoint, plan, note);
+        sending.reset = reset;
+        sending.made = self.moment;
         self.made.insert(number, sending)?;
         Ok(())
+    }
+
+    // The line of the reset that a reset follows. None: there is none, or what the reset is due for came after it.
+    fn reset_before(&self, host: Host, plan: &SegmentPlan, endpoint: &Endpoint) -> Option<u64> {
+        if !plan.flags.rst {
+            return None;
+        }
+        let reset = self.resets.get(&(host as u8, plan.lport, plan.rport))?;
+        (reset.was_due || !endpoint.reset_due).then_some(reset.line)
     }
 
     /// The made segment of this number is sent with a line.
@@ -101,27 +140,41 @@ impl Review<'_> {
         };
         let (who, moment) = (sending.who, self.moment);
         let now = Now { line, moment, who };
+        sending.say_wait(&mut self.found, now)?;
         let mut note = *self.note(sending.id)?;
         if sending.position < sending.end {
             say_late(&mut self.found, now, &note)?;
-            note.sent_end = note.sent_end.max(sending.end);
-            note.last_sent = moment;
-            note.heard = false;
-        }
-        if sending.is_again {
-            note.count_probe(&sending);
-            self.count_again(&sending, line)?;
-            let grain = self.case.trace.header.grain;
-            if let Some(chain) = note.retransmit(&sending, now, grain) {
-                chain.say(&mut self.found)?;
+            if sending.is_again {
+                self.send_again(&mut note, &sending, now)?;
             }
+            note.send(&sending, moment);
+        } else if sending.is_probe && note.armed(Timer::Persist).is_some() {
+            say_late(&mut self.found, now, &note)?;
+            note.count_probe(&sending, moment);
         }
-        if let Some(reset) = sending.reset.and_then(|ports| self.resets.get(&ports)) {
+        if let Some(pure_ack) = sending.pure_ack {
+            note.acknowledge(&mut self.found, pure_ack, now)?;
+        }
+        if let Some(reset) = sending.reset {
             let does = "sends a reset after the reset of line";
-            self.found.add(line, who, does, reset)?;
+            self.found.add(line, who, does, &reset)?;
         }
         *self.note(sending.id)? = note;
         self.touch(world, sending.id, line)
+    }
+
+    // Counts a retransmission, and remarks on those before it that have come to an end.
+    fn send_again(&mut self, note: &mut Note, sending: &Sending, now: Now) -> Done {
+        note.count_probe(sending, now.moment);
+        self.count_again(sending, now.line)?;
+        if let Some(burst) = note.count_burst(sending, now) {
+            burst.say(&mut self.found)?;
+        }
+        let grain = self.case.trace.header.grain;
+        if let Some(chain) = note.retransmit(sending, now, grain) {
+            chain.say(&mut self.found)?;
+        }
+        Ok(())
     }
 
     // Counts the retransmissions from a position. A SYN may be sent again for each one that arrives. After a whole

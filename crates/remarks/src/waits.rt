@@ -1,5 +1,5 @@
-//! An endpoint's timers, and its waits with nothing sent: timers that are past their time, and open windows. Times and
-//! moments are microseconds.
+//! An endpoint's timers, and its waits with nothing sent: timers that are past their time, open windows, and a SYN that
+//! is given up too early. Times and moments are microseconds.
 
 use crate::found::{Done, Found, Time, Who};
 use crate::notes::Note;
@@ -19,6 +19,9 @@ const FIRST: u64 = 3_000_000;
 // No back-off has to go beyond a minute (RFC 6298, 2.5).
 const LONGEST: u64 = 60_000_000;
 
+// A SYN is retransmitted for at least 3 minutes (RFC 9293, 3.8.3).
+const SYN_LASTS: u64 = 180_000_000;
+
 // Data waits at most a second for a fuller segment (RFC 9293, 3.8.6.2.1).
 const OVERRIDE: u64 = 1_000_000;
 
@@ -34,13 +37,45 @@ pub(crate) struct Clock {
     pub time: u64,
 }
 
+/// The probes of a window since it closed.
+#[derive(Clone, Copy, Default)]
+pub(crate) struct Probes {
+    /// How many were due, also with no line for an expiry.
+    count: u32,
+    /// The longest wait before one of them.
+    wait: u64,
+    /// The greatest retransmission timeout.
+    rto: u64,
+}
+
+impl Probes {
+    /// The probes while the retransmission timeout is this one.
+    pub(crate) fn with(mut self, rto: u64) -> Probes {
+        self.rto = rto.max(self.rto);
+        self
+    }
+
+    /// The probes with one more, after a wait.
+    pub(crate) fn longer(mut self, wait: u64) -> Probes {
+        self.count = self.count.saturating_add(1);
+        self.wait = wait.max(self.wait);
+        self
+    }
+
+    // After how long the next one is due: no back-off has to go beyond the limit, but it may go on to double.
+    fn time(self) -> u64 {
+        let longest = LONGEST.max(self.wait.saturating_mul(2));
+        backed_off(self.rto, self.count, longest)
+    }
+}
+
 impl Note {
     /// The timer of an endpoint at a moment: the persist timer if it is armed, otherwise the retransmission timer.
     /// None: it is off, or there is nothing to probe for.
     pub(crate) fn clock_of(&self, endpoint: &Endpoint, moment: u64) -> Option<Clock> {
         let timers = &endpoint.timers;
         let Some(armed) = timers.persist_armed else {
-            return self.rto_clock(endpoint);
+            return self.rto_clock(endpoint, moment);
         };
         if endpoint.flight() == 0 && waiting_bytes(endpoint) == 0 {
             return None;
@@ -52,22 +87,26 @@ impl Note {
             timer: Timer::Persist,
             armed,
             since: before.map_or(moment, |clock| clock.since),
-            time: backed_off(timers.rto, self.probes),
+            time: self.probes.time(),
         })
     }
 
-    // The retransmission timer after all its expiries, of which the last ones are in no line.
-    fn rto_clock(&self, endpoint: &Endpoint) -> Option<Clock> {
+    // The retransmission timer after all its expiries, of which the last ones are in no line. While the window was
+    // closed, the persist timer ran instead, although a probe is outstanding.
+    fn rto_clock(&self, endpoint: &Endpoint, moment: u64) -> Option<Clock> {
         let timers = &endpoint.timers;
         let armed = timers.rto_armed?;
-        let time = backed_off(timers.rto, self.unseen);
+        let before = self.armed(Timer::Rto).filter(|clock| clock.armed == armed);
+        let was_closed = self.armed(Timer::Persist).is_some();
+        let since = if was_closed { moment } else { armed };
+        let time = backed_off(timers.rto, self.unseen, LONGEST);
         Some(Clock {
             timer: Timer::Rto,
             armed,
-            since: armed,
+            since: before.map_or(since, |clock| clock.since),
             time: match timers.srtt {
                 Some(_) => time,
-                None => time.max(backed_off(FIRST, self.expiries)),
+                None => time.max(backed_off(FIRST, self.expiries, LONGEST)),
             },
         })
     }
@@ -84,11 +123,11 @@ impl Note {
     }
 }
 
-// A timeout that doubled so many times (RFC 6298, 5.5; RFC 9293, 3.8.6.1), within its limits.
-fn backed_off(rto: u64, times: u32) -> u64 {
+// A timeout that doubled so many times (RFC 6298, 5.5; RFC 9293, 3.8.6.1), at most the longest.
+fn backed_off(rto: u64, times: u32, longest: u64) -> u64 {
     let factor = 1_u64.checked_shl(times);
-    let doubled = factor.map_or(LONGEST, |factor| rto.saturating_mul(factor));
-    doubled.clamp(SHORTEST, LONGEST)
+    let doubled = factor.map_or(longest, |factor| rto.saturating_mul(factor));
+    doubled.min(longest).max(SHORTEST)
 }
 
 // How many bytes a send accepted and no segment carries yet.
@@ -146,6 +185,30 @@ pub(crate) struct Now {
 }
 
 impl Review<'_> {
+    /// A timer of an endpoint expired with a line.
+    pub(crate) fn expire(
+        &mut self,
+        world: &World,
+        id: EndpointId,
+        timer: Timer,
+        line: u64,
+    ) -> Done {
+        let Some(endpoint) = endpoint_at(world, id) else {
+            return Ok(());
+        };
+        let (una, who) = (endpoint.stream.snd_una, Who::of(id.host, endpoint));
+        let moment = self.moment;
+        let now = Now { line, moment, who };
+        let note = self.note(id)?;
+        note.expire(timer, now, una);
+        let begun = note.begun;
+        if let (Timer::Giveup, Some(begun), 0) = (timer, begun, una) {
+            let grain = self.case.trace.header.grain;
+            say_given_up(&mut self.found, now, begun, grain)?;
+        }
+        self.touch(world, id, line)
+    }
+
     /// Compares an endpoint after a step with what is remembered of it. What ends there ends with this line.
     pub(crate) fn touch(&mut self, world: &World, id: EndpointId, line: u64) -> Done {
         let moment = self.moment;
@@ -174,6 +237,17 @@ fn say_ended(found: &mut Found, now: Now, before: &Note, after: &Note) -> Done {
         say_stall(found, now, before.stall)?;
     }
     Ok(())
+}
+
+// Remarks on a SYN that was first sent at a moment, and is given up too early. A clock's granularity is tolerated.
+fn say_given_up(found: &mut Found, now: Now, begun: u64, grain: u64) -> Done {
+    let lasted = now.moment.saturating_sub(begun);
+    if SYN_LASTS <= lasted.saturating_add(grain) {
+        return Ok(());
+    }
+    let instead = "instead of at least 3 minutes (RFC 9293, 3.8.3)";
+    let what = &format_args!("its SYN after {} {instead}", Time(lasted));
+    found.add(now.line, now.who, "gives up", what)
 }
 
 /// Remarks on a timer that ran for more than twice its time with nothing sent.
