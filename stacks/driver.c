@@ -1,7 +1,7 @@
 /* Reads the runner's commands from standard input and calls the stack. Each command is one line; the answer is one or more lines, and
  * the last one begins with '='.
  *
- *     start HOST SEED MSS WINDOW OPTIONS      MOMENT in HEX      MOMENT tick
+ *     start HOST SEED MSS WINDOW OPTIONS      MOMENT iss NUMBER      MOMENT in HEX      MOMENT tick
  *     MOMENT listen PORT BACKLOG       MOMENT open LOCAL REMOTE
  *     MOMENT await|accept|shut|close|abort|status SOCKET
  *     MOMENT send SOCKET HEX           MOMENT recv SOCKET MOST
@@ -24,8 +24,17 @@ static uint64_t moment;
 static char line[2 * LONGEST + 200];
 static unsigned char bytes[LONGEST];
 static char options[200];
+static uint32_t iss;
+static int iss_is_set;
 
 uint64_t stack_now(void) { return moment; }
+
+uint32_t stack_iss(uint32_t own)
+{
+    uint32_t number = iss_is_set ? iss : own;
+    iss_is_set = 0;
+    return number;
+}
 
 static void print_hex(const unsigned char *from, size_t count)
 {
@@ -115,6 +124,7 @@ static void do_command(const char *word, const char *rest)
     long socket = (long)first;
     if (!strcmp(word, "in")) { stack_input(bytes, read_hex(rest)); finish("ok", -1); }
     else if (!strcmp(word, "tick")) { stack_tick(); finish("ok", -1); }
+    else if (!strcmp(word, "iss")) { iss = (uint32_t)first; iss_is_set = 1; finish("ok", -1); }
     else if (!strcmp(word, "listen")) finish_number(stack_listen((unsigned)first, (unsigned)second));
     else if (!strcmp(word, "open")) finish_number(stack_open((unsigned)first, (unsigned)second));
     else if (!strcmp(word, "await")) finish(word_of(stack_await(socket)), -1);

@@ -36,6 +36,9 @@ struct stack_config {
 /* ---- Provided by driver.c ---- */
 
 uint64_t stack_now(void);
+/* Returns the initial sequence number of a new connection: the scenario's for the first one, if it sets that, and `own`, the stack's
+   choice, for all others. If the stack doesn't call this, scenarios that set the number are skipped. */
+uint32_t stack_iss(uint32_t own);
 /* Sends a segment: from the first byte of the TCP header to the last of the payload. */
 void stack_out(const void *segment, size_t bytes);
 /* Reports that a timer expired: "rto", "persist", "2msl" or "giveup". Call it before the segments that the timer causes. If a stack

@@ -8,6 +8,7 @@ import (
 	"bufio"
 	"bytes"
 	"container/heap"
+	"encoding/binary"
 	"encoding/hex"
 	"fmt"
 	"math/rand"
@@ -21,6 +22,7 @@ import (
 	"gvisor.dev/gvisor/pkg/bufferv2"
 	"gvisor.dev/gvisor/pkg/tcpip"
 	"gvisor.dev/gvisor/pkg/tcpip/checksum"
+	"gvisor.dev/gvisor/pkg/tcpip/hash/jenkins"
 	"gvisor.dev/gvisor/pkg/tcpip/header"
 	"gvisor.dev/gvisor/pkg/tcpip/link/channel"
 	"gvisor.dev/gvisor/pkg/tcpip/network/ipv4"
@@ -70,6 +72,7 @@ func (t *timers) Pop() any {
 type clock struct {
 	mu    sync.Mutex
 	now   int64
+	ahead int64 // by how much the stack's clock is ahead
 	order int64
 	due   timers
 	// around runs the timers that are due, and observes the results.
@@ -85,7 +88,7 @@ func (c *clock) Now() time.Time {
 func (c *clock) NowMonotonic() tcpip.MonotonicTime {
 	c.mu.Lock()
 	defer c.mu.Unlock()
-	return tcpip.MonotonicTime{}.Add(time.Duration(c.now))
+	return tcpip.MonotonicTime{}.Add(time.Duration(c.now + c.ahead))
 }
 
 func (c *clock) AfterFunc(d time.Duration, call func()) tcpip.Timer {
@@ -175,6 +178,19 @@ type host struct {
 	other   tcpip.Address
 	sockets []*socket
 	closed  map[uint32]bool // local and remote port: the peer's last window was 0
+	secret  uint32          // a part of each initial sequence number
+	iss     *uint32         // the initial sequence number of the next connection, if the scenario sets it
+}
+
+// drawn is a source of randomness that keeps the numbers drawn from it.
+type drawn struct {
+	rand.Source64
+	numbers []int64
+}
+
+func (d *drawn) Int63() int64 {
+	d.numbers = append(d.numbers, d.Source64.Int63())
+	return d.numbers[len(d.numbers)-1]
 }
 
 // around runs the timers that are due, and reports which expired. The stack counts timeouts, including probes of a window of 0, but not those of
@@ -224,11 +240,18 @@ func start(number int, seed int64, mss, window int, options string) *host {
 	h.clock.around = h.around
 	h.wire = channel.New(4096, uint32(mss+2*ipHeader), "")
 	source := rand.New(rand.NewSource(2*seed + int64(number)))
+	random := &drawn{Source64: rand.NewSource(2*seed + int64(number)).(rand.Source64)}
+	newTCP := func(s *stack.Stack) stack.TransportProtocol {
+		first := len(random.numbers)
+		protocol := tcp.NewProtocol(s)
+		h.secret = uint32(random.numbers[first] >> 31)
+		return protocol
+	}
 	h.stack = stack.New(stack.Options{
 		NetworkProtocols:   []stack.NetworkProtocolFactory{ipv4.NewProtocol},
-		TransportProtocols: []stack.TransportProtocolFactory{tcp.NewProtocol},
+		TransportProtocols: []stack.TransportProtocolFactory{newTCP},
 		Clock:              h.clock,
-		RandSource:         rand.NewSource(2*seed + int64(number)),
+		RandSource:         random,
 		SecureRNG:          source,
 	})
 	check(h.stack.CreateNIC(nic, h.wire))
@@ -257,6 +280,22 @@ func (h *host) set(window int, options string) {
 	check(h.stack.SetTransportProtocolOption(tcp.ProtocolNumber, &room))
 }
 
+// begin moves the stack's clock so that a connection begins at the wanted number, the sum of a hash and the time in units of 64 ns.
+func (h *host) begin(local, remote uint16) {
+	if h.iss == nil {
+		return
+	}
+	ports := make([]byte, 4)
+	binary.LittleEndian.PutUint16(ports, local)
+	binary.LittleEndian.PutUint16(ports[2:], remote)
+	hash := jenkins.Sum32(h.secret)
+	for _, part := range [][]byte{[]byte(h.own), []byte(h.other), ports} {
+		hash.Write(part)
+	}
+	h.clock.ahead = int64(*h.iss-hash.Sum32()-uint32(h.clock.now>>6)) << 6
+	h.iss = nil
+}
+
 // input delivers a segment, in a packet with correct checksums.
 func (h *host) input(segment []byte) {
 	packet := make([]byte, ipHeader+len(segment))
@@ -273,6 +312,9 @@ func (h *host) input(segment []byte) {
 	}
 	t.SetChecksum(^checksum.Checksum(segment[offset:], checksum.Checksum(t[:offset], sum)))
 	h.closed[uint32(t.DestinationPort())<<16|uint32(t.SourcePort())] = t.WindowSize() == 0
+	if t.Flags() == header.TCPFlagSyn {
+		h.begin(t.DestinationPort(), t.SourcePort())
+	}
 	buffer := stack.NewPacketBuffer(stack.PacketBufferOptions{Payload: bufferv2.MakeWithData(packet)})
 	h.wire.InjectInbound(ipv4.ProtocolNumber, buffer)
 	buffer.DecRef()
@@ -352,6 +394,7 @@ func (h *host) open(local, remote int) string {
 	if err != nil {
 		return word(err)
 	}
+	h.begin(uint16(local), uint16(remote))
 	err = s.ep.Connect(tcpip.FullAddress{NIC: nic, Addr: h.other, Port: uint16(remote)})
 	if _, started := err.(*tcpip.ErrConnectStarted); err != nil && !started {
 		s.ep.Close()
@@ -460,6 +503,10 @@ func (h *host) do(words []string) string {
 	}
 	switch words[0] {
 	case "tick":
+		return "ok"
+	case "iss":
+		iss := uint32(number(1))
+		h.iss = &iss
 		return "ok"
 	case "in":
 		b, _ := hex.DecodeString(words[1])

@@ -14,7 +14,7 @@
 #include <stdlib.h>
 #include <string.h>
 
-enum { TICK = 250000, SOCKETS = 64, QUEUE = 64, ROOM = 1 << 17, TRACKED = 64, HEADER = 20, LONGEST = 66000 };
+enum { TICK = 250000, SOCKETS = 64, QUEUE = 64, ROOM = 1 << 17, TRACKED = 64, HEADER = 20, LONGEST = 66000, FIRST_ISS = 6509 };
 
 struct socket {
     struct tcp_pcb *pcb;
@@ -295,6 +295,13 @@ void stack_tick(void)
 
 uint64_t stack_next(void) { return next_tick; }
 
+/* The number of lwIP's first SYN is a constant, which is one more at a listener, plus lwIP's clock, which is moved here. */
+static void set_iss(int listens)
+{
+    u32_t own = FIRST_ISS + (u32_t)listens + tcp_ticks;
+    tcp_ticks += stack_iss(own) - own;
+}
+
 static long answer_of(err_t error)
 {
     if (error == ERR_USE) return STACK_INUSE;
@@ -304,6 +311,7 @@ static long answer_of(err_t error)
 long stack_listen(unsigned port, unsigned backlog)
 {
     if (given == SOCKETS) return STACK_CANNOT;
+    set_iss(1);
     struct tcp_pcb *pcb = tcp_new();
     err_t error = tcp_bind(pcb, IP_ADDR_ANY, (u16_t)port);
     if (error != ERR_OK) {
@@ -325,6 +333,7 @@ long stack_open(unsigned local, unsigned remote)
     ip_addr_t peer;
     ip_addr_copy_from_ip4(peer, other);
     if (given == SOCKETS) return STACK_CANNOT;
+    set_iss(0);
     struct tcp_pcb *pcb = tcp_new();
     err_t error = tcp_bind(pcb, IP_ADDR_ANY, (u16_t)local);
     if (error != ERR_OK) {

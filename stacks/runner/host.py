@@ -47,6 +47,8 @@ class Host:
         number, settings = self.number, self.settings
         mss, window = settings.get((number, "mss"), 536), settings.get((number, "window"), 0)
         self.ask("start", f"start {number} {seed} {mss} {window} {options}")
+        if (number, "iss") in settings:
+            self.ask("iss", f"0 iss {settings[number, 'iss']}")
 
     # ---- the pipes ----
 
@@ -155,7 +157,7 @@ class Host:
 
 def is_answer(word, answer):
     """Whether a call may have this answer."""
-    if word in ("start", "in", "tick"):
+    if word in ("start", "iss", "in", "tick"):
         return answer == "ok"
     return answer in WORDS or bool(re.fullmatch(GIVEN.get(word, "ok"), answer))
 

@@ -95,7 +95,7 @@ def tcp_options(text):
 
 # The values that words of a script's steps may have.
 PUT = {"seq": place, "ack": place, "len": half, "win": half, "mss": half, "fill": lambda text: number(text, 255), "times": number, "each": seconds,
-       "raw": tcp_options}
+       "raw": tcp_options, "to": place}
 EXPECT = {"within": seconds, "seq": place, "ack": place, "len": half}
 
 
@@ -183,7 +183,10 @@ def act(line, words):
     if word == "put":
         if not re.fullmatch(r"[SFRPAU]+|-", args[0]):
             raise ValueError(f"{args[0]} aren't flags")
-        return Do(line, word, [args[0]], options(args[1:], PUT))
+        made = Do(line, word, [args[0]], options(args[1:], PUT))
+        if "to" in made.options and (not int(made.options.get("len", 0)) or {"seq", "times"} & made.options.keys()):
+            raise ValueError("with to, len is needed, and seq and times aren't understood")
+        return made
     if word in ("expect", "never"):
         if args[0] not in KINDS:
             raise ValueError(f"{args[0]} isn't a kind of segment")
@@ -230,7 +233,7 @@ def top(scenario, words, line):
         scenario.cuts.append((seconds(args[0]), seconds(args[1])))
     elif word in ("lose", "double", "hold"):
         scenario.rules.append(rule(words))
-    elif word in ("mss", "window"):
+    elif word in ("mss", "window", "iss"):
         scenario.settings[host(args[0]), word] = half(args[1]) if word == "mss" else number(args[1])
     elif word == "bytes-may-be-lost":
         scenario.keeps = False

@@ -14,11 +14,13 @@ class Peer:
         self.port, self.other = run.scenario.peer
         self.script = run.scenario.script
         self.at = self.ready = self.times = 0
-        self.iss = 4_000_000_000
+        self.iss = run.scenario.settings.get((1, "iss"), 4_000_000_000)
         self.nxt = self.iss
         self.irs = self.rcv = None
         self.una = None            # the greatest acknowledgment received
         self.edge = None           # the end of the window that the stack offers
+        self.shifts = [None, None] # the window shifts in the stack's SYN and in the script's
+        self.target = None         # the end of the bytes that a `put` with `to` sends
         self.window = 65535
         self.acks = False
         self.arrived = []          # segments that no `expect` has examined
@@ -40,13 +42,18 @@ class Peer:
         if segment.has(SYN) and not segment.has(RST):
             self.irs = segment.seq
             self.rcv = (segment.seq + 1) % 2**32
+            self.shifts[0] = segment.shift()
         elif self.rcv is not None and segment.seq == self.rcv:
             self.rcv = (self.rcv + segment.length()) % 2**32
         if segment.has(ACK) and not segment.has(RST):
             self.una = segment.ack
-            self.edge = (segment.ack + segment.window) % 2**32
+            self.edge = (segment.ack + self.offered(segment)) % 2**32
         if self.acks and segment.length() and not segment.has(RST):
             self.send("A", {})
+
+    def offered(self, segment):
+        """The window that a segment offers. That of a SYN isn't scaled (RFC 7323, 2.2)."""
+        return segment.window if segment.has(SYN) or None in self.shifts else segment.window << self.shifts[0]
 
     # ---- sending ----
 
@@ -76,6 +83,8 @@ class Peer:
             extra = bytes([2, 4]) + int(options.get("mss", 536)).to_bytes(2, "big")
         window = int(options.get("win", self.window))
         segment = Segment(self.port, self.other, seq, ack, flags, window, extra, payload)
+        if flags & SYN:
+            self.shifts[1] = segment.shift()
         if own and not flags & RST:
             self.nxt = (self.nxt + segment.length()) % 2**32
         self.run.at(self.run.now + self.run.scenario.delay, "come", 0, segments.write(segment).hex())
@@ -110,14 +119,37 @@ class Peer:
         self.acks = step.args[0] == "on"
         return True
 
+    def is_known(self, text):
+        """Whether a number doesn't depend on a segment of the stack that hasn't arrived yet."""
+        return text[0].isdigit() or getattr(self, re.match("[a-z]+", text).group()) is not None
+
     def do_put(self, step):
+        end = step.options.get("to")
+        if end and not self.is_known(end):
+            self.run.blame(None, step, f"{end} isn't known yet")
+            return True
+        if not self.times:
+            self.target = self.number(end, None)
         self.times += 1
-        self.send(step.args[0], step.options)
-        if self.times < int(step.options.get("times", 1)):
+        more = self.put_up_to_target(step) if end else self.put_again(step)
+        if more:
             self.pause(seconds(step.options.get("each", "0.001")))
             return False
         self.times = 0
         return True
+
+    def put_again(self, step):
+        """Sends a segment. Returns whether it is to be sent again."""
+        self.send(step.args[0], step.options)
+        return self.times < int(step.options.get("times", 1))
+
+    def put_up_to_target(self, step):
+        """Sends a segment that ends at most at the target. Returns whether bytes are left."""
+        left, most = (self.target - self.nxt) % 2**32, int(step.options["len"])
+        if not 0 < left < 2**31:
+            return False
+        self.send(step.args[0], {**step.options, "len": min(left, most)})
+        return left > most
 
     def fits(self, step, segment):
         kind, options = step.args[0], step.options

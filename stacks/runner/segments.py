@@ -42,7 +42,7 @@ class Segment:
                 continue
             if at + 1 >= len(self.options) or self.options[at + 1] < 2:
                 break
-            if self.options[at] == 3:
+            if self.options[at:at + 2] == b"\x03\x03" and at + 2 < len(self.options):
                 found = min(self.options[at + 2], 14)
             at += self.options[at + 1]
         return found

@@ -6,7 +6,7 @@ the scenario, its seed and the stack.
 import heapq
 import random
 
-from host import Host
+from host import Cannot, Host
 from peer import Peer
 from segments import RST, SYN, read, stream
 
@@ -137,6 +137,7 @@ class Run:
         self.unexpected = []
         self.peer = Peer(self) if scenario.peer else None
         self.sent_so_far = Sent()
+        self.wanted_iss = {host: number for (host, word), number in scenario.settings.items() if word == "iss"}
         self.resent = False      # the stack retransmitted at a tick
         self.expired = False     # the stack reported that a timer expired
         self.early = False       # ended after too many events
@@ -170,6 +171,8 @@ class Run:
         """Handles a segment that a host sent during `call`."""
         self.say(OUT_THREAD + host, f"O {host} {text}")
         segment = read(bytes.fromhex(text))
+        if segment.has(SYN) and self.wanted_iss.pop(host, segment.seq) != segment.seq:
+            raise Cannot(f"iss at host {host}")
         self.resent |= self.sent_so_far.is_again(host, segment) and call == "tick"
         for delay in self.wire.delays(host, segment, self.now):
             self.at(self.now + delay, "come", 1 - host, text)

@@ -23,6 +23,7 @@ import host  # noqa: E402
 import judging  # noqa: E402
 import language  # noqa: E402
 import limits  # noqa: E402
+import peer  # noqa: E402
 import programs  # noqa: E402
 import running  # noqa: E402
 import segments  # noqa: E402
@@ -53,9 +54,10 @@ class Language(unittest.TestCase):
         self.assertIn(told, str(caught.exception))
 
     def test_a_scenario(self):
-        read = language.read("x", HEAD + "seed 7\ndelay 0.5\nlose 0 byte 9000 1 2   # twice\ncut 1 2.5\nwindow 1 3000\n"
+        read = language.read("x", HEAD + "seed 7\ndelay 0.5\nlose 0 byte 9000 1 2   # twice\ncut 1 2.5\nwindow 1 3000\niss 0 4294967295\n"
                              "thread 2 host 0\n  open 4000 80 as c\n  send c 10 by 5 each 0.1\n  await c lasted 180 is timeout refused\n")
-        self.assertEqual((read.seed, read.delay, read.cuts, read.settings), (7, 500000, [(1000000, 2500000)], {(1, "window"): 3000}))
+        self.assertEqual((read.seed, read.delay, read.cuts), (7, 500000, [(1000000, 2500000)]))
+        self.assertEqual(read.settings, {(1, "window"): 3000, (0, "iss"): 2**32 - 1})
         self.assertEqual((read.rules[0].kind, read.rules[0].byte, read.rules[0].picks), ("byte", 9000, (1, 2)))
         steps = read.threads[0].steps
         self.assertEqual((steps[0].word, steps[0].args, steps[0].options), ("open", ["4000", "80"], {"as": "c"}))
@@ -81,17 +83,29 @@ class Language(unittest.TestCase):
                            ("put S mss 99999", "99999 is above 65535"), ("put A fill 256", "256 is above 255"), ("put A len x", "x isn't a number"),
                            ("put A times -1", "-1 isn't a number"), ("put A raw 0101", "0101 is not 4 to 40 bytes"), ("put A raw " + "01" * 44, "is not 4 to 40"),
                            ("put A each x", "x isn't a time"), ("expect ack seq 1+", "1+ isn't a sequence"), ("never ack within soon", "soon isn't a time"),
-                           ("window 65536", "65536 is above")):
+                           ("window 65536", "65536 is above"), ("put A len 5 to here", "here isn't a sequence"), ("put A to edge", "len is needed"),
+                           ("put A len 0 to edge", "len is needed"), ("put A len 5 seq nxt to edge", "seq and times aren't understood"),
+                           ("put A len 5 to edge times 2", "seq and times aren't understood")):
             self.fault(f"peer 80 to 4000\n  {step}\n", told)
         for step, told in (("send c many", "many isn't a number"), ("recv c all", "all isn't a number"), ("open 4000 70000 as c", "70000 is above 65535"),
                            ("listen \u0663 as d", "\u0663 isn't a number")):
             self.fault(f"thread 1 host 0\n  {step}\n", told)
         self.fault("peer 80 to 65536\n", "65536 is above 65535")
         self.fault("mss 0 65536\n", "65536 is above 65535")
+        self.fault("iss 0 4294967296\n", "4294967296 is above 4294967295")
 
     def test_show_and_by_are_wanted(self):
         with self.assertRaises(language.Fault):
             language.read("x", "show a\n")
+
+    def test_the_page_has_the_number_of_scenarios(self):
+        names = [name for name in os.listdir(os.path.join(TOP, "scenarios")) if name.endswith(".scenario")]
+        with open(os.path.join(TOP, "README.md")) as file:
+            page = file.read()
+        counts = {begin: int(count) for begin, count in re.findall(r"^\| `([a-z]+-)` \| (\d+) \|", page, re.M)}
+        self.assertEqual(counts, {begin: sum(name.startswith(begin) for name in names) for begin in counts})
+        self.assertEqual(sum(counts.values()), len(names))
+        self.assertIn(f"through {len(names)} scenarios", page)
 
     def test_every_scenario_can_be_read(self):
         folder = os.path.join(TOP, "scenarios")
@@ -146,6 +160,78 @@ class Segments(unittest.TestCase):
         text = segments.stream(0, 3000, 0)
         self.assertEqual(text[500:700], segments.stream(500, 200, 0))
         self.assertNotEqual(text[:100], segments.stream(0, 100, 1))
+
+
+    def test_a_shift_that_is_cut_off_is_none(self):
+        for options, shift in ((bytes([3, 3, 15, 0]), 14), (bytes([1, 1, 3, 3]), None), (bytes([3, 2, 0, 0]), None)):
+            self.assertEqual(segments.Segment(80, 4000, 0, 0, segments.SYN, 0, options, b"").shift(), shift)
+
+
+class Script:
+    """A scripted peer whose clock the test moves."""
+
+    def __init__(self, steps, whole=""):
+        self.scenario = language.read("x", f"{HEAD}{whole}thread 1 host 0\n  wait 1\npeer 80 to 4000\n" + "".join(f"  {step}\n" for step in steps))
+        self.now, self.sent, self.blamed = 0, [], []
+        self.peer = peer.Peer(self)
+        self.peer.start()
+
+    def at(self, moment, deed, *what):
+        """What the peer has the run do later: segments are kept."""
+        if deed == "come":
+            self.sent.append(segments.read(bytes.fromhex(what[1])))
+
+    def blame(self, thread, step, text):
+        self.blamed.append(text)
+
+    def take(self, flags, ack=0, window=0, options=b""):
+        """The stack's segment arrives."""
+        self.peer.take(segments.Segment(4000, 80, 100, ack, flags, window, options, b""))
+
+    def pass_time(self):
+        """The steps of the next second; the numbers and lengths of the segments that they send."""
+        before = len(self.sent)
+        for self.now in range(self.now + 500, self.now + 1_000_000, 500):
+            self.peer.go_on()
+        return [(segment.seq, segment.length()) for segment in self.sent[before:]]
+
+
+class TheScript(unittest.TestCase):
+    SHIFT = bytes([1, 3, 3, 3])
+
+    def test_its_first_number_can_be_set(self):
+        self.assertEqual(Script(["put S", "put A len 5"]).pass_time(), [(4_000_000_000, 1), (4_000_000_001, 5)])
+        self.assertEqual(Script(["put S", "put A len 5", "put A len 5 seq iss+1"], "iss 1 4294967295\n").pass_time(), [(2**32 - 1, 1), (0, 5), (0, 5)])
+
+    def edge(self, stack, script):
+        """The script's edge after SYNs with these options, a window of 300 in the stack's SYN, and one of 200."""
+        made = Script([f"put SA raw {script}"])
+        made.take(segments.SYN, window=300, options=stack)
+        made.pass_time()
+        made.take(segments.ACK, 4_000_000_001, 200)
+        return made.peer.edge - 4_000_000_001
+
+    def test_windows_are_scaled_if_both_syns_have_a_shift(self):
+        self.assertEqual(self.edge(self.SHIFT, "01030307"), 200 << 3)
+        self.assertEqual(self.edge(self.SHIFT, "01010101"), 200)
+        self.assertEqual(self.edge(b"", "01030307"), 200)
+
+    def test_the_window_of_a_syn_is_not_scaled(self):
+        made = Script(["put S raw 01030307"])
+        made.pass_time()
+        made.take(segments.SYN | segments.ACK, 4_000_000_001, 300, self.SHIFT)
+        self.assertEqual(made.peer.edge, 4_000_000_301)
+
+    def test_it_sends_up_to_a_number(self):
+        made = Script(["put S", "wait 1", "put A len 500 to edge", "put A len 500 to edge", "put A len 500 to edge-10", "put A len 7"], "iss 1 4294967000\n")
+        made.pass_time()
+        made.take(segments.ACK, 4_294_967_001, 1200)
+        self.assertEqual(made.pass_time() + made.pass_time(),
+                         [(4_294_967_001, 500), (205, 500), (705, 200), (905, 7)])
+
+    def test_it_sends_nothing_up_to_an_unknown_number(self):
+        made = Script(["put S", "put A len 500 to edge+5", "put A len 500 to iss+8"])
+        self.assertEqual((made.pass_time(), made.blamed), ([(4_000_000_000, 1), (4_000_000_001, 7)], ["edge+5 isn't known yet"]))
 
 
 class Again(unittest.TestCase):
@@ -607,6 +693,23 @@ class TheCommand(unittest.TestCase):
         with open(path, "w") as file:
             file.write(f"{HEAD}{whole}thread 1 host 0\n{steps}")
         return path
+
+    # Begins at the number {first}, whatever the command `iss` sets.
+    BEGINS = """#!{python}
+import sys
+for line in sys.stdin:
+    word = line.split()[1]
+    if word == "open":
+        print("out 0fa00050%08x000000005002ffff00000000" % {first})
+    print("= -", {answer!r} if word == "iss" else "ok 0" if word == "open" else "ok", flush=True)
+"""
+
+    def test_skipped_if_the_first_number_is_another(self):
+        for first, answer, wanted in ((2**32 - 1, "ok", "1 yes"), (5, "ok", "skipped iss at host 0"), (2**32 - 1, "cannot", "skipped iss at host 0"),
+                                      (2**32 - 1, "again", "1 broken")):
+            stack = self.adapter(self.BEGINS, first=first, answer=answer)
+            _, out, _ = self.run_it(stack, self.scenario("  open 4000 80 as c\n", "iss 0 4294967295\n"), *self.programs())
+            self.assertIn(wanted, out)
 
     # Sends a SYN, and sends it again at the command {again}, after printing {expired}.
     RESENDS = """#!{python}

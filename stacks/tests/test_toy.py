@@ -31,14 +31,18 @@ class Toy(unittest.TestCase):
         cls.addClassCleanup(cls.folder.cleanup)
         subprocess.run([os.path.join(TOY, "build"), cls.folder.name], check=True)
 
+    def run_it(self, scenario, *words, defect=""):
+        """Runs the toy stack through a scenario."""
+        command = [sys.executable, os.path.join(TOP, "run"), os.path.join(self.folder.name, "stack"), "--profile", os.path.join(TOY, "profile"),
+                   *SLOW, *words, "--", os.path.join(TOP, "scenarios", scenario + ".scenario")]
+        return subprocess.run(command, env={**os.environ, "TOY_DEFECT": defect}, capture_output=True, text=True)
+
     def run_one(self, defect, scenario, outcome):
         """Runs a scenario with a defect. Returns the output if the outcome differs, else nothing."""
         against = os.path.join(self.folder.name, defect)
         with open(against, "w") as file:
             file.write(outcome + "\n")
-        command = [sys.executable, os.path.join(TOP, "run"), os.path.join(self.folder.name, "stack"), "--profile", os.path.join(TOY, "profile"),
-                   *SLOW, "--against", against, "--", os.path.join(TOP, "scenarios", scenario + ".scenario")]
-        done = subprocess.run(command, env={**os.environ, "TOY_DEFECT": defect}, capture_output=True, text=True)
+        done = self.run_it(scenario, "--against", against, defect=defect)
         return "" if done.returncode == 0 else f"{defect}: status {done.returncode}\n{done.stdout}{done.stderr}"
 
     def test_each_defect_is_found(self):
@@ -47,6 +51,13 @@ class Toy(unittest.TestCase):
             found = list(workers.map(lambda row: self.run_one(*row), wanted))
         self.assertEqual([text for text in found if text], [])
 
+    def test_delayed_data_makes_the_timer_expire(self):
+        out = os.path.join(self.folder.name, "delayed")
+        self.run_it("data-slower-later", "--only-trace", "--out", out)
+        with open(os.path.join(out, "data-slower-later.trace")) as file:
+            self.assertIn(" T 0 4000 80 rto\n", file.read())
+        self.assertIn("thread 3 waits", self.run_it("data-slower-later", defect="no-retransmission").stdout)
+
     def test_an_outcome_of_a_defect_is_no_plain_yes(self):
         self.assertEqual([outcome for _, _, outcome in rows() if re.search(r": yes \[", outcome)], [])
 
@@ -54,6 +65,10 @@ class Toy(unittest.TestCase):
         with open(os.path.join(TOY, "stack.c")) as file:
             names = re.search(r"defect_names\[DEFECTS\] = \{(.*?)\}", file.read(), re.DOTALL).group(1)
         self.assertEqual(sorted(re.findall(r'"([a-z-]+)"', names)), sorted(["none", *(defect for defect, _, _ in rows())]))
+
+    def test_the_page_has_the_number_of_defects(self):
+        with open(os.path.join(TOP, "README.md")) as file:
+            self.assertIn(f"one of {len(list(rows()))} defects", file.read())
 
     def test_an_unknown_defect_ends_the_stack(self):
         done = subprocess.run([os.path.join(self.folder.name, "stack")], input="start 0 1 536 0 \n", capture_output=True, text=True,

@@ -21,12 +21,16 @@ enum state { CLOSED, LISTEN, SYN_SENT, SYN_RECEIVED, ESTABLISHED, FIN_WAIT_1, FI
 enum defect {
     NONE, WINDOW_IGNORED, RTO_NOT_DOUBLED, RTO_TOO_EARLY, NO_SLOW_START, NO_COLLAPSE, FIN_NOT_RESENT, DUPLICATES_DELIVERED, HOLES_DELIVERED,
     ACK_BEYOND, ACK_OF_UNSENT, DATA_AFTER_FIN, ANY_RESET, NO_TIME_WAIT, MSS_IGNORED, NO_RETRANSMISSION, NO_PROBES, WINDOW_SHRUNK,
-    KARN_IGNORED, SYN_NOT_BACKED_OFF, SCALE_IGNORED, DEFECTS
+    KARN_IGNORED, SYN_NOT_BACKED_OFF, SCALE_IGNORED, ROOM_NOT_FREED, RING_OFF_BY_ONE, SENT_NOT_MODULO, RECEIVED_NOT_MODULO,
+    SCALE_ASSUMED, SYN_SCALED, WINDOW_DOUBLED, RTO_KEPT_AFTER_SYN, TIME_WAIT_REOPENED, SEND_AFTER_SHUT, PROBE_UNANSWERED, GAP_ANSWERED_ONCE,
+    ACK_LATE, HALF_OPEN_ACCEPTED, PROBES_STEADY, DEFECTS
 };
 static const char *const defect_names[DEFECTS] = {
     "none", "window-ignored", "rto-not-doubled", "rto-too-early", "no-slow-start", "no-collapse", "fin-not-resent", "duplicates-delivered",
     "holes-delivered", "ack-beyond", "ack-of-unsent", "data-after-fin", "any-reset", "no-time-wait", "mss-ignored", "no-retransmission",
-    "no-probes", "window-shrunk", "karn-ignored", "syn-not-backed-off", "scale-ignored"
+    "no-probes", "window-shrunk", "karn-ignored", "syn-not-backed-off", "scale-ignored", "room-not-freed", "ring-off-by-one", "sent-not-modulo",
+    "received-not-modulo", "scale-assumed", "syn-scaled", "window-doubled", "rto-kept-after-syn", "time-wait-reopened", "send-after-shut",
+    "probe-unanswered", "gap-answered-once", "ack-late", "half-open-accepted", "probes-steady"
 };
 static enum defect defect;
 
@@ -50,7 +54,7 @@ struct connection {
     uint32_t unread, fin_at, farthest;     /* `farthest`: the end of the bytes received, whatever is missing before it */
     int fin_seen, fin_taken, rcv_shift, ack_due;
     /* Timers: the moments when they expire. */
-    uint64_t rto_at, persist_at, override_at, end_at;
+    uint64_t rto_at, persist_at, override_at, end_at, ack_at;
     uint64_t rto, srtt, rttvar, persist, timed_at, stuck_since;
     uint32_t timed;                        /* the number whose acknowledgment is a sample */
     int timing, expiries, sampled;
@@ -134,7 +138,8 @@ static unsigned offer(struct connection *c, int in_syn)
     if (defect == WINDOW_SHRUNK && c->unread) edge = c->rcv_nxt + (c->room - c->unread) / 8;
     if (defect == WINDOW_SHRUNK || edge - c->edge >= least(config.mss, c->room / 2)) c->edge = edge;
     uint32_t window = before(c->rcv_nxt, c->edge) ? c->edge - c->rcv_nxt : 0;
-    return least(in_syn ? window : window >> c->rcv_shift, 65535);
+    if (in_syn) return least(window, 65535);
+    return least(window >> (c->rcv_shift - (defect == WINDOW_DOUBLED && c->rcv_shift)), 65535);
 }
 
 /* ---- Sending ---- */
@@ -151,6 +156,7 @@ static uint32_t acknowledged_by(const struct connection *c)
 static void reply(struct connection *c, unsigned flags, uint32_t seq, uint32_t count)
 {
     c->ack_due = 0;
+    c->ack_at = NEVER;
     leave(c->local, c->remote, seq, acknowledged_by(c), flags | ACK, offer(c, 0), NULL, 0, count ? c->out + (seq - c->out_seq) : NULL, count);
 }
 
@@ -246,7 +252,7 @@ static void begin_congestion(struct connection *c)
     c->cwnd = c->mss * (c->expiries ? 1 : c->mss > 2190 ? 2 : c->mss > 1095 ? 3 : 4);
     if (defect == NO_SLOW_START) c->cwnd = SEND_ROOM;
     c->ssthresh = UINT32_MAX;
-    if (c->expiries && c->rto < 3 * SECOND) c->rto = 3 * SECOND;
+    if (c->expiries && c->rto < 3 * SECOND && defect != RTO_KEPT_AFTER_SYN) c->rto = 3 * SECOND;
     c->recover = c->iss;
 }
 
@@ -275,7 +281,7 @@ static void duplicate(struct connection *c)
 
 /* ---- Ends ---- */
 
-static void stop_timers(struct connection *c) { c->rto_at = c->persist_at = c->override_at = c->end_at = NEVER; }
+static void stop_timers(struct connection *c) { c->rto_at = c->persist_at = c->override_at = c->end_at = c->ack_at = NEVER; }
 
 static void end(struct connection *c, long fault)
 {
@@ -327,10 +333,10 @@ static struct connection *new_connection(enum state state, unsigned local, unsig
     *c = (struct connection){ .state = state, .local = local, .remote = remote, .rto = SECOND, .send_shift = -1 };
     c->room = config.window ? config.window : OWN_WINDOW;
     c->rcv_shift = c->room > 65535 ? OWN_SHIFT : 0;
-    c->iss = config.seed * 2654435761u + local * 40503u + remote * 7919u + (uint32_t)(stack_now() / 4);
-    c->una = c->nxt = c->max = c->iss;
     stop_timers(c);
     if (state == LISTEN) return c;
+    c->iss = stack_iss(config.seed * 2654435761u + local * 40503u + remote * 7919u + (uint32_t)(stack_now() / 4));
+    c->una = c->nxt = c->max = c->iss;
     c->out_seq = c->iss + 1;
     c->out = malloc(SEND_ROOM);
     c->in = malloc(c->room);
@@ -358,10 +364,16 @@ static void take_syn(struct connection *c, const struct segment *s)
     if (s->shift < 0) c->rcv_shift = 0;
 }
 
+static int shift_of(const struct connection *c, const struct segment *s)
+{
+    if (c->send_shift < 0 || defect == SCALE_IGNORED) return 0;
+    if (s->flags & SYN && defect != SYN_SCALED) return 0;
+    return c->send_shift && defect == SCALE_ASSUMED ? OWN_SHIFT : c->send_shift;
+}
+
 static void take_window(struct connection *c, const struct segment *s)
 {
-    int shift = s->flags & SYN || c->send_shift < 0 || defect == SCALE_IGNORED ? 0 : c->send_shift;
-    c->window = (uint32_t)s->window << shift;
+    c->window = (uint32_t)s->window << shift_of(c, s);
     c->widest = most_of(c->widest, c->window);
     c->wl1 = s->seq;
     c->wl2 = s->ack;
@@ -386,14 +398,19 @@ static void take_acknowledged(struct connection *c, uint32_t ack)
     if (c->una != c->max) start_rto(c);
 }
 
+static unsigned waiting_at(const struct connection *listener)
+{
+    unsigned waiting = 0;
+    for (int i = 0; i < opened; i++) waiting += connections[i].listener == listener;
+    return waiting;
+}
+
 static void listen_for(struct connection *listener, const struct segment *s)
 {
     if (s->flags & RST) return;
     if (s->flags & ACK) { refuse(s); return; }
     if (!(s->flags & SYN)) return;
-    unsigned waiting = 0;
-    for (int i = 0; i < opened; i++) waiting += connections[i].listener == listener;
-    struct connection *c = waiting < listener->backlog ? new_connection(SYN_RECEIVED, s->to, s->from) : NULL;
+    struct connection *c = waiting_at(listener) < listener->backlog ? new_connection(SYN_RECEIVED, s->to, s->from) : NULL;
     if (!c) return;
     c->listener = listener;
     c->passive = 1;
@@ -472,8 +489,9 @@ static int come_acknowledgment(struct connection *c, const struct segment *s)
     }
     uint32_t window = c->window;
     int fin_sent = fin_was_sent(c), takes = !before(s->ack, c->una);
+    int is_new = defect == SENT_NOT_MODULO ? c->una < s->ack : before(c->una, s->ack);
     if (takes && (before(c->wl1, s->seq) || (c->wl1 == s->seq && !before(s->ack, c->wl2)))) take_window(c, s);
-    if (before(c->una, s->ack)) take_acknowledged(c, s->ack);
+    if (is_new) take_acknowledged(c, s->ack);
     else if (s->ack == c->una && c->max != c->una && !length_of(s) && window == c->window && window) duplicate(c);
     if (!fin_sent || c->una != c->max) return 1;
     if (c->state == FIN_WAIT_1) c->state = FIN_WAIT_2;
@@ -488,8 +506,9 @@ static void keep_bytes(struct connection *c, const struct segment *s)
     for (uint32_t i = 0; i < s->count; i++) {
         uint32_t at = s->seq + i, place = at - c->rcv_nxt + c->unread;
         int inside = !before(at, c->rcv_nxt) && before(at, c->edge);
+        if (defect == RECEIVED_NOT_MODULO) inside = at >= c->rcv_nxt && at < c->edge;
         if (!inside || place >= c->room || c->have[place]) continue;
-        c->in[place] = s->bytes[i];
+        c->in[place] = defect == RING_OFF_BY_ONE && (at - c->irs) % OWN_WINDOW == 0 ? 0 : s->bytes[i];
         c->have[place] = 1;
         if (before(c->farthest, at + 1)) c->farthest = at + 1;
     }
@@ -516,11 +535,20 @@ static void come_fin(struct connection *c)
     else if (c->state == FIN_WAIT_2) { wait_out(c); if (c->state == CLOSED) acknowledge(c); }
 }
 
+/* Whether a defect keeps a segment with text from being acknowledged now. */
+static int is_ignored(struct connection *c, const struct segment *s)
+{
+    if (defect == GAP_ANSWERED_ONCE) return before(c->rcv_nxt, s->seq) && before(c->rcv_nxt, c->farthest);
+    if (defect != ACK_LATE || s->flags & FIN || s->seq != c->rcv_nxt || c->ack_at != NEVER) return 0;
+    c->ack_at = stack_now() + SECOND * 6 / 10;
+    return 1;
+}
+
 /* The seventh and eighth checks. A host that closed its socket answers data with a reset (RFC 9293, 3.6.1). */
 static void come_text(struct connection *c, const struct segment *s)
 {
     if (!s->count && !(s->flags & FIN)) return;
-    c->ack_due = 1;
+    c->ack_due = !is_ignored(c, s);
     if (c->fin_taken && defect != DATA_AFTER_FIN) return;
     if (s->count && c->dropped) { reset(c); return; }
     keep_bytes(c, s);
@@ -545,6 +573,7 @@ static void come(struct connection *c, const struct segment *given)
         return;
     }
     if (s->flags & SYN) { come_syn(c); return; }
+    if (defect == PROBE_UNANSWERED && s->count && c->edge == c->rcv_nxt) return;
     if (!is_acceptable(c, s)) {
         if (defect == DUPLICATES_DELIVERED) deliver_again(c, s);
         if (c->state == TIME_WAIT && s->flags & FIN) wait_out(c);
@@ -597,7 +626,7 @@ static void expire_rto(struct connection *c)
 static void expire_persist(struct connection *c)
 {
     stack_expired(c->local, c->remote, "persist");
-    c->persist = c->persist * 2 < LONGEST_RTO ? c->persist * 2 : LONGEST_RTO;
+    if (defect != PROBES_STEADY) c->persist = c->persist * 2 < LONGEST_RTO ? c->persist * 2 : LONGEST_RTO;
     c->persist_at = stack_now() + c->persist;
     c->timing = 0;
     reply(c, PSH, c->una, 1);
@@ -611,6 +640,7 @@ void stack_tick(void)
         struct connection *c = &connections[i];
         if (c->rto_at <= now) expire_rto(c);
         if (c->persist_at <= now) expire_persist(c);
+        if (c->ack_at <= now) acknowledge(c);
         if (c->override_at <= now) {
             c->overridden = 1;
             c->override_at = NEVER;
@@ -627,8 +657,9 @@ uint64_t stack_next(void)
 {
     uint64_t next = NEVER;
     for (int i = 0; i < opened; i++) {
-        const uint64_t timers[] = { connections[i].rto_at, connections[i].persist_at, connections[i].override_at, connections[i].end_at };
-        for (int t = 0; t < 4; t++)
+        const struct connection *c = &connections[i];
+        const uint64_t timers[] = { c->rto_at, c->persist_at, c->override_at, c->end_at, c->ack_at };
+        for (int t = 0; t < 5; t++)
             if (timers[t] < next) next = timers[t];
     }
     return next;
@@ -659,7 +690,9 @@ long stack_listen(unsigned port, unsigned backlog)
 
 long stack_open(unsigned local, unsigned remote)
 {
-    if (find(local, remote)) return STACK_INUSE;
+    struct connection *old = find(local, remote);
+    if (old && old->state == TIME_WAIT && defect == TIME_WAIT_REOPENED) end(old, 0);
+    else if (old) return STACK_INUSE;
     struct connection *c = new_connection(SYN_SENT, local, remote);
     if (!c) return STACK_CANNOT;
     begin_syn(c);
@@ -677,10 +710,12 @@ long stack_await(long socket)
 
 long stack_accept(long socket)
 {
-    if (connections[socket].state != LISTEN) return STACK_NOTCONN;
+    const struct connection *listener = &connections[socket];
+    if (listener->state != LISTEN) return STACK_NOTCONN;
+    int too_early = defect == HALF_OPEN_ACCEPTED && waiting_at(listener) == listener->backlog;
     for (int i = 0; i < opened; i++) {
         struct connection *c = &connections[i];
-        if (c->listener != &connections[socket] || c->state < ESTABLISHED) continue;
+        if (c->listener != listener || c->state < (too_early ? SYN_RECEIVED : ESTABLISHED)) continue;
         c->listener = NULL;
         return i;
     }
@@ -692,10 +727,11 @@ long stack_send(long socket, const void *bytes, size_t count)
     struct connection *c = &connections[socket];
     if (c->state == LISTEN) return STACK_NOTCONN;
     if (c->fault) return c->fault;
-    if (c->shut) return STACK_CLOSED;
+    if (c->shut) return defect == SEND_AFTER_SHUT && c->state != CLOSED ? (long)count : STACK_CLOSED;
     if (c->state == SYN_SENT || c->state == SYN_RECEIVED) return STACK_AGAIN;
     if (c->state != ESTABLISHED && c->state != CLOSE_WAIT) return STACK_CLOSED;
-    if (count > SEND_ROOM - c->queued) count = SEND_ROOM - c->queued;
+    uint32_t used = c->queued + (defect == ROOM_NOT_FREED ? (c->una - c->iss) / 2 : 0);
+    if (count > SEND_ROOM - least(used, SEND_ROOM)) count = SEND_ROOM - least(used, SEND_ROOM);
     if (!count) return STACK_AGAIN;
     memcpy(c->out + c->queued, bytes, count);
     c->queued += (uint32_t)count;
