@@ -19,7 +19,7 @@ LEFT_OUT = {
     "importer/test": "is a suite of ./test",
     "stacks/run ": "takes more than a minute; stacks/test runs some of the scenarios",
     "tcpdump ": "needs root",
-    "strace -f --absolute-timestamps": "logs what a capture on another machine shows",
+    "strace -f --decode-fds=socket": "logs what a capture on another machine shows",
     "parallel ": "needs two machines",
     "tcpwit-status --cases N": "reads what parallel prints",
     "read files cases": "needs a cluster",

@@ -1,9 +1,10 @@
 """Reads captures: pcap and pcapng files of Ethernet, Linux cooked, raw and loopback links, with IPv4 and IPv6."""
-import os
 import struct
 from ipaddress import ip_address
 
-from .problem import Problem, Progress
+from .files import opened
+from .problem import Problem
+from .remedies import BUFFER, NOTHING_SENT, OFFLOADS_OFF, WHOLE_PACKETS
 
 try:
     import dpkt
@@ -19,20 +20,30 @@ LOOPBACKS = (0, 108)
 RAW = (12, 14, 101, 228, 229)
 VLANS = (0x8100, 0x88A8)
 OUTGOING = 4
-RECORD_AGAIN = "record complete packets: tcpdump -s 0"
-BUFFER = "record again with a larger buffer: tcpdump -B 65536 --immediate-mode -U"
 
 
 class Packet:
-    """A captured segment: its moment in nanoseconds, its source and destination, and its bytes from the TCP header on.
+    """A captured segment: its moment in nanoseconds, its source and destination, and its bytes from the TCP header on. The checksum becomes 0,
+    since offloads leave it unfinished.
 
     `outgoing` states whether the capture marked it as sent by its host; None if the link's header doesn't show it.
     """
-    __slots__ = ("moment", "source", "target", "segment", "outgoing", "place")
+    __slots__ = ("moment", "source", "target", "segment", "outgoing", "capture", "count")
 
-    def __init__(self, moment, source, target, segment, outgoing, place):
+    def __init__(self, moment, source, target, segment, outgoing, capture="", count=0):
         self.moment, self.source, self.target = moment, source, target
-        self.segment, self.outgoing, self.place = segment, outgoing, place
+        self.segment, self.outgoing = segment[:16] + b"\0\0" + segment[18:], outgoing
+        self.capture, self.count = capture, count
+
+    def share(self, known):
+        """Makes equal addresses and segments one object."""
+        self.source, self.target = known.setdefault(self.source, self.source), known.setdefault(self.target, self.target)
+        self.segment = known.setdefault(self.segment, self.segment)
+
+    @property
+    def place(self):
+        """Where it was captured."""
+        return f"{self.capture}, packet {self.count}"
 
     @property
     def flags(self):
@@ -55,43 +66,42 @@ class Packet:
         return self.segment[(self.segment[12] >> 4) * 4:]
 
     @property
+    def size(self):
+        """How many bytes follow the TCP header."""
+        return len(self.segment) - (self.segment[12] >> 4) * 4
+
+    @property
     def is_syn(self):
         """Whether SYN is set, and ACK isn't."""
         return self.segment[13] & 0x12 == 0x02
 
 
-def read_capture(name, notes, may_be_empty=False):
-    """The TCP packets of a capture, in the order of the file."""
+def read_capture(name, notes, known, may_be_empty=False):
+    """The TCP packets of a capture, in the order of the file. Equal addresses and segments of the captures that share `known` are one object:
+    the capture of the other host has most segments, too."""
     if dpkt is None:
         raise Problem("the Python library dpkt is not installed", "install it: apt-get install python3-dpkt")
-    try:
-        with open(name, "rb") as file:
-            packets, count = _packets(name, file, notes)
-    except OSError as error:
-        raise Problem(f"{name}: {error.strerror}", "name a capture that can be read") from error
+    with opened(name, "name a capture that can be read") as file:
+        packets, count = _packets(name, file, notes, known)
     if count == 0 and not may_be_empty:
         raise Problem(f"{name}: the capture is empty", "start the capture before the programs, at the interface that they use; "
-                      "if all segments were lost in transit, name that host's address with --zero or --one")
+                      "if all segments were lost in transit, name that host's address with --zero or --one", NOTHING_SENT)
     return packets
 
 
-def _packets(name, file, notes):
+def _packets(name, file, notes, known):
     """The TCP packets, and how many frames the file has."""
-    progress = Progress(name, os.fstat(file.fileno()).st_size)
     packets, count = [], 0
     try:
         for count, (moment, link, frame) in enumerate(_frames(name, file), 1):
-            if count % 4096 == 0 and file.seekable():
-                progress.at(file.tell())
             packet = _packet(moment, link, frame, name, count, notes)
             if packet:
+                packet.share(known)
                 packets.append(packet)
     except (struct.error, dpkt.Error, EOFError) as error:
         raise Problem(f"{name}: ends within packet {count + 1}", "stop tcpdump with SIGINT or SIGTERM and wait until it has ended") from error
     except ValueError as error:
         raise Problem(f"{name}: {error} after packet {count}", "copy the file again, or record again") from error
-    finally:
-        progress.done()
     return packets, count
 
 
@@ -204,12 +214,12 @@ def _packet(moment, link, frame, name, count, notes):
         return None
     segment = bytes(packet.data)
     if len(segment) < max(wanted, 20):
-        raise Problem(f"{place}: {len(segment)} of its {max(wanted, 20)} bytes were captured", RECORD_AGAIN)
+        raise Problem(f"{place}: {len(segment)} of its {max(wanted, 20)} bytes were captured", WHOLE_PACKETS, OFFLOADS_OFF)
     if len(segment) < (segment[12] >> 4) * 4 or segment[12] >> 4 < 5:
         notes.leave_out("segments with a wrong data offset", place)
         return None
     ports = struct.unpack("!HH", segment[:4])
-    return Packet(moment, (packet.src, ports[0]), (packet.dst, ports[1]), segment, outgoing, place)
+    return Packet(moment, (packet.src, ports[0]), (packet.dst, ports[1]), segment, outgoing, name, count)
 
 
 def _network_layer(link, frame):

@@ -6,6 +6,7 @@ from .calls.host_trace import Action, Data, Endpoint
 from .captures import shown
 from .large import Flow
 from .problem import Problem
+from .remedies import OFFLOADS_OFF
 
 # Lines of segments have these threads; lines of calls have threads from FIRST_THREAD on.
 THREADS = {("O", 0): 1, ("I", 0): 2, ("O", 1): 3, ("I", 1): 4}
@@ -14,11 +15,18 @@ LONGEST_SEGMENT = 65515
 
 
 class Line(NamedTuple):
-    """A line of a trace: its moment in nanoseconds, its place among the calls of that moment, its thread and text."""
+    """A line of a trace: its moment in nanoseconds, its thread and text."""
     moment: int
-    order: tuple
     thread: Any
     text: str
+
+
+class CallLine(NamedTuple):
+    """A line of a call whose text isn't written yet: the beginning of the call or its end. `order` is its place among those of its moment."""
+    moment: int
+    order: tuple
+    action: Action
+    begins: bool
 
 
 class Case:
@@ -26,9 +34,8 @@ class Case:
 
     def __init__(self, name, connections, endpoints):
         self.name, self.connections = name, connections
-        listeners = [endpoint for endpoint in endpoints if endpoint.role == "listener"]
-        self.listening = {(connection.hosts[connection.server], connection.server[1], address) for connection in connections
-                          if (address := listening_address(connection, listeners)) is not None}
+        found = Listeners(endpoints)
+        self.listening = {(*found.port(connection), found.address(connection)) for connection in connections}
         own = {id(connection) for connection in connections}
         self.endpoints = [endpoint for endpoint in endpoints if self._has(endpoint, own)]
 
@@ -38,12 +45,49 @@ class Case:
         return endpoint.connection is not None and id(endpoint.connection) in own
 
 
-def listening_address(connection, listeners):
-    """The address of the listener that accepts a connection: its own, its family's wildcard, or another wildcard; None if none listens."""
-    address, port = connection.server
-    found = {endpoint.local[0] for endpoint in listeners if endpoint.host == connection.hosts[connection.server] and endpoint.local[1] == port}
-    wildcards = sorted((each for each in found if not any(each)), key=lambda each: len(each) != len(address))
-    return address if address in found else wildcards[0] if wildcards else None
+class Listeners:
+    """Finds the listener of a connection. Those of a port may have several addresses."""
+
+    def __init__(self, endpoints):
+        self.of_port, self.of_child = {}, {}
+        for endpoint in endpoints:
+            if endpoint.role == "listener" and endpoint.listens:
+                self.of_port.setdefault((endpoint.host, endpoint.local[1]), []).append(endpoint)
+            elif endpoint.role == "child":
+                self.of_child[id(endpoint.connection)] = endpoint.local[0]
+
+    @staticmethod
+    def port(connection):
+        """The host and the port of a connection's server."""
+        return connection.hosts[connection.server], connection.server[1]
+
+    def address(self, connection):
+        """The address of the listener that accepts a connection: the one that did, else the server's own, that of its family, or that of all
+        families; None if none listens."""
+        fitting = [endpoint.local[0] for endpoint in self.of_port.get(self.port(connection), []) if endpoint.fits(connection.server[0])]
+        fitting.sort(key=lambda address: (not any(address), len(address) != len(connection.server[0])))
+        return self.of_child.get(id(connection), fitting[0] if fitting else None)
+
+
+def cases_by_listener(name, connections, endpoints):
+    """A trace has only one listener for a port. So if the connections to a port have listeners with several addresses, or only some have one,
+    those of each listener get a case of their own."""
+    found = Listeners(endpoints)
+    addresses = {}
+    for connection in connections:
+        addresses.setdefault(found.port(connection), set()).add(found.address(connection))
+    groups = {}
+    for connection in connections:
+        port = found.port(connection)
+        key = (*port, found.address(connection)) if len(addresses[port]) > 1 else None
+        groups.setdefault(key, []).append(connection)
+    cases = {}
+    for key, group in groups.items():
+        own = name if key is None else f"{name}-{shown(group[0].server)}"
+        # Listeners with several addresses may accept connections to the same one, one after the other.
+        own = own if own not in cases else f"{own}-{len(cases) + 1}"
+        cases[own] = Case(own, group, endpoints)
+    return list(cases.values())
 
 
 class Writer:
@@ -55,23 +99,13 @@ class Writer:
         self.both = len(captures) == 2 or None in captures
 
     def lines(self):
-        """All lines in order, with numbers and threads. A trace may be large, so it isn't copied."""
-        members = {id(endpoint) for endpoint in self.case.endpoints}
+        """All lines in order, with numbers and threads. A trace may be large, so each is made when it is asked for."""
         for endpoint in self.case.endpoints:
             self.numbers[id(endpoint)] = len(self.numbers) + 1
-        calls = []
-        for endpoint in self.case.endpoints:
-            for action in endpoint.actions:
-                if not (action.verb == "accept" and action.answer and isinstance(action.answer[-1], Endpoint)
-                        and id(action.answer[-1]) not in members):
-                    calls += self.call(action)
-        calls.sort(key=lambda line: (line.moment, line.order))
-        found = heapq.merge(self.segments(), calls, key=lambda line: line.moment)
-        start, texts = None, []
-        for line in found:
+        start = None
+        for line in heapq.merge(self.segments(), self.calls(), key=lambda line: line.moment):
             start = line.moment - 10**9 if start is None else start
-            texts.append(f"{(line.moment - start) // 1000} {self.thread(line.thread)} {line.text}\n")
-        return texts
+            yield f"{(line.moment - start) // 1000} {self.thread(line.thread)} {line.text}\n"
 
     def thread(self, key):
         """The number of a thread."""
@@ -83,24 +117,40 @@ class Writer:
 
     # Calls.
 
-    def call(self, action: Action):
+    def calls(self):
+        """The lines of all calls, in order. A call of another trace's connection is left out."""
+        members = {id(endpoint) for endpoint in self.case.endpoints}
+        found = []
+        for endpoint in self.case.endpoints:
+            for action in endpoint.actions:
+                if not (action.verb == "accept" and action.answer and isinstance(action.answer[-1], Endpoint)
+                        and id(action.answer[-1]) not in members):
+                    found += self.call(action)
+        found.sort(key=lambda line: (line.moment, line.order))
+        for line in found:
+            yield Line(line.moment, line.action.thread, self.begin_text(line.action) if line.begins else self.end_text(line.action))
+
+    def call(self, action):
         """The two lines of a call, or only its beginning. Calls of one moment keep their order."""
         host = action.endpoint.host
-        yield Line(self.moment(host, action.begin), (*action.turn, 0), action.thread, "B " + self.begin_text(action))
+        yield CallLine(self.moment(host, action.begin), (*action.turn, 0), action, True)
         if action.answer:
-            answer = " ".join(self.word(word, action.endpoint.connection) for word in action.answer)
-            yield Line(self.moment(host, action.end), (action.order, 0, 1), action.thread, "E " + answer)
+            yield CallLine(self.moment(host, action.end), (action.order, 0, 1), action, False)
 
     def begin_text(self, action):
-        """A call's words."""
+        """The words of a call's beginning."""
         endpoint = action.endpoint
         if action.verb == "listen":
-            return f"listen {endpoint.host} {endpoint.local[1]} {action.words[0]}"
+            return f"B listen {endpoint.host} {endpoint.local[1]} {action.words[0]}"
         if action.verb == "open":
             connection = endpoint.connection
-            return f"open {endpoint.host} {connection.client[1]} {connection.server[1]}"
+            return f"B open {endpoint.host} {connection.client[1]} {connection.server[1]}"
         words = (self.word(word, endpoint.connection) for word in action.words)
-        return " ".join([action.verb, str(self.numbers[id(endpoint)]), *words])
+        return " ".join(["B", action.verb, str(self.numbers[id(endpoint)]), *words])
+
+    def end_text(self, action):
+        """The words of a call's end."""
+        return " ".join(["E", *(self.word(word, action.endpoint.connection) for word in action.answer)])
 
     def word(self, word, connection):
         """A word of a call or an answer on a connection."""
@@ -129,7 +179,8 @@ class Writer:
         place = "byte {} of " + shown(data.end)
         if not data.sends or not connection.was_reset():
             raise Problem(f"{place.format(holes[0][0] + 1)} is neither in the log nor in the capture",
-                          "record until the connection has ended, and with strace -s 1048576 -xx; no log has the bytes of sendfile and splice")
+                          "record until the connection has ended, and with strace -s 1048576 -xx; no log has the bytes of sendfile and splice",
+                          "let the programs run until the connection has ended")
         sent = connection.was_sent(data.end)
         if holes[0][0] < sent:
             self.notes.change("calls with bytes that were sent but lost by the capture, written as zeros", place.format(holes[0][0] + 1))
@@ -148,8 +199,8 @@ class Writer:
             pieces = flow.went_out(packet) if letter == "O" else flow.came_in(packet)
             for piece in pieces:
                 if len(piece) > LONGEST_SEGMENT:
-                    raise Problem(f"{packet.place}: a segment of {len(piece)} bytes", "turn the offloads off: ethtool -K IF tso off gso off gro off")
-                yield Line(moment, (), THREADS[letter, host], f"{letter} {host} {piece.hex()}")
+                    raise Problem(f"{packet.place}: a segment of {len(piece)} bytes", OFFLOADS_OFF, f"use --kernel plain for a pair; else {OFFLOADS_OFF}")
+                yield Line(moment, THREADS[letter, host], f"{letter} {host} {piece.hex()}")
 
     def ordered(self):
         """Segments with letter, host and moment. Segments sent precede those that the other host received at the same moment."""

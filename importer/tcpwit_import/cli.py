@@ -1,23 +1,27 @@
 """The command tcpwit-import."""
 import argparse
 import os
-import sys
 from ipaddress import ip_address
+from itertools import chain
 
 from . import header as headers
 from . import judging
 from .calls import HostCalls
 from .captures import read_capture, shown
-from .cases import Case, Writer
+from .cases import Writer, cases_by_listener
 from .clocks import SAME, bounds_of, clock_of, refuse_distant, said
+from .completeness import refuse_missing_ends, refuse_missing_sends
 from .connections import connections_of, refuse_gaps
-from .problem import Notes, Parser, Problem, named_file, say, status_of, write_file
+from .files import print_lines, remove, write_file
+from .problem import Notes, Parser, Problem, named_file, say, status_of
+from .progress import Part
+from .remedies import ALL_CALLS, ELSEWHERE, NOTHING_SENT
 from .strace_log import read_log
 
 DESCRIPTION = """Converts captures and system call logs of unmodified programs into traces for tcpwit.
 
 A capture is a file that tcpdump -w or Wireshark wrote at a host's interface. A log is a file that strace wrote:
-  strace -f --absolute-timestamps=format:unix,precision:ns -xx -s 1048576 -o FILE PROGRAM ..
+  strace -f --decode-fds=socket --absolute-timestamps=format:unix,precision:ns -xx -s 1048576 -o FILE PROGRAM ..
 HOST is 0, 1 or both. Use both for a capture of the loopback interface, and for the log of a program that is both hosts.
 With files of host 0 only, the trace belongs to a half case.
 tcpwit-import prints the trace. With --out, it writes the trace there and judges it: it prints the lines of tcpwit_lab judge
@@ -37,8 +41,7 @@ def parser():
     words.add_argument("--each", choices=("pair", "connection"), default="pair",
                        help="write a trace for each pair of hosts, or for each connection (default: pair)")
     words.add_argument("--out", type=named_file, metavar="PATH", help="write the trace to this file, or several traces to this folder, and judge them")
-    words.add_argument("--no-check", action="store_true", help="write the trace to --out, but don't judge it")
-    words.add_argument("--lab", type=named_file, metavar="PATH", help="the program tcpwit_lab, which judges traces")
+    add_words_of_judging(words)
     words.add_argument("--keep-gaps", action="store_true", help="accept captures that lost packets and logs that lack sends")
     words.add_argument("--skip-begun", action="store_true", help="leave out connections that began before the capture")
     words.add_argument("--quiet", action="store_true", help="print only errors")
@@ -49,6 +52,14 @@ def parser():
     for name, values in headers.WORDS.items():
         group.add_argument("--" + name, choices=values, help=headers.HELP.get(name))
     return words
+
+
+def add_words_of_judging(words):
+    """The options for judging traces."""
+    words.add_argument("--no-check", action="store_true", help="judge nothing")
+    words.add_argument("--lab", type=named_file, metavar="PATH", help="the program tcpwit_lab, which judges traces")
+    words.add_argument("--budget", type=number_within(0, 2**64 - 1), metavar="N",
+                       help="how many steps its search spends on going back for one line (default: its own)")
 
 
 def number_within(least, greatest):
@@ -90,9 +101,9 @@ def addresses_of(options, host):
 
 def read_captures(options, files, notes):
     """The packets of each host; several captures of a host are merged. A host with a known address may have received nothing."""
-    found = {}
+    found, known = {}, {}
     for host, names in files.items():
-        packets = [packet for name in names for packet in read_capture(name, notes, bool(addresses_of(options, host)))]
+        packets = [packet for name in names for packet in read_capture(name, notes, known, bool(addresses_of(options, host)))]
         if len(names) > 1:
             packets.sort(key=lambda packet: packet.moment)
         found[host] = packets
@@ -100,7 +111,7 @@ def read_captures(options, files, notes):
 
 
 def run(options, notes):
-    """Reads all files and returns the lines of each trace by its name."""
+    """Reads all files and returns the lines of each trace by its name. They are made when they are asked for; then the notes are complete."""
     captures, logs = files_by_host(options.capture, "--capture"), files_by_host(options.calls, "--calls")
     if not captures:
         raise Problem("no capture is given", "give --capture HOST FILE, of a capture by tcpdump -w")
@@ -116,21 +127,33 @@ def run(options, notes):
     names = {host: ", ".join(files) for host, files in captures.items()}
     connections = connections_of({names[host]: of_host for host, of_host in packets.items()})
     if not connections:
-        raise Problem(f"{', '.join(names.values())}: no TCP segment", "capture at the interface that the programs use, with the filter tcp or none")
+        raise Problem(f"{', '.join(names.values())}: no TCP segment", "capture at the interface that the programs use, with the filter tcp or none",
+                      NOTHING_SENT)
     endpoints = []
     for host in sorted(logs, key=str):
         own = [names[None if None in names else host]] if None in names or host in names else []
-        endpoints += HostCalls(host, connections, own, notes).run(read_log(logs[host]))
+        events = read_log(logs[host])
+        with Part(f"converting the calls of {', '.join(logs[host])}"):
+            endpoints += HostCalls(host, connections, own, notes).run(released(events))
     if not endpoints:
-        raise Problem(f"{', '.join(name for files in logs.values() for name in files)}: no TCP call",
-                      "start the programs under strace -f, and trace %network, read, write and close")
+        raise Problem(f"{', '.join(name for files in logs.values() for name in files)}: no TCP call", ALL_CALLS, ELSEWHERE)
     hosts = 2 if len(logs) == 2 or None in logs else 1
-    return make_traces(options, notes, names, connections, endpoints, hosts)
+    with Part("comparing the captures and the calls"):
+        return make_traces(options, notes, names, connections, endpoints, hosts)
+
+
+def released(events):
+    """The events of a log, without keeping those that were handled: they have all its bytes."""
+    events.reverse()
+    while events:
+        yield events.pop()
 
 
 def make_traces(options, notes, names, connections, endpoints, hosts):
     """The lines of each trace by its name."""
     connections = chosen_connections(options, notes, connections, endpoints, hosts, names)
+    if hosts == 2:
+        refuse_missing_ends(connections, endpoints, notes)
     if not options.keep_gaps:
         refuse_gaps(connections)
         refuse_missing_sends(connections, endpoints)
@@ -144,20 +167,21 @@ def make_traces(options, notes, names, connections, endpoints, hosts):
     lines = headers.header(hosts, (clock.skew + 999) // 1000, chosen, options.version)
     notes.say(f"header: {', '.join(lines)} ({'two hosts' if hosts == 2 else 'one host'} recorded)")
     head = [line + "\n" for line in lines]
-    return {case.name: head + Writer(case, names if hosts == 2 or None in names else {0: names[0]}, clock, notes).lines()
-            for case in cases_of(options, connections, endpoints, hosts)}
+    cases = cases_of(options, connections, endpoints, hosts)
+    for case in cases:
+        say_established(case, notes, f"{case.name}: " if len(cases) > 1 else "")
+    return {case.name: chain(head, Writer(case, names if hosts == 2 or None in names else {0: names[0]}, clock, notes).lines()) for case in cases}
 
 
-def refuse_missing_sends(connections, endpoints):
-    """A log that lacks calls is an error: the bytes they sent would look as if the stack had invented them."""
-    kept = set(connections)
-    for endpoint in endpoints:
-        if endpoint.connection not in kept or any(action.verb == "send" and not action.answer for action in endpoint.actions):
-            continue
-        found = endpoint.connection.bytes_of(endpoint.own_end, endpoint.sent, 1 << 40)
-        if found:
-            raise Problem(f"{endpoint.place}: {len(found)} bytes that {shown(endpoint.own_end)} sent are in no call of the log",
-                          "trace all calls from the program's start, with strace -f and no -e (io_uring can't be traced); or accept the log with --keep-gaps")
+def say_established(case, notes, prefix):
+    """Notes how many connections were established, unless all were: a verdict says little about the others."""
+    others = [connection for connection in case.connections if connection.completed() is None]
+    if others:
+        connection = others[0]
+        why = ("its SYN-ACK was never acknowledged" if connection.answered() is not None
+               else "its SYN was answered by a reset" if connection.was_reset() else "its SYN was never answered")
+        notes.say(f"{prefix}{len(case.connections) - len(others)} of {len(case.connections)} connections were established "
+                  f"(first that wasn't: {next(connection.packets()).place}: {connection}; {why})")
 
 
 def chosen_connections(options, notes, connections, endpoints, hosts, names):
@@ -175,7 +199,7 @@ def chosen_connections(options, notes, connections, endpoints, hosts, names):
     for connection in connections:
         place = f"{next(connection.packets()).place}: {connection}"
         if not assign_hosts(connection, listening, addresses):
-            kind = "with both ends in one log, which needs --calls both" if connection.hosts else "that no call in the logs opened or listened for"
+            kind = "with both ends in the log of one host" if connection.hosts else "that no call in the logs opened or listened for"
             notes.leave_out(f"connections {kind}", place)
         elif not wanted(options, connection):
             notes.leave_out("connections with other addresses", place)
@@ -190,7 +214,8 @@ def chosen_connections(options, notes, connections, endpoints, hosts, names):
             notes.leave_out("connections in the logs that no capture shows", endpoint.place)
     if not kept:
         raise Problem("no connection is in both the captures and the logs",
-                      "record both on the same host at the same time; no NAT may translate addresses between the captures")
+                      "record both on the same host at the same time; no NAT may translate addresses between the captures",
+                      f"{ELSEWHERE}; if the program is both hosts, use --namespace")
     return kept
 
 
@@ -224,7 +249,8 @@ def refuse_begun(options, notes, connection, place):
     """A connection without its beginning can't be judged."""
     if not options.skip_begun:
         raise Problem(f"{place}: the connection begins before the capture",
-                      "start the capture before the programs, or leave such connections out with --skip-begun")
+                      "start the capture before the programs, or leave such connections out with --skip-begun",
+                      "wait until earlier connections of these ports have ended, or use another port")
     notes.leave_out("connections that begin before the capture", place)
 
 
@@ -235,7 +261,7 @@ def in_both(connection, names, addresses):
 
 
 def cases_of(options, connections, endpoints, hosts):
-    """A case for each pair of hosts, or for each connection."""
+    """A case for each pair of hosts, or for each connection. Listeners that share a port have a case each."""
     groups = {}
     for number, connection in enumerate(connections, 1):
         ends = {host: end for end, host in connection.hosts.items()}
@@ -246,7 +272,7 @@ def cases_of(options, connections, endpoints, hosts):
         else:
             name = shown(ends[1]).rsplit(":", 1)[0].strip("[]")
         groups.setdefault(name, []).append(connection)
-    return [Case(name, group, endpoints) for name, group in groups.items()]
+    return [case for name, group in groups.items() for case in cases_by_listener(name, group, endpoints)]
 
 
 def file_name(name):
@@ -254,21 +280,31 @@ def file_name(name):
     return name.replace(":", "_").replace("[", "").replace("]", "")
 
 
+def refuse_others(folder, files):
+    """Refuses a folder with traces or cases that this run doesn't replace."""
+    own = {os.path.basename(name) for trace in files for name in (trace, judging.case_of(trace))}
+    others = sorted(name for name in os.listdir(folder) if name.endswith((".trace", ".case")) and name not in own)
+    if others:
+        raise Problem(f"{folder} has {len(others)} traces and cases of another run, such as {others[0]}", "remove them, or name another folder with --out")
+
+
 def write(options, traces):
     """Prints one trace, or writes all, and returns the file of each trace that was written."""
     if options.out and (len(traces) > 1 or os.path.isdir(options.out)):
         os.makedirs(options.out, exist_ok=True)
         files = {name: os.path.join(options.out, file_name(name) + ".trace") for name in traces}
+        refuse_others(options.out, files.values())
     elif len(traces) > 1:
         raise Problem(f"{len(traces)} traces: {', '.join(traces)}", "write them to a folder with --out, or select one with --one ADDRESS")
     else:
         files = {name: options.out for name in traces if options.out}
     for name, lines in traces.items():
         if name in files:
+            # The case of an earlier trace would look like this one's.
+            remove(judging.case_of(files[name]))
             write_file(files[name], map(str.encode, lines))
         else:
-            sys.stdout.writelines(lines)
-            sys.stdout.flush()
+            print_lines(lines)
     return files
 
 
@@ -280,10 +316,11 @@ def import_and_judge(options):
     if not options.quiet:
         for line in notes.lines():
             say("tcpwit-import", line)
-    return judging.judge_all(program, files, options.congestion) if program else 0
+    return judging.judge_all(program, files, options) if program else 0
 
 
 def main(words=None):
     """Runs the command and returns its exit status."""
     options = parser().parse_args(words)
+    Part.command = None if options.quiet else "tcpwit-import"
     return status_of("tcpwit-import", lambda: import_and_judge(options))

@@ -1,6 +1,7 @@
 """Connections in captures: which segments belong together, and which bytes each end sent."""
-from .captures import BUFFER, shown
+from .captures import shown
 from .problem import Problem
+from .remedies import BUFFER, LARGER_BUFFER
 
 WRAP = 1 << 32
 FIN, SYN, RST, ACK = 1, 2, 4, 16
@@ -56,14 +57,13 @@ class Connection:
         moments = [packet.moment for packet in self.packets() if packet.source == self.server and packet.flags & SYN]
         return min(moments, default=None)
 
+    def sent_or_ended(self, end):
+        """Whether an end sent bytes or a FIN, which no stack does without a call."""
+        return any(packet.source == end and (packet.size > 0 or packet.flags & FIN) for packet in self.packets())
+
     def was_reset(self):
         """Whether an end reset the connection: bytes that the program had written by then may never have been sent."""
         return any(packet.flags & RST for packet in self.packets())
-
-    def bytes_of(self, end, offset, length):
-        """The bytes that this end sent from an offset of its stream on, up to the first gap in the captures."""
-        start, stream = next(self.spans(end), (0, b""))
-        return bytes(stream[offset:offset + length]) if start == 0 else b""
 
     def pieces(self, end, offset, length):
         """The parts of these bytes that captures have, with their offsets, in order."""
@@ -75,9 +75,16 @@ class Connection:
     def was_sent(self, end):
         """The offset up to which an end certainly sent its bytes: the other end acknowledged them, or captures have later ones."""
         first = self.initial.get(end)
-        seen = max((start + len(stream) for start, stream in self.spans(end)), default=0)
-        acknowledged = 0 if first is None else self._acknowledged(end, first, self.packets())
+        if first is None:
+            return 0
+        seen = max((start + packet.size for start, packet in self._with_bytes(end, first)), default=0)
+        acknowledged = self._acknowledged(end, first, self.packets())
         return max(seen, acknowledged if acknowledged < WRAP // 2 else 0)
+
+    def shown_up_to(self, end):
+        """The offset up to which captures have an end's bytes without a gap."""
+        first = self.initial.get(end)
+        return 0 if first is None else _without_gap((start, start + packet.size) for start, packet in self._with_bytes(end, first))
 
     def spans(self, end):
         """All bytes of an end that captures have: the offset and the bytes of each span without a gap."""
@@ -89,19 +96,24 @@ class Connection:
         first = self.initial.get(end)
         if first is None:
             return []
-        pieces = {}
-        for packet in self.packets():
-            offset = (packet.number + bool(packet.flags & SYN) - first - 1) % WRAP
-            # A segment that begins before the first byte is a keep-alive or an old duplicate.
-            if packet.source == end and packet.payload and offset < WRAP // 2:
-                pieces[offset] = max(pieces.get(offset, b""), packet.payload, key=len)
+        longest = {}
+        for offset, packet in self._with_bytes(end, first):
+            longest[offset] = max(longest.get(offset, packet), packet, key=lambda each: each.size)
         spans = []
-        for offset in sorted(pieces):
+        for offset in sorted(longest):
             if not spans or offset > spans[-1][0] + len(spans[-1][1]):
                 spans.append((offset, bytearray()))
             start, stream = spans[-1]
-            stream += pieces[offset][start + len(stream) - offset:]
+            stream += longest[offset].payload[start + len(stream) - offset:]
         return spans
+
+    def _with_bytes(self, end, first):
+        """The segments with bytes that an end sent, each with the offset of its first byte."""
+        for packet in self.packets():
+            offset = (packet.number + bool(packet.flags & SYN) - first - 1) % WRAP
+            # A segment that begins before the first byte is a keep-alive or an old duplicate.
+            if packet.source == end and packet.size and offset < WRAP // 2:
+                yield offset, packet
 
     def _acknowledged(self, end, first, packets):
         """The offset up to which these packets of the other end acknowledge an end's bytes and FIN. Resets don't count."""
@@ -126,15 +138,20 @@ class Connection:
         for packet in self.seen[capture]:
             if packet.source == end and not packet.flags & RST:
                 offset = (packet.number + bool(packet.flags & SYN) - first - 1) % WRAP
-                length = len(packet.payload) + (packet.flags & FIN)
+                length = packet.size + (packet.flags & FIN)
                 if length and offset < WRAP // 2:
                     spans.append((offset, offset + length))
-        reached = 0
-        for start, stop in sorted(spans):
-            if start > reached:
-                break
-            reached = max(reached, stop)
-        return reached
+        return _without_gap(spans)
+
+
+def _without_gap(spans):
+    """The offset up to which spans have everything from 0 on."""
+    reached = 0
+    for start, stop in sorted(spans):
+        if start > reached:
+            break
+        reached = max(reached, stop)
+    return reached
 
 
 def _size_option(segment):
@@ -192,4 +209,4 @@ def refuse_gaps(connections):
             if connection.whole and (gap := connection.gap(name)):
                 end, offset = gap
                 raise Problem(f"{name}: the capture lost packets of {connection}: byte {offset + 1} that {shown(end)} sent was "
-                              "acknowledged and is not in the capture", f"{BUFFER}; or accept it as it is with --keep-gaps")
+                              "acknowledged and is not in the capture", f"{BUFFER}; or accept it as it is with --keep-gaps", LARGER_BUFFER)

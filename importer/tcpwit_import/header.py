@@ -32,9 +32,10 @@ def header(hosts, skew, chosen, version=None):
     """The lines of a header for this many recorded hosts. The values of `chosen` replace detected and default ones."""
     version = version or (BY_LEVEL if "congestion" in chosen else WHOLE if hosts == 2 else HALF)
     if hosts == 1 and version < 3:
-        raise Problem(f"format version {version} is for two recorded hosts", "leave out --version, or give the capture and calls of host 1")
+        raise Problem(f"format version {version} is for two recorded hosts", "leave out --version, or give the capture and calls of host 1",
+                      "leave out --version, or record both hosts")
     if hosts == 2 and version == 3:
-        raise Problem("format version 3 is for one recorded host", "leave out --version, or give only files of host 0")
+        raise Problem("format version 3 is for one recorded host", "leave out --version, or give only files of host 0", "leave out --version")
     values = VALUES | {"skew": skew, "half": 0, "hosts": hosts} | chosen
     unknown = [name for name in chosen if name not in LINES[version]]
     if unknown:

@@ -1,16 +1,26 @@
 """Judges traces with `tcpwit_lab judge`, saves the cases and draws them."""
+import ctypes
+import gc
 import os
 import shutil
+import signal
 import subprocess
 import sys
 
+from .files import remove, write_file
 from .header import FULL
-from .problem import Problem, decoded, not_run, plain, write_file
+from .problem import Problem, decoded, not_run, plain
+from .progress import Part
 
 TOP = os.path.dirname(os.path.dirname(os.path.dirname(os.path.realpath(__file__))))
 NAME, VARIABLE = "tcpwit_lab", "TCPWIT_LAB"
 NAME_IT = f"name the program {NAME} with --lab or {VARIABLE}"
 YES, NO, FAULTY = range(3)
+MEMORY, DEVICE = 4, 5
+LESS = "record fewer bytes, or judge the trace on a machine with more memory"
+# Remedies, by the status of a `judge` that failed. Linux kills programs if memory runs out.
+REMEDIES = {FAULTY: f"read what {NAME} explain prints about it", MEMORY: LESS, -signal.SIGKILL: LESS,
+            DEVICE: "choose a place that can be written and has space for the case"}
 
 
 def lab(option):
@@ -45,11 +55,15 @@ def case_of(trace):
     return trace.removesuffix(".trace") + ".case"
 
 
-def judge_all(program, traces, least=None):
-    """Judges trace files, prints the lines of each and returns the highest status."""
+def judge_all(program, traces, options):
+    """Judges trace files at --congestion or stricter, prints the lines of each and returns the highest status."""
+    words = ["--least", options.congestion or FULL]
+    if options.budget is not None:
+        words += ["--budget", str(options.budget)]
+    release_memory()
     worst = YES
     for name, trace in traces.items():
-        lines, status = judge(program, trace, least or FULL)
+        lines, status = judge(program, trace, words)
         if len(traces) > 1:
             lines = [f"{name}:"] + ["  " + line for line in lines]
         print("\n".join(map(plain, lines)), flush=True)
@@ -57,23 +71,38 @@ def judge_all(program, traces, least=None):
     return worst
 
 
-def judge(program, trace, least):
-    """The lines of `judge` and its status: 0 if this level or a stricter one has a yes, 1 if not. The case is saved."""
+def release_memory():
+    """Returns the memory of what is no longer used to the system: `judge` needs about twice as much as an import."""
+    gc.collect()
+    if trim := getattr(ctypes.CDLL(None), "malloc_trim", None):
+        trim(0)
+
+
+def judge(program, trace, words):
+    """The lines of `judge` with these options, and its status: 0 if a level that counts has a yes, 1 if not. The case is saved."""
     if not os.path.isfile(trace):
         raise Problem(f"{trace} isn't a file that can be read again", "name a file with --out, or skip judging with --no-check")
     folder, name = os.path.split(case_of(trace))
-    done = on_file([program, "judge", "--least", least, "--case", "./" + name], trace, folder or ".")
+    status = None
+    try:
+        with Part(f"judging {trace}"):
+            done = on_file([program, "judge", *words, "--case", "./" + name], trace, folder or ".")
+        status = done.returncode
+    finally:
+        if status not in (YES, NO):
+            # An incomplete case would look like a whole one.
+            remove(case_of(trace))
     lines = decoded(done.stdout).splitlines()
-    if done.returncode not in (YES, NO):
+    if status not in (YES, NO):
         said = "; ".join(lines[:1] + decoded(done.stderr).splitlines()[-1:])
-        remedy = f"read what {NAME} explain prints about it" if done.returncode == FAULTY else f"check whether this works: {program} judge < {trace}"
-        raise Problem(f"{trace}: {said or ended(done.returncode)}", remedy)
-    return lines, done.returncode
+        raise Problem(f"{trace}: {said or ended(status)}", REMEDIES.get(status, f"check whether this works: {program} judge < {trace}"))
+    return lines, status
 
 
 def draw(program, trace):
     """Draws the case of a trace next to it, if it can be drawn."""
-    drawn = on_file([program, "draw"], case_of(trace))
+    with Part(f"drawing {case_of(trace)}"):
+        drawn = on_file([program, "draw"], case_of(trace))
     if drawn.returncode == 0:
         write_file(trace.removesuffix(".trace") + ".svg", [drawn.stdout])
 

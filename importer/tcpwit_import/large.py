@@ -2,7 +2,7 @@
 
 With segmentation offload, a capture shows one segment of up to 64 kB for several on the wire; receive offload joins received
 segments. A sent segment is cut into pieces of the size that both hosts agreed on. A received segment equals a sent one, or joins
-several consecutive pieces. Checksums become 0, since offloads leave them unfinished.
+several consecutive pieces.
 """
 from typing import Any, NamedTuple
 
@@ -16,11 +16,6 @@ class Sent(NamedTuple):
     moment: int
     segment: bytes
     arrived: list
-
-
-def without_checksum(segment):
-    """The same segment with the checksum 0."""
-    return segment[:16] + b"\0\0" + segment[18:]
 
 
 def cut(segment, size):
@@ -121,8 +116,7 @@ class Flow:
 
     def went_out(self, packet):
         """The segments of an outgoing packet."""
-        segment = without_checksum(packet.segment)
-        pieces = cut(segment, self.connection.piece_size(segment))
+        pieces = cut(packet.segment, self.connection.piece_size(packet.segment))
         if len(pieces) > 1:
             self.notes.change("segments that an offload enlarged, cut into those on the wire", packet.place)
         for piece in pieces:
@@ -131,12 +125,11 @@ class Flow:
 
     def came_in(self, packet):
         """The segments of an incoming packet. A segment that matches nothing is left unchanged."""
-        segment = without_checksum(packet.segment)
         if not self.both:
-            return [segment]
-        parts = self.sent[packet.source].parts(segment)
+            return [packet.segment]
+        parts = self.sent[packet.source].parts(packet.segment)
         if len(parts) > 1:
             self.notes.change("segments that an offload joined, cut into those that were sent", packet.place)
         elif not parts:
             self.notes.change("segments that were received but that the other host's capture doesn't show as sent", packet.place)
-        return parts or [segment]
+        return parts or [packet.segment]

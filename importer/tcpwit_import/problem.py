@@ -8,12 +8,15 @@ import traceback
 
 
 class Problem(Exception):
-    """An error of the input: its cause, and what to do about it."""
+    """An error of the input: its cause, and what to do about it. `recorded` is the remedy if tcpwit-record made the files, whose options differ."""
 
-    def __init__(self, cause, remedy):
+    def __init__(self, cause, remedy, recorded=None):
         super().__init__(cause)
-        self.cause = cause
-        self.remedy = remedy
+        self.cause, self.remedy, self.recorded = cause, remedy, recorded
+
+    def of_recorder(self):
+        """The same problem with the recorder's remedy."""
+        return Problem(self.cause, self.recorded or self.remedy)
 
     def __str__(self):
         return f"{self.cause}\n  {self.remedy}"
@@ -89,13 +92,6 @@ def status_of(command, act):
     return 2
 
 
-def write_file(name, parts):
-    """Writes these parts, which are bytes, to a file. An error while writing or closing doesn't name the file, so it is added."""
-    try:
-        with open(name, "wb") as file:
-            file.writelines(parts)
-    except OSError as error:
-        raise Problem(f"{name}: {error.strerror}", "choose a place that can be written") from error
 
 
 def place_of(error):
@@ -135,23 +131,3 @@ class Notes:
         for title, kinds in (("changed", self.changed), ("left out", self.left_out)):
             for kind, (count, first) in kinds.items():
                 yield f"{title}: {count} {kind} (first: {first})"
-
-
-class Progress:
-    """A line on standard error, if that is a terminal, that shows how much of a file was read."""
-
-    def __init__(self, name, size):
-        self.name, self.size, self.shown = plain(name), max(size, 1), -1
-        self.terminal = sys.stderr.isatty()
-
-    def at(self, place):
-        """Shows the share of the file that was read, if it changed."""
-        share = min(100, place * 100 // self.size)
-        if self.terminal and share != self.shown:
-            self.shown = share
-            print(f"\r{self.name}: {share} %", end="", file=sys.stderr, flush=True)
-
-    def done(self):
-        """Removes the line."""
-        if self.terminal and self.shown >= 0:
-            print("\r\033[K", end="", file=sys.stderr, flush=True)

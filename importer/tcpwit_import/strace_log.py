@@ -4,23 +4,24 @@ A call doesn't begin before its line's moment. strace reads the clock for a line
 (-T) afterwards, so the beginning plus the duration may be earlier than the call's effect. A call has ended when the log shows that
 it was resumed, or else by the moment of the next line, since strace handled the call's end before that line.
 """
-import os
 import re
 from typing import NamedTuple
 
-from .problem import Problem, Progress
+from .files import opened
+from .problem import Problem
 
 LINE = re.compile(r"^(?:\[pid\s+(\d+)\]\s+|(\d+)\s+)?(\d+)\.(\d+)\s+(.*)$", re.DOTALL)
 NO_UNIX_TIME = re.compile(r"^(?:\[pid\s+\d+\]\s+|\d+\s+)?(?:\d\d:\d\d:\d\d|\w+\()")
-CALL = re.compile(r"^(\w+)\((.*)\)\s*= (-?\d+|0x[0-9a-f]+|\?)(?:<(?:->|[^<>])*>)?(?: (E\w+))?[^\"]*$", re.DOTALL)
+CALL = re.compile(r"^(\w+)\((.*)\)\s*= (-?\d+|0x[0-9a-f]+|\?)(?:<((?:->|[^<>])*)>)?(?: (E\w+))?[^\"]*$", re.DOTALL)
 UNFINISHED = "<unfinished ...>"
 RESUMED = re.compile(r"^<\.\.\. (\w+) resumed>\s?(.*)$", re.DOTALL)
-GIVING = ("socket", "accept", "accept4", "dup", "dup2", "dup3")
-HOW = "strace -f --absolute-timestamps=format:unix,precision:ns -xx -s 1048576 -o FILE .."
+GIVING = ("socket", "accept", "accept4", "dup", "dup2", "dup3", "pidfd_getfd")
+HOW = "strace -f --decode-fds=socket --absolute-timestamps=format:unix,precision:ns -xx -s 1048576 -o FILE .."
 
 
 class SystemCall(NamedTuple):
-    """A call of a process: its beginning and end in nanoseconds, or None if it didn't end; its result, or None if it had none."""
+    """A call of a process: its beginning and end in nanoseconds, or None if it didn't end; its result, or None if it had none; what strace
+    printed about the file of the descriptor that it returned."""
     process: int
     begin: int
     end: int | None
@@ -29,6 +30,7 @@ class SystemCall(NamedTuple):
     result: int | None
     error: str | None
     place: str
+    file: str = ""
 
     @property
     def when(self):
@@ -79,24 +81,15 @@ def _lines(name, number):
     """The lines, with their moments. Without a column of processes, the process is the end of the file name, as with strace -ff."""
     end = name.rsplit(".", 1)[-1]
     alone = int(end) if end.isdigit() else -1 - number
-    try:
-        with open(name, encoding="utf-8", errors="surrogateescape") as file:
-            progress = Progress(name, os.fstat(file.fileno()).st_size)
-            seen = 0
-            for count, raw in enumerate(file, 1):
-                seen += len(raw)
-                if count % 4096 == 0:
-                    progress.at(seen)
-                found = LINE.match(raw)
-                if found:
-                    process = int(found[1] or found[2] or alone)
-                    moment = int(found[3]) * 10**9 + int(found[4].ljust(9, "0")[:9])
-                    yield _Line(process, moment, found[5].rstrip("\n"), f"{name}, line {count}", 1 if len(found[4]) > 6 else 1000)
-                elif NO_UNIX_TIME.match(raw):
-                    raise Problem(f"{name}, line {count}: no moment in seconds since 1970", f"record it with: {HOW}")
-            progress.done()
-    except OSError as error:
-        raise Problem(f"{name}: {error.strerror}", "name a log that can be read") from error
+    with opened(name, "name a log that can be read", text=True) as file:
+        for count, raw in enumerate(file, 1):
+            found = LINE.match(raw)
+            if found:
+                process = int(found[1] or found[2] or alone)
+                moment = int(found[3]) * 10**9 + int(found[4].ljust(9, "0")[:9])
+                yield _Line(process, moment, found[5].rstrip("\n"), f"{name}, line {count}", 1 if len(found[4]) > 6 else 1000)
+            elif NO_UNIX_TIME.match(raw):
+                raise Problem(f"{name}, line {count}: no moment in seconds since 1970", f"record it with: {HOW}")
 
 
 def _with_next(lines):
@@ -138,4 +131,4 @@ def _call(line, end, text):
     # An exit never returns: it ends with its process.
     if found[1] in ("exit", "exit_group"):
         value, end = 0, line.moment
-    return SystemCall(line.process, line.moment, end, found[1], found[2], value, found[4], line.place)
+    return SystemCall(line.process, line.moment, end, found[1], found[2], value, found[5], line.place, found[4] or "")

@@ -1,8 +1,11 @@
 """Parses the arguments of a system call as strace prints them.
 
-Strings become `Text`, structures dicts, arrays lists, `name(..)` a `Call`; anything else stays text.
+Strings become `Text`, structures dicts, arrays lists, `name(..)` a `Call`, and descriptors with a file `Descriptor`; anything else stays
+text. With --decode-fds or -yy, strace prints what the kernel knows about a descriptor's file: the addresses of a TCP socket, or its number
+if it has none; the numbers of a Unix socket and of its peer; the process of a pidfd.
 """
 import ast
+import functools
 import re
 from ipaddress import ip_address
 from typing import NamedTuple
@@ -10,12 +13,32 @@ from typing import NamedTuple
 DESCRIPTOR = re.compile(r"(-?\d+|AT_FDCWD)<((?:->|[^<>])*)>(?:\(deleted\))?")
 WORD = re.compile(r"[^,\[\](){}\"=]+")
 KEY = re.compile(r"(\w+)=(?!=)")
+FIRST = re.compile(r"(-?\d+)(?:<((?:->|[^<>])*)>)?")
+NUMBER = re.compile(r"-?(0x[0-9a-f]+|\d+)")
+TCP = re.compile(r"TCP(?:v6)?:\[(\[\S+?\]|[\d.]+):(\d+)(?:->(\[\S+?\]|[\d.]+):(\d+))?\]")
+UNIX = re.compile(r"UNIX(?:-\w+)?:\[(\d+)(?:->(\d+))?")
+PIDFD = re.compile(r"pid:(\d+)")
 
 
 class Text(NamedTuple):
     """The bytes of a string, and whether strace truncated it."""
     data: bytes
     cut: bool
+
+
+class Descriptor(str):
+    """A descriptor's number, and what strace printed about its file."""
+
+    def __new__(cls, number, file=""):
+        found = super().__new__(cls, number)
+        found.file = file
+        return found
+
+
+class Addresses(NamedTuple):
+    """The local address and port of a TCP socket, and those of its peer; None for a peer if it isn't connected."""
+    local: tuple
+    remote: tuple | None
 
 
 class Call(NamedTuple):
@@ -31,9 +54,11 @@ def arguments(text):
 
 def text_of(body):
     """The bytes of a string's body, which has hex escapes only or C escapes."""
-    if body.startswith("\\x") and len(body) % 4 == 0:
+    count = len(body) // 4
+    if body and body[::4] + body[1::4] == "\\" * count + "x" * count:
         try:
-            return bytes.fromhex(body.replace("\\x", ""))
+            # A log has all bytes of a transfer; `replace` takes six times as long.
+            return bytes.fromhex(body.encode().translate(None, b"\\x").decode())
         except ValueError:
             pass
     try:
@@ -90,7 +115,7 @@ class _Reader:
                 if letter == "{" else inner
         if descriptor := DESCRIPTOR.match(self.text, self.at):
             self.at = descriptor.end()
-            return descriptor[1]
+            return Descriptor(*descriptor.groups())
         word = WORD.match(self.text, self.at)
         if not word:
             return ""
@@ -119,7 +144,7 @@ class _Reader:
 
 def whole_number(value):
     """The number at the beginning of a word; None if it has none."""
-    found = re.match(r"-?(0x[0-9a-f]+|\d+)", value) if isinstance(value, str) else None
+    found = NUMBER.match(value) if isinstance(value, str) else None
     return int(found[0], 0) if found else None
 
 
@@ -131,9 +156,42 @@ def address_of(value):
     text = value["sin_addr"].words[0] if "sin_addr" in value else value["inet_pton"][1] if "inet_pton" in value else None
     if not isinstance(text, Text) or not isinstance(port, Call):
         return None
-    address = ip_address(text.data.decode("ascii", "replace"))
+    return _end(text.data.decode("ascii", "replace"), port.words[0])
+
+
+def _end(text, port):
+    """Address and port, with mapped addresses as IPv4."""
+    address = ip_address(text)
     mapped = getattr(address, "ipv4_mapped", None)
-    return (mapped or address).packed, int(port.words[0])
+    return (mapped or address).packed, int(port)
+
+
+def first_descriptor(text):
+    """The descriptor with which a call's arguments begin; None if they begin with something else."""
+    found = FIRST.match(text)
+    return Descriptor(found[1], found[2] or "") if found else None
+
+
+@functools.lru_cache(1 << 16)
+def addresses_of(file):
+    """The addresses of a TCP socket; None for other files, and for a socket without addresses."""
+    found = TCP.fullmatch(file)
+    try:
+        return found and Addresses(*(_end(found[place].strip("[]"), found[place + 1]) if found[place] else None for place in (1, 3)))
+    except ValueError:
+        return None
+
+
+def unix_ends(file):
+    """The kernel's numbers of a Unix socket and of its peer; None for one that strace didn't print."""
+    found = UNIX.match(file)
+    return found.groups() if found else (None, None)
+
+
+def process_of(file):
+    """The process of a pidfd; None if strace didn't print it."""
+    found = PIDFD.fullmatch(file)
+    return int(found[1]) if found else None
 
 
 def gathered(buffers):
@@ -153,5 +211,5 @@ def passed_descriptors(text):
     """The descriptors that the message of a call passes on."""
     message = arguments(text)[1]
     controls = message.get("msg_control") if isinstance(message, dict) else None
-    return [whole_number(number) for control in controls or [] if isinstance(control, dict)
-            and control.get("cmsg_type") == "SCM_RIGHTS" for number in control.get("cmsg_data", [])]
+    return [word for control in controls or [] if isinstance(control, dict)
+            and control.get("cmsg_type") == "SCM_RIGHTS" for word in control.get("cmsg_data", [])]

@@ -1,16 +1,26 @@
-"""Processes and their descriptor tables: what refers to a socket, and when the last reference is dropped."""
+"""Processes and their descriptor tables: what refers to a socket, TCP or one of a socketpair, and when the last reference is dropped."""
 from dataclasses import dataclass
 from typing import Any
 
 
 @dataclass(eq=False)
 class Socket:
-    """A TCP socket in any state, to which descriptors of several processes may refer."""
-    bound: tuple = (b"", 0)
+    """A TCP socket in any state, to which descriptors of several processes may refer. `addresses` are those that strace printed last."""
+    bound: tuple
     endpoint: Any = None
     aborts: bool = False
     reading_shut: bool = False
+    only_v6: bool = False
+    addresses: Any = None
     references: int = 0
+
+
+@dataclass(eq=False)
+class PairedSocket:
+    """One of the two sockets of a socketpair. It's never in a trace, so it has no endpoint."""
+    peer: Any = None
+    references: int = 0
+    endpoint: None = None
 
 
 class Table:

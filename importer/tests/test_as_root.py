@@ -1,6 +1,7 @@
 """Tests recordings of this machine's kernel. Skipped without root or the recorder's programs."""
 import os
 import shutil
+import signal
 import subprocess
 import sys
 import tempfile
@@ -9,7 +10,7 @@ import unittest
 
 from tcpwit_import.recording.cli import PACKAGES
 from tcpwit_import.recording.namespaces import Namespace
-from tcpwit_import.recording.running import Traced
+from tcpwit_import.recording.running import ADDRESSES, Traced, strace
 
 TOP = os.path.dirname(os.path.dirname(os.path.realpath(__file__)))
 RECORD = os.path.join(TOP, "tcpwit-record")
@@ -61,6 +62,48 @@ class AsRoot(unittest.TestCase):
         self.assertEqual(status, 2)
         self.assertIn(b"tcpwit-record: ./c\\x1b[2J\\xff ended with status 3\n", error)
         self.assertNotIn(b"\x1b", error)
+
+    def test_calls_are_logged_with_addresses(self):
+        if ADDRESSES not in strace():
+            self.skipTest("strace can't print addresses")
+        client = self.script(b"client", f"#!{sys.executable}\nimport socket\nsocket.create_connection(('10.9.0.2', 80)).sendall(b'GET / HTTP/1.0\\n\\n')\n")
+        self.assertEqual(self.record("--pair", SERVER, "--", client)[0], 0)
+        for name, ends in (("host0.log", rb"10\.9\.0\.1:\d+->10\.9\.0\.2:80"), ("host1.log", rb"10\.9\.0\.2:80->10\.9\.0\.1:\d+")):
+            with open(f"{self.folder}/out/{name}", "rb") as file:
+                self.assertRegex(file.read(), rb"TCP:\[" + ends + rb"\]>, ")
+    def test_ctrl_c_ends_a_pair(self):
+        client = "import socket, time; end = socket.create_connection(('10.9.0.2', 80)); time.sleep(60)"
+        words = [RECORD, "--no-check", "--out", f"{self.folder}/out", "--pair", SERVER, "--", sys.executable, "-c", client]
+        with subprocess.Popen(words, stdout=subprocess.PIPE, stderr=subprocess.PIPE) as process:
+            until = time.monotonic() + 30
+            while not self.has_logged(b"htons(80)") and time.monotonic() < until:
+                time.sleep(0.05)
+            process.send_signal(signal.SIGINT)
+            out, error = process.communicate(timeout=60)
+        self.assertEqual((process.returncode, out), (0, b""), error)
+        self.assertIn(b"tcpwit-record: interrupted: the programs are ended, and what was recorded is kept", error)
+        self.assertTrue(error.endswith(b"tcpwit-record: all files are in " + os.fsencode(self.folder) + b"/out\n"), error)
+        with open(f"{self.folder}/out/run.trace", encoding="ascii") as file:
+            self.assertIn(" B open 0 ", file.read())
+
+    def has_logged(self, text):
+        """Whether the client's log has a text."""
+        try:
+            with open(f"{self.folder}/out/host0.log", "rb") as file:
+                return text in file.read()
+        except FileNotFoundError:
+            return False
+
+    def test_a_full_disk(self):
+        os.mkdir(f"{self.folder}/out")
+        if subprocess.run(["mount", "-t", "tmpfs", "-o", "size=4m", "none", f"{self.folder}/out"], capture_output=True, check=False).returncode:
+            self.skipTest("can't mount a small file system")
+        try:
+            status, error = self.record("--transfer", "2000000")
+        finally:
+            subprocess.run(["umount", f"{self.folder}/out"], check=True)
+        self.assertEqual(status, 2, error)
+        self.assertRegex(error, rb"No space left on device[^\n]*\n  free some space, or name another folder with --out\n$")
 
     def test_daemons_are_ended(self):
         program = Traced(["sh", "-c", f"setsid sleep 77 & echo $! > {self.folder}/pid"], f"{self.folder}/log", Namespace())

@@ -1,6 +1,7 @@
 """Tests what the commands print, and how they fail."""
 import contextlib
 import fnmatch
+import gzip
 import io
 import os
 import subprocess
@@ -10,10 +11,10 @@ import unittest
 from unittest import mock
 
 from tcpwit_import.cli import main as importing
-from tcpwit_import.recording.cli import FOLDER
 from tcpwit_import.recording.cli import main as recording
+from tcpwit_import.recording.folder import FOLDER
 
-from .wire import ACK, FIN, ONE, PSH, SECOND, ZERO, Talk, address, ethernet, ip_packet, log, pcap, segment
+from .wire import ACK, FIN, ONE, PSH, RST, SECOND, ZERO, Talk, address, ethernet, ip_packet, log, pcap, segment
 
 TOP = os.path.dirname(os.path.dirname(os.path.realpath(__file__)))
 AT = 100 * SECOND
@@ -43,6 +44,18 @@ def talk(**options):
     found.at = AT + 15 * 10**6
     found.send(1, ACK | FIN)
     found.send(0)
+    return found
+
+
+REFUSED = [CLIENT[0], (*CLIENT[1][:2], CLIENT[1][2].replace("= 0", "= -1 ECONNREFUSED (x)")), *CLIENT[3:]]
+
+
+def refusal():
+    """A connection to a port at which nothing listens."""
+    found = talk()
+    found.frames = {0: found.frames[0][:1], 1: found.frames[1][:1]}
+    found.next, found.at = {0: 1001, 1: 0}, AT + 2 * 10**6
+    found.send(1, ACK | RST)
     return found
 
 
@@ -190,6 +203,50 @@ class Command(WithFiles):
                 file.write(whole[:size])
             self.refused(["--capture", "0", f"{self.folder}/short.pcap", *self.logs[:3]], "ends within packet")
 
+    def test_compressed_files(self):
+        out = run(*self.captures, *self.logs)[1]
+        for name in ("c0.pcap", "s0.log"):
+            with open(f"{self.folder}/{name}", "rb") as file, gzip.open(f"{self.folder}/{name}.gz", "wb") as compressed:
+                compressed.write(file.read())
+        words = [word + ".gz" if word.endswith(("c0.pcap", "s0.log")) else word for word in (*self.captures, *self.logs)]
+        self.assertEqual(run(*words)[:2], (0, out))
+        with open(f"{self.folder}/c0.pcap.gz", "rb") as file:
+            whole = file.read()
+        for number, damaged, cause in ((0, whole[:-9], "c0.pcap.gz: ends within packet"), (1, whole[:20] + b"x" * 30 + whole[50:], "c0.pcap.gz: "),
+                                       (2, whole[:2] + b"xx" + whole[4:], "c0.pcap.gz: Unknown compression method")):
+            with self.subTest(number), open(f"{self.folder}/c0.pcap.gz", "wb") as file:
+                file.write(damaged)
+            self.refused(words, cause)
+        with open(f"{self.folder}/s0.log.gz", "r+b") as file:
+            file.truncate(99)
+        self.refused([*self.captures, *words[6:]], "s0.log.gz: Compressed file ended before")
+
+    def test_a_trace_that_cannot_be_completed_is_not_written(self):
+        # The capture ends before the bytes that sendfile sent.
+        cut = talk()
+        cut.frames = {host: cut.frames[host][:3] for host in (0, 1)}
+        client = [(*line[:2], "sendfile(3, 9, [0] => [5], 5) = 5") if "write" in line[2] else line for line in CLIENT]
+        words = [*cut.write(self.folder), *self.write_logs(client, SERVER[:4])]
+        self.refused(words, "byte 1 of 10.9.0.1:4000 is neither in the log nor in the capture")
+        self.refused([*words, "--no-check", "--out", f"{self.folder}/run.trace"], "is neither in the log nor in the capture")
+        self.assertFalse(os.path.exists(f"{self.folder}/run.trace"))
+
+    def test_files_of_another_run(self):
+        words = [*self.captures, *self.logs, "--no-check", "--out"]
+        with open(f"{self.folder}/run.case", "w", encoding="ascii") as file:
+            file.write("the case of an earlier trace")
+        self.assertEqual(run(*words, f"{self.folder}/run.trace")[0], 0)
+        self.assertFalse(os.path.exists(f"{self.folder}/run.case"))
+        os.mkdir(f"{self.folder}/out")
+        for name in ("run.trace", "run.case", "notes"):
+            with open(f"{self.folder}/out/{name}", "w", encoding="ascii"):
+                pass
+        self.assertEqual(run(*words, f"{self.folder}/out")[0], 0)
+        self.assertEqual(sorted(os.listdir(f"{self.folder}/out")), ["notes", "run.trace"])
+        os.rename(f"{self.folder}/out/run.trace", f"{self.folder}/out/other.case")
+        self.refused([*words, f"{self.folder}/out"], "out has 1 traces and cases of another run, such as other.case")
+        self.assertEqual(sorted(os.listdir(f"{self.folder}/out")), ["notes", "other.case"])
+
     def test_a_connection_that_times_out(self):
         lost = talk()
         lost.frames = {0: lost.frames[0][:1], 1: []}
@@ -200,6 +257,8 @@ class Command(WithFiles):
         self.assertEqual(status, 0, error)
         self.assertEqual([line.split(" ", 2)[2][:9] for line in out.splitlines()[7:]],
                          ["B listen ", "E ok 2", "B open 0 ", "E ok 1", "B await 1", "O 0 0fa00", "E timeout", "B close 1", "E ok"])
+        self.assertIn("0 of 1 connections were established", error)
+        self.assertIn("its SYN was never answered)\n", error)
         self.refused([*words, "--one", "host"], "host isn't an address")
 
     def test_a_capture_without_segments(self):
@@ -227,6 +286,41 @@ class Command(WithFiles):
         # A call that didn't end may have sent any bytes.
         begun = [(7, AT + 6 * 10**6, 'write(3, "hello", 5 <unfinished ...>') if "write" in line[2] else line for line in CLIENT if "close" not in line[2]]
         self.assertEqual(run(*self.captures, *self.write_logs(begun, SERVER))[0], 0)
+
+    def test_calls_of_one_end_only(self):
+        nothing = [(7, AT, "socket(AF_UNIX, SOCK_STREAM, 0) = 3")]
+        begun = "10.9.0.1:4000 -> 10.9.0.2:80 has calls of host {} only: no call of host {} {} it; likely, {}"
+        elsewhere = "strace didn't follow the process that did, or the kernel did it alone"
+        self.refused([*self.captures, *self.write_logs(nothing, SERVER)], begun.format(1, 0, "opened", elsewhere))
+        self.refused([*self.captures, *self.write_logs(CLIENT, nothing), "--keep-gaps"], begun.format(0, 1, "listened for", elsewhere))
+        before = f"its socket was opened before the log began (see {self.folder}/s1.log, line 1)"
+        self.refused([*self.captures, *self.write_logs(CLIENT, SERVER[3:])], begun.format(0, 1, "listened for", before))
+        unknown = [CLIENT[0], (7, AT, "recvmsg(3, {msg_iov=[]}, 0) = 0")]
+        self.refused([*self.captures, *self.write_logs(unknown, SERVER)],
+                     begun.format(1, 0, "opened", f"recvmsg did, in a way that the importer doesn't know (see {self.folder}/s0.log, line 2)"))
+        # Only a call sends a FIN, so one must have accepted the connection.
+        self.refused([*self.captures, *self.write_logs(CLIENT, SERVER[:3])], begun.format(0, 1, "accepted", elsewhere))
+
+    def test_an_end_that_needs_no_calls(self):
+        # The server's stack completes the handshake before a call accepts the connection.
+        whole = talk()
+        whole.frames = {host: whole.frames[host][:5] for host in (0, 1)}
+        status, _, error = run(*whole.write(self.folder), *self.write_logs(CLIENT, SERVER[:3]))
+        self.assertEqual(status, 0, error)
+        # A host on which nothing listens refuses the connection.
+        self.assertEqual(run(*refusal().write(self.folder), *self.write_logs(REFUSED, SERVER[:1]))[0], 0)
+
+    def test_connections_that_were_not_established(self):
+        words = [*refusal().write(self.folder), *self.write_logs(REFUSED, SERVER[:1])]
+        self.assertIn("tcpwit-import: 0 of 1 connections were established (first that wasn't: "
+                      f"{self.folder}/c0.pcap, packet 1: 10.9.0.1:4000 -> 10.9.0.2:80; its SYN was answered by a reset)\n", run(*words)[2])
+        self.assertNotIn("were established", run(*words, "--quiet")[2])
+        half = talk()
+        half.frames = {0: half.frames[0][:2], 1: []}
+        error = run(*half.write(self.folder)[:3], *self.write_logs(CLIENT, SERVER)[:3])[2]
+        self.assertIn("0 of 1 connections were established", error)
+        self.assertIn("its SYN-ACK was never acknowledged)\n", error)
+        self.assertNotIn("were established", run(*talk().write(self.folder), *self.logs)[2])
 
     def test_a_connection_that_began_before_the_capture(self):
         late = talk()
@@ -290,15 +384,15 @@ class Command(WithFiles):
             self.refused(["--version", "3", "--transfer", "5"], "format version 3 is for one recorded host", recording)
 
     def test_all_that_is_missing_is_named_at_once(self):
-        install = "install them: apt-get install strace tcpdump iproute2 python3-dpkt"
+        install = "install them: apt-get install strace tcpdump iproute2 gzip python3-dpkt"
         with mock.patch("os.geteuid", return_value=0), mock.patch.dict(os.environ, {"PATH": self.folder}), \
                 mock.patch("tcpwit_import.recording.cli.dpkt", None):
-            self.refused(["--no-check", "--transfer", "5"], "not installed: strace, tcpdump, ip, the Python library dpkt\n  " + install + "\n", recording)
+            self.refused(["--no-check", "--transfer", "5"], "not installed: strace, tcpdump, ip, gzip, the Python library dpkt\n  " + install + "\n", recording)
             self.refused(["--no-check", "--pair", "a b", "--", "c", "d"], "dpkt, a, c\n  " + install + "; install a, c, or name", recording)
-            self.refused(["--no-check", "--", "c", "d"], "not installed: strace, tcpdump, the Python library dpkt, c\n", recording)
+            self.refused(["--no-check", "--", "c", "d"], "not installed: strace, tcpdump, gzip, the Python library dpkt, c\n", recording)
             with mock.patch("tcpwit_import.judging.TOP", self.folder), mock.patch.dict(os.environ):
                 os.environ.pop("TCPWIT_LAB", None)
-                cause = "not installed: strace, tcpdump, the Python library dpkt, c; tcpwit_lab is not in PATH, and not built in this repository\n"
+                cause = "not installed: strace, tcpdump, gzip, the Python library dpkt, c; tcpwit_lab is not in PATH, and not built in this repository\n"
                 self.refused(["--", "c"], cause, recording)
                 self.refused(["--", "c"], "or name the program as you would in a shell; install the package tcpwit, which contains tcpwit and tcpwit_lab", recording)
         self.assertEqual([name for name in os.listdir(self.folder) if name.startswith("tcpwit-")], [])

@@ -1,13 +1,17 @@
 """Tests how both commands use `tcpwit_lab judge`, which a script with chosen answers replaces."""
+import contextlib
 import errno
+import gzip
+import io
 import os
 import subprocess
 from unittest import mock
 
 from tcpwit_import import judging
 from tcpwit_import.problem import plain
-from tcpwit_import.recording.cli import Recording
+from tcpwit_import.recording import folder
 from tcpwit_import.recording.cli import main as recording
+from tcpwit_import.recording.recorder import Recording
 from tcpwit_import.recording.running import Traced
 
 from . import test_command
@@ -20,7 +24,8 @@ SCRIPT = """#!/bin/sh
 echo "$@" >> {folder}/words
 if [ "$1" = draw ]; then echo '<svg/>'; exit 0; fi
 cat > {folder}/given
-echo a case > "$5"
+while [ "$1" != --case ]; do shift; done
+echo a case > "$2"
 cat {folder}/answer
 {end}
 """
@@ -51,6 +56,13 @@ class Judging(test_command.WithFiles):
         self.assertEqual((status, out), (0, LINES), error)
         self.assertEqual(self.text("words"), "judge --least full --case ./run.case\n")
         self.assertEqual((self.text("run.trace"), self.text("run.case")), (self.text("given"), "a case\n"))
+
+    def test_the_budget(self):
+        self.importing(*self.lab(LINES), "--budget", "0")
+        self.importing(*self.lab(LINES), "--budget", "5000000", "--congestion", "none")
+        self.assertEqual(self.text("words"), "judge --least full --budget 0 --case ./run.case\njudge --least none --budget 5000000 --case ./run.case\n")
+        for wrong in ("-1", "1.5", "x", str(2**64)):
+            self.assertEqual(self.importing(*self.lab(LINES), "--budget=" + wrong)[0], 2)
 
     def test_the_status_is_that_of_the_word(self):
         status, out, _ = self.importing(*self.lab(LINES, "exit 1"), "--congestion", "recovery")
@@ -140,7 +152,7 @@ class Judging(test_command.WithFiles):
             program = Traced.__new__(Traced)
             program.words, program.process = ["curl\x1b[2J", "http://10.9.0.2/"], mock.Mock(returncode=status)
             with mock.patch.object(Traced, "logged", return_value=b"a call"), \
-                    mock.patch("tcpwit_import.recording.cli.congestion_control", return_value="cubic"):
+                    mock.patch("tcpwit_import.recording.recorder.congestion_control", return_value="cubic"):
                 kept = Recording(mock.Mock(out=f"{self.folder}/kept", seconds=None))
                 kept.remark_on_kernel()
                 kept.finish(program)
@@ -156,6 +168,48 @@ class Judging(test_command.WithFiles):
             kept.remarks = []
             kept.finish(program)
         self.assertEqual(kept.remarks, [])
+
+    def test_ctrl_c_ends_the_programs_and_the_rest_is_judged(self):
+        program = Traced.__new__(Traced)
+        program.words, program.process = ["client"], mock.Mock(returncode=None)
+        program.process.wait.side_effect = KeyboardInterrupt
+        for form in ({"pair": "b", "serve": False}, {"pair": None, "serve": True}):
+            kept = Recording(mock.Mock(out=f"{self.folder}/kept", seconds=None, no_check=False, **form))
+            with mock.patch.object(Traced, "logged", return_value=b"a call"), contextlib.redirect_stderr(io.StringIO()) as error:
+                kept.finish(program)
+            self.assertEqual(error.getvalue(), "tcpwit-record: interrupted: the programs are ended, and what was recorded is judged; Ctrl-C again stops that\n")
+            self.assertEqual(kept.remarks, [])
+
+    def test_what_is_kept_after_ctrl_c(self):
+        words = ("--transfer", "5", "--out", f"{self.folder}/kept", *self.lab(LINES))
+        with mock.patch("os.geteuid", return_value=0), mock.patch("tcpwit_import.recording.cli.refuse_missing"), \
+                mock.patch.object(Recording, "pair", side_effect=KeyboardInterrupt):
+            status, out, error = run(*words, command=recording)
+        self.assertEqual((status, out), (130, ""))
+        self.assertEqual(error, f"tcpwit-record: ended before the recording was complete; its files so far are in {self.folder}/kept\n")
+        with mock.patch.object(judging, "on_file", side_effect=[mock.Mock(returncode=2), KeyboardInterrupt]):
+            status, out, error = self.recorded(*self.lab(LINES))
+        self.assertEqual((status, out), (130, ""))
+        self.assertEqual(error.split("tcpwit-record: ")[2:], ["interrupted before everything was judged\n", f"all files are in {self.folder}/kept\n"])
+        self.assertEqual(os.listdir(f"{self.folder}/kept"), ["run.trace"])
+
+    def test_a_case_that_is_incomplete_is_removed(self):
+        words = [*self.captures, *self.logs, "--quiet", "--out", f"{self.folder}/run.trace"]
+        for end, remedy in (("exit 5", "choose a place that can be written and has space for the case"), ("exit 4", "record fewer bytes"),
+                            ("kill -9 $$", "record fewer bytes"), ("exit 3", "check whether this works: ")):
+            status, out, error = run(*words, *self.lab("", end))
+            self.assertEqual((status, out), (2, ""))
+            self.assertIn(f"\n  {remedy}", error)
+            self.assertFalse(os.path.exists(f"{self.folder}/run.case"))
+
+    def test_large_files_of_a_recording_are_compressed(self):
+        with mock.patch.object(folder, "LARGE", 9):
+            status, out, error = self.recorded(*self.lab(LINES))
+        self.assertEqual((status, out), (0, LINES))
+        self.assertTrue(error.endswith(f"tcpwit-record: all files are in {self.folder}/kept; the large ones are compressed: zcat FILE\n"), error)
+        self.assertEqual(sorted(os.listdir(f"{self.folder}/kept")), ["run.case", "run.svg", "run.trace.gz"])
+        with gzip.open(f"{self.folder}/kept/run.trace.gz", "rt") as file:
+            self.assertEqual(file.read(), self.text("given"))
 
     def test_a_recording_that_fails(self):
         status, out, error = self.recorded(*self.lab("bad trace 9 12 13 number\n", "exit 2"))
@@ -173,7 +227,7 @@ class Judging(test_command.WithFiles):
             with self.subTest(error), mock.patch("tcpwit_import.judging.judge_all", side_effect=error), mock.patch("os.dup2"):
                 status, out, shown = self.recorded(*self.lab(LINES))
                 self.assertEqual((status, out), (2, ""))
-                self.assertEqual(shown.split("tcpwit-record: ")[2:], said)
+                self.assertEqual(shown.split("tcpwit-record: ")[2:], [f"all files are in {self.folder}/kept\n", *said])
 
     def test_what_a_program_prints_is_escaped(self):
         status, out, error = self.importing(*self.lab("full no 9 \x1b[2J\x7f\xff\n".encode("latin-1").decode("ascii", "ignore"), "printf '\\377\\n'; exit 1"))

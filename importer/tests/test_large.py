@@ -4,7 +4,7 @@ import unittest
 from tcpwit_import.clocks import SAME, clock_of
 from tcpwit_import.connections import Connection
 from tcpwit_import.header import header
-from tcpwit_import.large import Flow, Outgoing, cut, without_checksum
+from tcpwit_import.large import Flow, Outgoing, cut
 from tcpwit_import.problem import Notes, Problem
 
 from .wire import ACK, FIN, ONE, PSH, ZERO, Talk, packets, segment
@@ -33,9 +33,6 @@ class Cutting(unittest.TestCase):
         self.assertEqual(connection.piece_size(sent(1, b"", options=bytes(12))), 988)
         connection.sizes = {ZERO: 1460, ONE: None}
         self.assertEqual(connection.piece_size(sent(1, b"")), 536)
-
-    def test_a_checksum_becomes_0(self):
-        self.assertEqual(without_checksum(segment(ZERO, ONE, 1, 7, ACK, checksum=9)), sent(1, b""))
 
 
 class Joining(unittest.TestCase):

@@ -51,6 +51,12 @@ class Logs(unittest.TestCase):
         found = self.read("7 5.000000100 read(3, \"\", 9) = 0 <0.000001>\n8 5.000000900 close(4) = 0\n7 5.1 read(3, \"\", 9) = 0\n")
         self.assertEqual([(call.process, call.begin, call.end) for call in found[:2]], [(7, 5_000_000_100, 5_000_000_900), (8, 5_000_000_900, 5_100_000_999)])
 
+    def test_what_is_printed_about_a_returned_descriptor(self):
+        found = self.read("7 5.1 accept(3<TCP:[10.9.0.2:80]>, NULL, NULL) = 4<TCP:[10.9.0.2:80->10.9.0.1:4000]>\n7 5.2 dup(4) = 5\n"
+                          "7 5.3 pidfd_getfd(6, 4, 0 <unfinished ...>\n7 5.4 <... pidfd_getfd resumed>) = 7<TCP:[1]>\n")
+        self.assertEqual([(call.result, call.file) for call in found], [(4, "TCP:[10.9.0.2:80->10.9.0.1:4000]"), (5, ""), (7, "TCP:[1]")])
+        self.assertEqual(found[2].when, found[2].end)
+
     def test_microseconds_are_lower_bounds(self):
         found = self.read("7 5.000001 close(3) = 0\n7 5.000002 close(4) = 0\n")
         self.assertEqual((found[0].begin, found[0].end), (5_000_001_000, 5_000_002_999))

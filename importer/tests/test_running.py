@@ -6,7 +6,7 @@ import unittest
 from unittest import mock
 
 from tcpwit_import.problem import Problem
-from tcpwit_import.recording import cli, running
+from tcpwit_import.recording import recorder, running
 from tcpwit_import.recording.namespaces import Namespace
 
 HEAD = "  sl  local_address rem_address   st tx_queue rx_queue tr tm->when retrnsmt   uid  timeout inode\n"
@@ -54,6 +54,19 @@ class Running(unittest.TestCase):
             server.namespace = None
             self.assertEqual(server.running(), {6})
 
+    def test_strace_prints_addresses_if_it_can(self):
+        for status, found in ((0, [*running.STRACE, "--decode-fds=socket"]), (1, running.STRACE)):
+            running.strace.cache_clear()
+            with tempfile.TemporaryDirectory() as folder, mock.patch.dict(os.environ, {"PATH": folder}):
+                with open(f"{folder}/strace", "w", encoding="ascii") as file:
+                    file.write(f"#!/bin/sh\n[ \"$*\" = '--decode-fds=socket --version' ] && exit {status}\nexit 3\n")
+                os.chmod(f"{folder}/strace", 0o755)
+                self.assertEqual(running.strace(), found)
+        running.strace.cache_clear()
+
+    def test_the_calls_that_give_and_mark_descriptors_are_traced(self):
+        self.assertLessEqual({"ioctl", "?pidfd_open", "?pidfd_getfd"}, set(running.CALLS.split(",")))
+
     def test_reading_what_tcpdump_printed_moves_nothing(self):
         capture = running.Capture.__new__(running.Capture)
         with tempfile.TemporaryFile() as capture.errors:
@@ -62,14 +75,33 @@ class Running(unittest.TestCase):
             os.lseek(number, 4, os.SEEK_SET)
             self.assertEqual((capture.said(), os.lseek(number, 0, os.SEEK_CUR)), (b"tcpdump: ", 4))
 
+    def test_a_capture_that_lost_packets(self):
+        capture = running.Capture.__new__(running.Capture)
+        capture.file, capture.process = "host0.pcap", mock.Mock(**{"poll.return_value": None})
+        for said, cause in ((b"9 packets captured\n0 packets dropped by kernel\n", None), (b"1 packet dropped by kernel\n", "lost 1 packets"),
+                            (b"0 packets dropped by kernel\n7 packets dropped by interface\n", None), (b"70 packets dropped by kernel\n", "lost 70 packets")):
+            with self.subTest(said), mock.patch.object(capture, "said", return_value=said):
+                if cause:
+                    with self.assertRaisesRegex(Problem, f"^host0.pcap: the capture {cause}\n  give the captures a larger buffer, such as --buffer 256"):
+                        capture.stop()
+                else:
+                    capture.stop()
+
+    def test_the_size_of_a_buffer(self):
+        with mock.patch.object(running, "started", return_value=mock.Mock(**{"poll.return_value": None})) as started, \
+                mock.patch.object(running.Capture, "said", return_value=b"listening on w0"):
+            running.Capture("w0", "host0.pcap", 256).errors.close()
+        words = started.call_args[0][0]
+        self.assertEqual(words[words.index("-B") + 1], "262144")
+
     def test_frames_stop_before_a_capture_ends(self):
         events = mock.Mock()
         options = mock.Mock(out=None, transfer=5, pair=None, chunk=5, echo=False, seconds=None, linger=0, wait=1)
         with tempfile.TemporaryDirectory() as options.out, mock.patch.multiple(
-                cli, joined_pair=mock.Mock(return_value=(mock.Mock(), [mock.MagicMock(), mock.MagicMock()])), Chances=mock.Mock(),
+                recorder, joined_pair=mock.Mock(return_value=(mock.Mock(), [mock.MagicMock(), mock.MagicMock()])), Chances=mock.Mock(),
                 Carrier=mock.Mock(return_value=events.carrier), Capture=mock.Mock(return_value=events.capture), Traced=mock.Mock(return_value=events.program)):
             events.carrier.fault = None
-            cli.Recording(options).pair()
+            recorder.Recording(options).pair()
         names = [call[0] for call in events.mock_calls]
         last_program = len(names) - names[::-1].index("program.stop")
         self.assertEqual(names.count("capture.stop"), 2)

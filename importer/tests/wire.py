@@ -109,5 +109,5 @@ def packets(talk, host):
     for moment, frame in talk.frames[host]:
         packet = dpkt.ethernet.Ethernet(frame).data
         ports = struct.unpack("!HH", packet.data[:4])
-        found.append(Packet(moment, (packet.src, ports[0]), (packet.dst, ports[1]), bytes(packet.data), None, f"packet {len(found) + 1}"))
+        found.append(Packet(moment, (packet.src, ports[0]), (packet.dst, ports[1]), bytes(packet.data), None, "capture", len(found) + 1))
     return found

@@ -1,15 +1,17 @@
 """Converts the system calls of one host into the calls of a trace.
 
-`Descriptors` finds the socket of a call. `Opening`, `Transfers` and `Closing` convert the calls on sockets and add them to the
-`HostTrace`. `Claims` finds the connections that they open and accept.
+`Descriptors` finds the socket of a call; `Passing` follows sockets to other processes. `Opening`, `Transfers` and `Closing` convert the
+calls on sockets and add them to the `HostTrace`. `Claims` finds the connections that they open and accept.
 """
 from ..problem import Problem
 from ..strace_log import Exit
+from ..strace_words import arguments
 from .claims import Claims
 from .closing import Closing
 from .descriptors import Descriptors
 from .host_trace import HostTrace
 from .opening import Opening
+from .passing import Passing
 from .transfers import Transfers
 
 
@@ -18,10 +20,12 @@ class HostCalls:
 
     def __init__(self, host, connections, captures, notes):
         self.trace = HostTrace(host, notes)
-        closing = Closing(self.trace)
-        descriptors = self.descriptors = Descriptors(notes, closing)
-        opening = self.opening = Opening(self.trace, descriptors, Claims(connections, captures))
-        transfers = Transfers(self.trace, descriptors)
+        claims = self.claims = Claims(connections, captures, notes)
+        closing = Closing(self.trace, claims)
+        descriptors = self.descriptors = Descriptors(notes, closing, claims)
+        passing = Passing(descriptors)
+        opening = self.opening = Opening(self.trace, descriptors, claims)
+        transfers = Transfers(self.trace, descriptors, opening)
         # What handles a call whose first argument is a TCP socket, and what handles other calls.
         self.on_socket = {
             "bind": opening.bind, "getsockname": opening.getsockname, "setsockopt": opening.setsockopt, "getsockopt": opening.getsockopt,
@@ -32,18 +36,25 @@ class HostCalls:
             "recvmsg": transfers.recvmsg, "recvmmsg": transfers.recvmmsg}
         self.on_other = {
             "socket": descriptors.socket, "socketpair": descriptors.socketpair, "dup": descriptors.dup, "dup2": descriptors.dup,
-            "dup3": descriptors.dup, "fcntl": descriptors.fcntl, "close": descriptors.close, "close_range": descriptors.close_range,
-            "sendmsg": descriptors.sendmsg, "recvmsg": descriptors.recvmsg, "splice": transfers.splice, "execve": descriptors.execve,
-            "execveat": descriptors.execve, "clone": descriptors.clone, "clone3": descriptors.clone, "fork": descriptors.clone,
-            "vfork": descriptors.clone, "io_uring_setup": descriptors.io_uring_setup}
+            "dup3": descriptors.dup, "fcntl": descriptors.fcntl, "ioctl": descriptors.ioctl, "close": descriptors.close,
+            "close_range": descriptors.close_range, "sendmsg": passing.sendmsg, "recvmsg": passing.recvmsg, "pidfd_open": passing.pidfd_open,
+            "pidfd_getfd": passing.pidfd_getfd, "splice": transfers.splice, "execve": descriptors.execve, "execveat": descriptors.execve,
+            "clone": descriptors.clone, "clone3": descriptors.clone, "fork": descriptors.clone, "vfork": descriptors.clone,
+            "io_uring_setup": descriptors.io_uring_setup}
 
     def run(self, events):
         """All endpoints, each with its calls."""
-        for event in events:
+        rest = list(events)
+        self.claims.read_names(event for event in rest if not isinstance(event, Exit))
+        # The events have all bytes of the log, so those that were handled aren't kept.
+        rest.reverse()
+        while rest:
+            event = rest.pop()
             if isinstance(event, Exit):
                 self.descriptors.exit(event)
             else:
                 self.handle(event)
+        self.claims.settle(self.trace.endpoints)
         for endpoint in self.trace.endpoints:
             self.opening.order_accepts(endpoint)
         return self.trace.endpoints
@@ -51,9 +62,9 @@ class HostCalls:
     def handle(self, event):
         """Handles a system call, whose arguments may be damaged."""
         try:
-            socket, words = self.descriptors.socket_of(event) if event.name in self.on_socket else (None, None)
-            if socket:
-                self.on_socket[event.name](event, socket, words)
+            socket = self.descriptors.socket_of(event)
+            if socket and event.name in self.on_socket:
+                self.on_socket[event.name](event, socket, arguments(event.text))
             elif event.name in self.on_other:
                 self.on_other[event.name](event)
         except (AttributeError, LookupError, TypeError, ValueError) as error:

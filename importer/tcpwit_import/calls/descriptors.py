@@ -1,25 +1,50 @@
 """Keeps track of which TCP socket each descriptor refers to: calls open, copy, pass on and close descriptors, and processes begin and end."""
 from ..problem import Problem
-from ..strace_words import arguments, passed_descriptors, whole_number
-from ..tables import Processes, Socket
+from ..strace_words import addresses_of, arguments, first_descriptor, unix_ends, whole_number
+from ..tables import PairedSocket, Processes, Socket
 
+# The addresses of sockets that aren't bound, by family.
+UNBOUND = {"AF_INET": (bytes(4), 0), "AF_INET6": (bytes(16), 0)}
 # Calls that only sockets have.
 SOCKET_CALLS = ("accept", "accept4", "recvfrom", "sendto", "listen", "connect", "bind", "shutdown")
+# A kind of calls that are left out.
+OPEN_BEFORE = "calls on sockets that were open before the log began"
 
 
 class Descriptors:
-    def __init__(self, notes, closing):
-        self.notes, self.closing = notes, closing
-        self.processes, self.passed = Processes(), []
+    def __init__(self, notes, closing, claims):
+        self.notes, self.closing, self.claims = notes, closing, claims
+        # `files` has the socket for which strace last printed a text.
+        self.processes, self.files = Processes(), {}
 
     def socket_of(self, event):
-        """The TCP socket that a call's first argument names, and all arguments; None twice if it isn't a TCP socket."""
-        number = whole_number(event.text)
-        if socket := self.processes.get(event.process, number):
-            return socket, arguments(event.text)
-        if event.name in SOCKET_CALLS and event.error not in ("ENOTSOCK", "EBADF") and not self.processes.knows(event.process, number):
-            self.notes.leave_out("calls on sockets that were open before the log began", event.place)
-        return None, None
+        """The TCP socket that a call's first argument names; None if it isn't a known TCP socket."""
+        word = first_descriptor(event.text)
+        socket = word and self.find(event, word)
+        if (not socket and event.name in SOCKET_CALLS and event.error not in ("ENOTSOCK", "EBADF")
+                and not self.processes.knows(event.process, whole_number(word))):
+            self.notes.leave_out(OPEN_BEFORE, event.place)
+        return socket
+
+    def find(self, event, word):
+        """The TCP socket that a word of a call names; None if it isn't a known TCP socket. If no call of the log gave the descriptor to the
+        process, what strace printed shows which socket it is."""
+        number, file = whole_number(word), getattr(word, "file", "")
+        if file and not self.processes.knows(event.process, number) and (socket := self.printed_as(file)):
+            self.put(event, number, socket)
+        socket = self.processes.get(event.process, number)
+        if not isinstance(socket, Socket):
+            return None
+        if file:
+            self.files[file] = socket
+            if addresses := addresses_of(file):
+                self.claims.learn(socket, addresses)
+        return socket
+
+    def printed_as(self, file):
+        """The open socket for which strace printed this text."""
+        socket = self.files.get(file) if file else None
+        return socket if socket and socket.references else None
 
     def put(self, event, number, socket, close_on_exec=False):
         """Assigns a descriptor to a socket; this may close the socket that had it before."""
@@ -27,14 +52,24 @@ class Descriptors:
 
     def socket(self, event):
         if event.result is not None and event.result >= 0:
-            is_tcp = event.text.startswith(("AF_INET,", "AF_INET6,")) and "SOCK_STREAM" in event.text
-            socket = Socket() if is_tcp and "IPPROTO_SCTP" not in event.text else None
-            self.put(event, event.result, socket, "SOCK_CLOEXEC" in event.text)
+            is_tcp = "SOCK_STREAM" in event.text and "IPPROTO_SCTP" not in event.text
+            unbound = UNBOUND.get(event.text.partition(",")[0]) if is_tcp else None
+            self.put(event, event.result, unbound and Socket(unbound), "SOCK_CLOEXEC" in event.text)
 
     def socketpair(self, event):
         if event.result == 0:
-            for number in arguments(event.text)[3]:
-                self.put(event, whole_number(number), None)
+            one, two = PairedSocket(), PairedSocket()
+            one.peer, two.peer = two, one
+            for number, socket in zip(arguments(event.text)[3], (one, two)):
+                self.put(event, whole_number(number), socket, "SOCK_CLOEXEC" in event.text)
+
+    def unix_ends(self, event):
+        """The Unix socket of a call's first argument, and its peer: their numbers, if strace printed them, or those of a socketpair. None for
+        one that isn't known."""
+        word = first_descriptor(event.text)
+        own, peer = unix_ends(word.file)
+        socket = None if own else self.processes.get(event.process, whole_number(word))
+        return (socket, socket.peer) if isinstance(socket, PairedSocket) else (own, peer)
 
     def dup(self, event):
         old, new = whole_number(arguments(event.text)[0]), event.result
@@ -49,6 +84,11 @@ class Descriptors:
         elif "F_SETFD" in event.text:
             self.processes.mark(event.process, whole_number(event.text), "FD_CLOEXEC" in event.text)
 
+    def ioctl(self, event):
+        request = event.text.rpartition(", ")[2]
+        if request in ("FIOCLEX", "FIONCLEX") and event.result == 0:
+            self.processes.mark(event.process, whole_number(event.text), request == "FIOCLEX")
+
     def close(self, event):
         self.closing.close(event, event.process, self.processes.drop(event.process, whole_number(event.text)))
 
@@ -62,22 +102,6 @@ class Descriptors:
         else:
             self.closing.close_at_once(event, filter(None, [self.processes.drop(event.process, number) for number in numbers]))
 
-    def sendmsg(self, event):
-        """Passes descriptors on. The message refers to their sockets until it is received."""
-        if "SCM_RIGHTS" in event.text and event.result is not None and event.result >= 0:
-            self.passed.append([self.processes.get(event.process, number) for number in passed_descriptors(event.text)])
-            for socket in filter(None, self.passed[-1]):
-                socket.references += 1
-
-    def recvmsg(self, event):
-        """Receives the descriptors of the oldest message that wasn't received yet."""
-        if "SCM_RIGHTS" in event.text and event.result is not None and event.result >= 0:
-            sockets = self.passed.pop(0) if self.passed else []
-            for number, socket in zip(passed_descriptors(event.text), sockets):
-                self.put(event, number, socket, "CLOEXEC" in event.text)
-                if socket:
-                    socket.references -= 1
-
     def clone(self, event):
         if event.result and event.result > 0:
             self.processes.begin(event.process, event.result, "CLONE_FILES" in event.text)
@@ -87,7 +111,7 @@ class Descriptors:
             self.closing.close_at_once(event, self.processes.execute(event.process))
 
     def exit(self, event):
-        self.closing.close_at_once(event, self.processes.end(event.process))
+        self.closing.ended(event, self.processes.end(event.process))
 
     def io_uring_setup(self, event):
         if event.result is not None and event.result >= 0:

@@ -8,16 +8,25 @@ LONGEST = 65535
 # The trace's answers for errors.
 ANSWERS = {"EAGAIN": "again", "EWOULDBLOCK": "again", "ENOTCONN": "notconn"}
 FAULTS = {"ECONNREFUSED": "refused", "ECONNRESET": "reset", "ETIMEDOUT": "timeout"}
+# A kind of calls that are left out, after their name.
+NOT_CONNECTED = " on sockets that are not connected"
 INTERRUPTED = ("EINTR", "ERESTARTSYS", "ERESTARTNOINTR", "ERESTARTNOHAND", "ERESTART_RESTARTBLOCK")
 
 
 class Data(NamedTuple):
-    """Bytes that a call sends or receives: the first of them, which the log has, and the place of all in the stream of the end that sent them."""
+    """Bytes that an endpoint's call sends or receives: the first of them, which the log has, and the place of all in the stream of the end that
+    sent them."""
     known: bytes
-    end: Any
+    endpoint: Any
     offset: int
     length: int
     sends: bool
+
+    @property
+    def end(self):
+        """The end of the connection that sent the bytes."""
+        own = self.endpoint.own_end
+        return own if self.sends else self.endpoint.connection.other(own)
 
 
 class Action(NamedTuple):
@@ -50,6 +59,27 @@ class Endpoint:
     shut: bool = False
     gone: bool = False
     shared: int = 0
+    # Whether a listener accepts no connection of IPv4.
+    only_v6: bool = False
+    # When the connect began or the accept ended, and when the connect ended.
+    begun: int = 0
+    ended: int | None = None
+    # The peer to which it was opened, the addresses that its socket had before, and whether strace printed its own.
+    remote: tuple | None = None
+    former: Any = None
+    is_named: bool = False
+    # The listener that accepted it.
+    listener: Any = None
+
+    def fits(self, address):
+        """Whether this listener accepts connections to an address: its own, all of its family, or with IPv6 also all of IPv4."""
+        own = self.local[0]
+        return own == address or (not any(own) and (len(own) == len(address) or (len(own) == 16 and not self.only_v6)))
+
+    @property
+    def listens(self):
+        """Whether this listener's listen succeeded."""
+        return self.actions[0].answer[0] == "ok"
 
     @property
     def own_end(self):
@@ -84,7 +114,7 @@ class HostTrace:
     def endpoint_of(self, event, socket):
         """The socket's endpoint. If a trace can't express its calls, notes that and returns None."""
         if socket.endpoint is None or socket.endpoint.gone:
-            self.notes.leave_out(f"{event.name} on sockets that are not connected", event.place)
+            self.notes.leave_out(event.name + NOT_CONNECTED, event.place)
             return None
         return socket.endpoint
 

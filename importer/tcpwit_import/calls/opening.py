@@ -1,9 +1,11 @@
 """Converts the calls by which sockets get addresses, listen, connect and accept."""
 from ..strace_words import address_of, whole_number
 from ..tables import Socket
+from .claims import set_port
 from .host_trace import FAULTS, LONGEST, Endpoint
 
-NOTHING_SENT = ("ENETUNREACH", "EADDRNOTAVAIL", "EACCES", "EPERM", "EAFNOSUPPORT", "EINVAL", "EADDRINUSE", "EAGAIN", "EISCONN", "ENETDOWN")
+NOTHING_SENT = ("ENETUNREACH", "EADDRNOTAVAIL", "EACCES", "EPERM", "EAFNOSUPPORT", "EINVAL", "EADDRINUSE", "EAGAIN", "EISCONN", "ENETDOWN",
+                "EOPNOTSUPP")
 
 
 class Opening:
@@ -16,14 +18,13 @@ class Opening:
 
     def getsockname(self, event, socket, words):
         if event.result == 0 and (address := address_of(words[1])):
-            if not socket.bound[1]:
-                socket.bound = (socket.bound[0], address[1])
-            if socket.endpoint and not socket.endpoint.local[1]:
-                socket.endpoint.local = (socket.endpoint.local[0], address[1])
+            set_port(socket, address[1])
 
     def setsockopt(self, event, socket, words):
         if event.result == 0 and "SO_LINGER" in words and isinstance(words[3], dict):
             socket.aborts = words[3].get("l_onoff") != "0" and words[3].get("l_linger") == "0"
+        elif event.result == 0 and "IPV6_V6ONLY" in words:
+            socket.only_v6 = words[3] != ["0"]
 
     def listen(self, event, socket, words):
         if socket.endpoint and not socket.endpoint.gone:
@@ -35,7 +36,7 @@ class Opening:
             socket.endpoint = other
             other.shared += 1
         else:
-            endpoint = Endpoint("listener", self.trace.listens, socket.bound, event.place)
+            endpoint = Endpoint("listener", self.trace.listens, socket.bound, event.place, only_v6=socket.only_v6)
             backlog = whole_number(words[1])
             backlog = LONGEST if backlog is None or backlog < 0 else min(backlog, LONGEST)
             self.trace.endpoints.append(endpoint)
@@ -54,19 +55,29 @@ class Opening:
             return
         if socket.endpoint and socket.endpoint.pending:
             self.awaited(event, socket.endpoint)
-        elif event.error in NOTHING_SENT:
-            self.notes.leave_out("connects that failed before sending a segment", event.place)
-        else:
-            self.opened(event, socket, remote)
+        elif self.opened(event, socket, remote) and event.error != "EINPROGRESS":
+            self.awaited(event, socket.endpoint)
 
     def opened(self, event, socket, remote):
-        """Adds a connect that sends a SYN: `open` when it begins, and `await` if it waited."""
-        connection = self.claims.open(self.trace.connects, socket.bound, remote, event.begin)
-        endpoint = socket.endpoint = Endpoint("open", self.trace.connects, socket.bound, event.place, connection, pending=True)
+        """Adds the `open` of a call that sends a SYN, when the call begins. Returns whether it did."""
+        if event.error in NOTHING_SENT:
+            self.notes.leave_out("connects that failed before sending a segment", event.place)
+            return False
+        endpoint = socket.endpoint = Endpoint("open", self.trace.connects, socket.bound, event.place, pending=True, remote=remote,
+                                              begun=event.begin, ended=event.end, former=socket.addresses)
+        self.claims.open(endpoint)
         self.trace.endpoints.append(endpoint)
         self.trace.add(event, endpoint, "open", (), ("ok", endpoint), end=event.begin)
-        if event.error != "EINPROGRESS":
-            self.awaited(event, endpoint)
+        return True
+
+    def fast_open(self, event, socket, remote):
+        """Adds the `open` of a send with MSG_FASTOPEN if its socket isn't connected, and returns whether the call sends no byte: it didn't wait, or
+        connecting failed. Without a cookie of the server, the kernel sends an ordinary SYN, and the bytes after the handshake."""
+        if remote is None or (socket.endpoint and not socket.endpoint.gone):
+            return False
+        if self.opened(event, socket, remote) and event.error not in (None, "EINPROGRESS"):
+            self.awaited(event, socket.endpoint)
+        return event.error is not None
 
     def awaited(self, event, endpoint):
         """Adds the `await` for what a waiting or later connect reports about the connection."""
@@ -103,11 +114,13 @@ class Opening:
             self.trace.add(event, endpoint, "accept", (), None)
         elif event.result is not None and event.result >= 0:
             remote = address_of(words[1]) if len(words) > 1 else None
-            connection = self.claims.child(endpoint, remote, event.end)
-            child = Endpoint("child", endpoint.host, endpoint.local, event.place, connection)
+            child = Endpoint("child", endpoint.host, endpoint.local, event.place, begun=event.end, listener=endpoint)
+            self.claims.child(child, endpoint, event, remote)
             self.trace.endpoints.append(child)
             self.trace.add(event, endpoint, "accept", (), ("ok", child))
-            self.descriptors.put(event, event.result, Socket(endpoint.local, child, socket.aborts), "CLOEXEC" in event.text)
+            accepted = Socket(endpoint.local, child, socket.aborts)
+            self.descriptors.put(event, event.result, accepted, "CLOEXEC" in event.text)
+            self.descriptors.files[event.file] = accepted
         elif answer := self.trace.failed(event, endpoint):
             self.trace.add(event, endpoint, "accept", (), answer)
 

@@ -1,21 +1,23 @@
 """Converts the calls that send and receive."""
-from ..strace_words import Text, arguments, gathered, whole_number
+from ..strace_words import Text, address_of, arguments, gathered, whole_number
 from .host_trace import LONGEST, Data
 
 
 class Transfers:
-    def __init__(self, trace, descriptors):
-        self.trace, self.descriptors, self.notes = trace, descriptors, trace.notes
+    def __init__(self, trace, descriptors, opening):
+        self.trace, self.descriptors, self.opening, self.notes = trace, descriptors, opening, trace.notes
 
     def send(self, event, socket, words):
-        self.sent(event, socket, *buffer(words))
+        if not (len(words) > 4 and "MSG_FASTOPEN" in words[3] and self.opening.fast_open(event, socket, address_of(words[4]))):
+            self.sent(event, socket, *buffer(words))
 
     def writev(self, event, socket, words):
         self.sent(event, socket, *gathered(words[1]))
 
     def sendmsg(self, event, socket, words):
         if len(words) > 1 and isinstance(words[1], dict):
-            self.sent(event, socket, *gathered(words[1].get("msg_iov")))
+            if not ("MSG_FASTOPEN" in words[-1] and self.opening.fast_open(event, socket, address_of(words[1].get("msg_name")))):
+                self.sent(event, socket, *gathered(words[1].get("msg_iov")))
 
     def sendmmsg(self, event, socket, words):
         if isinstance(words[1], list):
@@ -33,7 +35,7 @@ class Transfers:
         words = arguments(event.text)
         if len(words) < 5:
             return
-        source, target = (self.descriptors.processes.get(event.process, whole_number(word)) for word in (words[0], words[2]))
+        source, target = (self.descriptors.find(event, word) for word in (words[0], words[2]))
         if source:
             self.received(event, source, b"", whole_number(words[4]))
         if target:
@@ -44,22 +46,22 @@ class Transfers:
         endpoint = self.trace.endpoint_of(event, socket)
         if not endpoint or asked == 0:
             return
-        if endpoint.role == "listener" or endpoint.connection is None:
-            self.notes.leave_out("sends on connections that the captures don't show", event.place)
+        if endpoint.role == "listener":
+            self.notes.leave_out("sends on listeners", event.place)
         elif event.result is not None and event.result >= 0:
             self.sent_data(event, endpoint, known, asked)
         else:
-            data = Data(known[:LONGEST] or b"\0", endpoint.own_end, endpoint.sent, max(1, len(known[:LONGEST])), True)
+            data = Data(known[:LONGEST] or b"\0", endpoint, endpoint.sent, max(1, len(known[:LONGEST])), True)
             self.trace.add_failed(event, endpoint, "send", (data,))
 
     def sent_data(self, event, endpoint, known, asked):
         """Adds sent bytes: in parts if they are more than a line may have or the log lacks some, all but the last at the beginning."""
         if asked is not None and asked <= LONGEST and len(known) >= asked and event.result:
-            data = Data(known, endpoint.own_end, endpoint.sent, asked, True)
+            data = Data(known, endpoint, endpoint.sent, asked, True)
             self.trace.add(event, endpoint, "send", (data,), ("ok", event.result))
         else:
             for start, length in self.parts(event):
-                data = Data(known[start:start + length], endpoint.own_end, endpoint.sent + start, length, True)
+                data = Data(known[start:start + length], endpoint, endpoint.sent + start, length, True)
                 end = event.end if start + length == event.result else event.begin
                 self.trace.add(event, endpoint, "send", (data,), ("ok", length), end=end)
         endpoint.sent += event.result
@@ -90,8 +92,8 @@ class Transfers:
         if not endpoint or room == 0:
             return
         room = min(room or LONGEST, LONGEST)
-        if endpoint.role == "listener" or endpoint.connection is None:
-            self.notes.leave_out("receives on connections that the captures don't show", event.place)
+        if endpoint.role == "listener":
+            self.notes.leave_out("receives on listeners", event.place)
         elif "MSG_PEEK" in event.text or "MSG_OOB" in event.text:
             self.notes.leave_out("receives with MSG_PEEK or MSG_OOB", event.place)
         elif event.result == 0 and socket.reading_shut:
@@ -106,7 +108,7 @@ class Transfers:
     def received_data(self, event, endpoint, known, room):
         """Adds received bytes: in parts if they are more than a line may have, all but the first at the end."""
         for start, length in self.parts(event):
-            data = Data(known[start:start + length], endpoint.connection.other(endpoint.own_end), endpoint.received + start, length, False)
+            data = Data(known[start:start + length], endpoint, endpoint.received + start, length, False)
             begin = event.begin if start == 0 else event.end
             self.trace.add(event, endpoint, "recv", (room,), ("data", data), begin=begin)
         endpoint.received += event.result

@@ -1,22 +1,22 @@
 """The command tcpwit-record."""
 import argparse
-import contextlib
 import os
 import pwd
 import shlex
 import shutil
 import signal
 import sys
-import time
-from typing import NamedTuple
 
 from .. import cli as importing
 from .. import header as headers
 from .. import judging
-from ..problem import Notes, Parser, Problem, named_file, not_run, say, status_of, write_file
-from .carrier import Carrier, dpkt
-from .namespaces import ADDRESSES, ADDRESSES_6, Namespace, congestion_control, joined_pair
-from .running import Capture, Traced
+from ..files import write_file
+from ..problem import Notes, Parser, Problem, named_file, not_run, say, status_of
+from ..progress import Part
+from . import NAME
+from .carrier import dpkt
+from .namespaces import ADDRESSES
+from .recorder import Recording, pair_words
 
 DESCRIPTION = f"""Records a program's TCP, converts it into a trace, and judges it.
 
@@ -29,30 +29,18 @@ DESCRIPTION = f"""Records a program's TCP, converts it into a trace, and judges 
 
 Capturing and network namespaces need root; the programs run as the user who called sudo. Nothing outside the namespaces is changed.
 tcpwit-record prints the lines of tcpwit_lab judge: how strictly congestion control can be judged with a yes. The programs' own
-output goes to standard error, unchanged. Captures, logs, trace, case and picture are saved in the folder --out.
+output goes to standard error, unchanged. Captures, logs, trace, case and picture are saved in the folder --out, instead of those of
+an earlier recording; files of more than 50 MB are compressed. Ctrl-C ends the programs, and what was recorded is judged.
 
 The status is 0 if the level of --congestion (default: full) or a stricter one has a yes, 1 if none has, 2 for an error."""
 
 
-NAME = "tcpwit-record"
-# The name of a new folder; .gitignore lists it.
-FOLDER = "tcpwit-%Y%m%d-%H%M%S"
 # Programs that the recorder runs, with their packages.
-PACKAGES = {"strace": "strace", "tcpdump": "tcpdump", "ip": "iproute2"}
+PACKAGES = {"strace": "strace", "tcpdump": "tcpdump", "ip": "iproute2", "gzip": "gzip"}
 # Options with defaults, only for a pair, only for --transfer, and only for a program whose peer is elsewhere.
 OF_A_PAIR = {"kernel": headers.KERNEL, "wait": 10, "linger": 1, "delay": 2, "loss": 0, "lose": frozenset(), "double": 0, "reorder": 0, "seed": 1}
 OF_A_TRANSFER = {"chunk": 60000, "echo": False}
 OF_ONE_HOST = {"interface": "any"}
-
-
-class Chances(NamedTuple):
-    """Delays and faults between the hosts of a pair."""
-    delay: float
-    loss: float
-    lose: frozenset
-    double: float
-    reorder: float
-    seed: int
 
 
 def within(least, greatest):
@@ -87,9 +75,10 @@ def parser():
     words.add_argument("--serve", action="store_true", help="PROGRAM is a server: it runs until it is interrupted, or for --seconds")
     words.add_argument("--seconds", type=within(0.1, 86400), metavar="N", help="end the program after this time")
     words.add_argument("--interface", metavar="IF", help="the interface for capturing a half case (default: any)")
+    words.add_argument("--buffer", type=importing.number_within(1, 1024), default=64, metavar="MB",
+                       help="memory for the packets that each capture hasn't written yet (default: 64)")
     words.add_argument("--out", type=named_file, metavar="DIR", help="the folder for all files (default: a new one, tcpwit-TIME)")
-    words.add_argument("--no-check", action="store_true", help="record and import, but don't judge")
-    words.add_argument("--lab", type=named_file, metavar="PATH", help="the program tcpwit_lab, which judges traces")
+    importing.add_words_of_judging(words)
     words.add_argument("--kernel", choices=("plain", "shipped"),
                        help=f"a pair's kernel settings: without the additions of other RFCs (plain), or unchanged (shipped); default: {headers.KERNEL}")
     words.add_argument("--congestion", choices=headers.WORDS["congestion"], help=headers.HELP["congestion"])
@@ -136,120 +125,6 @@ def complete(words, options, defaults, are_used, cause):
             setattr(options, name, default)
         elif not are_used:
             words.error(f"--{name} is {cause}")
-
-
-class Recording:
-    """A folder with the files of a recording, and the processes that still run."""
-
-    def __init__(self, options):
-        self.options = options
-        self.folder = options.out or time.strftime(FOLDER)
-        try:
-            os.makedirs(self.folder, exist_ok=True)
-        except OSError as error:
-            raise Problem(f"{self.folder}: {error.strerror}", "name another folder with --out") from error
-        self.captures, self.programs, self.remarks = [], [], []
-
-    def file(self, name):
-        """The path of a file of the recording."""
-        return os.path.join(self.folder, name)
-
-    def capture(self, interface, name, namespace=None):
-        """Starts a capture."""
-        self.captures.append(Capture(interface, self.file(name), namespace))
-
-    def program(self, words, name, namespace=None):
-        """Starts a program, as the user who called sudo."""
-        user = self.options.user or os.environ.get("SUDO_USER", "root")
-        other = user if os.geteuid() == 0 and user != "root" else None
-        self.programs.append(Traced(words, self.file(name), namespace, other, sys.stderr))
-        return self.programs[-1]
-
-    def finish(self, program):
-        """Waits until a program ends, or for --seconds, and reports a program that failed."""
-        ended = program.wait(self.options.seconds)
-        program.refuse_failed_start()
-        if ended and (failure := program.failure()):
-            self.remarks.append(failure)
-
-    def remark_on_kernel(self):
-        """The congestion control in the namespace of this thread."""
-        if name := congestion_control():
-            self.remarks.append(f"the kernel's congestion control is {name}")
-
-    def end(self, seconds=0.0, carrier=None):
-        """Ends the programs, then the carrier, then the captures: a capture that ended earlier would lack segments that the other shows as received."""
-        for program in self.programs:
-            program.stop(seconds)
-        for capture in self.captures:
-            capture.wait()
-        if carrier:
-            carrier.stop()
-        captures, self.captures = self.captures, []
-        for capture in captures:
-            capture.wait()
-            capture.stop()
-
-    def abandon(self):
-        """Ends everything that still runs, after an error."""
-        for program in self.programs:
-            program.stop(0)
-        for capture in self.captures:
-            capture.process.kill()
-            capture.process.wait()
-
-    def pair(self):
-        """Records client and server in two namespaces. Returns the importer's arguments."""
-        options = self.options
-        between, hosts = joined_pair(options.kernel, options.version)
-        carrier = Carrier(between, Chances(options.delay, options.loss, options.lose, options.double, options.reorder, options.seed))
-        try:
-            with hosts[0].inside():
-                self.remark_on_kernel()
-            for number, host in enumerate(hosts):
-                self.capture(f"w{number}", f"host{number}.pcap", host)
-            server_words, client_words = pair_words(options)
-            server = self.program(server_words, "host1.log", hosts[1])
-            server.wait_for_listener(options.wait)
-            client = self.program(client_words, "host0.log", hosts[0])
-            self.finish(client)
-            client.stop(0)
-            self.end(options.linger, carrier)
-        finally:
-            carrier.stop()
-        if carrier.fault:
-            raise Problem(carrier.fault, "use --kernel plain")
-        return [word for number, option in enumerate(("--zero", "--one"))
-                for word in ("--capture", str(number), self.file(f"host{number}.pcap"), "--calls", str(number), self.file(f"host{number}.log"),
-                             option, ADDRESSES[number], option, ADDRESSES_6[number])]
-
-    def alone(self):
-        """Records one program: both hosts in a namespace, or one host with its peer elsewhere. Returns the importer's arguments."""
-        options = self.options
-        namespace = Namespace() if options.namespace else None
-        with namespace.inside() if namespace else contextlib.nullcontext():
-            self.remark_on_kernel()
-        self.capture("lo" if options.namespace else options.interface, "run.pcap", namespace)
-        program = self.program(options.program, "run.log", namespace)
-        if options.serve:
-            say(NAME, "recording until interrupted")
-        try:
-            self.finish(program)
-        except KeyboardInterrupt:
-            program.refuse_failed_start()
-        self.end(0 if options.serve else min(options.linger, 0.1))
-        host = "both" if options.namespace else "0"
-        return ["--capture", host, self.file("run.pcap"), "--calls", host, self.file("run.log")]
-
-
-def pair_words(options):
-    """The command lines of server and client."""
-    if not options.transfer:
-        return shlex.split(options.pair), options.program
-    # Without the user's modules, Python starts faster and its log is shorter.
-    talk = [sys.executable, "-I", "-S", os.path.join(os.path.dirname(os.path.realpath(__file__)), "talk.py")]
-    echo = ["echo"] if options.echo else []
-    return talk + ["receive", "80", *echo], talk + ["send", ADDRESSES[1], "80", str(options.transfer), str(options.chunk)]
 
 
 def header_words(options):
@@ -307,15 +182,45 @@ def recorded(options, recording):
         raise
 
 
-def written(recording, traces):
+def imported(folder, words):
+    """Imports the recording, and returns the files of its traces. The importer's data is dropped before they are judged."""
+    notes = Notes()
+    try:
+        files = written(folder, importing.run(importing.parser().parse_args(words), notes))
+    except Problem as problem:
+        raise problem.of_recorder() from problem
+    for line in notes.lines():
+        say(NAME, line)
+    return files
+
+
+def written(folder, traces):
     """Writes the traces, each to a folder of its own if there are several, and returns their files."""
     files = {}
     for name, lines in traces.items():
-        folder = recording.folder if len(traces) == 1 else recording.file(importing.file_name(name))
-        os.makedirs(folder, exist_ok=True)
-        files[name] = os.path.join(folder, "run.trace")
+        place = folder.name if len(traces) == 1 else folder.file(importing.file_name(name))
+        os.makedirs(place, exist_ok=True)
+        files[name] = os.path.join(place, "run.trace")
         write_file(files[name], map(str.encode, lines))
     return files
+
+
+def judged(options, program, folder, words):
+    """Imports, judges and draws what was recorded, and returns the exit status. Says where the files are, also after an error."""
+    try:
+        files = imported(folder, words)
+        folder.compress(".pcap", ".log")
+        status = judging.judge_all(program, files, options) if program else 0
+        for trace in files.values() if program else ():
+            judging.draw(program, trace)
+        folder.compress(".trace", ".case", ".svg")
+        return status
+    except KeyboardInterrupt:
+        say(NAME, "interrupted before everything was judged")
+        raise
+    finally:
+        say(NAME, f"all files are in {folder.name}{'; the large ones are compressed: zcat FILE' if folder.compressions else ''}")
+        folder.finish()
 
 
 def record(options):
@@ -326,20 +231,15 @@ def record(options):
     refuse_unknown_user(options)
     program = program_that_judges(options)
     recording = Recording(options)
-    notes = Notes()
-    files = recorded(options, recording)
+    try:
+        files = recorded(options, recording)
+    except (KeyboardInterrupt, SystemExit):
+        say(NAME, f"ended before the recording was complete; its files so far are in {recording.folder.name}")
+        raise
     # The import may have failed because a program failed.
     for remark in recording.remarks:
         say(NAME, remark)
-    traces = importing.run(importing.parser().parse_args(files + words), notes)
-    for line in notes.lines():
-        say(NAME, line)
-    files = written(recording, traces)
-    status = judging.judge_all(program, files, options.congestion) if program else 0
-    for trace in files.values() if program else ():
-        judging.draw(program, trace)
-    say(NAME, f"all files are in {recording.folder}")
-    return status
+    return judged(options, program, recording.folder, files + words)
 
 
 def main(given=None):
@@ -347,6 +247,7 @@ def main(given=None):
     words = parser()
     options = words.parse_args(given)
     check_words(words, options)
+    Part.command = NAME
     # When this program is ended, it ends what it started.
     signal.signal(signal.SIGTERM, lambda *_: sys.exit(143))
     return status_of(NAME, lambda: record(options))

@@ -1,5 +1,5 @@
 """Runs programs under strace, captures with tcpdump, and ends both in the right order: programs first, then captures."""
-import contextlib
+import functools
 import os
 import re
 import signal
@@ -7,14 +7,17 @@ import subprocess
 import tempfile
 import time
 
-from ..captures import BUFFER
 from ..problem import Problem, one_line
+from ..remedies import LARGER_BUFFER
 
-CALLS = ("%network,read,write,readv,writev,?preadv2,?pwritev2,close,?close_range,dup,?dup2,dup3,fcntl,sendfile,splice,"
-         "clone,?clone3,?fork,?vfork,execve,?execveat,exit,exit_group,?io_uring_setup")
+CALLS = ("%network,read,write,readv,writev,?preadv2,?pwritev2,close,?close_range,dup,?dup2,dup3,fcntl,ioctl,sendfile,splice,"
+         "?pidfd_open,?pidfd_getfd,clone,?clone3,?fork,?vfork,execve,?execveat,exit,exit_group,?io_uring_setup")
 STRACE = ["strace", "-f", "--seccomp-bpf", "--absolute-timestamps=format:unix,precision:ns", "-xx", "-s", "1048576", "-e", "trace=" + CALLS]
-# All three buffer flags are needed: with fewer, packets are lost or are still buffered at the end.
-TCPDUMP = ["tcpdump", "-n", "-s", "0", "-B", "65536", "--immediate-mode", "-U", "--time-stamp-precision=nano"]
+# The option that makes strace print the addresses of sockets.
+ADDRESSES = "--decode-fds=socket"
+# All three buffer flags are needed: with fewer, packets are lost or are still buffered at the end. A packet has at most 64 kB, and a buffer has
+# room for four times as many packets of this size as of the default one, which needs 512 kB for each.
+TCPDUMP = ["tcpdump", "-n", "-s", "130000", "--immediate-mode", "-U", "--time-stamp-precision=nano"]
 # Seconds within which tcpdump has to start.
 START = 10
 # Remedies, by tcpdump's message.
@@ -36,15 +39,22 @@ def started(words, install, **options):
         raise Problem(f"{words[0]} is not installed", f"install it: apt-get install {install}") from error
 
 
-class Capture:
-    """tcpdump on an interface."""
+@functools.cache
+def strace():
+    """The words that begin a command of strace. One that can't print addresses doesn't."""
+    has_addresses = subprocess.run([STRACE[0], ADDRESSES, "--version"], capture_output=True, check=False).returncode == 0
+    return [*STRACE, ADDRESSES] if has_addresses else STRACE
 
-    def __init__(self, interface, file, namespace=None):
+
+class Capture:
+    """tcpdump on an interface, with a buffer of this many MB."""
+
+    def __init__(self, interface, file, buffer, namespace=None):
         self.errors = tempfile.TemporaryFile()
         self.file = file
         # tcpdump would switch to another user, who may not be allowed to write the file.
         own = ["-Z", "root"] if os.geteuid() == 0 else []
-        words = [*TCPDUMP, *own, "-i", interface, "-w", file, "tcp"]
+        words = [*TCPDUMP, "-B", str(buffer * 1024), *own, "-i", interface, "-w", file, "tcp"]
         self.process = started(words, "tcpdump", stdin=subprocess.DEVNULL, stdout=subprocess.DEVNULL, stderr=self.errors,
                                preexec_fn=namespace.enter if namespace else None)
         until = time.monotonic() + START
@@ -71,14 +81,14 @@ class Capture:
             time.sleep(0.2)
 
     def stop(self):
-        """Ends tcpdump, and fails if it lost packets."""
+        """Ends tcpdump, and fails if it lost packets. What the interface dropped didn't reach the host either."""
         if self.process.poll() is not None:
             raise self.problem()
         self.process.send_signal(signal.SIGINT)
         self.process.wait()
-        lost = re.search(rb"(\d+) packets? dropped by (?:kernel|interface)", self.said())
+        lost = re.search(rb"(\d+) packets? dropped by kernel", self.said())
         if lost and int(lost[1]):
-            raise Problem(f"{self.file}: the capture lost {int(lost[1])} packets", BUFFER.replace("record again", "record less at once, or"))
+            raise Problem(f"{self.file}: the capture lost {int(lost[1])} packets", LARGER_BUFFER)
 
 
 class Traced:
@@ -86,11 +96,8 @@ class Traced:
 
     def __init__(self, words, log, namespace=None, user=None, output=None):
         self.words, self.log, self.namespace = words, log, namespace
-        # Remove the log of an earlier recording in this folder.
-        with contextlib.suppress(FileNotFoundError):
-            os.remove(log)
         as_user = ["-u", user] if user else []
-        self.process = started([*STRACE, *as_user, "-o", log, "--", *words], "strace", stdout=output,
+        self.process = started([*strace(), *as_user, "-o", log, "--", *words], "strace", stdout=output,
                                stdin=subprocess.DEVNULL if namespace else None, preexec_fn=namespace.enter if namespace else None)
 
     def wait_for_listener(self, seconds):

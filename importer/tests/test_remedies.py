@@ -1,0 +1,58 @@
+"""Tests that remedies name only options of the command that prints them."""
+import ast
+import glob
+import os
+import re
+import unittest
+
+from tcpwit_import import remedies
+from tcpwit_import.cli import parser as of_importer
+from tcpwit_import.recording.cli import parser as of_recorder
+
+PACKAGE = os.path.dirname(os.path.realpath(remedies.__file__))
+OPTION = re.compile(r"(?<![\w-])--[a-z][a-z-]+")
+# Options of strace and tcpdump.
+OTHERS = {"--absolute-timestamps", "--decode-fds", "--immediate-mode"}
+# Only the importer fails like this: the recorder gives it the files itself.
+ONLY_IMPORTER = ("an address", "no such host", "is combined with", "no capture is given", "no log of calls", "has a log but no capture", "traces: ",
+                 "of another run", "isn't a file that can be read again")
+
+
+def text_of(node, names):
+    """The text of an expression: its strings and the constants that it names."""
+    found = []
+    for each in ast.walk(node):
+        if isinstance(each, ast.Constant):
+            found.append(str(each.value))
+        elif isinstance(each, ast.Name):
+            found.append(str(names.get(each.id, "")))
+    return " ".join(found)
+
+
+class Remedies(unittest.TestCase):
+    def problems(self):
+        """Cause, remedy and the recorder's remedy of each error, and whether only the recorder has it."""
+        for path in glob.glob(f"{PACKAGE}/**/*.py", recursive=True):
+            with open(path, encoding="utf-8") as file:
+                tree = ast.parse(file.read())
+            names = vars(remedies) | {each.targets[0].id: text_of(each.value, {}) for each in tree.body
+                                      if isinstance(each, ast.Assign) and isinstance(each.targets[0], ast.Name)}
+            for call in ast.walk(tree):
+                if isinstance(call, ast.Call) and getattr(call.func, "id", "") == "Problem":
+                    yield [text_of(each, names) for each in call.args], os.path.basename(os.path.dirname(path)) == "recording"
+
+    def test_options_exist(self):
+        options = {command: {name for action in parser()._actions for name in action.option_strings} | OTHERS  # noqa: SLF001
+                   for command, parser in (("importer", of_importer), ("recorder", of_recorder))}
+        count = 0
+        for (cause, remedy, *recorded), is_recorders in self.problems():
+            commands = {"recorder": (recorded or [remedy])[0]} if not any(sign in cause for sign in ONLY_IMPORTER) else {}
+            commands |= {} if is_recorders else {"importer": remedy}
+            for command, text in commands.items():
+                count += 1
+                self.assertEqual(set(OPTION.findall(text)) - options[command], set(), f"{command}: {cause}: {text}")
+        self.assertGreater(count, 60)
+
+
+if __name__ == "__main__":
+    unittest.main()
