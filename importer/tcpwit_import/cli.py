@@ -125,7 +125,8 @@ def run(options, notes):
         raise Problem("a host has a log but no capture", "give --capture and --calls for the same hosts, or --capture both")
     packets = read_captures(options, captures, notes)
     names = {host: ", ".join(files) for host, files in captures.items()}
-    connections = connections_of({names[host]: of_host for host, of_host in packets.items()})
+    with Part("finding the connections"):
+        connections = connections_of({names[host]: of_host for host, of_host in packets.items()})
     if not connections:
         raise Problem(f"{', '.join(names.values())}: no TCP segment", "capture at the interface that the programs use, with the filter tcp or none",
                       NOTHING_SENT)

@@ -60,7 +60,8 @@ def judge_all(program, traces, options):
     words = ["--least", options.congestion or FULL]
     if options.budget is not None:
         words += ["--budget", str(options.budget)]
-    release_memory()
+    with Part("freeing the memory of the import"):
+        release_memory()
     worst = YES
     for name, trace in traces.items():
         lines, status = judge(program, trace, words)

@@ -32,9 +32,10 @@ class Files(unittest.TestCase):
         return sorted(found + [os.path.relpath(place, self.name) for place, within, names in os.walk(self.name) if not within + names])
 
     def test_files_of_an_earlier_recording_are_removed(self):
-        kept = ["notes.case", "old/run.case", "run.case.old", "192.0.2.1/page"]
+        kept = ["notes.case", "old/run.case", "run.case.old", "192.0.2.1/page", "run-2/run.case", "run-old/run.case", "2026-11-27/run.case"]
         self.write(*kept, "run.case", "run.svg", "run.trace.gz", "host0.pcap", "host1.log.gz", "run.pcap", "run.log",
-                   "192.0.2.1/run.trace", "192.0.2.2/run.case", "2001_db8__1/run.svg")
+                   "192.0.2.1/run.trace", "192.0.2.2/run.case", "2001_db8__1/run.svg", "run-192.0.2.2_80/run.case", "run-2001_db8__1_80-3/run.trace.gz",
+                   "192.0.2.1-192.0.2.2_80/run.svg")
         Folder(self.name)
         self.assertEqual(self.names(), sorted(kept))
 

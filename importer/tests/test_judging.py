@@ -1,6 +1,7 @@
 """Tests how both commands use `tcpwit_lab judge`, which a script with chosen answers replaces."""
 import contextlib
 import errno
+import gc
 import gzip
 import io
 import os
@@ -8,6 +9,8 @@ import subprocess
 from unittest import mock
 
 from tcpwit_import import judging
+from tcpwit_import.calls.host_trace import Endpoint
+from tcpwit_import.captures import Packet
 from tcpwit_import.problem import plain
 from tcpwit_import.recording import folder
 from tcpwit_import.recording.cli import main as recording
@@ -201,6 +204,18 @@ class Judging(test_command.WithFiles):
             self.assertEqual((status, out), (2, ""))
             self.assertIn(f"\n  {remedy}", error)
             self.assertFalse(os.path.exists(f"{self.folder}/run.case"))
+
+    def test_nothing_of_the_import_is_left_when_the_search_begins(self):
+        left = []
+
+        def judge(*_):
+            left.extend(each for each in gc.get_objects() if isinstance(each, (Packet, Endpoint)))
+            return LINES.splitlines(), 0
+
+        for act in (self.importing, self.recorded):
+            with mock.patch.object(judging, "judge", judge), mock.patch.object(judging, "draw"):
+                self.assertEqual(act(*self.lab(LINES))[:2], (0, LINES))
+            self.assertEqual(left, [])
 
     def test_large_files_of_a_recording_are_compressed(self):
         with mock.patch.object(folder, "LARGE", 9):

@@ -13,7 +13,7 @@ from . import NAME
 
 # The name of a new folder; .gitignore lists it.
 FOLDER = "tcpwit-%Y%m%d-%H%M%S"
-# The files of a recording. Each peer of a half case has a folder of its own, which its address names.
+# The files of a recording. If it has several traces, each has a folder of its own, with the trace's name.
 OWN = re.compile(r"(host[01]|run)\.(pcap|log|trace|case|svg)(\.gz)?")
 # Files with more bytes are compressed. The log of a Python program has some 10 MB, because it shows what Python loads.
 LARGE = 50_000_000
@@ -47,8 +47,8 @@ class Folder:
                     os.rmdir(folder)
 
     def folders(self):
-        """The folder itself and those of peers."""
-        return [self.name, *(self.file(name) for name in sorted(os.listdir(self.name)) if is_address(name) and os.path.isdir(self.file(name)))]
+        """The folder itself and those of single traces."""
+        return [self.name, *(self.file(name) for name in sorted(os.listdir(self.name)) if is_of_trace(name) and os.path.isdir(self.file(name)))]
 
     def refuse_full_disk(self):
         """Fails if the disk is full: the programs that record don't report that, and leave incomplete files."""
@@ -72,10 +72,17 @@ class Folder:
                 say(NAME, f"{path} is not compressed: {one_line(said)}")
 
 
-def is_address(name):
-    """Whether a folder has the name of a peer, whose address has underscores instead of colons."""
+def is_of_trace(name):
+    """Whether a folder has the name of a trace: a peer's address, or `run`; if traces differ in more, with addresses and ports or numbers."""
+    first, *rest = name.split("-")
+    return is_address(first if first != "run" or not rest else rest[0].rsplit("_", 1)[0]) \
+        and all(part.isdigit() or is_address(part.rsplit("_", 1)[0]) for part in rest)
+
+
+def is_address(text):
+    """Whether a text is an address, with underscores instead of colons."""
     try:
-        ip_address(name.replace("_", ":"))
+        ip_address(text.replace("_", ":"))
     except ValueError:
         return False
     return True

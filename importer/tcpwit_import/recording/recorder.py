@@ -62,8 +62,9 @@ class Recording:
 
     def end(self, seconds=0.0, carrier=None):
         """Ends the programs, then the carrier, then the captures: a capture that ended earlier would lack segments that the other shows as received."""
-        for program in self.programs:
-            program.stop(seconds)
+        with Part("ending the programs", beside_programs=True):
+            for program in self.programs:
+                program.stop(seconds)
         with Part("waiting for the last segments"):
             for capture in self.captures:
                 capture.wait()
