@@ -184,7 +184,7 @@ class LateHosts(unittest.TestCase):
     def found(self, recording):
         lines, witness, said = find(recording.text(), "--budget", "0")
         self.assertTrue(said.startswith("every line is explained") or not said, said)
-        sent = {line: moment for line, moment in moments(witness)[0].items() if f" O 0 " in lines[line - 1]}
+        sent = {line: moment for line, moment in moments(witness)[0].items() if " O 0 " in lines[line - 1]}
         self.assertEqual(moments(witness)[1], sent, "a segment was built before it was sent")
         return takings(witness)
 
