@@ -1,12 +1,15 @@
 //! Segments as bytes on the wire (RFC 9293, 3.1; RFC 7323, 2.2).
 
+ghost use Rattle.case_forms.specs.Versions.{is_half};
+ghost use Rattle.spec_network.specs.HostRules.{just};
 ghost use Rattle.spec_tcp.specs.Bounds.{IsSmallEmission};
 ghost use Rattle.spec_tcp.specs.Heard.{heard, most_bytes, told_flags};
 ghost use Rattle.spec_tcp.specs.Same.{same_bytes};
 ghost use Rattle.spec_tcp.specs.Wire.{same_flags, header_matches, shift_matches, matches_sent, sent, in_rules};
-ghost use Rattle.std.specs.Prelude.{◌≡◌, ◌≤◌, IfOk, ◌+◌, length, nat_lt, take};
+ghost use Rattle.std.specs.Prelude.{◌≡◌, ◌≤◌, IfOk, ◌+◌, length, nat_lt, not, take};
 ghost use Rattle.std.specs.Result.{result_err};
 ghost use Rattle.verdict.specs.Rules.{first_broken};
+ghost use Rattle.verdict.specs.declared.rule.Rule.TheVariants.{NoEmission};
 
 use crate::same::{same_bool, same_word};
 use case_forms::{Flags, Header, Host, Wire};
@@ -156,6 +159,18 @@ fn with_bytes(
         mss: told.0,
         scale: told.1,
         moment,
+    }
+}
+
+/// Whether a segment may arrive that isn't a copy of a line of the other host: that host is not recorded. The error is
+/// the broken rule.
+pub fn admits_hearing(header: &Header) -> Result<(), Rule>
+    ensures { result_err result ≡ first_broken (just NoEmission (not (is_half header.now.version))) }
+{
+    if header.version.is_half() {
+        Ok(())
+    } else {
+        Err(Rule::NoEmission)
     }
 }
 

@@ -90,7 +90,7 @@ impl Endpoints {
         let place = self.all.len() as u32;
         self.all.reserve(1)?;
         add_child(&mut self.children, alloc, endpoint.listener, place)?;
-        self.places.insert((endpoint.lport, endpoint.rport), place)?;
+        self.places.insert(endpoint.ports(), place)?;
         self.all.push_reserved(endpoint);
         Ok(())
     }

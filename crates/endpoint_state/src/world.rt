@@ -26,7 +26,7 @@ use crate::threads::{Turn, admits_begin, admits_end, begin, finish, pending_call
 use case_forms::{
     Answer, Call, Expired, Header, Host, Ports, Recovery, SegmentPlan, TakeChoice, Wire,
 };
-use endpoint::{copy_owned, heard};
+use endpoint::{admits_hearing, copy_owned, heard};
 use segment::OutOfMemory;
 use spec_tcp::Emission;
 use std::alloc::Global;
@@ -199,11 +199,7 @@ impl World {
     pub fn admits_hearing(&self) -> Result<(), Rule>
         ensures { result_err result ≡ first_broken (hearing_rules self.now.header) }
     {
-        if self.header.version.is_half() {
-            Ok(())
-        } else {
-            Err(Rule::NoEmission)
-        }
+        admits_hearing(&self.header)
     }
 
     /// Whether a host may make a segment, at a position up to the greatest that a case may have. The error is the first

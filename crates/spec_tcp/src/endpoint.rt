@@ -1,6 +1,7 @@
 //! The state of a host, as values: endpoints, built segments, listeners, and what socket numbers name.
 
-ghost use Rattle.std.specs.Prelude.{◌≡◌, ◌<◌, ◌^◌, IfOk};
+ghost use Rattle.std.specs.Prelude.{◌≡◌, ◌<◌, ◌+◌, ◌^◌, if◌then◌else◌, None, Some, IfOk, length, nat_le};
+ghost use Rattle.case_forms.specs.declared.calls.Host.TheVariants as host;
 ghost use Rattle.spec_tcp.specs.Endpoints.{flight, is_scaling, is_up, snd_max, new_endpoint, rcv_nxt, peer_window};
 ghost use Rattle.spec_tcp.specs.Endpoints.{receive_window, segment_length, window_in};
 
@@ -149,6 +150,13 @@ impl Endpoint {
             backoffs: 0,
             syn_lost: false,
         }
+    }
+
+    /// Its local port, and the peer's.
+    pub fn ports(&self) -> (u16, u16)
+        ensures { result ≡ (self.now.lport, self.now.rport) }
+    {
+        (self.lport, self.rport)
     }
 
     /// The position after all that was sent (RFC 9293, 3.3.1: SND.NXT at its greatest).
@@ -302,6 +310,15 @@ pub struct Listener {
     pub queue: Queue,
 }
 
+impl Listener {
+    /// Whether its queue holds as many children as it may: `extra` more than its backlog.
+    pub fn is_full(&self, extra: u16) -> bool
+        ensures { result ≡ nat_le (self.now.backlog + extra) (length self.now.queue) }
+    {
+        self.backlog as u64 + extra as u64 <= self.queue.len() as u64
+    }
+}
+
 /// What a socket number names.
 #[derive(Clone, Copy)]
 pub enum SocketTarget {
@@ -317,4 +334,17 @@ pub struct Socket {
     pub thing: SocketTarget,
     /// Whether it was not closed or aborted since.
     pub live: bool,
+}
+
+/// The host that gave a socket number, by whether host 0 and host 1 gave it. None: neither did.
+pub fn giver(zero: bool, one: bool) -> Option<Host>
+    ensures { result ≡ (if zero then Some host.Zero else if one then Some host.One else None) }
+{
+    if zero {
+        Some(Host::Zero)
+    } else if one {
+        Some(Host::One)
+    } else {
+        None
+    }
 }

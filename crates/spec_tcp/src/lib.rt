@@ -28,7 +28,7 @@ mod queue;
 pub use arrived::Arrived;
 pub use endpoint::{
     Emission, Endpoint, EndpointId, Fault, Listener, SendWindow, Socket, SocketTarget, Stream,
-    window_in,
+    giver, window_in,
 };
 pub use profile::profile_of;
 pub use queue::Queue;

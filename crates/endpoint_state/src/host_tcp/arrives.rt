@@ -169,9 +169,7 @@ impl HostTcp {
         ensures { result ≡ is_queue_full header.now self.now place }
     {
         match self.listener_at(place) {
-            Some(listener) => {
-                listener.backlog as u64 + header.extra as u64 <= listener.queue.len() as u64
-            }
+            Some(listener) => listener.is_full(header.extra),
             None => false,
         }
     }

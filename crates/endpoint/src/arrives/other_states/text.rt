@@ -3,14 +3,14 @@
 ghost use Rattle.spec_tcp.specs.Arrives.OtherStates.Text.{kept_bytes, kept_start, receive_after};
 ghost use Rattle.spec_tcp.specs.Bounds.{IsSmallEmission, greatest_position};
 ghost use Rattle.spec_tcp.specs.Endpoints.{rcv_nxt};
-ghost use Rattle.std.specs.Prelude.{◌≡◌, ◌≤◌, IfOk, OnOk, OnErr};
+ghost use Rattle.std.specs.Prelude.{◌≡◌, ◌≤◌, ◌<◌, ◌+◌, ◌^◌, IfOk, OnOk, OnErr, length};
 ghost use Rattle.streams.specs.Forgetting.{forgotten};
-ghost use Rattle.streams.specs.Received.{is_ended};
+ghost use Rattle.streams.specs.Received.{is_ended, kept, next};
 
 use crate::arrives::other_states::fin::{fin_place, first_byte, keeps_fin};
 use case_forms::TakeChoice;
 use segment::OutOfMemory;
-use spec_tcp::{Arrived, Endpoint};
+use spec_tcp::{Arrived, Endpoint, Stream};
 
 /// Stores what is kept of a segment. The answer is whether the peer's FIN and everything before it have now been
 /// received.
@@ -38,8 +38,21 @@ pub(crate) fn receive(
     if bytes.is_empty() && !fin {
         return Ok(endpoint.stream.receive.is_ended());
     }
-    endpoint.stream.receive.keep(start, bytes, fin)?;
+    store(&mut endpoint.stream, start, bytes, fin)?;
     Ok(endpoint.stream.receive.is_ended())
+}
+
+// Stores these bytes, and the FIN after them if there is one. If memory runs out, nothing is changed.
+fn store(stream: &mut Stream, start: u64, bytes: &[u8], fin: bool) -> Result<(), OutOfMemory>
+    requires met { 1 ≤ next stream.old.receive }
+    requires next { next stream.old.receive ≤ start }
+    requires small { start + length bytes.now + 1 < 2 ^ 63 }
+    ensures ok { OnOk result (stream.new ≡ record stream.old { receive = kept stream.old.receive start bytes.now fin }) }
+    ensures faded { OnOk result (forgotten stream.new.receive ≡ stream.new.receive) }
+    ensures err { OnErr result (stream.new ≡ stream.old) }
+{
+    stream.receive.keep(start, bytes, fin)?;
+    Ok(())
 }
 
 fn kept_bytes<'a>(endpoint: &Endpoint, how: TakeChoice, m: &'a Arrived<'_>) -> &'a [u8]

@@ -1,5 +1,6 @@
-use Rattle.std.proofs.Common.{arith, Bool, cond, Some, ap, ◌∙◌}
-use Rattle.endpoint_state.specs.Indexes.{is_child_in, find_ports}
+use Rattle.std.proofs.Common.{arith, ℕ, Bool, cond, Some, ap, ◌∙◌}
+use Rattle.std.specs.BTreeMap.{is_at}
+use Rattle.endpoint_state.specs.Indexes.{is_child_in, find_ports, ports_cmp}
 use Rattle.endpoint_state.proofs.IndexLemmas.{indexed_push, indexed_more, at_ports}
 use Rattle.endpoint_state.proofs.endpoints.Endpoints.add.Goals as goal
 
@@ -15,6 +16,8 @@ invariant_of-self-2 c = rw (c.push_reserved.ensures.items, c.reserve.ensures.ite
     (is_child_in c.add_child.new.children.entries) c.args.endpoint c.len-place.result
     (let ok = c.self.inside.all.ok in omega arith)
     (λ l r. c.in_ok-insert.ensures.updates.0 (l, r)
+    ∙ ap (λ (p : ℕ × ℕ). cond (is_at (ports_cmp p) (l, r)) (Some c.len-place.result)
+    (find_ports c.self.inside.places.entries l r)) c.ports.ensures
     ∙ ap (λ (b : Bool). cond b (Some c.len-place.result) (find_ports c.self.inside.places.entries l r))
     (at_ports c.args.endpoint.lport c.args.endpoint.rport l r)) c.add_child.ensures.kept
     c.in_ok-add_child.ensures.added)
