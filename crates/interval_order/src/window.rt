@@ -12,7 +12,7 @@
 //! - Moments don't fall along the lines, so some line is overdue if and only if the first waiting one is.
 
 ghost use Rattle.std.specs.Prelude.{◌≡◌, ℕ, ◌+◌, ◌<◌, ◌≤◌, ◌^◌, [], length, All, IsSome, IfOk, OnOk, OnErr, IfSome};
-ghost use Rattle.std.specs.Prelude.{None, Some, false, cond, is_some, nat_eq, nat_lt, slice_get};
+ghost use Rattle.std.specs.Prelude.{None, Some, false, cond, is_some, nat_eq, nat_lt, slice_get, ◌||◌};
 ghost use Rattle.std.specs.Option.{option_and_then, option_map};
 ghost use Rattle.std.specs.Result.{result_err};
 ghost use Rattle.case_forms.specs.Traces.{first_event_line};
@@ -228,7 +228,7 @@ impl Window {
         if moment < self.last {
             return Err(Rule::MomentFalls);
         }
-        if moment < line.moment || is_past(line.moment, self.header.skew, moment) {
+        if self.is_off(line, moment) {
             return Err(Rule::MomentOff);
         }
         if self.has_overdue(moment) {
@@ -252,6 +252,13 @@ impl Window {
             Some(waiting) => Some((&waiting.line, is_held(&self.waiting, waiting.previous))),
             None => None,
         }
+    }
+
+    // Whether a moment is before that of a line, or later by more than the skew.
+    fn is_off(&self, line: &Line, moment: u64) -> bool
+        ensures { result ≡ (nat_lt moment line.now.moment || nat_lt (line.now.moment + self.now.header.skew) moment) }
+    {
+        moment < line.moment || is_past(line.moment, self.header.skew, moment)
     }
 
     // The number of the first line that may not wait until this moment.
