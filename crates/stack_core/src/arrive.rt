@@ -208,11 +208,7 @@ impl HostCore {
         ensures none { IfNone result (MayDo self.now
             (At self.now.recorded.me (Takes line (record { cwnd = cwnd; keep = true; sample = sample }))) → ⊥) }
     {
-        let choice = TakeChoice {
-            cwnd,
-            keep: true,
-            sample,
-        };
+        let choice = with_bytes(cwnd, sample);
         let host = self.me();
         if self.admits(&Label::T { host, line, choice }) {
             Some(choice)
@@ -293,6 +289,17 @@ impl HostCore {
                 ssthresh: 0,
             },
         }
+    }
+}
+
+// A segment is taken with its bytes.
+fn with_bytes(cwnd: u32, sample: bool) -> TakeChoice
+    ensures { result ≡ record { cwnd = cwnd; keep = true; sample = sample } }
+{
+    TakeChoice {
+        cwnd,
+        keep: true,
+        sample,
     }
 }
 

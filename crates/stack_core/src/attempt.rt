@@ -2,6 +2,8 @@
 
 ghost use Rattle.std.specs.Prelude.{◌≡◌, ◌<◌, ◌≤◌, false, length, IfNone, IfOk, OnErr};
 ghost use Rattle.std.specs.Option.{IfSome};
+ghost use Rattle.case_forms.specs.declared.steps.Label.TheVariants as labels;
+ghost use Rattle.case_forms.specs.declared.taken_line.TakenLine.TheVariants as lines;
 ghost use Rattle.spec_network.specs.Tables.{lane};
 ghost use Rattle.spec_network.specs.Hosts.{turn_of};
 ghost use Rattle.stack_core.specs.Cores.{GivesNext, IsAfter, IsRecorded, next_socket, own_body, world};
@@ -88,12 +90,8 @@ impl HostCore {
         let ending = answer.copy()?;
         let affected = self.affected_by_thread(thread);
         self.add(effect, affected)?;
-        let end = TakenLine::CallEnd {
-            line: self.line(),
-            thread,
-            answer: ending,
-        };
-        self.add(Label::L(end), Affected::Nobody)?;
+        let end = call_end(self.line(), thread, ending);
+        self.add(end, Affected::Nobody)?;
         self.update_after_answer(subject, &answer);
         Ok(Some(Answered { thread, answer }))
     }
@@ -177,4 +175,15 @@ fn next_socket(me: Host, body: &HostTcp) -> u32
         Host::One => 3,
     };
     first + 2 * body.socket_count() as u32
+}
+
+// The step in which a thread's call ends with this answer, which takes the line of this number.
+fn call_end(line: u64, thread: u32, answer: Answer) -> Label
+    ensures { result ≡ labels.L (lines.CallEnd line thread answer) }
+{
+    Label::L(TakenLine::CallEnd {
+        line,
+        thread,
+        answer,
+    })
 }

@@ -1,6 +1,8 @@
 //! The segments that a core would make at an endpoint. Positions and windows count bytes.
 
-ghost use Rattle.std.specs.Prelude.{◌≡◌};
+ghost use Rattle.std.specs.Prelude.{◌≡◌, ◌≤◌, true};
+ghost use Rattle.std.specs.Option.{IfSome};
+ghost use Rattle.case_forms.specs.Versions.{scales};
 ghost use Rattle.stack_core.specs.Makings.{bytes_of, fin_of, syn_of};
 ghost use Rattle.stack_core.specs.Told.{MayOpen};
 
@@ -54,13 +56,20 @@ pub(crate) fn offer_of(
     AdvertisedWindow {
         opening: SynOptions {
             iss: opening.iss,
-            shift: match opening.shift {
-                Some(told) if tells && version.scales() => Some(told.min(GREATEST_SHIFT)),
-                _ => None,
-            },
+            shift: told_shift(version, tells, opening.shift),
         },
         at_syn: room.min(65_535) as u16,
         window: (room >> shift).min(65_535) as u16,
+    }
+}
+
+// The shift that a SYN carries, of the configured one; None if it carries none.
+fn told_shift(version: Version, tells: bool, shift: Option<u8>) -> Option<u8>
+    ensures { IfSome result (λ n. (scales version ≡ true) × (n ≤ 14)) }
+{
+    match shift {
+        Some(told) if tells && version.scales() => Some(told.min(GREATEST_SHIFT)),
+        _ => None,
     }
 }
 
