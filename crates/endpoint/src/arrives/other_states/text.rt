@@ -47,7 +47,8 @@ fn store(stream: &mut Stream, start: u64, bytes: &[u8], fin: bool) -> Result<(),
     requires met { 1 ≤ next stream.old.receive }
     requires next { next stream.old.receive ≤ start }
     requires small { start + length bytes.now + 1 < 2 ^ 63 }
-    ensures ok { OnOk result (stream.new ≡ record stream.old { receive = kept stream.old.receive start bytes.now fin }) }
+    ensures ok { OnOk result
+        (stream.new ≡ record stream.old { receive = kept stream.old.receive start bytes.now fin }) }
     ensures faded { OnOk result (forgotten stream.new.receive ≡ stream.new.receive) }
     ensures err { OnErr result (stream.new ≡ stream.old) }
 {
