@@ -58,11 +58,11 @@ fn built_before(endpoint: &Endpoint, m: &Arrived<'_>, wire: &Wire) -> Option<boo
 impl<'t> Pass<'t> {
     /// The current line shows an arrival.
     pub(crate) fn receive(&mut self, host: Host, wire: &'t Wire) -> Done {
-        let place = self.progress.place();
+        let place = self.progress.log.place();
         let how = self.choices.arrival(place);
         let line = self.bring_in(host, wire, how)?;
         if self.widening(host, line).is_some() {
-            self.progress.findings.beyond.push(place)?;
+            self.progress.log.findings.beyond.push(place)?;
         }
         let moment = self.progress.moment();
         let waiting = Waiting {
@@ -86,7 +86,7 @@ impl<'t> Pass<'t> {
         match self.turn_of(waiting) {
             Turn::Now => self.process(waiting.host, waiting.line, how),
             Turn::Late(key) => {
-                self.progress.findings.late.push(waiting.place)?;
+                self.progress.log.findings.late.push(waiting.place)?;
                 Ok(self.late.put(key, waiting)?)
             }
             Turn::TooLate => self.resolve_arrival(waiting.host, waiting.line, how),
@@ -338,7 +338,7 @@ impl<'t> Pass<'t> {
         let lines = self.sought.lines;
         let event = lines.get(place).map(|line| &line.event);
         if let Some(Event::Sent(host, wire)) = event {
-            if self.progress.is_ahead(place) && !self.outgoing.is_built(place) {
+            if self.progress.log.is_ahead(place) && !self.outgoing.is_built(place) {
                 let key = EndpointKey::sender(*host, wire);
                 self.try_making(Shown { key, place, wire })?;
             }

@@ -32,11 +32,15 @@ fn timer_for(answer: &Answer) -> Option<Timer> {
 impl Pass<'_> {
     /// The current line begins a call; the call has its effect if that's permitted.
     pub(crate) fn begin(&mut self, thread: u32, call: &Call) -> Done {
-        let place = self.progress.place();
+        let place = self.progress.log.place();
         self.progress.begin(thread, call)?;
         self.calls.open.insert(thread, place)?;
         if let Some(key) = key_of_call(self.progress.world(), thread) {
-            self.progress.findings.meant.push(MeantCall { place, key })?;
+            self.progress
+                .log
+                .findings
+                .meant
+                .push(MeantCall { place, key })?;
         }
         if self.choices.waits(place) {
             return Ok(());
@@ -118,7 +122,7 @@ impl Pass<'_> {
         let done = self.progress.effect(thread, answer);
         if let Err(Stop::Broken(_)) = done {
             let answer = answer.copy()?;
-            self.progress.push_step(Label::D { thread, answer })?;
+            self.progress.log.push_step(Label::D { thread, answer })?;
         }
         done
     }

@@ -53,7 +53,7 @@ impl<'t> Pass<'t> {
     /// The current line shows a segment sent: it is built, unless it was before.
     pub(crate) fn send(&mut self, host: Host, wire: &'t Wire) -> Done {
         let key = EndpointKey::sender(host, wire);
-        let place = self.progress.place();
+        let place = self.progress.log.place();
         let made = match self.outgoing.start_sending(Shown { key, place, wire })? {
             Some(made) => made,
             None => self.make_shown(key, wire)?,
@@ -91,7 +91,7 @@ impl<'t> Pass<'t> {
         let plan = self.plan_of(key, wire);
         let made = self.progress.make(host, plan);
         if let Err(Stop::Broken(_)) = made {
-            self.progress.push_step(Label::M { host, plan })?;
+            self.progress.log.push_step(Label::M { host, plan })?;
         }
         made
     }
