@@ -205,10 +205,18 @@ impl<'t> Pass<'t> {
         if how.is_widened {
             self.widen(host, line)?;
         }
-        let is_resolved = self.try_processing(host, line, how)?
-            || (self.leaves_time_wait(host, line)? && self.try_processing(host, line, how)?)
-            || self.try_answer(host, line)?;
-        if is_resolved {
+        if self.try_processing(host, line, how)? {
+            return Ok(());
+        }
+        if self.leaves_time_wait(host, line)? && self.try_processing(host, line, how)? {
+            return Ok(());
+        }
+        self.answer_or_drop(host, line)
+    }
+
+    // Answers an arrival by a reset, or drops it.
+    fn answer_or_drop(&mut self, host: Host, line: u64) -> Done {
+        if self.try_answer(host, line)? {
             return Ok(());
         }
         self.progress.drop_arrival(host, line)

@@ -35,17 +35,20 @@ impl Pass<'_> {
         let place = self.progress.log.place();
         self.progress.begin(thread, call)?;
         self.calls.open.insert(thread, place)?;
-        if let Some(key) = key_of_call(self.progress.world(), thread) {
-            self.progress
-                .log
-                .findings
-                .meant
-                .push(MeantCall { place, key })?;
-        }
+        self.note_meant(place, thread)?;
         if self.choices.waits(place) {
             return Ok(());
         }
         self.try_first(place, thread, call)
+    }
+
+    // Writes down what the call of a thread means, which begins at a place.
+    fn note_meant(&mut self, place: usize, thread: u32) -> Done {
+        if let Some(key) = key_of_call(self.progress.world(), thread) {
+            let meant = &mut self.progress.log.findings.meant;
+            meant.push(MeantCall { place, key })?;
+        }
+        Ok(())
     }
 
     /// A call has its effect if that's permitted; else it waits.
@@ -57,12 +60,21 @@ impl Pass<'_> {
         };
         let meant = meant_by(self.progress.world(), call);
         if self.has_effect(pending)? {
-            // What ends or closes something lets calls go on that wait for it.
-            return match (call, meant) {
-                (Call::Shut(_) | Call::Close(_) | Call::Abort(_), Some(meant)) => self.wake(meant),
-                _ => Ok(()),
-            };
+            return self.wake_after(call, meant);
         }
+        self.wait(pending, call, meant)
+    }
+
+    // What ends or closes something lets calls go on that wait for it.
+    fn wake_after(&mut self, call: &Call, meant: Option<Meant>) -> Done {
+        match (call, meant) {
+            (Call::Shut(_) | Call::Close(_) | Call::Abort(_), Some(meant)) => self.wake(meant),
+            _ => Ok(()),
+        }
+    }
+
+    // A call waits until it may have its effect.
+    fn wait(&mut self, pending: Pending, call: &Call, meant: Option<Meant>) -> Done {
         match (call, meant) {
             (Call::Connect(host, lport, rport), _) => {
                 self.wait_for_ports(pending, EndpointKey::new(*host, *lport, *rport))

@@ -93,16 +93,35 @@ impl<'t> Pass<'t> {
             let Err(Stop::Broken(rule)) = made else {
                 return made;
             };
-            if !self.remedy(key, plan, rule)? && !self.hurry(key)? {
+            if !self.remedy_or_hurry(key, plan, rule)? {
                 break;
             }
         }
-        let plan = self.plan_of(key, wire);
+        self.make_at_last(key, wire)
+    }
+
+    // Builds the segment that a line shows. If that isn't permitted, the witness ends with this step.
+    fn make_at_last(&mut self, key: EndpointKey, wire: &Wire) -> Result<u32, Stop> {
+        let (host, plan) = (key.host(), self.plan_of(key, wire));
         let made = self.progress.make(host, plan);
         if let Err(Stop::Broken(_)) = made {
             self.progress.log.push_step(Label::M { host, plan })?;
         }
         made
+    }
+
+    // Does what may permit a segment that breaks this rule, or processes what is late. The result is whether something
+    // was done.
+    fn remedy_or_hurry(
+        &mut self,
+        key: EndpointKey,
+        plan: SegmentPlan,
+        rule: Rule,
+    ) -> Result<bool, Stop> {
+        if self.remedy(key, plan, rule)? {
+            return Ok(true);
+        }
+        self.hurry(key)
     }
 
     // Does what may permit a segment that breaks this rule. The result is whether something was done.
