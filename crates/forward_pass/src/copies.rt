@@ -91,17 +91,30 @@ impl<'t> Sent<'t> {
         let new = self.all.len();
         let place = *self.places.entry(Key::of(bytes))?.or_insert(new);
         if place == new {
-            self.all.push(Sendings {
-                open: Some(sending),
-                last: sending,
-                is_only: true,
-            })?;
-        } else if let Some(known) = self.all.get_mut(place) {
-            self.next.insert(known.last.line, sending)?;
-            known.open = known.open.or(Some(sending));
-            known.last = sending;
-            known.is_only = false;
+            return self.add_first(sending);
         }
+        self.add_again(place, sending)
+    }
+
+    // The first line with its bytes.
+    fn add_first(&mut self, sending: Sending) -> Result<(), OutOfMemory> {
+        self.all.push(Sendings {
+            open: Some(sending),
+            last: sending,
+            is_only: true,
+        })?;
+        Ok(())
+    }
+
+    // A further line of this place.
+    fn add_again(&mut self, place: usize, sending: Sending) -> Result<(), OutOfMemory> {
+        let Some(known) = self.all.get_mut(place) else {
+            return Ok(());
+        };
+        self.next.insert(known.last.line, sending)?;
+        known.open = known.open.or(Some(sending));
+        known.last = sending;
+        known.is_only = false;
         Ok(())
     }
 

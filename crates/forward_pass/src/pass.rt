@@ -64,7 +64,7 @@ impl<'t> Pass<'t> {
     /// Goes over the lines. The result is how the pass ended.
     pub(crate) fn run(&mut self) -> Result<End, OutOfMemory> {
         let explained = self.explain_all();
-        let place = self.progress.place();
+        let place = self.progress.log.place();
         match explained {
             Ok(()) => Ok(End::Whole),
             Err(Stop::Broken(rule)) => Ok(End::Refused(self.failure(place, rule))),
@@ -86,7 +86,7 @@ impl<'t> Pass<'t> {
     fn explain_all(&mut self) -> Done {
         let lines = self.sought.lines;
         for (place, line) in lines.iter().enumerate() {
-            self.progress.go_to(place, line.moment);
+            self.progress.log.go_to(place, line.moment);
             self.prepare(place)?;
             self.explain(line)?;
             self.build_chosen(place)?;
@@ -175,7 +175,7 @@ impl<'t> Pass<'t> {
 
     /// Exchanges what was found for something else. The result is how many steps were done.
     pub(crate) fn exchange(&mut self, findings: &mut Findings) -> u64 {
-        swap(findings, &mut self.progress.findings);
+        swap(findings, &mut self.progress.log.findings);
         self.progress.world().steps()
     }
 }

@@ -62,6 +62,13 @@ impl Findings {
 #[derive(Drop)]
 pub(crate) struct Progress {
     world: World,
+    pub log: Log,
+}
+
+/// What was done and found, and at which line. It is apart from the world: a method that changes a field of a value
+/// that has a world takes long to prove.
+#[derive(Drop)]
+pub(crate) struct Log {
     pub findings: Findings,
     /// The place of the current line, from 0.
     place: usize,
@@ -97,11 +104,9 @@ pub(crate) fn saturated(number: u64) -> u32 {
     u32::try_from(number).unwrap_or(u32::MAX)
 }
 
-impl Progress {
-    /// Before the first line.
-    pub(crate) fn new(alloc: Global, header: &Header) -> Progress {
-        Progress {
-            world: World::start(alloc, header),
+impl Log {
+    fn new(alloc: Global, header: &Header) -> Log {
+        Log {
             findings: Findings::new(alloc),
             place: 0,
             next: 0,
@@ -117,48 +122,13 @@ impl Progress {
         self.moment = moment;
     }
 
-    pub(crate) fn world(&self) -> &World {
-        &self.world
-    }
-
     pub(crate) fn place(&self) -> usize {
         self.place
-    }
-
-    pub(crate) fn moment(&self) -> u64 {
-        self.moment
     }
 
     /// Whether the line at a place has no step yet.
     pub(crate) fn is_ahead(&self, place: usize) -> bool {
         self.next <= place
-    }
-
-    /// An endpoint. None: it doesn't exist.
-    pub(crate) fn endpoint(&self, key: EndpointKey) -> Option<&Endpoint> {
-        let body = self.world.body(key.host());
-        body.endpoint_of(key.lport, key.rport)
-    }
-
-    /// A segment that arrived with a line and waits, and the endpoint for which it is meant.
-    pub(crate) fn waiting(&self, host: Host, line: u64) -> Option<(EndpointKey, &Emission)> {
-        let m = self.world.waiting(host, line)?;
-        Some((EndpointKey::receiver(host, m), m))
-    }
-
-    /// An endpoint, and a segment as the endpoint reads it. None: it doesn't exist, or is CLOSED or beyond all
-    /// positions.
-    pub(crate) fn read<'m>(
-        &self,
-        key: EndpointKey,
-        m: &'m Emission,
-    ) -> Option<(&Endpoint, Arrived<'m>)> {
-        let endpoint = self.endpoint(key)?;
-        if endpoint.state.is_closed() {
-            return None;
-        }
-        let read = Arrived::checked_read(self.world.header().version, endpoint, m)?;
-        Some((endpoint, read))
     }
 
     /// Writes a step down.
@@ -193,58 +163,8 @@ impl Progress {
         Ok(number)
     }
 
-    /// The current line begins a call.
-    pub(crate) fn begin(&mut self, thread: u32, call: &Call) -> Result<u64, Stop> {
-        has_room(&self.world)?;
-        let done = self.world.begin(thread, call);
-        self.push_current(Extras::Bare, done)
-    }
-
-    /// The current line ends a call.
-    pub(crate) fn finish(&mut self, thread: u32, answer: &Answer) -> Result<u64, Stop> {
-        has_room(&self.world)?;
-        let done = self.world.finish(thread, answer);
-        self.push_current(Extras::Bare, done)
-    }
-
-    /// A host sends a built segment with the current line.
-    pub(crate) fn send(&mut self, host: Host, made: u32, wire: &Wire) -> Result<u64, Stop> {
-        has_room(&self.world)?;
-        let done = self.world.send(host, self.number, made, wire, self.moment);
-        self.push_current(Extras::One(made), done)
-    }
-
-    /// A segment of the host that isn't recorded arrives with the current line.
-    pub(crate) fn hear(&mut self, host: Host, wire: &Wire) -> Result<u64, Stop> {
-        has_room(&self.world)?;
-        let done = self.world.hear(host, self.number, wire, self.moment);
-        self.push_current(Extras::Bare, done)
-    }
-
-    /// A copy of another line's segment arrives with the current line.
-    pub(crate) fn arrive(&mut self, host: Host, copied: u64, wire: &Wire) -> Result<u64, Stop> {
-        has_room(&self.world)?;
-        let world = &mut self.world;
-        let done = world.arrive(host, self.number, copied, wire, self.moment);
-        self.push_current(Extras::One(saturated(copied)), done)
-    }
-
-    /// A timer expires with the current line.
-    pub(crate) fn expire(&mut self, key: EndpointKey, expired: Expired) -> Result<u64, Stop> {
-        has_room(&self.world)?;
-        let done = self
-            .world
-            .expire(key.host(), key.ports(), expired, self.moment)
-            .map_err(StepFault::Broken);
-        self.push_current(extras_of(expired), done)
-    }
-
-    /// A timer expires with an added line, which precedes the first line that has no step yet.
-    pub(crate) fn add_expiry(&mut self, key: EndpointKey, expired: Expired) -> Done {
-        has_room(&self.world)?;
-        self.world
-            .expire(key.host(), key.ports(), expired, self.moment)
-            .map_err(Stop::Broken)?;
+    // Writes down an expiry with an added line.
+    fn push_added(&mut self, key: EndpointKey, expired: Expired) -> Done {
         self.push_line(extras_of(expired))?;
         self.findings.added.push(Added {
             before: self.next,
@@ -254,13 +174,117 @@ impl Progress {
         })?;
         Ok(())
     }
+}
+
+impl Progress {
+    /// Before the first line.
+    pub(crate) fn new(alloc: Global, header: &Header) -> Progress {
+        Progress {
+            world: World::start(alloc, header),
+            log: Log::new(alloc, header),
+        }
+    }
+
+    pub(crate) fn world(&self) -> &World {
+        &self.world
+    }
+
+    pub(crate) fn moment(&self) -> u64 {
+        self.log.moment
+    }
+
+    /// An endpoint. None: it doesn't exist.
+    pub(crate) fn endpoint(&self, key: EndpointKey) -> Option<&Endpoint> {
+        let body = self.world.body(key.host());
+        body.endpoint_of(key.lport, key.rport)
+    }
+
+    /// A segment that arrived with a line and waits, and the endpoint for which it is meant.
+    pub(crate) fn waiting(&self, host: Host, line: u64) -> Option<(EndpointKey, &Emission)> {
+        let m = self.world.waiting(host, line)?;
+        Some((EndpointKey::receiver(host, m), m))
+    }
+
+    /// An endpoint, and a segment as the endpoint reads it. None: it doesn't exist, or is CLOSED or beyond all
+    /// positions.
+    pub(crate) fn read<'m>(
+        &self,
+        key: EndpointKey,
+        m: &'m Emission,
+    ) -> Option<(&Endpoint, Arrived<'m>)> {
+        let endpoint = self.endpoint(key)?;
+        if endpoint.state.is_closed() {
+            return None;
+        }
+        let read = Arrived::checked_read(self.world.header().version, endpoint, m)?;
+        Some((endpoint, read))
+    }
+
+    /// The current line begins a call.
+    pub(crate) fn begin(&mut self, thread: u32, call: &Call) -> Result<u64, Stop> {
+        has_room(&self.world)?;
+        let done = self.world.begin(thread, call);
+        self.log.push_current(Extras::Bare, done)
+    }
+
+    /// The current line ends a call.
+    pub(crate) fn finish(&mut self, thread: u32, answer: &Answer) -> Result<u64, Stop> {
+        has_room(&self.world)?;
+        let done = self.world.finish(thread, answer);
+        self.log.push_current(Extras::Bare, done)
+    }
+
+    /// A host sends a built segment with the current line.
+    pub(crate) fn send(&mut self, host: Host, made: u32, wire: &Wire) -> Result<u64, Stop> {
+        has_room(&self.world)?;
+        let done = self
+            .world
+            .send(host, self.log.number, made, wire, self.log.moment);
+        self.log.push_current(Extras::One(made), done)
+    }
+
+    /// A segment of the host that isn't recorded arrives with the current line.
+    pub(crate) fn hear(&mut self, host: Host, wire: &Wire) -> Result<u64, Stop> {
+        has_room(&self.world)?;
+        let done = self
+            .world
+            .hear(host, self.log.number, wire, self.log.moment);
+        self.log.push_current(Extras::Bare, done)
+    }
+
+    /// A copy of another line's segment arrives with the current line.
+    pub(crate) fn arrive(&mut self, host: Host, copied: u64, wire: &Wire) -> Result<u64, Stop> {
+        has_room(&self.world)?;
+        let world = &mut self.world;
+        let done = world.arrive(host, self.log.number, copied, wire, self.log.moment);
+        self.log.push_current(Extras::One(saturated(copied)), done)
+    }
+
+    /// A timer expires with the current line.
+    pub(crate) fn expire(&mut self, key: EndpointKey, expired: Expired) -> Result<u64, Stop> {
+        has_room(&self.world)?;
+        let done = self
+            .world
+            .expire(key.host(), key.ports(), expired, self.log.moment)
+            .map_err(StepFault::Broken);
+        self.log.push_current(extras_of(expired), done)
+    }
+
+    /// A timer expires with an added line, which precedes the first line that has no step yet.
+    pub(crate) fn add_expiry(&mut self, key: EndpointKey, expired: Expired) -> Done {
+        has_room(&self.world)?;
+        self.world
+            .expire(key.host(), key.ports(), expired, self.log.moment)
+            .map_err(Stop::Broken)?;
+        self.log.push_added(key, expired)
+    }
 
     /// A thread's open call has its effect, with this answer.
     pub(crate) fn effect(&mut self, thread: u32, answer: &Answer) -> Done {
         has_room(&self.world)?;
         self.world.effect(thread, answer)?;
         let answer = answer.copy()?;
-        self.push_step(Label::D { thread, answer })
+        self.log.push_step(Label::D { thread, answer })
     }
 
     /// A host builds a segment. The result is the segment's number.
@@ -269,30 +293,30 @@ impl Progress {
         if plan.pos > GREATEST_POSITION {
             return Err(Stop::OutOfMemory);
         }
-        self.world.make(host, &plan, self.moment)?;
-        self.push_step(Label::M { host, plan })?;
+        self.world.make(host, &plan, self.log.moment)?;
+        self.log.push_step(Label::M { host, plan })?;
         Ok(self.world.count())
     }
 
     /// A host processes the segment that arrived with a line.
     pub(crate) fn take(&mut self, host: Host, line: u64, choice: TakeChoice) -> Done {
         has_room(&self.world)?;
-        self.world.take(host, line, choice, self.moment)?;
-        self.push_step(Label::T { host, line, choice })
+        self.world.take(host, line, choice, self.log.moment)?;
+        self.log.push_step(Label::T { host, line, choice })
     }
 
     /// A host drops the segment that arrived with a line.
     pub(crate) fn drop_arrival(&mut self, host: Host, line: u64) -> Done {
         has_room(&self.world)?;
         self.world.drop_arrival(host, line).map_err(Stop::Broken)?;
-        self.push_step(Label::K { host, line })
+        self.log.push_step(Label::K { host, line })
     }
 
     /// A host answers the segment that arrived with a line by a reset. The result is the reset's number.
     pub(crate) fn reply_with_reset(&mut self, host: Host, line: u64) -> Result<u32, Stop> {
         has_room(&self.world)?;
         self.world.reply_with_reset(host, line)?;
-        self.push_step(Label::R { host, line })?;
+        self.log.push_step(Label::R { host, line })?;
         Ok(self.world.count())
     }
 
@@ -300,8 +324,8 @@ impl Progress {
     pub(crate) fn recover(&mut self, host: Host, recovery: Recovery) -> Done {
         has_room(&self.world)?;
         self.world
-            .recover(host, recovery, self.moment)
+            .recover(host, recovery, self.log.moment)
             .map_err(Stop::Broken)?;
-        self.push_step(Label::F { host, recovery })
+        self.log.push_step(Label::F { host, recovery })
     }
 }

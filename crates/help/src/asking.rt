@@ -3,25 +3,7 @@
 ghost use Rattle.std.specs.Prelude.{◌≡◌, is_some, map};
 ghost use Rattle.help.specs.AskedHelp.{asks_help, is_help_option, is_subcommand, is_version_option};
 
-/// A program that has help.
-#[derive(Clone, Copy)]
-pub enum Program {
-    /// `tcpwit`, the checker.
-    Tcpwit,
-    /// `tcpwit_lab`, the programs around it.
-    TcpwitLab,
-}
-
-/// What words ask for.
-#[derive(Clone, Copy)]
-pub(crate) enum Topic<'a> {
-    /// The version of the program.
-    Version,
-    /// The help of the program.
-    Program,
-    /// The help of this subcommand.
-    Subcommand(&'a str),
-}
+use help_pages::{Program, Topic};
 
 /// What these words, which follow the program's name, ask for; None if for neither help nor the version.
 pub(crate) fn topic_of<'a>(program: Program, words: &[&'a str]) -> Option<Topic<'a>>

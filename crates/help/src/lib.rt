@@ -1,17 +1,11 @@
-//! What a program prints if it's asked for its help or its version: the texts are clap's.
+//! What a program prints if it's asked for its help or its version.
 //!
 //! - `asking`: the words that ask for it (`specs/AskedHelp`)
-//! - `command_line`: what the help of a program and of a subcommand says
-//! - `tcpwit`, `tcpwit_lab`: the command lines of both programs. Only help reads them: `cli` and the crate `tcpwit_lab`
-//!   say what the words mean.
-//! - `texts`: clap's texts for these words, and their printing
+//! - `texts`: the text for these words, and its printing. `help_pages` has the texts, which are clap's.
 #![tactic(auto)]
 
 mod asking;
-mod command_line;
-mod tcpwit;
-mod tcpwit_lab;
 mod texts;
 
-pub use asking::Program;
+pub use help_pages::Program;
 pub use texts::{help_text, print_help};

@@ -1,21 +1,16 @@
-//! Clap's texts.
+//! The text for the words that ask for it.
 
 ghost use Rattle.std.specs.Prelude.{◌≡◌, ◌≢◌, ◌<◌, ◌^◌, IfOk, is_some, map};
 ghost use Rattle.std.specs.Io.KnownBytes.{Appends};
 ghost use Rattle.counted.specs.Counting.{left_of, failures_of};
 ghost use Rattle.help.specs.AskedHelp.{asks_help};
 
-use crate::asking::{Program, Topic, topic_of};
-use crate::command_line::CommandLine;
-use crate::tcpwit::TCPWIT;
-use crate::tcpwit_lab::TCPWIT_LAB;
+use crate::asking::topic_of;
 use case_forms::OutOfMemory;
 use counted::Counted;
+use help_pages::{Program, help_page};
 use std::alloc::Global;
 use std::io::Write;
-
-/// The version of the programs, which the head of README.md names too.
-pub(crate) const VERSION: &str = "1.0";
 
 // The text was printed.
 const DONE: u8 = 0;
@@ -35,32 +30,8 @@ pub fn help_text<'a>(
     let Some(topic) = topic_of(program, words) else {
         return Ok(None);
     };
-    let text = text_about(alloc, command_line(program), topic)?;
+    let text = help_page(alloc, program, topic)?;
     Ok(Some(text))
-}
-
-// The text about a topic.
-fn text_about(alloc: Global, line: &CommandLine, topic: Topic<'_>) -> Result<String, OutOfMemory> {
-    let name = match topic {
-        Topic::Version => return format!(in alloc; "{} {VERSION}\n", line.name),
-        Topic::Program => return line.help(alloc, VERSION),
-        Topic::Subcommand(name) => name,
-    };
-    match line
-        .subcommands
-        .iter()
-        .find(|subcommand| subcommand.name == name)
-    {
-        Some(subcommand) => subcommand.help(alloc),
-        None => line.help(alloc, VERSION),
-    }
-}
-
-fn command_line(program: Program) -> &'static CommandLine {
-    match program {
-        Program::Tcpwit => &TCPWIT,
-        Program::TcpwitLab => &TCPWIT_LAB,
-    }
 }
 
 /// Writes a text and flushes. The status is 0, or 5 if a write failed. The count of failures has to be below 2^50

@@ -2,7 +2,7 @@
 
 use crate::numbers::Numbers;
 use crate::words::{AnswerWords, CallWords, FlagWords, HostName, word_if};
-use case_forms::{Event, Flags, Host, Label, Line, NamedLine, SegmentPlan};
+use case_forms::{Event, Flags, Host, Label, Line, NamedLine, Recovery, SegmentPlan, TakeChoice};
 use line_fields::timer_name;
 use segment::{Flag, Segment};
 use std::fmt;
@@ -30,10 +30,17 @@ impl fmt::Display for SegmentWords<'_> {
         if !seg.payload.is_empty() {
             write!(f, " +{}", seg.payload.len())?;
         }
-        if flags.ack {
-            write!(f, " ack {}", self.numbers.acknowledged(self.host, seg))?;
+        self.end(f, flags.ack)
+    }
+}
+
+impl SegmentWords<'_> {
+    // The acknowledgment, if there is one, and the window.
+    fn end<W: fmt::Write>(&self, f: &mut fmt::Formatter<W>, ack: bool) -> fmt::Result {
+        if ack {
+            write!(f, " ack {}", self.numbers.acknowledged(self.host, self.seg))?;
         }
-        write!(f, " win {}", seg.window)
+        write!(f, " win {}", self.seg.window)
     }
 }
 
@@ -56,7 +63,8 @@ impl EventWords<'_> {
         let verb = if at == host { "sends" } else { "receives" };
         let (numbers, src, dst) = (self.numbers, seg.src, seg.dst);
         let words = SegmentWords { numbers, host, seg };
-        write!(f, "{} {verb} {src} to {dst}: {words}", HostName(at))
+        write!(f, "{} {verb} ", HostName(at))?;
+        write!(f, "{src} to {dst}: {words}")
     }
 }
 
@@ -69,11 +77,21 @@ impl fmt::Display for EventWords<'_> {
             Event::Sent(host, wire) => self.passing(f, *host, *host, &wire.seg),
             Event::Came(host, wire) => self.passing(f, *host, host.other(), &wire.seg),
             Event::Expired(host, lport, rport, timer) => {
-                let (host, timer) = (HostName(*host), timer_name(*timer));
-                write!(f, "{host}: timer {timer} expires at {lport} to {rport}")
+                expire(f, *host, timer_name(*timer), *lport, *rport)
             }
         }
     }
+}
+
+fn expire<W: fmt::Write>(
+    f: &mut fmt::Formatter<W>,
+    host: Host,
+    timer: &str,
+    lport: u16,
+    rport: u16,
+) -> fmt::Result {
+    write!(f, "{}: timer {timer} ", HostName(host))?;
+    write!(f, "expires at {lport} to {rport}")
 }
 
 /// What a step does.
@@ -89,24 +107,40 @@ impl fmt::Display for StepWords<'_> {
                 write!(f, "the call of thread {thread} has its effect:{answer}")
             }
             Label::M { host, plan } => write!(f, "{} builds {}", HostName(*host), PlanWords(plan)),
-            Label::T { host, line, choice } => {
-                let kept = if choice.keep { "kept" } else { "not kept" };
-                let measured = word_if(choice.sample, ", measured");
-                write!(f, "{} processes line {line}", HostName(*host))?;
-                write!(f, ", cwnd {}, {kept}{measured}", choice.cwnd)
-            }
+            Label::T { host, line, choice } => process(f, *host, *line, *choice),
             Label::K { host, line } => write!(f, "{} drops line {line}", HostName(*host)),
             Label::R { host, line } => {
                 write!(f, "{} answers line {line} with a reset", HostName(*host))
             }
-            Label::F { host, recovery } => {
-                let (host, lport, rport) = (HostName(*host), recovery.lport, recovery.rport);
-                let (cwnd, ssthresh) = (recovery.cwnd, recovery.ssthresh);
-                write!(f, "{host} begins fast recovery at {lport} to {rport}")?;
-                write!(f, ", cwnd {cwnd}, ssthresh {ssthresh}")
-            }
+            Label::F { host, recovery } => recover(f, *host, *recovery),
         }
     }
+}
+
+fn process<W: fmt::Write>(
+    f: &mut fmt::Formatter<W>,
+    host: Host,
+    line: u64,
+    choice: TakeChoice,
+) -> fmt::Result {
+    let kept = if choice.keep { "kept" } else { "not kept" };
+    write!(f, "{} processes line {line}", HostName(host))?;
+    write!(f, ", cwnd {}, {kept}", choice.cwnd)?;
+    write!(f, "{}", word_if(choice.sample, ", measured"))
+}
+
+fn recover<W: fmt::Write>(
+    f: &mut fmt::Formatter<W>,
+    host: Host,
+    recovery: Recovery,
+) -> fmt::Result {
+    write!(f, "{} begins fast recovery ", HostName(host))?;
+    write!(f, "at {} to {}", recovery.lport, recovery.rport)?;
+    write!(
+        f,
+        ", cwnd {}, ssthresh {}",
+        recovery.cwnd, recovery.ssthresh
+    )
 }
 
 // A segment that is built: its ports, flags, position, byte count and window.
@@ -117,7 +151,8 @@ impl fmt::Display for PlanWords<'_> {
     fn fmt<W: fmt::Write>(&self, f: &mut fmt::Formatter<W>) -> fmt::Result {
         let plan = self.0;
         let flags = FlagWords(plan.flags);
-        write!(f, "{} to {}: {flags}{}", plan.lport, plan.rport, plan.pos)?;
+        write!(f, "{} to {}: ", plan.lport, plan.rport)?;
+        write!(f, "{flags}{}", plan.pos)?;
         write!(f, " +{} win {}", plan.len, plan.window)
     }
 }

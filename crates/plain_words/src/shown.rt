@@ -18,16 +18,20 @@ pub struct Shown<'t>(pub &'t [u8]);
 impl fmt::Display for Shown<'_> {
     fn fmt<W: fmt::Write>(&self, f: &mut fmt::Formatter<W>) -> fmt::Result {
         for byte in self.0.iter().take(SHOWN) {
-            if is_shown(*byte) {
-                write!(f, "{}", char::from(*byte))?;
-            } else {
-                write!(f, "\\x{byte:02x}")?;
-            }
+            escape(f, *byte)?;
         }
         if SHOWN <= self.0.len() {
             write!(f, " .. ({} bytes)", self.0.len())?;
         }
         Ok(())
+    }
+}
+
+fn escape<W: fmt::Write>(f: &mut fmt::Formatter<W>, byte: u8) -> fmt::Result {
+    if is_shown(byte) {
+        write!(f, "{}", char::from(byte))
+    } else {
+        write!(f, "\\x{byte:02x}")
     }
 }
 

@@ -29,7 +29,10 @@ impl fmt::Display for FlagWords {
         let (syn, rst) = (word_if(flags.syn, "SYN "), word_if(flags.rst, "RST "));
         let (fin, ack) = (word_if(flags.fin, "FIN "), word_if(flags.ack, "ACK "));
         let is_bare = !flags.syn && !flags.rst && !flags.fin && !flags.ack;
-        write!(f, "{syn}{rst}{fin}{ack}{}", word_if(is_bare, "- "))
+        for word in [syn, rst, fin, ack, word_if(is_bare, "- ")] {
+            write!(f, "{word}")?;
+        }
+        Ok(())
     }
 }
 
@@ -40,23 +43,49 @@ pub struct CallWords<'c>(pub &'c Call);
 impl fmt::Display for CallWords<'_> {
     fn fmt<W: fmt::Write>(&self, f: &mut fmt::Formatter<W>) -> fmt::Result {
         match self.0 {
-            Call::Listen(host, port, backlog) => {
-                let host = HostName(*host);
-                write!(f, "listen at {host} on port {port}, backlog {backlog}")
+            Call::Listen(host, port, backlog) => listen(f, *host, *port, *backlog),
+            Call::Connect(host, lport, rport) => open(f, *host, *lport, *rport),
+            Call::Send(socket, bytes) => {
+                on_socket(f, "send", *socket)?;
+                write!(f, ", {} bytes", bytes.len())
             }
-            Call::Connect(host, lport, rport) => {
-                write!(f, "open at {}, port {lport} to {rport}", HostName(*host))
+            Call::Recv(socket, most) => {
+                on_socket(f, "recv", *socket)?;
+                write!(f, ", at most {most}")
             }
-            Call::Send(socket, bytes) => write!(f, "send {socket}, {} bytes", bytes.len()),
-            Call::Recv(socket, most) => write!(f, "recv {socket}, at most {most}"),
-            Call::Await(socket) => write!(f, "await {socket}"),
-            Call::Accept(socket) => write!(f, "accept {socket}"),
-            Call::Shut(socket) => write!(f, "shut {socket}"),
-            Call::Close(socket) => write!(f, "close {socket}"),
-            Call::Abort(socket) => write!(f, "abort {socket}"),
-            Call::Status(socket) => write!(f, "status {socket}"),
+            Call::Await(socket) => on_socket(f, "await", *socket),
+            Call::Accept(socket) => on_socket(f, "accept", *socket),
+            Call::Shut(socket) => on_socket(f, "shut", *socket),
+            Call::Close(socket) => on_socket(f, "close", *socket),
+            Call::Abort(socket) => on_socket(f, "abort", *socket),
+            Call::Status(socket) => on_socket(f, "status", *socket),
         }
     }
+}
+
+// A call on a socket, in the words of the text. Each write is a call of its own, which is quicker to prove.
+fn on_socket<W: fmt::Write>(f: &mut fmt::Formatter<W>, call: &str, socket: u32) -> fmt::Result {
+    write!(f, "{call} {socket}")
+}
+
+fn listen<W: fmt::Write>(
+    f: &mut fmt::Formatter<W>,
+    host: Host,
+    port: u16,
+    backlog: u16,
+) -> fmt::Result {
+    write!(f, "listen at {} ", HostName(host))?;
+    write!(f, "on port {port}, backlog {backlog}")
+}
+
+fn open<W: fmt::Write>(
+    f: &mut fmt::Formatter<W>,
+    host: Host,
+    lport: u16,
+    rport: u16,
+) -> fmt::Result {
+    write!(f, "open at {}, ", HostName(host))?;
+    write!(f, "port {lport} to {rport}")
 }
 
 /// An answer after a space, with a count instead of bytes.
@@ -79,20 +108,29 @@ pub struct AnswerFields<'a>(pub &'a Answer);
 impl fmt::Display for AnswerFields<'_> {
     fn fmt<W: fmt::Write>(&self, f: &mut fmt::Formatter<W>) -> fmt::Result {
         match self.0 {
-            Answer::Done => write!(f, " ok"),
             Answer::Given(count) => write!(f, " ok {count}"),
             Answer::Bytes(bytes) => write!(f, " data {}", Hex(bytes.as_slice())),
             Answer::State(state) => write!(f, " state {}", state_name(*state)),
-            Answer::Again => write!(f, " again"),
-            Answer::Eof => write!(f, " eof"),
-            Answer::Closed => write!(f, " closed"),
-            Answer::NotConn => write!(f, " notconn"),
-            Answer::Refused => write!(f, " refused"),
-            Answer::Reset => write!(f, " reset"),
-            Answer::Timeout => write!(f, " timeout"),
-            Answer::InUse => write!(f, " inuse"),
-            Answer::BadSocket => write!(f, " badsocket"),
+            answer => write!(f, " {}", answer_word(answer)),
         }
+    }
+}
+
+// The first field of an answer.
+fn answer_word(answer: &Answer) -> &'static str {
+    match answer {
+        Answer::Done | Answer::Given(_) => "ok",
+        Answer::Bytes(_) => "data",
+        Answer::State(_) => "state",
+        Answer::Again => "again",
+        Answer::Eof => "eof",
+        Answer::Closed => "closed",
+        Answer::NotConn => "notconn",
+        Answer::Refused => "refused",
+        Answer::Reset => "reset",
+        Answer::Timeout => "timeout",
+        Answer::InUse => "inuse",
+        Answer::BadSocket => "badsocket",
     }
 }
 

@@ -58,11 +58,11 @@ fn built_before(endpoint: &Endpoint, m: &Arrived<'_>, wire: &Wire) -> Option<boo
 impl<'t> Pass<'t> {
     /// The current line shows an arrival.
     pub(crate) fn receive(&mut self, host: Host, wire: &'t Wire) -> Done {
-        let place = self.progress.place();
+        let place = self.progress.log.place();
         let how = self.choices.arrival(place);
         let line = self.bring_in(host, wire, how)?;
         if self.widening(host, line).is_some() {
-            self.progress.findings.beyond.push(place)?;
+            self.progress.log.findings.beyond.push(place)?;
         }
         let moment = self.progress.moment();
         let waiting = Waiting {
@@ -86,7 +86,7 @@ impl<'t> Pass<'t> {
         match self.turn_of(waiting) {
             Turn::Now => self.process(waiting.host, waiting.line, how),
             Turn::Late(key) => {
-                self.progress.findings.late.push(waiting.place)?;
+                self.progress.log.findings.late.push(waiting.place)?;
                 Ok(self.late.put(key, waiting)?)
             }
             Turn::TooLate => self.resolve_arrival(waiting.host, waiting.line, how),
@@ -205,10 +205,18 @@ impl<'t> Pass<'t> {
         if how.is_widened {
             self.widen(host, line)?;
         }
-        let is_resolved = self.try_processing(host, line, how)?
-            || (self.leaves_time_wait(host, line)? && self.try_processing(host, line, how)?)
-            || self.try_answer(host, line)?;
-        if is_resolved {
+        if self.try_processing(host, line, how)? {
+            return Ok(());
+        }
+        if self.leaves_time_wait(host, line)? && self.try_processing(host, line, how)? {
+            return Ok(());
+        }
+        self.answer_or_drop(host, line)
+    }
+
+    // Answers an arrival by a reset, or drops it.
+    fn answer_or_drop(&mut self, host: Host, line: u64) -> Done {
+        if self.try_answer(host, line)? {
             return Ok(());
         }
         self.progress.drop_arrival(host, line)
@@ -338,7 +346,7 @@ impl<'t> Pass<'t> {
         let lines = self.sought.lines;
         let event = lines.get(place).map(|line| &line.event);
         if let Some(Event::Sent(host, wire)) = event {
-            if self.progress.is_ahead(place) && !self.outgoing.is_built(place) {
+            if self.progress.log.is_ahead(place) && !self.outgoing.is_built(place) {
                 let key = EndpointKey::sender(*host, wire);
                 self.try_making(Shown { key, place, wire })?;
             }

@@ -32,16 +32,23 @@ fn timer_for(answer: &Answer) -> Option<Timer> {
 impl Pass<'_> {
     /// The current line begins a call; the call has its effect if that's permitted.
     pub(crate) fn begin(&mut self, thread: u32, call: &Call) -> Done {
-        let place = self.progress.place();
+        let place = self.progress.log.place();
         self.progress.begin(thread, call)?;
         self.calls.open.insert(thread, place)?;
-        if let Some(key) = key_of_call(self.progress.world(), thread) {
-            self.progress.findings.meant.push(MeantCall { place, key })?;
-        }
+        self.note_meant(place, thread)?;
         if self.choices.waits(place) {
             return Ok(());
         }
         self.try_first(place, thread, call)
+    }
+
+    // Writes down what the call of a thread means, which begins at a place.
+    fn note_meant(&mut self, place: usize, thread: u32) -> Done {
+        if let Some(key) = key_of_call(self.progress.world(), thread) {
+            let meant = &mut self.progress.log.findings.meant;
+            meant.push(MeantCall { place, key })?;
+        }
+        Ok(())
     }
 
     /// A call has its effect if that's permitted; else it waits.
@@ -53,12 +60,21 @@ impl Pass<'_> {
         };
         let meant = meant_by(self.progress.world(), call);
         if self.has_effect(pending)? {
-            // What ends or closes something lets calls go on that wait for it.
-            return match (call, meant) {
-                (Call::Shut(_) | Call::Close(_) | Call::Abort(_), Some(meant)) => self.wake(meant),
-                _ => Ok(()),
-            };
+            return self.wake_after(call, meant);
         }
+        self.wait(pending, call, meant)
+    }
+
+    // What ends or closes something lets calls go on that wait for it.
+    fn wake_after(&mut self, call: &Call, meant: Option<Meant>) -> Done {
+        match (call, meant) {
+            (Call::Shut(_) | Call::Close(_) | Call::Abort(_), Some(meant)) => self.wake(meant),
+            _ => Ok(()),
+        }
+    }
+
+    // A call waits until it may have its effect.
+    fn wait(&mut self, pending: Pending, call: &Call, meant: Option<Meant>) -> Done {
         match (call, meant) {
             (Call::Connect(host, lport, rport), _) => {
                 self.wait_for_ports(pending, EndpointKey::new(*host, *lport, *rport))
@@ -118,7 +134,7 @@ impl Pass<'_> {
         let done = self.progress.effect(thread, answer);
         if let Err(Stop::Broken(_)) = done {
             let answer = answer.copy()?;
-            self.progress.push_step(Label::D { thread, answer })?;
+            self.progress.log.push_step(Label::D { thread, answer })?;
         }
         done
     }

@@ -8,7 +8,7 @@ use crate::outgoing::Shown;
 use crate::stop::{Done, Stop};
 use case_forms::{Flags, Host, Label, POSITIONS, SegmentPlan, Timer, Wire};
 use endpoint_state::Endpoint;
-use segment::Flag;
+use segment::{Flag, Segment};
 use seqno::{Word, read_near};
 use verdict::Rule;
 
@@ -24,16 +24,25 @@ pub(crate) fn position_of(endpoint: &Endpoint, seq: Word) -> Option<u64> {
     read_near(near, endpoint.iss?, seq)
 }
 
+fn flags_of(seg: &Segment) -> Flags {
+    Flags {
+        ack: seg.has(Flag::Ack),
+        rst: seg.has(Flag::Rst),
+        syn: seg.has(Flag::Syn),
+        fin: seg.has(Flag::Fin),
+    }
+}
+
+// The shift that a segment carries, of which more than 14 counts as 14.
+fn shift_of(seg: &Segment) -> Option<u8> {
+    seg.scale.map(|shift| shift.min(14))
+}
+
 impl<'t> Pass<'t> {
     /// The segment that a line shows, as its endpoint has to build it.
     pub(crate) fn plan_of(&self, key: EndpointKey, wire: &Wire) -> SegmentPlan {
         let seg = &wire.seg;
-        let flags = Flags {
-            ack: seg.has(Flag::Ack),
-            rst: seg.has(Flag::Rst),
-            syn: seg.has(Flag::Syn),
-            fin: seg.has(Flag::Fin),
-        };
+        let flags = flags_of(seg);
         let endpoint = self.progress.endpoint(key);
         let pos = endpoint.and_then(|endpoint| position_of(endpoint, seg.seq));
         let is_first = flags.syn && endpoint.is_none_or(|endpoint| endpoint.iss.is_none());
@@ -46,14 +55,14 @@ impl<'t> Pass<'t> {
             flags,
             window: seg.window,
             iss: is_first.then_some(seg.seq),
-            shift: seg.scale.filter(|_| is_scaled).map(|shift| shift.min(14)),
+            shift: if is_scaled { shift_of(seg) } else { None },
         }
     }
 
     /// The current line shows a segment sent: it is built, unless it was before.
     pub(crate) fn send(&mut self, host: Host, wire: &'t Wire) -> Done {
         let key = EndpointKey::sender(host, wire);
-        let place = self.progress.place();
+        let place = self.progress.log.place();
         let made = match self.outgoing.start_sending(Shown { key, place, wire })? {
             Some(made) => made,
             None => self.make_shown(key, wire)?,
@@ -84,16 +93,35 @@ impl<'t> Pass<'t> {
             let Err(Stop::Broken(rule)) = made else {
                 return made;
             };
-            if !self.remedy(key, plan, rule)? && !self.hurry(key)? {
+            if !self.remedy_or_hurry(key, plan, rule)? {
                 break;
             }
         }
-        let plan = self.plan_of(key, wire);
+        self.make_at_last(key, wire)
+    }
+
+    // Builds the segment that a line shows. If that isn't permitted, the witness ends with this step.
+    fn make_at_last(&mut self, key: EndpointKey, wire: &Wire) -> Result<u32, Stop> {
+        let (host, plan) = (key.host(), self.plan_of(key, wire));
         let made = self.progress.make(host, plan);
         if let Err(Stop::Broken(_)) = made {
-            self.progress.push_step(Label::M { host, plan })?;
+            self.progress.log.push_step(Label::M { host, plan })?;
         }
         made
+    }
+
+    // Does what may permit a segment that breaks this rule, or processes what is late. The result is whether something
+    // was done.
+    fn remedy_or_hurry(
+        &mut self,
+        key: EndpointKey,
+        plan: SegmentPlan,
+        rule: Rule,
+    ) -> Result<bool, Stop> {
+        if self.remedy(key, plan, rule)? {
+            return Ok(true);
+        }
+        self.hurry(key)
     }
 
     // Does what may permit a segment that breaks this rule. The result is whether something was done.
@@ -135,12 +163,21 @@ impl<'t> Pass<'t> {
     fn permit_old_data(&mut self, key: EndpointKey) -> Result<bool, Stop> {
         let endpoint = self.progress.endpoint(key);
         let is_closed = endpoint.is_some_and(|endpoint| endpoint.window.snd_wnd == 0);
-        Ok(
-            (is_closed && self.add_expiry(key, Timer::Persist)?)
-                || self.try_recovery(key)?
-                || self.add_expiry(key, Timer::Rto)?
-                || self.add_expiry(key, Timer::Persist)?,
-        )
+        if is_closed && self.add_expiry(key, Timer::Persist)? {
+            return Ok(true);
+        }
+        if self.try_recovery(key)? {
+            return Ok(true);
+        }
+        self.expire_any(key)
+    }
+
+    // A timer expires: the retransmission timer, or else the persist timer.
+    fn expire_any(&mut self, key: EndpointKey) -> Result<bool, Stop> {
+        if self.add_expiry(key, Timer::Rto)? {
+            return Ok(true);
+        }
+        self.add_expiry(key, Timer::Persist)
     }
 
     fn suppose_at(&mut self, key: EndpointKey) -> Result<bool, Stop> {

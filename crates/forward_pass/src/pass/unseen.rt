@@ -104,7 +104,7 @@ impl Pass<'_> {
             let Some(plan) = self.unseen_plan(key, unseen, to) else {
                 break;
             };
-            if permitted(self.progress.make(key.host(), plan))?.is_none() {
+            if !self.try_plan(key.host(), plan)? {
                 break;
             }
             is_made = true;
@@ -116,6 +116,11 @@ impl Pass<'_> {
             self.wake_endpoint(key)?;
         }
         Ok(is_made)
+    }
+
+    // Builds a segment. The result is whether that's permitted.
+    fn try_plan(&mut self, host: Host, plan: SegmentPlan) -> Result<bool, Stop> {
+        Ok(permitted(self.progress.make(host, plan))?.is_some())
     }
 
     // The next segment that an endpoint can build. None: it has nothing to send.

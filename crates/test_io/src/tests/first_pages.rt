@@ -1,10 +1,12 @@
 //! The calls that the first pages of the libraries show.
 
+use crate::tests::segments::is_encoded;
 use checker::check_case;
 use parallel_check::check_many_plain;
-use segment::{Flag, decode, encode};
+use segment::{Flag, decode};
+use std::alloc::Global;
 use std::test::Fail;
-use trace_reader::{print_trace, read_trace};
+use trace_reader::{TextFault, print_trace, read_trace};
 use verdict::Verdict;
 use witness::{print_witness, read_witness};
 
@@ -44,38 +46,38 @@ fn cases_are_checked(rt: HostRuntime) -> Result<(), Fail> {
     Ok(())
 }
 
-// The page of `trace_reader`.
-#[test]
-fn a_trace_is_read_and_printed(rt: HostRuntime) -> Result<(), Fail> {
-    let alloc = rt.alloc();
+// The page of `trace_reader`: whether the trace is read and printed.
+fn is_trace_printed(alloc: Global) -> Result<bool, TextFault> {
     let trace = read_trace(alloc, TRACE.as_bytes())?;
-    assert!(rt; trace.lines.as_slice().len() == 4);
     let text = print_trace(alloc, &trace)?;
-    assert!(rt; text.as_slice() == TRACE.as_bytes());
-    Ok(())
+    Ok(trace.lines.as_slice().len() == 4 && text.as_slice() == TRACE.as_bytes())
 }
 
-// The page of `witness`.
-#[test]
-fn a_witness_is_read_and_printed(rt: HostRuntime) -> Result<(), Fail> {
-    let alloc = rt.alloc();
+// The page of `witness`: whether the witness is read and printed.
+fn is_witness_printed(alloc: Global) -> Result<bool, TextFault> {
     let witness = read_witness(alloc, WITNESS.as_bytes())?;
-    assert!(rt; witness.steps.as_slice().len() == 6);
     let text = print_witness(alloc, &witness)?;
-    assert!(rt; text.as_slice() == WITNESS.as_bytes());
-    Ok(())
+    Ok(witness.steps.as_slice().len() == 6 && text.as_slice() == WITNESS.as_bytes())
 }
 
-// The page of `segment`.
+const SEGMENT: &[u8] =
+    b"\x00\x50\x0f\xa0\x00\x00\x00\x64\xff\xff\xff\xff\x60\x12\xff\xff\x00\x00\x00\x00\x02\x04\x03\xe8hi";
+
+// The page of `segment`: whether the segment is read and written.
+fn is_segment_written(alloc: Global) -> bool {
+    let Ok(segment) = decode(alloc, SEGMENT) else {
+        return false;
+    };
+    if segment.src != 80 || !segment.has(Flag::Syn) || segment.mss != Some(1000) {
+        return false;
+    }
+    segment.payload.as_slice() == b"hi".as_slice() && is_encoded(alloc, &segment, SEGMENT)
+}
+
 #[test]
-fn a_segment_is_read_and_written(rt: HostRuntime) -> Result<(), Fail> {
+fn texts_and_segments_are_read_and_written(rt: HostRuntime) -> Result<(), Fail> {
     let alloc = rt.alloc();
-    let bytes =
-        b"\x00\x50\x0f\xa0\x00\x00\x00\x64\xff\xff\xff\xff\x60\x12\xff\xff\x00\x00\x00\x00\x02\x04\x03\xe8hi";
-    let segment = decode(alloc, bytes)?;
-    assert!(rt; segment.src == 80 && segment.has(Flag::Syn) && segment.mss == Some(1000));
-    assert!(rt; segment.payload.as_slice() == b"hi".as_slice());
-    let written = encode(alloc, &segment)?;
-    assert!(rt; written.as_slice() == bytes.as_slice());
+    let (trace, witness) = (is_trace_printed(alloc)?, is_witness_printed(alloc)?);
+    assert!(rt; trace && witness && is_segment_written(alloc));
     Ok(())
 }

@@ -2,10 +2,12 @@
 
 ghost use Rattle.trace_reader.specs.TraceLeft.{IsBegun, IsFresh};
 
+use crate::tests::counted_calls::push_counts;
 use crate::tests::ends::Source;
+use case_forms::OutOfMemory;
 use counted::Counted;
-use line_fields::SourceFault;
-use std::alloc::{AllocError, Global};
+use line_fields::{SourceFault, push_word};
+use std::alloc::Global;
 use std::test::Fail;
 use trace_reader::{Lines, TextFault, Trace, TraceReader, Version, event_line, print_trace};
 use witness::{StepReader, Steps, Witness, print_witness};
@@ -48,58 +50,91 @@ const WITNESS: &str = "witness 2\n\
 3 M 0 4000 80 0 0 S 65535 4294967294 14\n\
 2 T 1 16 2144 0 1\n";
 
-// All lines, of which there are at most a hundred.
-fn all_lines(alloc: Global, reader: &mut TraceReader<Source<'_>>) -> Result<Trace, SourceFault>
-    requires { IsFresh reader.old }
-    ensures { IsBegun reader.new }
+// Reads all lines, of which there are at most a hundred.
+fn read_lines(reader: &mut TraceReader<Source<'_>>, lines: &mut Lines) -> Result<(), SourceFault>
+    requires { IsBegun reader.old }
 {
-    let header = reader.header()?;
-    let mut lines = Lines::new(alloc);
     for _ in 0..100 {
         match reader.next()? {
             Some(line) => lines.push(line).map_err(TextFault::from)?,
-            None => return Ok(Trace { header, lines }),
+            None => return Ok(()),
         }
-    }
-    Ok(Trace { header, lines })
-}
-
-#[test]
-fn a_trace_is_the_same_in_pieces(rt: HostRuntime) -> Result<(), Fail> {
-    for size in [1, 7, 4096] {
-        let source = Counted::new(Source::new(TRACE.as_bytes(), size, 0));
-        let mut reader = TraceReader::new(rt.alloc(), source);
-        let trace = all_lines(rt.alloc(), &mut reader)?;
-        let printed = print_trace(rt.alloc(), &trace)?;
-        assert!(rt; printed.as_slice() == TRACE.as_bytes());
     }
     Ok(())
 }
 
-// All steps, of which there are at most a hundred.
-fn all_steps(alloc: Global, reader: &mut StepReader<Source<'_>>) -> Result<Witness, SourceFault> {
-    let mut steps = Steps::new(alloc);
+// What a reader reads, as it is printed.
+fn printed_trace(
+    alloc: Global,
+    reader: &mut TraceReader<Source<'_>>,
+) -> Result<Vec<u8>, SourceFault>
+    requires { IsFresh reader.old }
+{
+    let header = reader.header()?;
+    let mut trace = Trace {
+        header,
+        lines: Lines::new(alloc),
+    };
+    read_lines(reader, &mut trace.lines)?;
+    Ok(print_trace(alloc, &trace).map_err(TextFault::from)?)
+}
+
+// Whether the trace is the same if so many bytes are read in each call.
+fn is_same_trace(alloc: Global, size: usize) -> Result<bool, SourceFault> {
+    let source = Counted::new(Source::new(TRACE.as_bytes(), size, 0));
+    let mut reader = TraceReader::new(alloc, source);
+    let printed = printed_trace(alloc, &mut reader)?;
+    Ok(printed.as_slice() == TRACE.as_bytes())
+}
+
+// Reads all steps, of which there are at most a hundred.
+fn read_steps(reader: &mut StepReader<Source<'_>>, steps: &mut Steps) -> Result<(), SourceFault> {
     for _ in 0..100 {
         match reader.next()? {
             Some(step) => steps.push(step).map_err(TextFault::from)?,
-            None => break,
+            None => return Ok(()),
         }
     }
-    Ok(Witness {
+    Ok(())
+}
+
+// What a reader reads, as it is printed.
+fn printed_witness(
+    alloc: Global,
+    reader: &mut StepReader<Source<'_>>,
+) -> Result<Vec<u8>, SourceFault> {
+    let mut witness = Witness {
         version: Version::Two,
-        steps,
-    })
+        steps: Steps::new(alloc),
+    };
+    read_steps(reader, &mut witness.steps)?;
+    Ok(print_witness(alloc, &witness).map_err(TextFault::from)?)
+}
+
+// Whether the witness is the same if so many bytes are read in each call.
+fn is_same_witness(alloc: Global, size: usize) -> Result<bool, SourceFault> {
+    let source = Counted::new(Source::new(WITNESS.as_bytes(), size, 0));
+    let mut reader = StepReader::new(alloc, Version::Two, source);
+    let printed = printed_witness(alloc, &mut reader)?;
+    Ok(printed.as_slice() == WITNESS.as_bytes())
+}
+
+// Which texts aren't the same for some number of bytes.
+fn first_changed(alloc: Global) -> Result<&'static str, SourceFault> {
+    for size in [1, 7, 4096] {
+        if !is_same_trace(alloc, size)? {
+            return Ok("the trace");
+        }
+        if !is_same_witness(alloc, size)? {
+            return Ok("the witness");
+        }
+    }
+    Ok("none")
 }
 
 #[test]
-fn a_witness_is_the_same_in_pieces(rt: HostRuntime) -> Result<(), Fail> {
-    for size in [1, 7, 4096] {
-        let source = Counted::new(Source::new(WITNESS.as_bytes(), size, 0));
-        let mut reader = StepReader::new(rt.alloc(), Version::Two, source);
-        let witness = all_steps(rt.alloc(), &mut reader)?;
-        let printed = print_witness(rt.alloc(), &witness)?;
-        assert!(rt; printed.as_slice() == WITNESS.as_bytes());
-    }
+fn texts_are_the_same_in_pieces(rt: HostRuntime) -> Result<(), Fail> {
+    assert_eq!(rt; first_changed(rt.alloc())?, "none");
     Ok(())
 }
 
@@ -113,76 +148,114 @@ fn word<T>(read: &Result<Option<T>, SourceFault>) -> &'static str {
     }
 }
 
-// What is read from a header of version 1 and these lines, then how many of the calls failed.
-fn trace_read(alloc: Global, lines: &str, fails_at: u32) -> Result<String, AllocError> {
-    let text = format!(in alloc; "trace 1\nskew 0\nmsl 1\ngrain 1\nminrto 1\nextra 0\n{lines}")?;
-    let mut source = Source::new(text.as_bytes(), 4096, fails_at);
-    let mut reader = TraceReader::new(alloc, Counted::new(&mut source));
-    let mut told = String::new(alloc);
-    told.push_str(if reader.header().is_ok() {
+// Words for the header and two lines.
+fn trace_words(reader: &mut TraceReader<&mut Source<'_>>) -> [&'static str; 3]
+    requires { IsFresh reader.old }
+{
+    let header = if reader.header().is_ok() {
         "header "
     } else {
         "x "
-    })?;
-    told.push_str(word(&reader.next()))?;
-    told.push_str(word(&reader.next()))?;
-    let failures = reader.into_source().failures();
-    told.push_str(format!(in alloc; "{failures} of {}", source.calls)?.as_str())?;
-    Ok(told)
+    };
+    let first = word(&reader.next());
+    let second = word(&reader.next());
+    [header, first, second]
 }
 
-// Six calls read the header, one a line, and one the end: nothing is read ahead, and after a failure or a fault nothing
-// at all.
-#[test]
-fn a_trace_is_read_up_to_a_failure(rt: HostRuntime) -> Result<(), Fail> {
-    for (lines, fails_at, wanted) in [
-        ("10 1 B close 5\n", 1, "x x x 1 of 1"),
-        ("10 1 B close 5\n", 6, "x x x 1 of 6"),
-        ("10 1 B close 5\n", 7, "header x x 1 of 7"),
-        ("10 1 B close 5\n", 8, "header line x 1 of 8"),
-        ("10 1 B close 5\n", 9, "header line end 0 of 8"),
-        ("10 1 B\n10 1 B close 5\n", 9, "header fault fault 0 of 7"),
-    ] {
-        let told = trace_read(rt.alloc(), lines, fails_at)?;
-        assert_eq!(rt; told.as_str(), wanted);
+// What is read from this trace, then how many of the calls failed.
+fn tell_trace(
+    alloc: Global,
+    told: &mut Vec<u8>,
+    text: &str,
+    fails_at: u32,
+) -> Result<(), OutOfMemory> {
+    let mut source = Source::new(text.as_bytes(), 4096, fails_at);
+    let mut reader = TraceReader::new(alloc, Counted::new(&mut source));
+    let words = trace_words(&mut reader);
+    let failures = reader.into_source().failures();
+    push_words(told, &words)?;
+    push_counts(told, failures, source.calls)
+}
+
+fn push_words(told: &mut Vec<u8>, words: &[&str]) -> Result<(), OutOfMemory> {
+    for word in words {
+        push_word(told, word)?;
     }
     Ok(())
 }
 
 // What is read from this witness of version 1, then how many of the calls failed.
-fn witness_read(alloc: Global, text: &[u8], fails_at: u32) -> Result<String, AllocError> {
-    let mut source = Source::new(text, 4096, fails_at);
+fn tell_witness(
+    alloc: Global,
+    told: &mut Vec<u8>,
+    text: &str,
+    fails_at: u32,
+) -> Result<(), OutOfMemory> {
+    let mut source = Source::new(text.as_bytes(), 4096, fails_at);
     let mut reader = StepReader::new(alloc, Version::One, Counted::new(&mut source));
-    let mut told = String::new(alloc);
-    told.push_str(word(&reader.next()))?;
-    told.push_str(word(&reader.next()))?;
+    let words = [word(&reader.next()), word(&reader.next())];
     let failures = reader.into_source().failures();
-    told.push_str(format!(in alloc; "{failures} of {}", source.calls)?.as_str())?;
-    Ok(told)
+    push_words(told, &words)?;
+    push_counts(told, failures, source.calls)
 }
 
-// One call reads the first line, one a step, and one the end; after a failure or a fault nothing is read.
-#[test]
-fn a_witness_is_read_up_to_a_failure(rt: HostRuntime) -> Result<(), Fail> {
-    let table: [(&[u8], u32, &str); 5] = [
-        (b"witness 1\n10 L 7\n", 1, "x x 1 of 1"),
-        (b"witness 1\n10 L 7\n", 2, "x x 1 of 2"),
-        (b"witness 1\n10 L 7\n", 3, "line x 1 of 3"),
-        (b"witness 1\n10 L 7\n", 4, "line end 0 of 3"),
-        (b"witness 1\n10 L x\n10 L 7\n", 4, "fault fault 0 of 2"),
-    ];
-    for (text, fails_at, wanted) in table {
-        let told = witness_read(rt.alloc(), text, fails_at)?;
-        assert_eq!(rt; told.as_str(), wanted);
+// Texts of a line or a step each, and with a fault before it.
+const LINE: &str = "trace 1\nskew 0\nmsl 1\ngrain 1\nminrto 1\nextra 0\n10 1 B close 5\n";
+
+const LINE_AFTER_FAULT: &str =
+    "trace 1\nskew 0\nmsl 1\ngrain 1\nminrto 1\nextra 0\n10 1 B\n10 1 B close 5\n";
+
+const STEP: &str = "witness 1\n10 L 7\n";
+
+const STEP_AFTER_FAULT: &str = "witness 1\n10 L x\n10 L 7\n";
+
+// Six calls read the header, one a line, and one the end. One call reads the first line of a witness, one a step, and
+// one the end. Nothing is read ahead, and after a failure or a fault nothing at all.
+fn tell_all(alloc: Global, told: &mut Vec<u8>) -> Result<(), OutOfMemory> {
+    for fails_at in [1, 6, 7, 8, 9] {
+        tell_trace(alloc, told, LINE, fails_at)?;
     }
+    tell_trace(alloc, told, LINE_AFTER_FAULT, 9)?;
+    tell_steps(alloc, told)
+}
+
+fn tell_steps(alloc: Global, told: &mut Vec<u8>) -> Result<(), OutOfMemory> {
+    for fails_at in [1, 2, 3, 4] {
+        tell_witness(alloc, told, STEP, fails_at)?;
+    }
+    tell_witness(alloc, told, STEP_AFTER_FAULT, 4)
+}
+
+const TOLD: &str = "\
+x x x 1 of 1
+x x x 1 of 6
+header x x 1 of 7
+header line x 1 of 8
+header line end 0 of 8
+header fault fault 0 of 7
+x x 1 of 1
+x x 1 of 2
+line x 1 of 3
+line end 0 of 3
+fault fault 0 of 2
+";
+
+#[test]
+fn texts_are_read_up_to_a_failure(rt: HostRuntime) -> Result<(), Fail> {
+    let mut told = Vec::new(rt.alloc());
+    tell_all(rt.alloc(), &mut told)?;
+    let told = String::from_utf8_lossy(rt.alloc(), told.as_slice())?;
+    assert_eq!(rt; told.as_str(), TOLD);
     Ok(())
 }
 
+// Whether a line with this number is read.
+fn is_read(alloc: Global, number: u64) -> bool {
+    event_line(alloc, Version::One, 0, number, b"10 1 B status 5\n").is_ok()
+}
+
 #[test]
-fn a_trace_has_at_most_ten_million_lines(rt: HostRuntime) -> Result<(), Fail> {
-    for (number, is_read) in [(10_000_000, true), (10_000_001, false)] {
-        let line = event_line(rt.alloc(), Version::One, 0, number, b"10 1 B status 5\n");
-        assert!(rt; line.is_ok() == is_read);
-    }
-    Ok(())
+fn a_trace_has_at_most_ten_million_lines(rt: HostRuntime) {
+    let alloc = rt.alloc();
+    assert!(rt; is_read(alloc, 10_000_000) && !is_read(alloc, 10_000_001));
 }
