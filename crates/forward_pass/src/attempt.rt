@@ -51,8 +51,6 @@ impl Attempt {
 
     /// Makes a pass over the lines with these choices. Its result replaces that of an earlier one.
     pub fn search(&mut self, sought: Sought<'_>, choices: &Choices) -> Result<(), OutOfMemory> {
-        // What an earlier pass found is freed first, since its steps need much memory.
-        self.findings = Findings::new(sought.alloc);
         let mut pass = Pass::new(sought, choices);
         let end = pass.run();
         self.cost = pass.exchange(&mut self.findings).saturating_add(1);

@@ -63,10 +63,11 @@ impl<'t> CaseText<'t> {
         let Some(index) = index.checked_sub(1) else {
             return self.header.as_slice();
         };
+        let added = index / 2;
         if index % 2 == 0 {
-            self.events_before(index / 2)
+            self.events_before(added)
         } else {
-            self.added.at(index / 2)
+            self.added.at(added)
         }
     }
 
@@ -74,7 +75,8 @@ impl<'t> CaseText<'t> {
     fn events_before(&self, added: usize) -> &[u8] {
         let before = added.checked_sub(1);
         let start = before.map_or(0, |before| self.cut(before));
-        self.events.get(start..self.cut(added)).unwrap_or(&[])
+        let stop = self.cut(added);
+        self.events.get(start..stop).unwrap_or(&[])
     }
 
     // Where an added line comes among the event lines; their end if there is no such line.
