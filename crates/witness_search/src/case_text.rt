@@ -73,10 +73,15 @@ impl<'t> CaseText<'t> {
 
     // The event lines between an added line and the one before it.
     fn events_before(&self, added: usize) -> &[u8] {
-        let before = added.checked_sub(1);
-        let start = before.map_or(0, |before| self.cut(before));
+        let start = match added.checked_sub(1) {
+            Some(before) => self.cut(before),
+            None => 0,
+        };
         let stop = self.cut(added);
-        self.events.get(start..stop).unwrap_or(&[])
+        match self.events.get(start..stop) {
+            Some(lines) => lines,
+            None => &[],
+        }
     }
 
     // Where an added line comes among the event lines; their end if there is no such line.
