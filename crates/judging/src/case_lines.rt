@@ -56,7 +56,8 @@ impl<'t> Comparison<'t> {
     }
 }
 
-/// The event lines of a case, which are compared with those of its trace. None: they differ in more than added timeouts.
+/// The event lines of a case, which are compared with those of its trace. None: they differ in more than added
+/// timeouts.
 pub(crate) fn case_lines(trace: &[u8], case: &CaseText<'_>) -> Option<CaseLines> {
     let mut comparison = Comparison::new(trace);
     // The first piece is the header.
