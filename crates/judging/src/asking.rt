@@ -1,15 +1,16 @@
 //! The levels, one after the other until one has a yes.
 
+use crate::rewriting::header_of;
 use crate::sentences::{lines_kept, say_conclusion, say_row};
 use crate::trying::{JudgeFault, Tried, try_level};
 use case_forms::Judged;
 use std::alloc::Global;
-use trace_reader::read_trace;
 use verdict::Verdict;
+use witness_search::CaseText;
 
 /// The answer for a trace.
 #[derive(Drop)]
-pub struct Judgement {
+pub struct Judgement<'t> {
     /// A line for each level that was tried, then what the answers mean.
     pub text: String,
     /// Which lines of the trace the case has, as a line.
@@ -17,10 +18,10 @@ pub struct Judgement {
     /// The strictest level with a yes. None: no level has one.
     pub level: Option<Judged>,
     /// The case of the last level that was tried: the trace in version 4, and its witness.
-    pub case: Vec<u8>,
+    pub case: CaseText<'t>,
 }
 
-impl Judgement {
+impl Judgement<'_> {
     /// Whether this level or a stricter one has a yes.
     pub fn meets(&self, least: Judged) -> bool {
         match self.level {
@@ -34,8 +35,8 @@ impl Judgement {
 
 /// Judges a trace of any version, and tries no level after the first yes. At each level, so many search steps are spent
 /// on going back.
-pub fn judge(alloc: Global, text: &[u8], budget: u64) -> Result<Judgement, JudgeFault> {
-    let header = read_trace(alloc, text)?.header;
+pub fn judge(alloc: Global, text: &[u8], budget: u64) -> Result<Judgement<'_>, JudgeFault> {
+    let header = header_of(alloc, text)?;
     let mut said = String::new(alloc);
     let mut first = None;
     for level in [Judged::Full, Judged::Recovery] {
@@ -53,7 +54,11 @@ pub fn judge(alloc: Global, text: &[u8], budget: u64) -> Result<Judgement, Judge
     concluded(alloc, said, tried)
 }
 
-fn concluded(alloc: Global, text: String, tried: Tried) -> Result<Judgement, JudgeFault> {
+fn concluded<'t>(
+    alloc: Global,
+    text: String,
+    tried: Tried<'t>,
+) -> Result<Judgement<'t>, JudgeFault> {
     let kept = lines_kept(alloc, tried.facts.lines)?;
     let level = match tried.facts.verdict {
         Verdict::Yes { .. } => Some(tried.level),

@@ -1,6 +1,7 @@
 //! The event lines of a case that was found, beside those of its trace.
 
-use bstr::ByteSlice;
+use bstr::{ByteSlice, LinesWithTerminator};
+use witness_search::CaseText;
 
 /// The event lines of a case. All of its trace's are among them, in their order.
 #[derive(Clone, Copy)]
@@ -11,21 +12,57 @@ pub(crate) struct CaseLines {
     pub added: u64,
 }
 
-/// The event lines of a case, which are compared with those of its trace. None: the case lacks one, has them in another
-/// order, or has one more that doesn't show a timeout.
-pub(crate) fn case_lines(trace: &[u8], case: &[u8]) -> Option<CaseLines> {
-    let mut lines = CaseLines { kept: 0, added: 0 };
-    let mut left = trace.lines_with_terminator();
-    let mut next = left.next();
-    for line in case.lines_with_terminator() {
-        if next == Some(line) {
-            lines.kept = lines.kept.saturating_add(1);
-            next = left.next();
-        } else if line.contains_str(b" T ") {
-            lines.added = lines.added.saturating_add(1);
-        } else {
-            return None;
+/// A trace with which the event lines of a case are compared, one piece after the other.
+#[derive(Drop)]
+pub(crate) struct Comparison<'t> {
+    lines: CaseLines,
+    /// The next line of the trace, and those after it.
+    next: Option<&'t [u8]>,
+    left: LinesWithTerminator<'t>,
+    /// Whether a line was neither the next one of the trace nor shows a timeout.
+    is_altered: bool,
+}
+
+impl<'t> Comparison<'t> {
+    /// Nothing was compared with these event lines of a trace.
+    pub(crate) fn new(trace: &'t [u8]) -> Comparison<'t> {
+        let mut left = trace.lines_with_terminator();
+        Comparison {
+            lines: CaseLines { kept: 0, added: 0 },
+            next: left.next(),
+            left,
+            is_altered: false,
         }
     }
-    next.is_none().then_some(lines)
+
+    /// Compares the next event lines of the case.
+    pub(crate) fn pass(&mut self, case: &[u8]) {
+        for line in case.lines_with_terminator() {
+            if self.next == Some(line) {
+                self.lines.kept = self.lines.kept.saturating_add(1);
+                self.next = self.left.next();
+            } else if line.contains_str(b" T ") {
+                self.lines.added = self.lines.added.saturating_add(1);
+            } else {
+                self.is_altered = true;
+            }
+        }
+    }
+
+    /// The event lines of the case. None: it lacks one of the trace's, has them in another order, or has one more that
+    /// doesn't show a timeout.
+    pub(crate) fn result(&self) -> Option<CaseLines> {
+        (!self.is_altered && self.next.is_none()).then_some(self.lines)
+    }
+}
+
+/// The event lines of a case, which are compared with those of its trace. None: they differ in more than added
+/// timeouts.
+pub(crate) fn case_lines(trace: &[u8], case: &CaseText<'_>) -> Option<CaseLines> {
+    let mut comparison = Comparison::new(trace);
+    // The first piece is the header.
+    for index in 1..case.trace_pieces() {
+        comparison.pass(case.piece(index));
+    }
+    comparison.result()
 }

@@ -4,7 +4,8 @@
 //! the header line `congestion`, from `full` on, until `checker` accepts the witness that `witness_search` finds. The
 //! answer is the strictest level with a yes, and the first thing that `full` refused, as `replayed` reads it from the
 //! case. The time is linear in the size of the trace, and a budget bounds what the search spends on going back at each
-//! level. Each function is proved only to be safe and to return.
+//! level. Of a long transfer, the search has the text and the parsed trace in memory; the parsed trace is freed before
+//! the case is judged, whose event lines aren't copied. Each function is proved only to be safe and to return.
 //!
 //! - `judge`, `Judgement`: the answer for a trace, the level with a yes, and the case of the last level
 //!

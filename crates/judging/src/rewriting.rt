@@ -1,26 +1,26 @@
-//! A trace in version 4.
+//! A trace in version 4: another header, and the same event lines.
 
 use bstr::ByteSlice;
 use case_forms::{Header, Judged, Lines, OutOfMemory, Trace, Version};
+use line_fields::TextFault;
 use std::alloc::Global;
-use trace_reader::print_trace;
+use trace_reader::{Counted, TraceReader, print_trace};
 
-/// The text of a trace in version 4, at this level: another header, and the same event lines.
-pub(crate) fn rewritten(
-    alloc: Global,
-    text: &[u8],
-    header: &Header,
-    level: Judged,
-) -> Result<Vec<u8>, OutOfMemory> {
-    let events = events_of(text, header.first_event_line());
-    let (header, lines) = (judged_by(header, level), Lines::new(alloc));
-    let mut rewritten = print_trace(alloc, &Trace { header, lines })?;
-    rewritten.extend_from_slice(events)?;
-    Ok(rewritten)
+/// The header of a trace.
+pub(crate) fn header_of(alloc: Global, text: &[u8]) -> Result<Header, TextFault> {
+    let mut reader = TraceReader::new(alloc, Counted::new(text));
+    Ok(reader.header()?)
 }
 
-// The header in version 4. What an older version doesn't say is read as it is judged: RFC 5681 gives the first window.
-fn judged_by(header: &Header, level: Judged) -> Header {
+/// The text of a header.
+pub(crate) fn header_text(alloc: Global, header: &Header) -> Result<Vec<u8>, OutOfMemory> {
+    let (header, lines) = (*header, Lines::new(alloc));
+    print_trace(alloc, &Trace { header, lines })
+}
+
+/// The header in version 4, at this level. What an older version doesn't say is read as it is judged: RFC 5681 gives
+/// the first window.
+pub(crate) fn judged_by(header: &Header, level: Judged) -> Header {
     let version = if header.version.is_half() {
         Version::FourHalf
     } else {

@@ -1,10 +1,12 @@
 //! Which cases have every line of their trace. What `judge` prints is stored (crates/test_cases/data/judged.txt).
 
-use crate::case_lines::case_lines;
+use crate::case_lines::Comparison;
 
 // How many lines of a trace a case has, and how many were added. None: it lacks one, or has a strange one.
 fn compared(case: &[u8]) -> Option<(u64, u64)> {
-    let lines = case_lines(b"5 1 B status 9\n6 1 E badsocket\n", case)?;
+    let mut comparison = Comparison::new(b"5 1 B status 9\n6 1 E badsocket\n");
+    comparison.pass(case);
+    let lines = comparison.result()?;
     Some((lines.kept, lines.added))
 }
 

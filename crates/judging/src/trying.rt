@@ -1,15 +1,17 @@
 //! A trace at one level.
 
 use crate::case_lines::{CaseLines, case_lines};
-use crate::connections::{Connections, connections_of};
-use crate::rewriting::{events_of, rewritten};
-use case_forms::{Header, Judged};
+use crate::connections::{Connections, Explained, connections_of};
+use crate::rewriting::{events_of, header_text, judged_by};
+use case_forms::{Header, Judged, OutOfMemory};
+use checker::{CaseFault, check_streams};
 use line_fields::{FaultKind, TextFault};
-use replayed::{Case, Refused, ReplayFault, refused_by};
+use replayed::{Refused, ReplayFault, refused_by};
 use std::alloc::{AllocError, Global};
 use thiserror::Error;
+use trace_reader::{Counted, read_trace};
 use verdict::Verdict;
-use witness_search::{Ending, find_within};
+use witness_search::{CaseText, Ending, Found, find_witness};
 
 /// Why a trace can't be judged.
 #[derive(Clone, Copy, Debug, Error)]
@@ -42,12 +44,23 @@ impl From<TextFault> for JudgeFault {
     }
 }
 
+impl From<CaseFault> for JudgeFault {
+    fn from(fault: CaseFault) -> JudgeFault {
+        match fault {
+            CaseFault::Trace(fault) => JudgeFault::from(fault),
+            CaseFault::Witness(fault) => JudgeFault::Witness(fault),
+            // The texts are in memory.
+            CaseFault::Read | CaseFault::OutOfMemory => JudgeFault::from(AllocError),
+        }
+    }
+}
+
 /// A level that was tried.
 #[derive(Drop)]
-pub(crate) struct Tried {
+pub(crate) struct Tried<'t> {
     pub level: Judged,
     /// The trace in version 4, and the witness that was found.
-    pub case: Vec<u8>,
+    pub case: CaseText<'t>,
     /// How the search ended.
     pub ending: Ending,
     pub facts: Facts,
@@ -63,41 +76,78 @@ pub(crate) struct Facts {
     pub connections: Connections,
 }
 
-/// Looks for a witness of a trace at a level, with so many search steps for going back, and judges it.
-pub(crate) fn try_level(
+/// Looks for a witness of a trace at a level, with so many search steps for going back, and judges it. The header is
+/// that of the trace.
+pub(crate) fn try_level<'t>(
     alloc: Global,
-    text: &[u8],
+    text: &'t [u8],
     header: &Header,
     level: Judged,
     budget: u64,
-) -> Result<Tried, JudgeFault> {
-    let trace = rewritten(alloc, text, header, level)?;
-    let found = find_within(alloc, trace.as_slice(), budget)?;
+) -> Result<Tried<'t>, JudgeFault> {
     let events = events_of(text, header.first_event_line());
-    let facts = judged(alloc, found.case.as_slice(), events)?;
+    let header = judged_by(header, level);
+    let (found, connections) = search(alloc, text, &header, budget)?;
+    let ending = found.ending;
+    let case = case_of(alloc, &header, events, found)?;
+    let facts = judged(alloc, &header, &case, events, connections)?;
     Ok(Tried {
         level,
-        case: found.case,
-        ending: found.ending,
+        case,
+        ending,
         facts,
     })
 }
 
+// What is found for a trace under this header, and the connections of the case. The trace is freed before that is
+// printed and judged.
+fn search(
+    alloc: Global,
+    text: &[u8],
+    header: &Header,
+    budget: u64,
+) -> Result<(Found, Connections), JudgeFault> {
+    let trace = read_trace(alloc, text)?;
+    let lines = trace.lines.as_slice();
+    let found = find_witness(alloc, header, lines, budget)?;
+    let explained = Explained {
+        header,
+        lines,
+        found: &found,
+    };
+    let connections = connections_of(alloc, explained);
+    drop(trace);
+    Ok((found, connections?))
+}
+
+// The text of the case that was found for a trace with these event lines. The steps are freed once they are printed.
+fn case_of<'t>(
+    alloc: Global,
+    header: &Header,
+    events: &'t [u8],
+    mut found: Found,
+) -> Result<CaseText<'t>, OutOfMemory> {
+    let header = header_text(alloc, header)?;
+    CaseText::of(alloc, header, events, &mut found)
+}
+
 // The verdict on a case that was found for a trace with these event lines, what it refuses, and what the case has.
-fn judged(alloc: Global, text: &[u8], events: &[u8]) -> Result<Facts, JudgeFault> {
-    let case = Case::read(alloc, text)?;
-    let refused = refused_by(alloc, &case);
-    let connections = connections_of(alloc, &case);
-    let lines = case_lines(
-        events,
-        events_of(case.texts.trace, case.trace.header.first_event_line()),
-    );
-    let verdict = case.verdict;
-    drop(case);
+fn judged(
+    alloc: Global,
+    header: &Header,
+    case: &CaseText<'_>,
+    events: &[u8],
+    connections: Connections,
+) -> Result<Facts, JudgeFault> {
+    let (trace, witness) = (Counted::new(case.trace()), Counted::new(case.witness()));
+    let (verdict, _, _) = check_streams(alloc, trace, witness);
+    let verdict = verdict?;
+    let (events_left, witness) = (Counted::new(case.events()), Counted::new(case.witness()));
+    let refused = refused_by(alloc, header, events_left, witness, verdict)?;
     Ok(Facts {
-        verdict: verdict.map_err(JudgeFault::Witness)?,
-        refused: refused?,
-        lines: lines.ok_or(JudgeFault::Altered)?,
-        connections: connections?,
+        verdict,
+        refused,
+        lines: case_lines(events, case).ok_or(JudgeFault::Altered)?,
+        connections,
     })
 }

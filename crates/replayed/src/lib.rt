@@ -8,6 +8,7 @@
 //! - `case`: the values of a case and its verdict; where the verdict refuses it
 //! - `replay`: the world before and after each step
 //! - `refusal`: what a verdict refuses, as values; `reasons`: what two rules of sending compare
+//! - `unused_lines`: the lines of a trace, which are read as steps use them
 //! - `calls`: what a call names
 #![tactic(auto)]
 
@@ -17,6 +18,7 @@ mod reasons;
 mod refusal;
 mod replay;
 mod texts;
+mod unused_lines;
 
 pub use calls::socket_of;
 pub use case::{Case, Refusal};

@@ -1,12 +1,15 @@
 //! What a verdict refuses, as values.
 
-use crate::case::{Case, Refusal};
 use crate::reasons::{Reason, beyond, misplaced};
-use crate::replay::{Replay, ReplayFault};
-use case_forms::{Label, Step};
+use crate::replay::{ReplayFault, apply_other, apply_taken};
+use crate::unused_lines::UnusedLines;
+use case_forms::{Header, Label, Step};
 use endpoint_state::World;
 use std::alloc::Global;
-use verdict::Rule;
+use std::io::BufRead;
+use trace_reader::Counted;
+use verdict::{Rule, Verdict};
+use witness::StepReader;
 
 /// The step that a verdict refuses.
 #[derive(Clone, Copy)]
@@ -18,45 +21,120 @@ pub struct Refused {
     pub reason: Reason,
 }
 
-/// What the verdict on a case refuses. None: it is yes, or there is none.
-pub fn refused_by(alloc: Global, case: &Case) -> Result<Option<Refused>, ReplayFault> {
-    match case.refusal() {
-        Refusal::Nowhere => Ok(None),
-        Refusal::At { step, rule } => Ok(Some(refused_at(alloc, case, step, rule)?)),
-        Refusal::Unplaced(line) => {
-            let (rule, reason) = (Rule::Unplaced, Reason::Other);
-            Ok(Some(Refused { line, rule, reason }))
+// A step that a verdict refuses: its line in the text of the witness, and the rule that it breaks.
+#[derive(Clone, Copy)]
+struct RefusedStep {
+    line: u64,
+    rule: Rule,
+}
+
+/// What the verdict on a case refuses. The case has been judged, so its texts have no fault. The trace is given by its
+/// header and the text after that. Both texts are read up to the refused step, and neither is kept. None: the verdict
+/// is yes.
+pub fn refused_by<A: BufRead + Drop, B: BufRead + Drop>(
+    alloc: Global,
+    header: &Header,
+    events: Counted<A>,
+    witness: Counted<B>,
+    verdict: Verdict,
+) -> Result<Option<Refused>, ReplayFault> {
+    match verdict {
+        Verdict::Yes { .. } => Ok(None),
+        Verdict::No {
+            witness_line: 0,
+            trace_line,
+            ..
+        } => Ok(Some(Refused {
+            line: trace_line,
+            rule: Rule::Unplaced,
+            reason: Reason::Other,
+        })),
+        Verdict::No {
+            witness_line: line,
+            rule,
+            ..
+        } => {
+            let mut lines = UnusedLines::of(alloc, header, events);
+            let mut steps = StepReader::new(alloc, header.version, witness);
+            let step = RefusedStep { line, rule };
+            Ok(Some(refused_at(alloc, header, &mut lines, &mut steps, step)?))
         }
     }
 }
 
-fn refused_at(alloc: Global, case: &Case, step: &Step, rule: Rule) -> Result<Refused, ReplayFault> {
-    let line = line_of(case, step);
-    let mut replay = Replay::new(alloc, case);
-    let ran = replay.run();
-    let reason = reason_of(replay.world(), step, rule);
-    drop(replay);
-    ran?;
-    Ok(Refused { line, rule, reason })
+fn refused_at<A: BufRead, B: BufRead>(
+    alloc: Global,
+    header: &Header,
+    lines: &mut UnusedLines<A>,
+    steps: &mut StepReader<B>,
+    step: RefusedStep,
+) -> Result<Refused, ReplayFault> {
+    let mut world = World::start(alloc, header);
+    let refused = replay_to(header, &mut world, lines, steps, step);
+    drop(world);
+    refused
 }
 
-// The line for `Refused`.
-fn line_of(case: &Case, step: &Step) -> u64 {
+// Does the steps before the refused one.
+fn replay_to<A: BufRead, B: BufRead>(
+    header: &Header,
+    world: &mut World,
+    lines: &mut UnusedLines<A>,
+    steps: &mut StepReader<B>,
+    refused: RefusedStep,
+) -> Result<Refused, ReplayFault> {
+    let (rule, mut after) = (refused.rule, header.first_event_line());
+    for number in 2..=refused.line {
+        let Some(step) = steps.next()? else {
+            break;
+        };
+        if number == refused.line {
+            return Ok(refused_now(world, &step, rule, after));
+        }
+        if let Label::L(named) = &step.label {
+            after = named.number.saturating_add(1);
+        }
+        apply_read(world, lines, &step)?;
+    }
+    // The witness has the step, since it was judged.
+    Ok(Refused {
+        line: after,
+        rule,
+        reason: Reason::Other,
+    })
+}
+
+// Does a step. If it uses a line, that is read, and it isn't copied.
+fn apply_read<A: BufRead>(
+    world: &mut World,
+    lines: &mut UnusedLines<A>,
+    step: &Step,
+) -> Result<(), ReplayFault> {
+    let Label::L(named) = &step.label else {
+        return apply_other(world, step);
+    };
+    match lines.remove(named.number)? {
+        Some(line) => apply_taken(world, step.moment, line, named.extras),
+        None => Ok(()),
+    }
+}
+
+// What is refused at a step. `after` is the line after the last one used.
+fn refused_now(world: &World, step: &Step, rule: Rule, after: u64) -> Refused {
+    Refused {
+        line: line_of(step, after),
+        rule,
+        reason: reason_of(world, step, rule),
+    }
+}
+
+// The line for `Refused`. `after` is the line after the last one used.
+fn line_of(step: &Step, after: u64) -> u64 {
     match &step.label {
         Label::L(named) if named.number != 0 => named.number,
         Label::T { line, .. } | Label::K { line, .. } | Label::R { line, .. } => *line,
-        Label::L(_) | Label::D { .. } | Label::M { .. } | Label::F { .. } => line_after(case),
+        Label::L(_) | Label::D { .. } | Label::M { .. } | Label::F { .. } => after,
     }
-}
-
-// The line after the last one used.
-fn line_after(case: &Case) -> u64 {
-    for step in case.steps_before_refusal().iter().rev() {
-        if let Label::L(named) = &step.label {
-            return named.number.saturating_add(1);
-        }
-    }
-    case.trace.header.first_event_line()
 }
 
 // What the rule compares at the step.

@@ -5,8 +5,9 @@ ghost use Rattle.case_forms.specs.Witnesses.{IsWithinLimits};
 ghost use Rattle.spec_tcp.specs.Bounds.{most_steps};
 
 use crate::case::Case;
-use case_forms::{GREATEST_POSITION, Label, MOST_STEPS, NamedLine, Step};
+use case_forms::{Extras, GREATEST_POSITION, Label, Line, MOST_STEPS, NamedLine, Step};
 use endpoint_state::{StepFault, World};
+use line_fields::{SourceFault, TextFault};
 use spec_step::{apply_hidden, apply_line_owned};
 use std::alloc::{AllocError, AllocFailed, Global};
 use thiserror::Error;
@@ -20,6 +21,19 @@ pub enum ReplayFault {
     /// Memory ran out.
     #[error("out of memory")]
     OutOfMemory,
+}
+
+// The texts that are replayed were read before, so they have no fault.
+impl From<TextFault> for ReplayFault {
+    fn from(_fault: TextFault) -> ReplayFault {
+        ReplayFault::OutOfMemory
+    }
+}
+
+impl From<SourceFault> for ReplayFault {
+    fn from(fault: SourceFault) -> ReplayFault {
+        ReplayFault::from(TextFault::from(fault))
+    }
 }
 
 impl From<AllocError> for ReplayFault {
@@ -65,36 +79,48 @@ impl<'c> Replay<'c> {
 
     /// Does a step. If it breaks a rule, the world doesn't change.
     pub fn apply(&mut self, step: &Step) -> Result<(), ReplayFault> {
-        if !has_room(&self.world) {
-            return Err(ReplayFault::TooManySteps);
-        }
-        let done = match &step.label {
-            Label::L(named) => apply_named(&mut self.world, self.case, step.moment, *named),
-            label if is_within_limits(label) => apply_hidden(&mut self.world, step.moment, label),
-            _ => Ok(()),
+        let Label::L(named) = &step.label else {
+            return apply_other(&mut self.world, step);
         };
-        match done {
-            Ok(()) | Err(StepFault::Broken(_)) => Ok(()),
-            Err(StepFault::OutOfMemory) => Err(ReplayFault::OutOfMemory),
+        match self.case.line(named.number) {
+            Some(line) => apply_taken(&mut self.world, step.moment, line.copy()?, named.extras),
+            None => Ok(()),
         }
     }
 }
 
-// Uses a line, whose segment is copied once: into the world.
-fn apply_named(
+/// Uses a line, whose segment isn't copied. If the step breaks a rule, the world doesn't change.
+pub(crate) fn apply_taken(
     world: &mut World,
-    case: &Case,
     moment: u64,
-    named: NamedLine,
-) -> Result<(), StepFault>
-    requires { world.old.steps < most_steps }
-{
-    let Some(line) = case.line(named.number) else {
-        return Ok(());
-    };
-    match line.copy()?.taken(named.extras) {
-        Some(taken) => apply_line_owned(world, moment, taken),
+    line: Line,
+    extras: Extras,
+) -> Result<(), ReplayFault> {
+    if !has_room(world) {
+        return Err(ReplayFault::TooManySteps);
+    }
+    match line.taken(extras) {
+        Some(taken) => unless_broken(apply_line_owned(world, moment, taken)),
         None => Ok(()),
+    }
+}
+
+/// Does a step that uses no line. If it breaks a rule, the world doesn't change.
+pub(crate) fn apply_other(world: &mut World, step: &Step) -> Result<(), ReplayFault> {
+    if !has_room(world) {
+        return Err(ReplayFault::TooManySteps);
+    }
+    if !is_within_limits(&step.label) {
+        return Ok(());
+    }
+    unless_broken(apply_hidden(world, step.moment, &step.label))
+}
+
+// A step that breaks a rule isn't done, which is no fault.
+fn unless_broken(done: Result<(), StepFault>) -> Result<(), ReplayFault> {
+    match done {
+        Ok(()) | Err(StepFault::Broken(_)) => Ok(()),
+        Err(StepFault::OutOfMemory) => Err(ReplayFault::OutOfMemory),
     }
 }
 

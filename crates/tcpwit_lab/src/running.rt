@@ -2,7 +2,7 @@
 
 use crate::saying::{
     DONE, NO, USAGE, say, say_altered, say_bad_device, say_bad_memory, say_bad_replay,
-    say_bad_trace, say_fault,
+    say_bad_trace, say_fault, say_written,
 };
 use crate::words::{Asked, Judging, asked_by};
 use counted::Counted;
@@ -11,11 +11,12 @@ use judging::{JudgeFault, judge};
 use remarks::remark;
 use replayed::Case;
 use std::alloc::{AllocError, Global};
-use std::fs;
+use std::fs::File;
+use std::io;
 use std::io::{Eprint, ErrorKind, Input, Read, Write};
 use std::rt::Files;
 use why::explain;
-use witness_search::{Ending, Found, find_within};
+use witness_search::{CaseText, Ending, FoundCase, find_within};
 
 /// Does what the words after the program's name ask for, and answers the status: 0 if it is done, 1 if the answer is
 /// no, 2 if the text is refused, 3 for bad usage, 4 if memory ran out, and 5 if a read or a
@@ -115,7 +116,7 @@ fn write_judgement<H: Files + Eprint, W: Write>(
         Err(JudgeFault::Altered) => return say_altered(rt, w),
     };
     if let Some(name) = judging.case {
-        if let Err(error) = fs::write(rt, name, judgement.case.as_slice()) {
+        if let Err(error) = write_file(rt, name, &judgement.case) {
             return say_bad_device(rt, w, name, &error);
         }
     }
@@ -131,8 +132,14 @@ fn write_judgement<H: Files + Eprint, W: Write>(
     }
 }
 
+// Writes a case to a file.
+fn write_file<H: Files>(rt: &H, name: &str, case: &CaseText<'_>) -> io::Result<()> {
+    let mut file = File::create(rt, name)?;
+    case.write_to(&mut file)
+}
+
 // Writes a case. If lines were left or the search went back, standard error has how far it came.
-fn tell_found<H: Eprint, W: Write>(rt: &H, found: &Found, w: &mut Counted<W>) -> u8 {
+fn tell_found<H: Eprint, W: Write>(rt: &H, found: &FoundCase<'_>, w: &mut Counted<W>) -> u8 {
     let tried = found.tried;
     let _ = match found.ending {
         Ending::Whole if tried == 0 => Ok(()),
@@ -147,7 +154,7 @@ fn tell_found<H: Eprint, W: Write>(rt: &H, found: &Found, w: &mut Counted<W>) ->
             "line {line} of the trace isn't explained, and a case can't have more steps; other choices tried: {tried}"
         ),
     };
-    say(rt, w, found.case.as_slice(), DONE)
+    say_written(rt, found.case.write_to(w), w, DONE)
 }
 
 // Writes a text.

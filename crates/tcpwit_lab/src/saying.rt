@@ -29,18 +29,23 @@ const DEVICE: u8 = 5;
 
 /// Writes a text. The status is this one, or 5 if a write failed; standard error then has the reason.
 pub(crate) fn say<H: Eprint, W: Write>(rt: &H, w: &mut Counted<W>, text: &[u8], status: u8) -> u8 {
-    match write_whole(w, text) {
+    say_written(rt, w.write_all(text), w, status)
+}
+
+/// Flushes what was written. The status is this one, or 5 if a write failed; standard error then has the reason.
+pub(crate) fn say_written<H: Eprint, W: Write>(
+    rt: &H,
+    written: io::Result<()>,
+    w: &mut Counted<W>,
+    status: u8,
+) -> u8 {
+    match written.and_then(|()| w.flush()) {
         Ok(()) => status,
         Err(error) => {
             let _ = eprintln!(rt; "standard output: {error}");
             DEVICE
         }
     }
-}
-
-fn write_whole<W: Write>(w: &mut Counted<W>, text: &[u8]) -> io::Result<()> {
-    w.write_all(text)?;
-    w.flush()
 }
 
 /// Writes that a file or a stream can't be used, with its name and the reason on standard error.

@@ -1,8 +1,9 @@
-//! The text of a trace becomes the text of a case.
+//! A trace becomes a case.
 
-use crate::case_text::case_text;
+use crate::added_lines::{AddedLines, split_lines};
+use crate::case_text::CaseText;
 use crate::going_back::Retries;
-use case_forms::{OutOfMemory, Steps, Witness};
+use case_forms::{Header, Line, OutOfMemory, Steps, Witness};
 use forward_pass::{End, LaterLines, Sought};
 use line_fields::TextFault;
 use std::alloc::Global;
@@ -25,11 +26,21 @@ pub enum Ending {
     TooManySteps { line: u64 },
 }
 
-/// A case that was found, and how far it explains its trace.
+/// A witness that was found for a trace, and how far it explains it.
 #[derive(Drop)]
 pub struct Found {
-    /// The text of the case.
-    pub case: Vec<u8>,
+    pub witness: Witness,
+    /// The lines that are added to the trace, for the expiries that it doesn't show and that were needed.
+    pub added: AddedLines,
+    pub ending: Ending,
+    /// How many times the search went back.
+    pub tried: u64,
+}
+
+/// A case that was found, and how far it explains its trace.
+#[derive(Drop)]
+pub struct FoundCase<'t> {
+    pub case: CaseText<'t>,
     pub ending: Ending,
     /// How many times the search went back.
     pub tried: u64,
@@ -41,39 +52,71 @@ pub struct Found {
 /// fault; its kind is `OutOfMemory` if memory ran out.
 pub fn find(alloc: Global, text: &[u8]) -> Result<Vec<u8>, TextFault> {
     let found = find_within(alloc, text, USUAL_BUDGET)?;
-    Ok(found.case)
+    Ok(found.case.joined(alloc)?)
 }
 
 /// Like `find`, but spends at most this many steps on going back for one line, and 20 times as many in all, and also
 /// returns how the search ended. With 0, the search goes over the lines once.
-pub fn find_within(alloc: Global, text: &[u8], budget: u64) -> Result<Found, TextFault> {
+pub fn find_within(alloc: Global, text: &[u8], budget: u64) -> Result<FoundCase<'_>, TextFault> {
     let trace = read_trace(alloc, text)?;
-    let later = LaterLines::of(alloc, trace.lines.as_slice())?;
+    let above = trace.header.first_event_line().saturating_sub(1) as usize;
+    let found = find_witness(alloc, &trace.header, trace.lines.as_slice(), budget);
+    drop(trace);
+    let (header, events) = split_lines(text, above);
+    Ok(case_of(alloc, header, events, &mut found?)?)
+}
+
+// The case with this header, these event lines, and what was found for them.
+fn case_of<'t>(
+    alloc: Global,
+    header: &[u8],
+    events: &'t [u8],
+    found: &mut Found,
+) -> Result<FoundCase<'t>, OutOfMemory> {
+    let header = Vec::from_slice(alloc, header)?;
+    Ok(FoundCase {
+        case: CaseText::of(alloc, header, events, found)?,
+        ending: found.ending,
+        tried: found.tried,
+    })
+}
+
+/// A witness for a trace with this header and these lines, whose own numbers aren't read. The budget is that of
+/// `find_within`.
+pub fn find_witness(
+    alloc: Global,
+    header: &Header,
+    lines: &[Line],
+    budget: u64,
+) -> Result<Found, OutOfMemory> {
+    let later = LaterLines::of(alloc, lines)?;
     let sought = Sought {
         alloc,
-        header: &trace.header,
-        lines: trace.lines.as_slice(),
+        header,
+        lines,
         later: &later,
     };
     let mut retries = Retries::new(sought, budget);
-    let found = found_by(&mut retries, text);
+    let found = found_by(&mut retries);
     drop(retries);
     drop(later);
-    Ok(found?)
+    found
 }
 
 // Runs a search. The result is what it found.
-fn found_by(retries: &mut Retries<'_>, text: &[u8]) -> Result<Found, OutOfMemory> {
+fn found_by(retries: &mut Retries<'_>) -> Result<Found, OutOfMemory> {
     retries.run()?;
     let sought = retries.sought;
     let findings = &mut retries.best.findings;
+    let mut added = AddedLines::new(sought.alloc);
+    added.print(sought.lines, findings.added.as_slice())?;
     let witness = Witness {
         version: sought.header.version,
         steps: replace(&mut findings.steps, Steps::new(sought.alloc)),
     };
-    let case = case_text(sought, text, findings.added.as_slice(), &witness)?;
     Ok(Found {
-        case,
+        witness,
+        added,
         ending: ending_of(retries),
         tried: retries.tried,
     })

@@ -3,15 +3,17 @@
 //! `tcpwit check` judges what is found, so no proof depends on this crate. Its functions are proved only to run safely
 //! and to return. `forward_pass` goes over the lines once; this crate chooses what it does differently the next time.
 //!
-//! - `finding`: the text of a trace becomes the text of a case
+//! - `finding`: a trace becomes a case
 //! - `going_back`: if a line can't be explained, other choices are tried before it, within a budget
 //! - `alternatives`: what else could have been chosen before a line
 //! - `together`: what else could have been chosen at several lines at once
 //! - `measuring`: round trips that a host may not have measured
 //! - `candidates`: a list of these, each with one choice or several
-//! - `case_text`: the text of the case
+//! - `added_lines`: the lines that are added to the trace
+//! - `case_text`: the text of the case, in pieces; `witness_text`: those of the witness
 #![tactic(auto)]
 
+mod added_lines;
 mod alternatives;
 mod candidates;
 mod case_text;
@@ -19,5 +21,8 @@ mod finding;
 mod going_back;
 mod measuring;
 mod together;
+mod witness_text;
 
-pub use finding::{Ending, Found, USUAL_BUDGET, find, find_within};
+pub use added_lines::AddedLines;
+pub use case_text::{CaseText, Pieces};
+pub use finding::{Ending, Found, FoundCase, USUAL_BUDGET, find, find_within, find_witness};
