@@ -1,7 +1,7 @@
 //! The versions of a trace and its witness.
 
 ghost use Rattle.std.specs.Prelude.{◌≡◌};
-ghost use Rattle.case_forms.specs.Versions.{first_line_of, is_half, scales};
+ghost use Rattle.case_forms.specs.Versions.{first_line_of, is_half, says_slack, scales};
 
 /// The version of a text. A trace and its witness have the same version.
 #[derive(Clone, Copy, Debug, PartialEq, Eq)]
@@ -58,6 +58,18 @@ impl Version {
         match self {
             Version::One | Version::Two | Version::Four | Version::Five => false,
             Version::Three | Version::FourHalf | Version::FiveHalf => true,
+        }
+    }
+
+    /// Whether the header states how late a host may be.
+    pub fn says_slack(self) -> bool
+        ensures { result ≡ says_slack self }
+    {
+        match self {
+            Version::One | Version::Two | Version::Three | Version::Four | Version::FourHalf => {
+                false
+            }
+            Version::Five | Version::FiveHalf => true,
         }
     }
 }
