@@ -15,7 +15,7 @@ use Rattle.verdict.specs.declared.report.Verdict.TheVariants.{Yes, No}
 use Rattle.line_fields.specs.declared.fault.TextFault.{TextFault}
 use Rattle.line_fields.specs.Left.{Yields}
 use Rattle.interval_order.specs.Orders.{Order}
-use Rattle.endpoint_state.specs.Worlds.{Progress, start}
+use Rattle.spec_duties.specs.Cases.{Watched as Progress, start}
 use Rattle.checker.specs.declared.case.CaseFault.{CaseFault}
 use Rattle.checker.specs.declared.case.CaseFault.TheVariants as faults
 use Rattle.checker.specs.declared.turns.StepCounts.{StepCounts}

@@ -16,36 +16,36 @@ use Rattle.verdict.specs.declared.report.Verdict.{Verdict}
 use Rattle.verdict.specs.declared.report.Verdict.TheVariants.{Yes, No}
 use Rattle.interval_order.specs.Orders.{unplaced, order_of}
 use Rattle.interval_order.specs.OrderRules.{order_rules}
-use Rattle.spec_network.specs.Hosts.{World, Stamped}
-use Rattle.spec_network.specs.HostSteps.{start, after_all}
+use Rattle.spec_network.specs.Hosts.{Stamped}
 use Rattle.spec_tcp.specs.Machine.{tcp, tcp_shape}
-use Rattle.spec_tcp_laws.specs.Runs.{world_at_end}
 use Rattle.spec_tcp_laws.specs.Ascending.{ascend, IsLeastBroken}
-use Rattle.spec_tcp_laws.proofs.Ascending.{first_is_least, rules_ascend}
+use Rattle.spec_tcp_laws.proofs.Ascending.{first_is_least}
+use Rattle.spec_duties.specs.Cases.{Known, first_known, known_after_all}
+use Rattle.duties.proofs.AscendLemmas.{all_ascend as step_ascend}
 use Rattle.checker.specs.Seen.{move_of, moves, act_of, stamped}
 use Rattle.checker.specs.Verdicts.{act_after, act_rules, all_rules, broken, next_world, takes_line, line_named, verdict, verdict_from, verdict_left, refused_or}
 use Rattle.checker.specs.Explains.{Explains, IsYes}
 use Rattle.checker.specs.Judges.{broken_at, rules_at, Says}
 use Rattle.checker.proofs.YesLemmas.{yes_explains, explains_yes}
 
-after_more : (header : Header) (w : World tcp_shape) (act : Option (Stamped tcp_shape)) (rest : List (Stamped tcp_shape))
-    → after_all (tcp header) w (cons_option act rest) ≡ after_all (tcp header) (option_map_or (act_after header w) act w) rest
+after_more : (header : Header) (w : Known) (act : Option (Stamped tcp_shape)) (rest : List (Stamped tcp_shape))
+    → known_after_all header w (cons_option act rest) ≡ known_after_all header (option_map_or (act_after header w) act w) rest
 after_more header w None rest = refl
 after_more header w (Some act) rest = refl
 
 -- the world that steps leave, and one step more
-pub world_more : (header : Header) (lines : List Line) (w : World tcp_shape) (earlier : List Step) (s : Step)
-    → after_all (tcp header) w (stamped header lines (earlier ++ s ∷ [])) ≡ next_world header lines (after_all (tcp header) w (stamped header lines earlier)) s
+pub world_more : (header : Header) (lines : List Line) (w : Known) (earlier : List Step) (s : Step)
+    → known_after_all header w (stamped header lines (earlier ++ s ∷ [])) ≡ next_world header lines (known_after_all header w (stamped header lines earlier)) s
 world_more header lines w [] s = after_more header w (act_of header lines s) []
 world_more header lines w (t ∷ earlier) s =
     after_more header w (act_of header lines t) (stamped header lines (earlier ++ s ∷ []))
     ∙ world_more header lines (next_world header lines w t) earlier s
-    ∙ ap (λ (u : World tcp_shape). next_world header lines u s) (sym (after_more header w (act_of header lines t) (stamped header lines earlier)))
+    ∙ ap (λ (u : Known). next_world header lines u s) (sym (after_more header w (act_of header lines t) (stamped header lines earlier)))
 
 -- What the verdict on the steps that are left says, where the earlier ones broke no rule.
 module _ (t : Trace) where
-  abbrev world_of : List Step → World tcp_shape
-  world_of earlier = after_all (tcp t.header) (start (tcp t.header)) (stamped t.header t.lines earlier)
+  abbrev world_of : List Step → Known
+  world_of earlier = known_after_all t.header (first_known t.header) (stamped t.header t.lines earlier)
 
   abbrev breaks : List Step → Step → Option Rule
   breaks earlier s = broken t.header t.lines earlier (world_of earlier) s
@@ -113,9 +113,9 @@ module _ (t : Trace) where
           (refused_or r earlier s (verdict_from t.header t.lines (earlier ++ s ∷ [])
           (next_world t.header t.lines (world_of earlier) s) steps))) (sym is)
           (front earlier s steps (verdict_from t.header t.lines (earlier ++ s ∷ []) (next_world t.header t.lines (world_of earlier) s) steps) is
-          (subst (λ (u : World tcp_shape).
+          (subst (λ (u : Known).
           SaysLeft (earlier ++ s ∷ []) steps (verdict_from t.header t.lines (earlier ++ s ∷ []) u steps))
-          (world_more t.header t.lines (start (tcp t.header)) earlier s) rest))
+          (world_more t.header t.lines (first_known t.header) earlier s) rest))
       by_rule (Some rule) is rest =
           subst (λ (r : Option Rule). SaysLeft earlier (s ∷ steps)
           (refused_or r earlier s (verdict_from t.header t.lines (earlier ++ s ∷ [])
@@ -133,14 +133,14 @@ module _ (t : Trace) where
           ))
 
 -- all rules of a step ascend: those of order, then those of the machine
-all_ascend : (header : Header) (lines : List Line) (earlier : List Step) (w : World tcp_shape) (s : Step) → ascend 1 (all_rules header lines earlier w s) ≡ true
+all_ascend : (header : Header) (lines : List Line) (earlier : List Step) (w : Known) (s : Step) → ascend 1 (all_rules header lines earlier w s) ≡ true
 all_ascend header lines earlier w s = go (act_of header lines s)
   where
     go : (act : Option (Stamped tcp_shape))
         → ascend 1 (order_rules (order_of header lines (moves earlier)) (move_of s)
         ++ option_map_or (act_rules header w) act []) ≡ true
     go None = refl
-    go (Some act) = rules_ascend header act.moment w act.step
+    go (Some act) = step_ascend header act.moment w act.step
 
 -- each verdict says what holds
 pub verdict_says : (t : Trace) (w : Witness) (v : Verdict) → verdict t w ≡ v → Says t w v
@@ -166,7 +166,7 @@ verdict_says t w (No witness_line trace_line rule) is =
   where
     least_at : (place : ℕ) (s : Step) → broken_at t w place s ≡ Some rule → IsLeastBroken (rules_at t w place s) rule
     least_at place s broken = first_is_least 1 (rules_at t w place s) rule
-        (all_ascend t.header t.lines (take place w.steps) (world_at_end t.header (stamped t.header t.lines (take place w.steps))) s) broken
+        (all_ascend t.header t.lines (take place w.steps) (known_after_all t.header (first_known t.header) (stamped t.header t.lines (take place w.steps))) s) broken
 
 -- the same of what a function answers
 pub answer_says : {E : Type 0} (t : Trace) (w : Witness) (r : Result Verdict E) → IfOk r (λ v. v ≡ verdict t w) → IfOk r (Says t w)

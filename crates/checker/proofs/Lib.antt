@@ -23,4 +23,3 @@ pub mod PortLemmas
 pub mod StreamLemmas
 pub mod StepSpans
 pub mod PrintedLemmas
-pub mod JudgedLemmas

@@ -21,9 +21,7 @@ use Rattle.line_fields.specs.Left.{Yields}
 use Rattle.interval_order.specs.Orders.{Order, order_after, unplaced}
 use Rattle.interval_order.specs.Later.{TakesBelow, AreLater, with_lines, late_rule}
 use Rattle.interval_order.proofs.LaterLemmas.{order_with}
-use Rattle.spec_tcp.specs.Forgetting.{forget}
-use Rattle.spec_tcp_laws.specs.Runs.{world_at_end}
-use Rattle.endpoint_state.specs.Worlds.{Progress}
+use Rattle.spec_duties.specs.Cases.{Watched as Progress, forget, first_known, known_after_all}
 use Rattle.checker.specs.Seen.{move_of, moves}
 use Rattle.checker.specs.Kept.{kept_broken, kept_progress}
 use Rattle.checker.specs.Verdicts.{broken, next_world, line_named, verdict_from, verdict_left, refused_or}
@@ -51,7 +49,7 @@ module _ (header : Header) (lines : Option (Result (List Line) TextFault)) (step
   come_lines offered more earlier o n p below come is = record {
     order = is ∙ ap (λ (q : Order). with_lines q more) come.order ∙ sym (order_with header offered more (moves earlier) below);
     header_is = come.header_is;
-    world = come.world ∙ sym (ap (λ acts. forget (world_at_end header acts)) (stamped_more header offered more earlier below));
+    world = come.world ∙ sym (ap (λ acts. forget (known_after_all header (first_known header) acts)) (stamped_more header offered more earlier below));
   }
 
   pub lines_offered : (left next : Option (Result (List Line) TextFault))
@@ -80,7 +78,7 @@ module _ (header : Header) (lines : Option (Result (List Line) TextFault)) (step
       let rest = rest_of_whole lines left offered all f.passed is in
       let late : AreLater s.moment rest.0 = subst (AllLater s.moment) rest.1 later in
       ap (λ (a : List Line). broken header a earlier (whole header a earlier) s) rest.2
-      ∙ ap (λ acts. broken header (offered ++ rest.0) earlier (world_at_end header acts) s) (stamped_more header offered rest.0 earlier f.below)
+      ∙ ap (λ acts. broken header (offered ++ rest.0) earlier (known_after_all header (first_known header) acts) s) (stamped_more header offered rest.0 earlier f.below)
       ∙ broken_more header offered rest.0 earlier (whole header offered earlier) s f.below late names
       ∙ sym (rule_is header offered earlier o p s f.come)
 

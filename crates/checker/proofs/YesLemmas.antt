@@ -15,16 +15,18 @@ use Rattle.interval_order.specs.Orders.{Move, unplaced, order_of}
 use Rattle.interval_order.specs.OrderRules.{order_rules}
 use Rattle.interval_order.proofs.PlacedFrom.{IsOrderly, placed_from_orderly}
 use Rattle.interval_order.proofs.PlacedTo.{orderly_from_placed}
-use Rattle.spec_network.specs.Hosts.{World, Stamped}
+use Rattle.spec_network.specs.Hosts.{Stamped}
 use Rattle.spec_network.specs.HostSteps.{start, Lawful}
+use Rattle.spec_network.specs.HostRules.{step_rules}
 use Rattle.spec_network.proofs.Turns.{turns}
 use Rattle.spec_tcp.specs.Machine.{tcp, tcp_shape}
+use Rattle.spec_duties.specs.Cases.{Known, first_known, Dutiful, known_after, watch_rules}
 use Rattle.checker.specs.Seen.{move_of, moves, act_of, stamped}
 use Rattle.checker.specs.Verdicts.{act_rules, act_after, broken, next_world, verdict, verdict_from, verdict_left, refused_or}
 use Rattle.checker.specs.Explains.{Explains, IsYes}
 
 -- no step breaks a rule, and each line is placed in the end
-abbrev pub IsClean : Header → List Line → List Step → World tcp_shape → List Step → Type 0
+abbrev pub IsClean : Header → List Line → List Step → Known → List Step → Type 0
 IsClean header lines earlier w [] = unplaced header lines (moves earlier) ≡ []
 IsClean header lines earlier w (s ∷ steps) =
     (broken header lines earlier w s ≡ None)
@@ -34,7 +36,7 @@ none_left : (left : List (ℕ × Line)) (steps : List Step) → IsYes (verdict_l
 none_left [] steps said = refl
 none_left (e ∷ left) steps said = absurd said
 
-pub clean_from_yes : (header : Header) (lines : List Line) (earlier : List Step) (w : World tcp_shape)
+pub clean_from_yes : (header : Header) (lines : List Line) (earlier : List Step) (w : Known)
     (steps : List Step) → IsYes (verdict_from header lines earlier w steps) → IsClean header lines earlier w steps
 clean_from_yes header lines earlier w [] said = none_left (unplaced header lines (moves earlier)) earlier said
 clean_from_yes header lines earlier w (s ∷ steps) said =
@@ -52,7 +54,7 @@ left_said : (left : List (ℕ × Line)) (steps : List Step) → left ≡ [] → 
 left_said [] steps e = tt
 left_said (x ∷ left) steps e = absurd cc
 
-yes_from_clean : (header : Header) (lines : List Line) (earlier : List Step) (w : World tcp_shape) (steps : List Step)
+yes_from_clean : (header : Header) (lines : List Line) (earlier : List Step) (w : Known) (steps : List Step)
     → IsClean header lines earlier w steps → IsYes (verdict_from header lines earlier w steps)
 yes_from_clean header lines earlier w [] clean = left_said (unplaced header lines (moves earlier)) earlier clean
 yes_from_clean header lines earlier w (s ∷ steps) clean =
@@ -65,10 +67,10 @@ pub moves_more : (earlier : List Step) (s : Step) → moves (earlier ++ s ∷ []
 moves_more earlier s = map-append move_of earlier (s ∷ [])
 
 -- the machine's part of the rules of a step
-abbrev act_part : Header → World tcp_shape → Option (Stamped tcp_shape) → List (Rule × Bool)
+abbrev act_part : Header → Known → Option (Stamped tcp_shape) → List (Rule × Bool)
 act_part header w act = option_map_or (act_rules header w) act []
 
-order_part : (header : Header) (lines : List Line) (earlier : List Step) (w : World tcp_shape) (steps : List Step)
+order_part : (header : Header) (lines : List Line) (earlier : List Step) (w : Known) (steps : List Step)
     → IsClean header lines earlier w steps → IsOrderly header lines (moves earlier) (moves steps)
 order_part header lines earlier w [] clean = clean
 order_part header lines earlier w (s ∷ steps) clean = (
@@ -77,32 +79,40 @@ order_part header lines earlier w (s ∷ steps) clean = (
       (order_part header lines (earlier ++ s ∷ []) (next_world header lines w s) steps clean.1),
 )
 
-run_more : (header : Header) (w : World tcp_shape) (act : Option (Stamped tcp_shape)) (rest : List (Stamped tcp_shape))
-    → first_broken (act_part header w act) ≡ None → Lawful (tcp header) (option_map_or (act_after header w) act w) rest
-    → Lawful (tcp header) w (cons_option act rest)
-run_more header w None rest none run = run
-run_more header w (Some act) rest none run = (none, run)
+-- a run of the model that duties permit
+abbrev IsKeptRun : Header → Known → List (Stamped tcp_shape) → Type 0
+IsKeptRun header w acts = Lawful (tcp header) w.model acts × Dutiful header w acts
 
-run_part : (header : Header) (lines : List Line) (earlier : List Step) (w : World tcp_shape) (steps : List Step)
-    → IsClean header lines earlier w steps → Lawful (tcp header) w (stamped header lines steps)
-run_part header lines earlier w [] clean = tt
+run_more : (header : Header) (w : Known) (act : Option (Stamped tcp_shape)) (rest : List (Stamped tcp_shape))
+    → first_broken (act_part header w act) ≡ None → IsKeptRun header (option_map_or (act_after header w) act w) rest
+    → IsKeptRun header w (cons_option act rest)
+run_more header w None rest none run = run
+run_more header w (Some act) rest none run =
+    let both = none_both (step_rules (tcp header) act.moment w.model act.step) (watch_rules header act.moment w act.step) none in
+    ((both.0, run.0), (both.1, run.1))
+
+run_part : (header : Header) (lines : List Line) (earlier : List Step) (w : Known) (steps : List Step)
+    → IsClean header lines earlier w steps → IsKeptRun header w (stamped header lines steps)
+run_part header lines earlier w [] clean = (tt, tt)
 run_part header lines earlier w (s ∷ steps) clean =
     run_more header w (act_of header lines s) (stamped header lines steps)
     (none_both (order_rules (order_of header lines (moves earlier)) (move_of s)) (act_part header w (act_of header lines s)) clean.0).1
     (run_part header lines (earlier ++ s ∷ []) (next_world header lines w s) steps clean.1)
 
-run_none : (header : Header) (w : World tcp_shape) (act : Option (Stamped tcp_shape)) (rest : List (Stamped tcp_shape))
-    → Lawful (tcp header) w (cons_option act rest) → first_broken (act_part header w act) ≡ None
+run_none : (header : Header) (w : Known) (act : Option (Stamped tcp_shape)) (rest : List (Stamped tcp_shape))
+    → IsKeptRun header w (cons_option act rest) → first_broken (act_part header w act) ≡ None
 run_none header w None rest run = refl
-run_none header w (Some act) rest run = run.0
+run_none header w (Some act) rest run =
+    first_broken-append_none (step_rules (tcp header) act.moment w.model act.step) (watch_rules header act.moment w act.step) run.0.0
+    ∙ run.1.0
 
-run_rest : (header : Header) (w : World tcp_shape) (act : Option (Stamped tcp_shape)) (rest : List (Stamped tcp_shape))
-    → Lawful (tcp header) w (cons_option act rest) → Lawful (tcp header) (option_map_or (act_after header w) act w) rest
+run_rest : (header : Header) (w : Known) (act : Option (Stamped tcp_shape)) (rest : List (Stamped tcp_shape))
+    → IsKeptRun header w (cons_option act rest) → IsKeptRun header (option_map_or (act_after header w) act w) rest
 run_rest header w None rest run = run
-run_rest header w (Some act) rest run = run.1
+run_rest header w (Some act) rest run = (run.0.1, run.1.1)
 
-both_parts : (header : Header) (lines : List Line) (earlier : List Step) (w : World tcp_shape) (steps : List Step)
-    → IsOrderly header lines (moves earlier) (moves steps) → Lawful (tcp header) w (stamped header lines steps)
+both_parts : (header : Header) (lines : List Line) (earlier : List Step) (w : Known) (steps : List Step)
+    → IsOrderly header lines (moves earlier) (moves steps) → IsKeptRun header w (stamped header lines steps)
     → IsClean header lines earlier w steps
 both_parts header lines earlier w [] orderly run = orderly
 both_parts header lines earlier w (s ∷ steps) orderly run = (
@@ -116,16 +126,17 @@ both_parts header lines earlier w (s ∷ steps) orderly run = (
 
 pub yes_explains : (t : Trace) (w : Witness) → IsYes (verdict t w) → Explains t w
 yes_explains t w said =
-    let first : World tcp_shape = start (tcp t.header) in
+    let first : Known = first_known t.header in
     let clean : IsClean t.header t.lines [] first w.steps = clean_from_yes t.header t.lines [] first w.steps said in
-    let run : Lawful (tcp t.header) first (stamped t.header t.lines w.steps) = run_part t.header t.lines [] first w.steps clean in
+    let run : IsKeptRun t.header first (stamped t.header t.lines w.steps) = run_part t.header t.lines [] first w.steps clean in
     record {
       placed = placed_from_orderly t.header t.lines (moves w.steps) (order_part t.header t.lines [] first w.steps clean);
-      turns = λ thread. turns (tcp t.header) thread first (stamped t.header t.lines w.steps) run;
-      run = run;
+      turns = λ thread. turns (tcp t.header) thread (start (tcp t.header)) (stamped t.header t.lines w.steps) run.0;
+      run = run.0;
+      duties = run.1;
     }
 
 pub explains_yes : (t : Trace) (w : Witness) → Explains t w → IsYes (verdict t w)
 explains_yes t w e =
-    yes_from_clean t.header t.lines [] (start (tcp t.header)) w.steps
-    (both_parts t.header t.lines [] (start (tcp t.header)) w.steps (orderly_from_placed t.header t.lines (moves w.steps) e.placed) e.run)
+    yes_from_clean t.header t.lines [] (first_known t.header) w.steps
+    (both_parts t.header t.lines [] (first_known t.header) w.steps (orderly_from_placed t.header t.lines (moves w.steps) e.placed) (e.run, e.duties))

@@ -9,6 +9,7 @@ use Rattle.spec_network.specs.Hosts.{Idle}
 use Rattle.spec_network.specs.HostSteps.{start, Lawful}
 use Rattle.spec_network.specs.Turns.{Turns}
 use Rattle.spec_tcp.specs.Machine.{tcp}
+use Rattle.spec_duties.specs.Cases.{Dutiful, first_known}
 use Rattle.checker.specs.Seen.{moves, stamped}
 
 pub record Explains (t : Trace) (w : Witness) : Type 0 where
@@ -18,6 +19,8 @@ pub record Explains (t : Trace) (w : Witness) : Type 0 where
   pub turns : (thread : ℕ) → Turns (tcp t.header) thread Idle (stamped t.header t.lines w.steps)
   -- the steps are a run of the model
   pub run : Lawful (tcp t.header) (start (tcp t.header)) (stamped t.header t.lines w.steps)
+  -- no duty refuses one of them
+  pub duties : Dutiful t.header (first_known t.header) (stamped t.header t.lines w.steps)
 
 -- the verdict is yes
 abbrev pub IsYes : Verdict → Type 0

@@ -10,7 +10,7 @@ use Rattle.verdict.specs.declared.report.Verdict.{Verdict}
 use Rattle.verdict.specs.declared.report.Verdict.TheVariants.{Yes, No}
 use Rattle.interval_order.specs.Orders.{unplaced}
 use Rattle.verdict.specs.Rules.{first_broken}
-use Rattle.spec_tcp_laws.specs.Runs.{world_at_end}
+use Rattle.spec_duties.specs.Cases.{first_known, known_after_all}
 use Rattle.spec_tcp_laws.specs.Ascending.{IsLeastBroken}
 use Rattle.checker.specs.Seen.{moves, stamped}
 use Rattle.checker.specs.Verdicts.{all_rules, takes_line, line_named}
@@ -20,7 +20,7 @@ use Rattle.checker.specs.Explains.{Explains}
 abbrev pub rules_at : Trace → Witness → ℕ → Step → List (Rule × Bool)
 rules_at t w place s =
     all_rules t.header t.lines (take place w.steps)
-    (world_at_end t.header (stamped t.header t.lines (take place w.steps))) s
+    (known_after_all t.header (first_known t.header) (stamped t.header t.lines (take place w.steps))) s
 
 -- the first of them that it breaks
 abbrev pub broken_at : Trace → Witness → ℕ → Step → Option Rule

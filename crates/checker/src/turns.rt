@@ -22,7 +22,7 @@ use crate::case::{CaseFault, witness_fault};
 use crate::offering::{offer_reached, refuse_late};
 use crate::replay::{line_named, replay, takes_line};
 use case_forms::{Label, Step};
-use endpoint_state::World;
+use duties::Case;
 use interval_order::Window;
 use line_fields::SourceFault;
 use std::alloc::Global;
@@ -116,7 +116,7 @@ fn next_step<A: BufRead, B: BufRead>(
 fn judge_step<A: BufRead>(
     alloc: Global,
     window: &mut Window,
-    world: &mut World,
+    world: &mut Case,
     lines: &mut Ahead<A>,
     step: &Step,
 ) -> Result<Option<Rule>, CaseFault>
@@ -151,7 +151,7 @@ fn judge_step<A: BufRead>(
 fn replay_next<A: BufRead, B: BufRead>(
     alloc: Global,
     window: &mut Window,
-    world: &mut World,
+    world: &mut Case,
     lines: &mut Ahead<A>,
     steps: &mut StepReader<B>,
 ) -> Result<StepOutcome, CaseFault>
@@ -204,7 +204,7 @@ fn turn_of(broken: Option<Rule>, step: Step) -> StepOutcome
 pub(crate) fn replay_steps<A: BufRead, B: BufRead>(
     alloc: Global,
     window: &mut Window,
-    world: &mut World,
+    world: &mut Case,
     lines: &mut Ahead<A>,
     steps: &mut StepReader<B>,
 ) -> Result<ReplayOutcome, CaseFault>

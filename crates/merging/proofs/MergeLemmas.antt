@@ -153,6 +153,7 @@ told_by t w zs os both version lines_is steps_is books =
       takes =
           subst (λ (ls : List Line). AllTakeWell h ls w.steps) (sym lines_eq)
           (subst (λ (ss : List witness.Step). AllTakeWell h (lines_said xs) ss) (sym steps_eq) from.1);
+      slack = rw both refl;
       steps_are = ap (λ (ls : List Line). stamped h ls w.steps) lines_eq ∙ ap (λ (ss : List witness.Step). stamped h (lines_said xs) ss) steps_eq ∙ from.0;
       lines_are = ap (map line_told) lines_eq ∙ lines_are h both xs whole;
     }
