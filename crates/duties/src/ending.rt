@@ -8,11 +8,12 @@ ghost use Rattle.spec_duties.specs.End.{first_waiting, late_at_end, lates_at, la
 ghost use Rattle.spec_duties.specs.Views.{view_of};
 
 use crate::deadlines::is_late_at_once;
-use crate::owed::Lates;
+use crate::owed::{admits_lates, either, lates_of, none_late};
 use crate::views::view_of;
 use crate::watching::Duties;
 use case_forms::Host;
 use endpoint_state::{Endpoint, World};
+use spec_duties::Lates;
 use verdict::Rule;
 
 // The line of the first segment that came and still waits too long.
@@ -40,7 +41,7 @@ fn lates_at(
 {
     let view = view_of(endpoint);
     let closed = duties.listener_closed(host, &view);
-    Lates::of(slack, moment, &view, closed, &duties.owed_by(host, place))
+    lates_of(slack, moment, &view, closed, &duties.owed_by(host, place))
 }
 
 // What the endpoints of a host owe and are late with, beside what was found so far.
@@ -59,7 +60,8 @@ fn lates_of_host(
     let mut lates = so_far;
     for place in 0..places(world, host) {
         if let Some(endpoint) = body.endpoint_at(place) {
-            lates = lates.or(lates_at(slack, moment, duties, host, place, endpoint));
+            let found = lates_at(slack, moment, duties, host, place, endpoint);
+            lates = either(lates, found);
         }
     }
     lates
@@ -89,9 +91,9 @@ pub(crate) fn late_at_end(
     if let Some(line) = first_waiting(slack, moment, duties.inbox.entries()) {
         return Some((line, Rule::ProcessLate));
     }
-    let zero = lates_of_host(slack, moment, duties, world, Host::Zero, Lates::none(false));
+    let zero = lates_of_host(slack, moment, duties, world, Host::Zero, none_late(false));
     let all = lates_of_host(slack, moment, duties, world, Host::One, zero);
-    match all.admits() {
+    match admits_lates(all) {
         Ok(()) => None,
         Err(rule) => Some((0, rule)),
     }

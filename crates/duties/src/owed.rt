@@ -16,8 +16,7 @@ use crate::resent::again_after;
 use crate::reset::{reset_after, reset_since};
 use crate::retransmit::{probe_after, retransmit_after};
 use crate::start::{start_after, start_due};
-use spec_duties::{Owed, Touched, View};
-use std::marker::Model;
+use spec_duties::{Lates, Owed, Touched, View};
 use verdict::Rule;
 
 /// Before any step touches an endpoint.
@@ -38,118 +37,90 @@ pub(crate) fn nothing() -> Owed
     }
 }
 
-/// Which duties of an endpoint are late.
-#[derive(Clone, Copy)]
-pub(crate) struct Lates {
-    acknowledge: bool,
-    expire: bool,
-    retransmit: bool,
-    probe: bool,
-    start: bool,
-    reset: bool,
+/// None, or a reset alone.
+pub(crate) fn none_late(reset: bool) -> Lates
+    ensures { result ≡ none_late reset }
+{
+    Lates {
+        acknowledge: false,
+        expire: false,
+        retransmit: false,
+        probe: false,
+        start: false,
+        reset,
+    }
 }
 
-impl Model for Lates {
-    ghost use Rattle.spec_duties.specs.Owed.{Lates};
-
-    ghost Value = { Lates };
-
-    ghost view = { λ a. record {
-      acknowledge = a.acknowledge;
-      expire = a.expire;
-      retransmit = a.retransmit;
-      probe = a.probe;
-      start = a.start;
-      reset = a.reset;
-    } };
+fn lates_of_open(slack: u64, moment: u64, v: &View, owed: &Owed, reset: bool) -> Lates
+    ensures { result ≡ lates_of_open slack moment v.now owed.now reset }
+{
+    Lates {
+        acknowledge: is_late(slack, moment, acknowledge_due(owed.acknowledge)),
+        expire: is_late(slack, moment, expiry_due(v, owed.opened)),
+        retransmit: is_late_at_once(slack, moment, owed.retransmit)
+            || is_late_at_once(slack, moment, owed.probe),
+        probe: is_late(slack, moment, probing_due(v, owed.probing)),
+        start: is_late(slack, moment, start_due(owed.start)),
+        reset,
+    }
 }
 
-impl Lates {
-    /// None, or a reset alone.
-    pub(crate) fn none(reset: bool) -> Lates
-        ensures { result ≡ none_late reset }
-    {
-        Lates {
-            acknowledge: false,
-            expire: false,
-            retransmit: false,
-            probe: false,
-            start: false,
-            reset,
-        }
+/// Those of an endpoint whose listener was closed at this moment, if it was.
+pub(crate) fn lates_of(
+    slack: u64,
+    moment: u64,
+    v: &View,
+    listener_closed: Option<u64>,
+    owed: &Owed,
+) -> Lates
+    ensures { result ≡ lates_of slack moment v.now listener_closed owed.now }
+{
+    let since = reset_since(v, listener_closed, owed.reset);
+    let reset = is_late_at_once(slack, moment, since);
+    if v.state.is_closed() {
+        none_late(reset)
+    } else {
+        lates_of_open(slack, moment, v, owed, reset)
     }
+}
 
-    fn of_open(slack: u64, moment: u64, v: &View, owed: &Owed, reset: bool) -> Lates
-        ensures { result ≡ lates_of_open slack moment v.now owed.now reset }
-    {
-        Lates {
-            acknowledge: is_late(slack, moment, acknowledge_due(owed.acknowledge)),
-            expire: is_late(slack, moment, expiry_due(v, owed.opened)),
-            retransmit: is_late_at_once(slack, moment, owed.retransmit)
-                || is_late_at_once(slack, moment, owed.probe),
-            probe: is_late(slack, moment, probing_due(v, owed.probing)),
-            start: is_late(slack, moment, start_due(owed.start)),
-            reset,
-        }
+/// What is late in one or the other.
+pub(crate) fn either(a: Lates, b: Lates) -> Lates
+    ensures { result ≡ either a b }
+{
+    Lates {
+        acknowledge: a.acknowledge || b.acknowledge,
+        expire: a.expire || b.expire,
+        retransmit: a.retransmit || b.retransmit,
+        probe: a.probe || b.probe,
+        start: a.start || b.start,
+        reset: a.reset || b.reset,
     }
+}
 
-    /// Those of an endpoint whose listener was closed at this moment, if it was.
-    pub(crate) fn of(
-        slack: u64,
-        moment: u64,
-        v: &View,
-        listener_closed: Option<u64>,
-        owed: &Owed,
-    ) -> Lates
-        ensures { result ≡ lates_of slack moment v.now listener_closed owed.now }
-    {
-        let since = reset_since(v, listener_closed, owed.reset);
-        let reset = is_late_at_once(slack, moment, since);
-        if v.state.is_closed() {
-            Lates::none(reset)
-        } else {
-            Lates::of_open(slack, moment, v, owed, reset)
-        }
+/// Whether none is late. The error is the first rule that one breaks.
+pub(crate) fn admits_lates(lates: Lates) -> Result<(), Rule>
+    ensures { result_err result ≡ first_broken (late_rules lates) }
+{
+    if lates.acknowledge {
+        return Err(Rule::AckLate);
     }
-
-    /// What is late in one or the other.
-    pub(crate) fn or(self, other: Lates) -> Lates
-        ensures { result ≡ either self other }
-    {
-        Lates {
-            acknowledge: self.acknowledge || other.acknowledge,
-            expire: self.expire || other.expire,
-            retransmit: self.retransmit || other.retransmit,
-            probe: self.probe || other.probe,
-            start: self.start || other.start,
-            reset: self.reset || other.reset,
-        }
+    if lates.expire {
+        return Err(Rule::ExpiryLate);
     }
-
-    /// Whether none is late. The error is the first rule that one breaks.
-    pub(crate) fn admits(&self) -> Result<(), Rule>
-        ensures { result_err result ≡ first_broken (late_rules self.now) }
-    {
-        if self.acknowledge {
-            return Err(Rule::AckLate);
-        }
-        if self.expire {
-            return Err(Rule::ExpiryLate);
-        }
-        if self.retransmit {
-            return Err(Rule::ResendLate);
-        }
-        if self.probe {
-            return Err(Rule::ProbeLate);
-        }
-        if self.start {
-            return Err(Rule::StartLate);
-        }
-        if self.reset {
-            return Err(Rule::ResetLate);
-        }
-        Ok(())
+    if lates.retransmit {
+        return Err(Rule::ResendLate);
     }
+    if lates.probe {
+        return Err(Rule::ProbeLate);
+    }
+    if lates.start {
+        return Err(Rule::StartLate);
+    }
+    if lates.reset {
+        return Err(Rule::ResetLate);
+    }
+    Ok(())
 }
 
 fn owed_open(

@@ -14,7 +14,7 @@ ghost use Rattle.spec_duties.specs.Watching.{queued, sent_late, start, touched_r
 
 use crate::deadlines::is_late_at_once;
 use crate::excess::{is_excess, is_mere_ack, one_more};
-use crate::owed::{Lates, nothing, owed_after};
+use crate::owed::{admits_lates, lates_of, nothing, owed_after};
 use crate::resent::{is_resent, is_resent_beyond};
 use case_forms::{Header, Host, OutOfMemory};
 use spec_duties::{
@@ -161,7 +161,7 @@ impl Duties {
     {
         let owed = self.owed_by(touched.host, touched.place);
         let closed = self.listener_closed(touched.host, &touched.before);
-        Lates::of(slack, moment, &touched.before, closed, &owed).admits()?;
+        admits_lates(lates_of(slack, moment, &touched.before, closed, &owed))?;
         admits_limits(header, touched, counts, &owed)
     }
 

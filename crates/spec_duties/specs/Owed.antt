@@ -14,6 +14,7 @@ use Rattle.spec_duties.specs.Start.{start_after, start_due}
 use Rattle.spec_duties.specs.Reset.{reset_since, reset_after}
 use Rattle.spec_duties.specs.Resent.{again_after}
 use Rattle.spec_duties.specs.Excess.{answers_after}
+pub use Rattle.spec_duties.specs.declared.owed.Lates.{Lates}
 pub use Rattle.spec_duties.specs.declared.owed.Owed.{Owed}
 
 -- before any step touches it
@@ -30,15 +31,6 @@ nothing = record {
   answers = 0;
   acknowledged = None;
 }
-
--- which duties of an endpoint are late
-pub record Lates : Type 0 where
-  pub acknowledge : Bool
-  pub expire : Bool
-  pub retransmit : Bool
-  pub probe : Bool
-  pub start : Bool
-  pub reset : Bool
 
 -- those of an endpoint that isn't CLOSED
 abbrev pub lates_of_open : (slack moment : ℕ) → View → Owed → (reset : Bool) → Lates

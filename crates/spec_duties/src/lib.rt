@@ -29,7 +29,7 @@ mod tables;
 mod views;
 
 pub use events::{Event, Sending};
-pub use owed::{Owed, Probing};
+pub use owed::{Lates, Owed, Probing};
 pub use sights::{Dropping, Mail, Post, Queueing, Sight, Spared, Touched};
 pub use tables::{Built, Listening};
 pub use views::View;

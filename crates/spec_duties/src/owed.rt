@@ -9,6 +9,17 @@ pub struct Probing {
     pub factor: u32,
 }
 
+/// Which duties of an endpoint are late.
+#[derive(Clone, Copy)]
+pub struct Lates {
+    pub acknowledge: bool,
+    pub expire: bool,
+    pub retransmit: bool,
+    pub probe: bool,
+    pub start: bool,
+    pub reset: bool,
+}
+
 /// What an endpoint owes, and since when. Moments are in microseconds.
 #[derive(Clone, Copy)]
 pub struct Owed {

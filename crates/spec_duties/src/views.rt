@@ -28,6 +28,6 @@ pub struct View {
     /// The greatest position that its own windows reached (RCV.NXT + RCV.WND).
     pub rcv_adv: u64,
     /// The position at which bytes end at most, by the congestion window (RFC 5681, 3.1).
-    pub congestion_edge: u64,
+    pub congestion_edge: u128,
     pub timers: Timers,
 }
