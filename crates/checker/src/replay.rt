@@ -26,11 +26,11 @@ ghost use Rattle.checker.specs.Consequences.{AllStatesFollow, NoPositionFalls};
 
 use crate::laws::{explained_follows, receives_begin_sends};
 use case_forms::{Header, Label, Line, NamedLine, OutOfMemory, Step, TakenLine, Trace, Witness};
-use duties::{Case, apply_hidden, apply_line_owned};
 use endpoint_state::StepFault;
 use interval_order::Window;
 use std::alloc::{AllocError, Global};
 use verdict::{Rule, Verdict};
+use watched::{Case, apply_hidden, apply_line_owned};
 
 /// The verdict on a witness for a trace of its version, if both have texts.
 ///

@@ -22,12 +22,12 @@ use crate::case::{CaseFault, witness_fault};
 use crate::offering::{offer_reached, refuse_late};
 use crate::replay::{line_named, replay, takes_line};
 use case_forms::{Label, Step};
-use duties::Case;
 use interval_order::Window;
 use line_fields::SourceFault;
 use std::alloc::Global;
 use std::io::BufRead;
 use verdict::Rule;
+use watched::Case;
 use witness::StepReader;
 
 /// The result of one turn.

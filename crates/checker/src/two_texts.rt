@@ -32,11 +32,11 @@ use crate::steps::drain_steps;
 use crate::turns::{ReplayOutcome, StepCounts, replay_steps};
 use case_forms::Header;
 use counted::Counted;
-use duties::Case;
 use interval_order::Window;
 use std::alloc::Global;
 use std::io::BufRead;
 use verdict::{Rule, Verdict};
+use watched::Case;
 use witness::StepReader;
 
 /// The trace's fault, else the witness's, else the verdict on the case, however the bytes of both come in pieces. The

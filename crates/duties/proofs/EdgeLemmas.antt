@@ -1,5 +1,6 @@
 -- The congestion edge from position 0 on.
-use Rattle.std.proofs.Common.{◌≡◌, ℕ, ◌+◌, ◌^◌, Bool, true, false, refl, arith}
+use Rattle.std.proofs.Common.{◌≡◌, ℕ, ◌+◌, ◌^◌, Bool, true, false, arith}
+use Rattle.std.specs.Prelude.{if◌then◌else◌}
 use Rattle.window_rules.specs.declared.control.Control.{Control}
 use Rattle.window_rules.specs.Control.{bounds_windows, control_edge}
 use Rattle.window_rules.specs.Windows.{congestion_edge}

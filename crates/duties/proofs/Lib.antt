@@ -1,3 +1,1 @@
-mod CallLemmas
 mod EdgeLemmas
-mod PlaceLemmas

@@ -22,7 +22,7 @@ pub(crate) fn is_late(slack: u64, moment: u64, due: Option<u128>) -> bool
 }
 
 /// Whether a duty that is due at once is late.
-pub(crate) fn is_late_at_once(slack: u64, moment: u64, since: Option<u64>) -> bool
+pub fn is_late_at_once(slack: u64, moment: u64, since: Option<u64>) -> bool
     ensures { result ≡ is_late slack moment since }
 {
     match since {

@@ -38,7 +38,7 @@ pub(crate) fn nothing() -> Owed
 }
 
 /// None, or a reset alone.
-pub(crate) fn none_late(reset: bool) -> Lates
+pub fn none_late(reset: bool) -> Lates
     ensures { result ≡ none_late reset }
 {
     Lates {
@@ -66,7 +66,7 @@ fn lates_of_open(slack: u64, moment: u64, v: &View, owed: &Owed, reset: bool) ->
 }
 
 /// Those of an endpoint whose listener was closed at this moment, if it was.
-pub(crate) fn lates_of(
+pub fn lates_of(
     slack: u64,
     moment: u64,
     v: &View,
@@ -85,7 +85,7 @@ pub(crate) fn lates_of(
 }
 
 /// What is late in one or the other.
-pub(crate) fn either(a: Lates, b: Lates) -> Lates
+pub fn either(a: Lates, b: Lates) -> Lates
     ensures { result ≡ either a b }
 {
     Lates {
@@ -99,7 +99,7 @@ pub(crate) fn either(a: Lates, b: Lates) -> Lates
 }
 
 /// Whether none is late. The error is the first rule that one breaks.
-pub(crate) fn admits_lates(lates: Lates) -> Result<(), Rule>
+pub fn admits_lates(lates: Lates) -> Result<(), Rule>
     ensures { result_err result ≡ first_broken (late_rules lates) }
 {
     if lates.acknowledge {

@@ -32,7 +32,7 @@ pub fn view_of(endpoint: &Endpoint) -> View
 }
 
 /// Before `open` or a listener creates it.
-pub(crate) fn unborn() -> View
+pub fn unborn() -> View
     ensures { result ≡ unborn }
 {
     View {

@@ -1,6 +1,6 @@
 //! The rules of duties at a step, and what is kept after it.
 
-ghost use Rattle.std.specs.Prelude.{◌≡◌, ◌∷◌, [], nat_eq, OnOk, unwrap_or};
+ghost use Rattle.std.specs.Prelude.{◌≡◌, false, OnOk};
 ghost use Rattle.std.specs.Map.{lookup};
 ghost use Rattle.std.specs.Option.{option_map_or};
 ghost use Rattle.std.specs.Result.{result_err};
@@ -29,12 +29,12 @@ use verdict::Rule;
 /// when each segment was built that isn't sent yet.
 #[derive(Drop)]
 pub struct Duties {
-    pub(crate) owed_0: Table<Owed>,
-    pub(crate) owed_1: Table<Owed>,
-    pub(crate) listening_0: Table<Listening>,
-    pub(crate) listening_1: Table<Listening>,
-    pub(crate) inbox: Table<Option<u64>>,
-    pub(crate) built: Table<Option<Built>>,
+    owed_0: Table<Owed>,
+    owed_1: Table<Owed>,
+    listening_0: Table<Listening>,
+    listening_1: Table<Listening>,
+    inbox: Table<Option<u64>>,
+    built: Table<Option<Built>>,
 }
 
 impl Model for Duties {
@@ -96,6 +96,14 @@ impl Duties {
             Some(place) => self.listening_at(host, place).closed,
             None => None,
         }
+    }
+
+    /// The segments that came, each with its line and the moment since which it waits, in microseconds; None if it left
+    /// the inbox.
+    pub fn inbox(&self) -> &[(u64, Option<u64>)]
+        ensures { result.now ≡ self.now.inbox }
+    {
+        self.inbox.entries()
     }
 
     fn is_spared(&self, host: Host, spared: Spared) -> bool

@@ -13,15 +13,15 @@ ghost use Rattle.spec_duties.specs.Sights.{at_drop, at_next, at_place, at_ports,
 ghost use Rattle.spec_duties.specs.Sights.{sending_of, sight, touching, unseen, view_in};
 ghost use Rattle.spec_duties.specs.declared.sights.Post.TheVariants as post;
 ghost use Rattle.spec_duties.specs.declared.sights.Mail.TheVariants as mail;
-ghost use Rattle.duties.specs.Targets.{taker_at};
+ghost use Rattle.watched.specs.Targets.{taker_at};
 
 use crate::calls::sight_of_effect;
 use crate::dropped::{
     Target, answering_breaks, asks, discards_at, dropping_of, has_content, spared_by,
     taking_breaks, target_of,
 };
-use crate::views::{unborn, view_of};
 use case_forms::{Host, Label, Ports, SegmentPlan, TakeChoice, TakenLine};
+use duties::{unborn, view_of};
 use endpoint_state::{HostTcp, World};
 use spec_duties::{Event, Mail, Post, Queueing, Sending, Sight, Touched, View};
 use spec_tcp::Emission;

@@ -7,11 +7,8 @@ ghost use Rattle.spec_tcp.specs.Bounds.{most_steps};
 ghost use Rattle.spec_duties.specs.End.{first_waiting, late_at_end, lates_at, lates_from, lates_of_all, lates_of_host};
 ghost use Rattle.spec_duties.specs.Views.{view_of};
 
-use crate::deadlines::is_late_at_once;
-use crate::owed::{admits_lates, either, lates_of, none_late};
-use crate::views::view_of;
-use crate::watching::Duties;
 use case_forms::Host;
+use duties::{Duties, admits_lates, either, is_late_at_once, lates_of, none_late, view_of};
 use endpoint_state::{Endpoint, World};
 use spec_duties::Lates;
 use verdict::Rule;
@@ -88,7 +85,7 @@ pub(crate) fn late_at_end(
     requires { world.now.steps ≤ most_steps }
     ensures { result ≡ late_at_end slack moment duties.now world.now.world }
 {
-    if let Some(line) = first_waiting(slack, moment, duties.inbox.entries()) {
+    if let Some(line) = first_waiting(slack, moment, duties.inbox()) {
         return Some((line, Rule::ProcessLate));
     }
     let zero = lates_of_host(slack, moment, duties, world, Host::Zero, none_late(false));

@@ -9,7 +9,7 @@ ghost use Rattle.spec_duties.specs.Dropped.{answering_breaks, asks, discards, di
 ghost use Rattle.spec_duties.specs.Dropped.{holds_next, is_ack_range, is_challenged, is_next, is_unacceptable};
 ghost use Rattle.spec_duties.specs.Dropped.{keeps_order, meets_closed_window, spared_at_listener, spared_by};
 ghost use Rattle.spec_duties.specs.Dropped.{taking_breaks};
-ghost use Rattle.duties.specs.Targets.{taker_at};
+ghost use Rattle.watched.specs.Targets.{taker_at};
 
 use case_forms::{Host, State, TakeChoice, Version};
 use endpoint_state::{HostTcp, World};

@@ -11,12 +11,12 @@ ghost use Rattle.spec_tcp.specs.Steps.{line_step, hidden_step};
 ghost use Rattle.spec_duties.specs.Cases.{after, asked_after, asked_rules, broken_by, judged_rules, late_at_end, noted_by};
 ghost use Rattle.spec_duties.specs.Cases.{start};
 ghost use Rattle.spec_duties.specs.Sights.{sight, unseen};
-ghost use Rattle.duties.specs.Watched.{case_of, noted, seen};
+ghost use Rattle.watched.specs.Watched.{case_of, noted, seen};
 
 use crate::ending;
 use crate::sights::{sight_of_hidden, sight_of_line, unseen, view_in};
-use crate::watching::Duties;
 use case_forms::{Header, Label, TakenLine};
+use duties::Duties;
 use endpoint_state::{StepFault, World};
 use spec_duties::Sight;
 use std::alloc::Global;
