@@ -1,11 +1,11 @@
-//! A trace in version 4.
+//! A trace in version 4, or in version 5 if it has that version.
 
 use bstr::ByteSlice;
 use case_forms::{Header, Judged, Lines, OutOfMemory, Trace, Version};
 use std::alloc::Global;
 use trace_reader::print_trace;
 
-/// The text of a trace in version 4, at this level: another header, and the same event lines.
+/// The text of a trace in version 4 or 5, at this level: another header, and the same event lines.
 pub(crate) fn rewritten(
     alloc: Global,
     text: &[u8],
@@ -19,12 +19,14 @@ pub(crate) fn rewritten(
     Ok(rewritten)
 }
 
-// The header in version 4. What an older version doesn't say is read as it is judged: RFC 5681 gives the first window.
+// The header in version 4, or in version 5, which keeps its slack. What an older version doesn't say is read as it is
+// judged: RFC 5681 gives the first window.
 fn judged_by(header: &Header, level: Judged) -> Header {
-    let version = if header.version.is_half() {
-        Version::FourHalf
-    } else {
-        Version::Four
+    let version = match header.version {
+        Version::One | Version::Two | Version::Four => Version::Four,
+        Version::Three | Version::FourHalf => Version::FourHalf,
+        Version::Five => Version::Five,
+        Version::FiveHalf => Version::FiveHalf,
     };
     Header {
         version,

@@ -46,7 +46,7 @@ impl From<TextFault> for JudgeFault {
 #[derive(Drop)]
 pub(crate) struct Tried {
     pub level: Judged,
-    /// The trace in version 4, and the witness that was found.
+    /// The trace in version 4 or 5, and the witness that was found.
     pub case: Vec<u8>,
     /// How the search ended.
     pub ending: Ending,

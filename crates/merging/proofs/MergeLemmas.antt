@@ -74,6 +74,8 @@ first_small versions.Two = omega arith
 first_small versions.Three = omega arith
 first_small versions.Four = omega arith
 first_small versions.FourHalf = omega arith
+first_small versions.Five = omega arith
+first_small versions.FiveHalf = omega arith
 
 pub beside_small : (a b : Recorded) → AreBeside a b → AllSmall (in_order a.entries b.entries)
 beside_small a b x =
