@@ -168,11 +168,15 @@ call_sight host b (calls.Close n) answer = on_thing b n (close_sight host b fals
 call_sight host b (calls.Abort n) answer = on_thing b n (close_sight host b (is_done answer) answer)
 call_sight host b call answer = unseen
 
--- the effect of a thread's open call, at the host that the call applies to
+-- an open call with this answer, at the host that the call applies to
+abbrev pub pending_sight : Header → World tcp_shape → Answer → Call → Sight
+pending_sight h w answer call =
+    on (aim_of (tcp h) w.hosts (aim call)) unseen (λ host. call_sight host (pick w.hosts host).body call answer)
+
+-- the effect of a thread's call: it is open, and had none yet
 abbrev pub effect_sight : Header → World tcp_shape → Answer → Turn tcp_shape → Sight
 effect_sight h w answer Idle = unseen
-effect_sight h w answer (Called call) =
-    on (aim_of (tcp h) w.hosts (aim call)) unseen (λ host. call_sight host (pick w.hosts host).body call answer)
+effect_sight h w answer (Called call) = pending_sight h w answer call
 effect_sight h w answer (Answered given) = unseen
 
 -- of a step

@@ -1,2 +1,5 @@
 mod CallLemmas
+pub mod CaseLemmas
+mod EndLemmas
+pub mod ForgetLemmas
 mod PlaceLemmas

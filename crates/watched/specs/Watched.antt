@@ -3,7 +3,8 @@ use Rattle.std.specs.Prelude.{ℕ}
 use Rattle.case_forms.specs.declared.trace.Header.{Header}
 use Rattle.spec_network.specs.Tables.{on}
 use Rattle.endpoint_state.specs.Worlds.{Progress}
-use Rattle.spec_duties.specs.Sights.{Sight, unseen}
+use Rattle.spec_duties.specs.Sights.{unseen}
+use Rattle.spec_duties.specs.declared.sights.Sight.{Sight}
 use Rattle.spec_duties.specs.Watching.{Duties}
 use Rattle.spec_duties.specs.Cases.{Watched, noted_by}
 

@@ -1,14 +1,16 @@
 //! What duties read of the world at the effect of a call.
 
-ghost use Rattle.std.specs.Prelude.{◌≡◌, ◌<◌, ◌^◌, length};
+ghost use Rattle.std.specs.Prelude.{◌≡◌, ◌<◌, ◌^◌, if◌then◌else◌, length, None, Some};
+ghost use Rattle.case_forms.specs.declared.calls.Host.TheVariants.{Zero, One};
+ghost use Rattle.case_forms.specs.declared.trace.Header.{Header};
 ghost use Rattle.spec_network.specs.HostRules.{aim_of};
 ghost use Rattle.spec_network.specs.Hosts.{Effect};
 ghost use Rattle.spec_network.specs.Tables.{on, pick};
 ghost use Rattle.spec_tcp.specs.Bounds.{most_steps};
-ghost use Rattle.spec_tcp.specs.HostTcp.{thing_of};
+ghost use Rattle.spec_tcp.specs.HostTcp.{given, queue_of};
 ghost use Rattle.spec_tcp.specs.Machine.{aim, tcp};
 ghost use Rattle.spec_duties.specs.Sights.{accept_sight, accepting, call_sight, close_sight, is_done, on_thing};
-ghost use Rattle.spec_duties.specs.Sights.{opened_sight, other_sight, sight};
+ghost use Rattle.spec_duties.specs.Sights.{opened_sight, other_sight, pending_sight, sight};
 
 use crate::sights::{at_next, at_place, touching, unseen};
 use case_forms::{Answer, Call, Host};
@@ -140,7 +142,8 @@ fn call_sight(host: Host, b: &HostTcp, call: &Call, answer: &Answer) -> Sight
 
 // The host that gave a socket number. None: neither did.
 fn giver(world: &World, number: u32) -> Option<Host>
-    ensures { (h : Header) → result ≡ aim_of (tcp h) world.now.world.hosts (ThatSocket number) }
+    ensures { result ≡ (if given (pick world.now.world.hosts Zero).body number then Some Zero
+        else if given (pick world.now.world.hosts One).body number then Some One else None) }
 {
     if world.body(Host::Zero).is_given(number) {
         Some(Host::Zero)
@@ -156,30 +159,40 @@ fn meant(world: &World, call: &Call) -> Option<Host>
     ensures { (h : Header) → result ≡ aim_of (tcp h) world.now.world.hosts (aim call.now) }
 {
     match call {
-        Call::Listen(host, _, _) | Call::Connect(host, _, _) => Some(*host),
-        Call::Await(number)
-        | Call::Accept(number)
-        | Call::Send(number, _)
-        | Call::Recv(number, _)
-        | Call::Shut(number)
-        | Call::Close(number)
-        | Call::Abort(number)
-        | Call::Status(number) => giver(world, *number),
+        Call::Listen(host, _, _) => Some(*host),
+        Call::Connect(host, _, _) => Some(*host),
+        Call::Await(number) => giver(world, *number),
+        Call::Accept(number) => giver(world, *number),
+        Call::Send(number, _) => giver(world, *number),
+        Call::Recv(number, _) => giver(world, *number),
+        Call::Shut(number) => giver(world, *number),
+        Call::Close(number) => giver(world, *number),
+        Call::Abort(number) => giver(world, *number),
+        Call::Status(number) => giver(world, *number),
     }
 }
 
-/// What duties read of the world at the effect of a thread's open call, with this answer.
-#[tactic(auto, using(crate::proofs::PlaceLemmas::places_fit, crate::proofs::CallLemmas::no_effect, crate::proofs::CallLemmas::effect_is))]
-pub(crate) fn sight_of_effect(world: &World, moment: u64, thread: u32, answer: &Answer) -> Sight
+// An open call with this answer, at the host that it applies to.
+#[tactic(auto, using(crate::proofs::PlaceLemmas::places_fit))]
+fn pending_sight(world: &World, call: &Call, answer: &Answer) -> Sight
     requires { world.now.steps < most_steps }
-    ensures { result ≡ sight world.now.header moment world.now.world (Effect thread answer.now) }
+    ensures { (h : Header) → result ≡ pending_sight h world.now.world answer.now call.now }
 {
-    let Some(call) = world.pending_call(thread) else {
-        return unseen();
-    };
     let Some(host) = meant(world, call) else {
         return unseen();
     };
     world.is_kept();
     call_sight(host, world.body(host), call, answer)
+}
+
+/// What duties read of the world at the effect of a thread's open call, with this answer.
+#[tactic(auto, using(crate::proofs::CallLemmas::effect_is))]
+pub(crate) fn sight_of_effect(world: &World, moment: u64, thread: u32, answer: &Answer) -> Sight
+    requires { world.now.steps < most_steps }
+    ensures { result ≡ sight world.now.header moment world.now.world (Effect thread answer.now) }
+{
+    match world.pending_call(thread) {
+        Some(call) => pending_sight(world, call, answer),
+        None => unseen(),
+    }
 }

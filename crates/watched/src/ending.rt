@@ -1,15 +1,14 @@
 //! The comparison after the last step.
 
-ghost use Rattle.std.specs.Prelude.{◌≡◌, ◌≤◌, ◌<◌, Some, None, length, drop};
-ghost use Rattle.std.specs.Result.{result_err};
+ghost use Rattle.std.specs.Prelude.{◌≡◌, ◌≤◌, length, slice_get};
+ghost use Rattle.std.specs.Option.{option_map_or};
 ghost use Rattle.spec_network.specs.Tables.{pick};
 ghost use Rattle.spec_tcp.specs.Bounds.{most_steps};
-ghost use Rattle.spec_duties.specs.End.{first_waiting, late_at_end, lates_at, lates_from, lates_of_all, lates_of_host};
-ghost use Rattle.spec_duties.specs.Views.{view_of};
+ghost use Rattle.spec_duties.specs.End.{either, first_waiting, late_at_end, lates_at, lates_of_host};
 
 use case_forms::Host;
 use duties::{Duties, admits_lates, either, is_late_at_once, lates_of, none_late, view_of};
-use endpoint_state::{Endpoint, World};
+use endpoint_state::{Endpoint, HostTcp, World};
 use spec_duties::Lates;
 use verdict::Rule;
 
@@ -42,6 +41,7 @@ fn lates_at(
 }
 
 // What the endpoints of a host owe and are late with, beside what was found so far.
+#[tactic(auto, using(crate::proofs::EndLemmas::lates_next, crate::proofs::EndLemmas::lates_done))]
 fn lates_of_host(
     slack: u64,
     moment: u64,
@@ -56,12 +56,31 @@ fn lates_of_host(
     let body = world.body(host);
     let mut lates = so_far;
     for place in 0..places(world, host) {
-        if let Some(endpoint) = body.endpoint_at(place) {
-            let found = lates_at(slack, moment, duties, host, place, endpoint);
-            lates = either(lates, found);
-        }
+        lates = lates_with(slack, moment, duties, host, body, place, lates);
     }
     lates
+}
+
+// The same with the endpoint at a place.
+fn lates_with(
+    slack: u64,
+    moment: u64,
+    duties: &Duties,
+    host: Host,
+    body: &HostTcp,
+    place: u32,
+    so_far: Lates,
+) -> Lates
+    ensures { result ≡ option_map_or (λ e. either so_far (lates_at slack moment duties.now host place e))
+        (slice_get body.now.endpoints place) so_far }
+{
+    match body.endpoint_at(place) {
+        Some(endpoint) => {
+            let found = lates_at(slack, moment, duties, host, place, endpoint);
+            either(so_far, found)
+        }
+        None => so_far,
+    }
 }
 
 // How many endpoints a host has.
