@@ -109,7 +109,7 @@ module _ (header : Header) (lines : List Line) where
 
   taken_all : (earlier : List Step) (w : Known) (steps : List Step) → IsClean header lines earlier w steps
       → length (unplaced header lines (moves earlier)) ≡ count_by (λ s. takes_line s.label) steps
-  taken_all earlier w [] clean = ap length clean
+  taken_all earlier w [] clean = ap length clean.0
   taken_all earlier w (s ∷ steps) clean =
       taken_more earlier w s clean.0
       ∙ ap (λ (n : ℕ). cond (takes_line s.label) 1 0 + n) (taken_all (earlier ++ s ∷ []) (next_world header lines w s) steps clean.1)

@@ -23,7 +23,7 @@ use Rattle.spec_network.specs.Hosts.{Stamped}
 use Rattle.spec_tcp.specs.Machine.{tcp_shape}
 use Rattle.spec_tcp.specs.Steps.{label_step, line_step}
 use Rattle.spec_duties.specs.Cases.{Known, Watched as Progress, after, broken_by, forget}
-use Rattle.duties.proofs.CaseLemmas.{rules-forget, known-forgets}
+use Rattle.watched.proofs.CaseLemmas.{rules-forget, known-forgets}
 use Rattle.checker.specs.Seen.{moves, move_of, act_of}
 use Rattle.checker.specs.Verdicts.{act_rules, act_after, broken}
 use Rattle.checker.specs.Kept.{held_act, kept_broken}

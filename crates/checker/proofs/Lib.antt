@@ -23,3 +23,4 @@ pub mod PortLemmas
 pub mod StreamLemmas
 pub mod StepSpans
 pub mod PrintedLemmas
+pub mod JudgedLemmas

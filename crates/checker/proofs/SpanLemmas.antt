@@ -28,7 +28,7 @@ use Rattle.spec_tcp.specs.Machine.{tcp, tcp_shape}
 use Rattle.spec_tcp.specs.Steps.{label_step}
 use Rattle.spec_duties.specs.Cases.{Known, first_known}
 use Rattle.checker.specs.Seen.{move_of, moves, act_of}
-use Rattle.checker.specs.Verdicts.{act_rules, act_after, broken, next_world, verdict, verdict_from, verdict_left, refused_or}
+use Rattle.checker.specs.Verdicts.{act_rules, act_after, broken, next_world, late_after, verdict, verdict_from, verdict_left, refused_or}
 use Rattle.checker.specs.Again.{placeless, without_spans}
 
 -- a line under its number, without its place
@@ -132,15 +132,16 @@ broken_bare header lines earlier w s =
     first_broken (order_rules (order_of header lines (moves earlier)) (move_of s)
     ++ option_map_or (act_rules header w) act [])) (act_bare header lines s.moment s.label s.span)
 
-left_bare : (left : List (ℕ × Line)) (steps : List Step) → verdict_left (map bare left) steps ≡ verdict_left left steps
-left_bare [] steps = refl
-left_bare (e ∷ left) steps = refl
+left_bare : (left : List (ℕ × Line)) (late : Option (ℕ × Rule)) (steps : List Step)
+    → verdict_left (map bare left) late steps ≡ verdict_left left late steps
+left_bare [] late steps = refl
+left_bare (e ∷ left) late steps = refl
 
 verdict_bare : (header : Header) (lines : List Line) (earlier : List Step) (w : Known) (steps : List Step)
     → verdict_from header (map placeless lines) earlier w steps ≡ verdict_from header lines earlier w steps
 verdict_bare header lines earlier w [] =
-    ap (λ (left : List (ℕ × Line)). verdict_left left earlier) (unplaced_bare header lines (moves earlier))
-    ∙ left_bare (unplaced header lines (moves earlier)) earlier
+    ap (λ (left : List (ℕ × Line)). verdict_left left (late_after header earlier w) earlier) (unplaced_bare header lines (moves earlier))
+    ∙ left_bare (unplaced header lines (moves earlier)) (late_after header earlier w) earlier
 verdict_bare header lines earlier w (s ∷ steps) =
     ap (λ (r : Option Rule). refused_or r earlier s
     (verdict_from header (map placeless lines) (earlier ++ s ∷ [])

@@ -15,11 +15,11 @@ use Rattle.verdict.specs.declared.rule.Rule.TheVariants.{Unplaced}
 use Rattle.verdict.specs.declared.report.Verdict.{Verdict}
 use Rattle.verdict.specs.declared.report.Verdict.TheVariants.{Yes, No}
 use Rattle.verdict.specs.Rules.{first_broken}
-use Rattle.interval_order.specs.Orders.{unplaced, order_of}
+use Rattle.interval_order.specs.Orders.{last_moment, unplaced, order_of}
 use Rattle.interval_order.specs.OrderRules.{order_rules}
 use Rattle.spec_network.specs.Hosts.{Stamped}
 use Rattle.spec_tcp.specs.Machine.{tcp_shape}
-use Rattle.spec_duties.specs.Cases.{Known, case_rules, known_after, first_known}
+use Rattle.spec_duties.specs.Cases.{Known, case_rules, known_after, first_known, late_at_end}
 use Rattle.checker.specs.Seen.{move_of, moves, act_of}
 
 -- the model's rules of a step, and the whole world after it
@@ -53,10 +53,17 @@ abbrev pub line_named : Label NamedLine → ℕ
 line_named (labels.L line) = line.number
 line_named _ = 0
 
--- no step broke a rule: the least line that is not placed, or yes with both counts
-abbrev pub verdict_left : List (ℕ × Line) → List Step → Verdict
-verdict_left [] steps = Yes (count_by (λ s. takes_line s.label) steps) (count_by (λ s. not (takes_line s.label)) steps)
-verdict_left (e ∷ left) steps = No 0 e.0 Unplaced
+-- no step broke a rule: the least line that is not placed; else the least rule of a duty that is late at the end, with
+-- its line; else yes with both counts
+abbrev pub verdict_left : List (ℕ × Line) → (late : Option (ℕ × Rule)) → List Step → Verdict
+verdict_left [] None steps =
+    Yes (count_by (λ s. takes_line s.label) steps) (count_by (λ s. not (takes_line s.label)) steps)
+verdict_left [] (Some late) steps = No 0 late.0 late.1
+verdict_left (e ∷ left) late steps = No 0 e.0 Unplaced
+
+-- what is late after these steps, by the moment of the last of them
+abbrev pub late_after : Header → List Step → Known → Option (ℕ × Rule)
+late_after header steps w = late_at_end header (last_moment (moves steps)) w
 
 -- no with the rule that a step broke and the step's line in the witness, whose first line is 1; or else the verdict on
 -- what follows
@@ -66,7 +73,8 @@ refused_or (Some rule) earlier s rest = No (length earlier + 2) (line_named s.la
 
 -- the verdict on the steps that are left
 abbrev pub verdict_from : Header → List Line → List Step → Known → List Step → Verdict
-verdict_from header lines earlier w [] = verdict_left (unplaced header lines (moves earlier)) earlier
+verdict_from header lines earlier w [] =
+    verdict_left (unplaced header lines (moves earlier)) (late_after header earlier w) earlier
 verdict_from header lines earlier w (s ∷ steps) =
     refused_or (broken header lines earlier w s) earlier s (verdict_from header lines (earlier ++ s
     ∷ []) (next_world header lines w s) steps)

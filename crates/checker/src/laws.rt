@@ -4,6 +4,7 @@ ghost use Rattle.std.specs.Prelude.{◌≡◌, ◌<◌, ◌↔◌, ℕ, List, �
 ghost use Rattle.case_forms.specs.declared.trace.Line.{Line};
 ghost use Rattle.case_forms.specs.declared.trace.Trace.{Trace};
 ghost use Rattle.case_forms.specs.declared.steps.Witness.{Witness};
+ghost use Rattle.case_forms.specs.declared.version.Judged.{Judged};
 ghost use Rattle.case_forms.specs.Traces.{line_at};
 ghost use Rattle.trace_reader.specs.TraceText.{IsTraceText};
 ghost use Rattle.trace_reader.specs.Printed.{trace_text};
@@ -17,6 +18,7 @@ ghost use Rattle.interval_order.specs.Placed.{Precedes, TakesAt};
 ghost use Rattle.checker.specs.Seen.{moves};
 ghost use Rattle.checker.specs.Cases.{case_result};
 ghost use Rattle.checker.specs.Verdicts.{verdict};
+ghost use Rattle.checker.specs.Judging.{LessJudgedStaysYes};
 ghost use Rattle.checker.specs.Explains.{Explains, IsYes};
 ghost use Rattle.checker.specs.Peers.{AllPeersAreMet, EachPeerWasMet};
 ghost use Rattle.checker.specs.Again.{HaveTwo, without_spans};
@@ -51,7 +53,11 @@ pub fn yes_counts_all_lines()
     ensures { (t : Trace) (w : Witness) (lines hidden : ℕ) → verdict t w ≡ Yes lines hidden → lines ≡ length t.lines }
 {}
 
-// TRIAL: less_judged_stays_yes is left out; it needs that no sight reads the profile.
+/// A yes stays a yes, with the same counts, if the header says that less of congestion control is judged: a yes under
+/// `full` is one under `recovery`, and a yes under `recovery` is one under `none`.
+pub fn less_judged_stays_yes()
+    ensures { (j : Judged) → LessJudgedStaysYes j }
+{}
 
 /// At each moment of the witness, what the receives on a socket number returned is a prefix of what the sends on one
 /// socket number of the other host accepted; once a receive returned the end, it is all of it. The two sockets have the

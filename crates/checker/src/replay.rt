@@ -3,7 +3,7 @@
 //! Memory grows with the trace, since all its lines are offered at the start. A step takes time logarithmic in the
 //! number of lines that wait.
 
-ghost use Rattle.std.specs.Prelude.{◌≡◌, ◌↔◌, ◌<◌, ◌++◌, List, [], length, IfOk, IfNone};
+ghost use Rattle.std.specs.Prelude.{◌≡◌, ◌↔◌, ◌<◌, ◌≤◌, ◌++◌, List, [], length, IfOk, IfNone, None};
 ghost use Rattle.case_forms.specs.declared.trace.Line.{Line};
 ghost use Rattle.std.specs.List.{All};
 ghost use Rattle.case_forms.specs.Traces.{first_event_line, IsRecorded, IsTrace};
@@ -97,11 +97,7 @@ fn judge(
 }
 
 // The verdict on these steps, if the window holds all lines and the world is that before the first step.
-fn replay_all(
-    window: &mut Window,
-    world: &mut Case,
-    steps: &[Step],
-) -> Result<Verdict, OutOfMemory>
+fn replay_all(window: &mut Window, world: &mut Case, steps: &[Step]) -> Result<Verdict, OutOfMemory>
     requires begun { world.old ≡ start world.old.header }
     requires few { length steps.now < 10000000 }
     requires within { All (λ s. IsWithinLimits s.label) steps.now }

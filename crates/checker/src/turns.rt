@@ -216,6 +216,7 @@ pub(crate) fn replay_steps<A: BufRead, B: BufRead>(
     ensures ahead { IfOk result (λ r. IsAhead lines.new) }
     ensures working { IfOk result (λ r. fault_of steps.new ≡ None) }
     ensures few { IfOk result (λ r. steps_done r ≤ 10000000) }
+    ensures done { IfOk result (λ r. IsDoneAll r → world.new.steps ≤ most_steps) }
     ensures in_step { IfOk result (λ r. IsDoneAll r → IsInStep window.new (line_ahead lines.new)) }
     ensures tells { (header : Header) (t : Option (Result (List Line) TextFault))
         (s : Option (Result (List Step) TextFault))

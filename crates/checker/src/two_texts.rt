@@ -3,7 +3,7 @@
 //! Of the trace, the lines that are reached and not yet placed are kept, and one more; of the witness, one step. The
 //! world keeps what endpoints have outstanding, and each segment that was made or sent, since later steps may name it.
 
-ghost use Rattle.std.specs.Prelude.{◌≡◌, ◌≢◌, ◌↔◌, List, [], Err, IfOk, IfSome, None, Option, Result};
+ghost use Rattle.std.specs.Prelude.{◌≡◌, ◌≢◌, ◌↔◌, ◌≤◌, List, [], Err, IfOk, IfSome, None, Option, Result};
 ghost use Rattle.case_forms.specs.declared.trace.Header.{Header};
 ghost use Rattle.case_forms.specs.declared.trace.Line.{Line};
 ghost use Rattle.case_forms.specs.declared.trace.Trace.{Trace};
@@ -14,7 +14,9 @@ ghost use Rattle.counted.specs.Counting.{left_of, failures_of, one_more};
 ghost use Rattle.line_fields.specs.declared.fault.TextFault.{TextFault};
 ghost use Rattle.line_fields.specs.Left.{Yields};
 ghost use Rattle.witness.specs.StepsLeft.{steps_left, fault_of, number_of, reader_failures};
-ghost use Rattle.spec_duties.specs.Cases.{Watched as Progress};
+ghost use Rattle.spec_duties.specs.Cases.{late_at_end};
+ghost use Rattle.spec_tcp.specs.Bounds.{most_steps};
+ghost use Rattle.checker.specs.Verdicts.{verdict_left};
 ghost use Rattle.checker.specs.Explains.{Explains, IsYes};
 ghost use Rattle.checker.specs.Judges.{Says};
 ghost use Rattle.checker.specs.Headline.{ReceivesBeginSends};

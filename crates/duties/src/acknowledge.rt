@@ -21,11 +21,8 @@ fn receives(state: State) -> bool
         | State::Established
         | State::FinWait1
         | State::FinWait2 => true,
-        State::Closed
-        | State::CloseWait
-        | State::Closing
-        | State::LastAck
-        | State::TimeWait => false,
+        State::Closed | State::CloseWait | State::Closing | State::LastAck | State::TimeWait =>
+            false,
     }
 }
 
@@ -97,7 +94,11 @@ pub fn acknowledge_due(since: Option<u64>) -> Option<u128>
 }
 
 /// When the endpoint last sent a segment with ACK, after a step.
-pub(crate) fn acknowledged_after(event: &Event, moment: u64, acknowledged: Option<u64>) -> Option<u64>
+pub(crate) fn acknowledged_after(
+    event: &Event,
+    moment: u64,
+    acknowledged: Option<u64>,
+) -> Option<u64>
     ensures { result ≡ acknowledged_after event.now moment acknowledged }
 {
     match event {

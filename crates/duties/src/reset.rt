@@ -57,6 +57,10 @@ pub(crate) fn reset_after(
     if sends_reset(event) {
         return None;
     }
-    let arises = if aborts(event, after) { Some(moment) } else { None };
+    let arises = if aborts(event, after) {
+        Some(moment)
+    } else {
+        None
+    };
     reset_since(before, listener_closed, since).or(arises)
 }

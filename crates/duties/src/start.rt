@@ -14,7 +14,11 @@ const LONGEST_WAIT: u64 = 1_000_000;
 fn work_end(v: &View) -> u128
     ensures { result ≡ work_end v.now }
 {
-    if v.ended { v.end as u128 + 1 } else { v.end as u128 }
+    if v.ended {
+        v.end as u128 + 1
+    } else {
+        v.end as u128
+    }
 }
 
 fn is_free_to_send(v: &View) -> bool

@@ -235,15 +235,15 @@ fn counts_now(built: Option<Built>) -> bool
     }
 }
 
-fn admits_limits(
-    header: &Header,
-    touched: &Touched,
-    counts: bool,
-    owed: &Owed,
-) -> Result<(), Rule>
+fn admits_limits(header: &Header, touched: &Touched, counts: bool, owed: &Owed) -> Result<(), Rule>
     ensures { result_err result ≡ first_broken (limit_rules header.now touched.now counts owed.now) }
 {
-    if is_resent(header.congestion, &touched.event, &touched.before, owed.again) {
+    if is_resent(
+        header.congestion,
+        &touched.event,
+        &touched.before,
+        owed.again,
+    ) {
         return Err(Rule::Resent);
     }
     if is_resent_beyond(header.congestion, &touched.event, &touched.before) {
@@ -323,11 +323,7 @@ fn builds_mere_ack(after: &View, touched: &Option<Touched>) -> bool
     }
 }
 
-fn note_mail(
-    inbox: &mut Table<Option<u64>>,
-    moment: u64,
-    mail: Mail,
-) -> Result<(), OutOfMemory>
+fn note_mail(inbox: &mut Table<Option<u64>>, moment: u64, mail: Mail) -> Result<(), OutOfMemory>
     ensures { OnOk result (inbox.new.entries ≡ inbox_after moment mail inbox.old.entries) }
 {
     match mail {

@@ -29,15 +29,9 @@ pub enum Post {
 pub enum Queueing {
     Nothing,
     /// It loses a child that isn't CLOSED, since that is accepted.
-    Accepts {
-        host: Host,
-        listener: u32,
-    },
+    Accepts { host: Host, listener: u32 },
     /// It is closed.
-    Closes {
-        host: Host,
-        listener: u32,
-    },
+    Closes { host: Host, listener: u32 },
 }
 
 /// Whether a segment that could be processed need not be.
@@ -46,10 +40,7 @@ pub enum Spared {
     No,
     Yes,
     /// Only if the listener at this place has at least `backlog` children that are neither accepted nor CLOSED.
-    IfFull {
-        listener: u32,
-        backlog: u16,
-    },
+    IfFull { listener: u32, backlog: u16 },
 }
 
 /// A segment that is dropped.

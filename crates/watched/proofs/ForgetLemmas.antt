@@ -1,6 +1,6 @@
 -- Duties read nothing that may be discarded.
-use Rattle.std.proofs.Common.{◌≡◌, ℕ, suc, Bool, List, [], ◌∷◌, Option, None, Some, map, refl, ap}
-use Rattle.std.specs.Prelude.{if◌then◌else◌, slice_get, nat_eq}
+use Rattle.std.proofs.Common.{◌≡◌, ℕ, suc, Bool, List, [], ◌∷◌, Option, None, Some, map, refl, ap, ◌∙◌}
+use Rattle.std.specs.Prelude.{if◌then◌else◌, false, is_some, slice_get, nat_eq}
 use Rattle.std.specs.Map.{lookup}
 use Rattle.std.specs.Option.{option_map, option_map_or}
 use Rattle.std.proofs.lemmas.List.{length-map}
@@ -15,6 +15,7 @@ use Rattle.case_forms.specs.declared.calls.Host.TheVariants.{Zero, One}
 use Rattle.case_forms.specs.declared.steps.TakeChoice.{TakeChoice}
 use Rattle.case_forms.specs.declared.trace.Header.{Header}
 use Rattle.verdict.specs.declared.rule.Rule.{Rule}
+use Rattle.verdict.specs.declared.rule.Rule.TheVariants as rules
 use Rattle.verdict.specs.Rules.{first_broken}
 use Rattle.spec_network.specs.HostRules.{aim_of}
 use Rattle.spec_network.specs.Hosts as network
@@ -33,7 +34,13 @@ use Rattle.spec_tcp_laws.proofs.ForgetBodies.{place-forget}
 use Rattle.spec_tcp_laws.proofs.ForgetActs.{forget_taker, taker-forget, read-forget}
 use Rattle.spec_tcp_laws.proofs.ForgetWorlds.{step_rules-forget}
 use Rattle.spec_duties.specs.Views.{view_of, unborn}
+use Rattle.spec_duties.specs.Cases as cases
+use Rattle.spec_duties.specs.Cases.{Known, late_at_end}
+use Rattle.spec_duties.specs.End.{either, first_waiting, lates_at, lates_from, lates_of_host, lates_of_all, line_of}
+use Rattle.spec_duties.specs.Owed.{late_rules, lates_of, none_late}
+use Rattle.spec_duties.specs.Watching.{Duties, listener_closed, owed_by}
 use Rattle.spec_duties.specs.declared.events.Event.{Event}
+use Rattle.spec_duties.specs.declared.owed.Lates.{Lates}
 use Rattle.spec_duties.specs.declared.views.View.{View}
 use Rattle.spec_duties.specs.Dropped.{bare, spared_by, discards_at, taking_breaks, answering_breaks, dropping_of}
 use Rattle.spec_duties.specs.Sights.{sight, deed_sight, at_place, at_ports, at_next, at_sender, at_target, at_drop, unseen}
@@ -250,3 +257,32 @@ view_in-forget w (Some t) = by t.host
         ≡ option_map_or view_of (slice_get (pick w.hosts h).body.endpoints t.place) unborn
     by Zero = view-at w.hosts.zero.body.endpoints t.place
     by One = view-at w.hosts.one.body.endpoints t.place
+
+-- nor at the end
+lates-forget : (slack moment : ℕ) (d : Duties) (host : Host) (place : ℕ) (so_far : Lates) (es : List Endpoint)
+    → lates_from slack moment d host place so_far (map forget_endpoint es) ≡ lates_from slack moment d host place so_far es
+lates-forget slack moment d host place so_far [] = refl
+lates-forget slack moment d host place so_far (e ∷ es) =
+    ap (λ (v : View). lates_from slack moment d host (suc place)
+    (either so_far (lates_of slack moment v (listener_closed d host v) (owed_by d host place))) (map forget_endpoint es)) (view-forget e)
+    ∙ lates-forget slack moment d host (suc place) (either so_far (lates_at slack moment d host place e)) es
+
+end-forget : (slack moment : ℕ) (d : Duties) (w : World tcp_shape) → lates_of_all slack moment d (forget w) ≡ lates_of_all slack moment d w
+end-forget slack moment d w =
+    lates-forget slack moment d One 0 (lates_of_host slack moment d (forget w) Zero (none_late false)) w.hosts.one.body.endpoints
+    ∙ ap (λ (so_far : Lates). lates_of_host slack moment d w One so_far)
+    (lates-forget slack moment d Zero 0 (none_late false) w.hosts.zero.body.endpoints)
+
+pub late-forget : (h : Header) (moment : ℕ) (k : Known) → late_at_end h moment (cases.forget k) ≡ late_at_end h moment k
+late-forget h moment k = by h.slack
+  where
+    with : ℕ → Lates → Option (ℕ × Rule)
+    with slack l =
+        option_map (λ rule. (line_of (first_waiting slack moment k.duties.inbox) rule, rule))
+        (first_broken ((rules.ProcessLate, is_some (first_waiting slack moment k.duties.inbox)) ∷ late_rules l))
+
+    by : (o : Option ℕ)
+        → on o None (λ slack. with slack (lates_of_all slack moment k.duties (forget k.model)))
+        ≡ on o None (λ slack. with slack (lates_of_all slack moment k.duties k.model))
+    by None = refl
+    by (Some slack) = ap (with slack) (end-forget slack moment k.duties k.model)

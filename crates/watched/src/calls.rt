@@ -55,13 +55,7 @@ fn accept_sight(host: Host, b: &HostTcp, answer: &Answer, thing: SocketTarget) -
     }
 }
 
-fn close_sight(
-    host: Host,
-    b: &HostTcp,
-    aborts: bool,
-    answer: &Answer,
-    thing: SocketTarget,
-) -> Sight
+fn close_sight(host: Host, b: &HostTcp, aborts: bool, answer: &Answer, thing: SocketTarget) -> Sight
     ensures { result ≡ close_sight host b.now aborts answer.now thing }
 {
     match thing {

@@ -119,12 +119,7 @@ fn seen_of_hidden<Taken>(world: &World, moment: u64, label: &Label<Taken>) -> Si
 }
 
 // Whether no duty refuses a step. The error is the first broken rule.
-fn judged(
-    world: &World,
-    duties: &Duties,
-    moment: u64,
-    sight: &Sight,
-) -> Result<(), Rule>
+fn judged(world: &World, duties: &Duties, moment: u64, sight: &Sight) -> Result<(), Rule>
     ensures { result_err result ≡ first_broken (judged_rules world.now.header moment duties.now sight.now) }
 {
     match world.header().slack {

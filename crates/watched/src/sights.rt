@@ -163,12 +163,7 @@ fn sight_of_drop(world: &World, host: Host, line: u64, moment: u64) -> Sight
     Sight {
         touched: at_drop(host, body, m, taking, target),
         mail: Mail::Leaves(line),
-        dropping: Some(dropping_of(
-            host,
-            taking,
-            answering,
-            spared_by(body, m, target),
-        )),
+        dropping: Some(dropping_of(host, taking, answering, spared_by(body, m, target))),
         ..unseen()
     }
 }
@@ -257,13 +252,7 @@ fn sight_of_arrival(line: u64) -> Sight
 fn sight_at_ports(world: &World, host: Host, event: Event, ports: Ports) -> Sight
     ensures { result ≡ touching (at_ports host (pick world.now.world.hosts host).body event ports.lport ports.rport) }
 {
-    touching(at_ports(
-        host,
-        world.body(host),
-        event,
-        ports.lport,
-        ports.rport,
-    ))
+    touching(at_ports(host, world.body(host), event, ports.lport, ports.rport))
 }
 
 /// What duties read of the world at a step that takes a line.
