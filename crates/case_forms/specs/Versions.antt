@@ -1,7 +1,7 @@
 -- What differs between the versions of the texts.
 use Rattle.std.specs.Prelude.{ℕ, Bool, true, false}
 use Rattle.case_forms.specs.declared.version.Version.{Version}
-use Rattle.case_forms.specs.declared.version.Version.TheVariants.{One, Two, Three, Four, FourHalf}
+use Rattle.case_forms.specs.declared.version.Version.TheVariants.{One, Two, Three, Four, FourHalf, Five, FiveHalf}
 
 -- the number of the first event line of a trace, after the lines of its header
 abbrev pub first_line_of : Version → ℕ
@@ -10,6 +10,8 @@ first_line_of Two = 8
 first_line_of Three = 9
 first_line_of Four = 10
 first_line_of FourHalf = 10
+first_line_of Five = 11
+first_line_of FiveHalf = 11
 
 -- windows may be scaled
 abbrev pub scales : Version → Bool
@@ -18,6 +20,8 @@ scales Two = true
 scales Three = true
 scales Four = true
 scales FourHalf = true
+scales Five = true
+scales FiveHalf = true
 
 -- a half case: only host 0 is recorded
 abbrev pub is_half : Version → Bool
@@ -26,6 +30,8 @@ is_half Two = false
 is_half Three = true
 is_half Four = false
 is_half FourHalf = true
+is_half Five = false
+is_half FiveHalf = true
 
 -- the header states how much of congestion control is judged
 abbrev pub says_congestion : Version → Bool
@@ -34,11 +40,25 @@ says_congestion Two = false
 says_congestion Three = false
 says_congestion Four = true
 says_congestion FourHalf = true
+says_congestion Five = true
+says_congestion FiveHalf = true
 
--- the version in the first line of a text: both of version 4 have the same
+-- the header states how late a host may be
+abbrev pub says_slack : Version → Bool
+says_slack One = false
+says_slack Two = false
+says_slack Three = false
+says_slack Four = false
+says_slack FourHalf = false
+says_slack Five = true
+says_slack FiveHalf = true
+
+-- the version in the first line of a text: both of version 4 have the same, and both of version 5
 abbrev pub named_as : Version → Version
 named_as One = One
 named_as Two = Two
 named_as Three = Three
 named_as Four = Four
 named_as FourHalf = Four
+named_as Five = Five
+named_as FiveHalf = Five

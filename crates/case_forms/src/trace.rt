@@ -38,6 +38,9 @@ pub struct Header {
     pub initial: Initial,
     /// How much of congestion control is judged; `Full` in versions 1 to 3, whose texts don't state it.
     pub congestion: Judged,
+    /// How late a host may be with what it must do, 0 to 10^18; `None` (`any`) if that isn't judged. Versions 1 to 4,
+    /// whose texts don't state it, have `None`.
+    pub slack: Option<u64>,
 }
 
 impl Header {

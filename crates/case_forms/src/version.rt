@@ -1,7 +1,7 @@
 //! The versions of a trace and its witness.
 
 ghost use Rattle.std.specs.Prelude.{◌≡◌};
-ghost use Rattle.case_forms.specs.Versions.{first_line_of, is_half, scales};
+ghost use Rattle.case_forms.specs.Versions.{first_line_of, is_half, says_slack, scales};
 
 /// The version of a text. A trace and its witness have the same version.
 #[derive(Clone, Copy, Debug, PartialEq, Eq)]
@@ -16,6 +16,10 @@ pub enum Version {
     Four,
     /// Like version 3, and the trace states how much of congestion control is judged. Its texts have version 4.
     FourHalf,
+    /// Like version 4, and the trace states how late a host may be with what it must do.
+    Five,
+    /// The same for a half case. Its texts have version 5.
+    FiveHalf,
 }
 
 impl Version {
@@ -28,6 +32,7 @@ impl Version {
             Version::Two => 8,
             Version::Three => 9,
             Version::Four | Version::FourHalf => 10,
+            Version::Five | Version::FiveHalf => 11,
         }
     }
 
@@ -37,7 +42,12 @@ impl Version {
     {
         match self {
             Version::One => false,
-            Version::Two | Version::Three | Version::Four | Version::FourHalf => true,
+            Version::Two
+            | Version::Three
+            | Version::Four
+            | Version::FourHalf
+            | Version::Five
+            | Version::FiveHalf => true,
         }
     }
 
@@ -46,8 +56,20 @@ impl Version {
         ensures { result ≡ is_half self }
     {
         match self {
-            Version::One | Version::Two | Version::Four => false,
-            Version::Three | Version::FourHalf => true,
+            Version::One | Version::Two | Version::Four | Version::Five => false,
+            Version::Three | Version::FourHalf | Version::FiveHalf => true,
+        }
+    }
+
+    /// Whether the header states how late a host may be.
+    pub fn says_slack(self) -> bool
+        ensures { result ≡ says_slack self }
+    {
+        match self {
+            Version::One | Version::Two | Version::Three | Version::Four | Version::FourHalf => {
+                false
+            }
+            Version::Five | Version::FiveHalf => true,
         }
     }
 }

@@ -22,10 +22,10 @@ use Rattle.verdict.proofs.RuleLemmas.{none_all, none_both}
 use Rattle.interval_order.specs.Orders.{Move, Order, order_of, is_placed, unplaced, held_line, held_after, is_offered}
 use Rattle.interval_order.specs.OrderRules.{order_rules}
 use Rattle.interval_order.proofs.OrderLemmas.{order_more, order_first}
-use Rattle.spec_network.specs.Hosts.{World}
 use Rattle.spec_network.specs.HostSteps.{start}
 use Rattle.spec_tcp.specs.Machine.{tcp, tcp_shape}
 use Rattle.spec_tcp_laws.proofs.Rules.{not_false, and_false, neither}
+use Rattle.spec_duties.specs.Cases.{Known, first_known}
 use Rattle.checker.specs.Seen.{move_of, moves, act_of, take_of}
 use Rattle.checker.specs.Verdicts.{act_rules, broken, next_world, takes_line, verdict}
 use Rattle.checker.specs.Explains.{IsYes}
@@ -97,7 +97,7 @@ module _ (header : Header) (lines : List Line) where
       filter_rises (λ e. not (is_placed done e.0)) (first_event_line header) (numbered header lines)
       (numbered_rise (first_event_line header) lines)
 
-  taken_more : (earlier : List Step) (w : World tcp_shape) (s : Step) → broken header lines earlier w s ≡ None
+  taken_more : (earlier : List Step) (w : Known) (s : Step) → broken header lines earlier w s ≡ None
       → length (unplaced header lines (moves earlier)) ≡ cond (takes_line s.label) 1 0 + length (unplaced header lines (moves (earlier ++ s ∷ [])))
   taken_more earlier w s none =
       let order =
@@ -107,9 +107,9 @@ module _ (header : Header) (lines : List Line) where
       taken_by (order_of header lines (moves earlier)) s.moment (first_event_line header) s.label (left_rise (moves earlier)) order
       ∙ ap (λ (left : List (ℕ × Line)). cond (takes_line s.label) 1 0 + length left) held
 
-  taken_all : (earlier : List Step) (w : World tcp_shape) (steps : List Step) → IsClean header lines earlier w steps
+  taken_all : (earlier : List Step) (w : Known) (steps : List Step) → IsClean header lines earlier w steps
       → length (unplaced header lines (moves earlier)) ≡ count_by (λ s. takes_line s.label) steps
-  taken_all earlier w [] clean = ap length clean
+  taken_all earlier w [] clean = ap length clean.0
   taken_all earlier w (s ∷ steps) clean =
       taken_more earlier w s clean.0
       ∙ ap (λ (n : ℕ). cond (takes_line s.label) 1 0 + n) (taken_all (earlier ++ s ∷ []) (next_world header lines w s) steps clean.1)
@@ -119,8 +119,8 @@ module _ (header : Header) (lines : List Line) where
 pub all_counted : (t : Trace) (w : Witness) (lines hidden : ℕ) → verdict t w ≡ Yes lines hidden → lines ≡ length t.lines
 all_counted t w lines hidden is =
     let said = verdict_says t w (Yes lines hidden) is in
-    let clean = clean_from_yes t.header t.lines [] (start (tcp t.header)) w.steps (subst IsYes (sym is) tt) in
+    let clean = clean_from_yes t.header t.lines [] (first_known t.header) w.steps (subst IsYes (sym is) tt) in
     said.1.lines_are
-    ∙ sym (taken_all t.header t.lines [] (start (tcp t.header)) w.steps clean)
+    ∙ sym (taken_all t.header t.lines [] (first_known t.header) w.steps clean)
     ∙ ap (λ (o : Order). length o.held) (order_first t.header t.lines)
     ∙ length-enumerate_from (first_event_line t.header) t.lines

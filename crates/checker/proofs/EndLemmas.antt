@@ -15,7 +15,7 @@ use Rattle.verdict.specs.declared.report.Verdict.TheVariants.{Yes, No}
 use Rattle.line_fields.specs.declared.fault.TextFault.{TextFault}
 use Rattle.line_fields.specs.Left.{Yields}
 use Rattle.interval_order.specs.Orders.{Order}
-use Rattle.endpoint_state.specs.Worlds.{Progress, start}
+use Rattle.spec_duties.specs.Cases.{Watched as Progress, late_at_end, start}
 use Rattle.checker.specs.declared.case.CaseFault.{CaseFault}
 use Rattle.checker.specs.declared.case.CaseFault.TheVariants as faults
 use Rattle.checker.specs.declared.turns.StepCounts.{StepCounts}
@@ -80,35 +80,35 @@ next_number o (Some line) step = step.0
 
 -- a line is left that was offered, or the one that is read ahead
 pub some_left : (held : List (ℕ × Line)) (next : ℕ) (line : Option Line) (rest : Option (Result (List Line) TextFault))
-    (items : List Line) (n : ℕ) (earlier : List Step)
+    (items : List Line) (n : ℕ) (late : Option (ℕ × Rule)) (earlier : List Step)
     → first_of_both held line ≡ Some n → IfSome line (λ l. l.number ≡ next) → left_with line rest ≡ Some (Ok items)
-    → verdict_left (held ++ enumerate_from next items) earlier ≡ No 0 n Unplaced
-some_left (e ∷ held) next line rest items n earlier is number left = let same : e.0 ≡ n = cc in ap (λ (m : ℕ). No 0 m Unplaced) same
-some_left [] next None rest items n earlier is number left = absurd cc
-some_left [] next (Some l) None items n earlier is number left = absurd cc
-some_left [] next (Some l) (Some (Err f)) items n earlier is number left = absurd cc
-some_left [] next (Some l) (Some (Ok more)) items n earlier is number left =
+    → verdict_left (held ++ enumerate_from next items) late earlier ≡ No 0 n Unplaced
+some_left (e ∷ held) next line rest items n late earlier is number left = let same : e.0 ≡ n = cc in ap (λ (m : ℕ). No 0 m Unplaced) same
+some_left [] next None rest items n late earlier is number left = absurd cc
+some_left [] next (Some l) None items n late earlier is number left = absurd cc
+some_left [] next (Some l) (Some (Err f)) items n late earlier is number left = absurd cc
+some_left [] next (Some l) (Some (Ok more)) items n late earlier is number left =
     let all : l ∷ more ≡ items = cc in
     let same : l.number ≡ n = cc in
-    ap (λ (ls : List Line). verdict_left (enumerate_from next ls) earlier) (sym all) ∙ ap (λ (m : ℕ). No 0 m Unplaced) (sym number ∙ same)
+    ap (λ (ls : List Line). verdict_left (enumerate_from next ls) late earlier) (sym all) ∙ ap (λ (m : ℕ). No 0 m Unplaced) (sym number ∙ same)
 
 -- or none is
 pub none_left : (held : List (ℕ × Line)) (next : ℕ) (line : Option Line) (rest : Option (Result (List Line) TextFault))
-    (items : List Line) (taken hidden : ℕ) (earlier : List Step)
-    → first_of_both held line ≡ None → left_with line rest ≡ Some (Ok items) → Tallied earlier taken hidden
-    → verdict_left (held ++ enumerate_from next items) earlier ≡ Yes taken hidden
-none_left (e ∷ held) next line rest items taken hidden earlier is left counts = absurd cc
-none_left [] next (Some l) rest items taken hidden earlier is left counts = absurd cc
-none_left [] next None rest items taken hidden earlier is left counts =
+    (items : List Line) (late : Option (ℕ × Rule)) (earlier : List Step)
+    → first_of_both held line ≡ None → left_with line rest ≡ Some (Ok items)
+    → verdict_left (held ++ enumerate_from next items) late earlier ≡ verdict_left [] late earlier
+none_left (e ∷ held) next line rest items late earlier is left = absurd cc
+none_left [] next (Some l) rest items late earlier is left = absurd cc
+none_left [] next None rest items late earlier is left =
     let all : [] ≡ items = cc in
-    ap (λ (ls : List Line). verdict_left (enumerate_from next ls) earlier) (sym all)
-    ∙ (λ i. Yes (sym counts.taken_are i) (sym counts.hidden_are i))
+    ap (λ (ls : List Line). verdict_left (enumerate_from next ls) late earlier) (sym all)
 
 pub ends_when : (header : Header) (lines left : Option (Result (List Line) TextFault))
     (steps ahead next : Option (Result (List Step) TextFault)) (o : Order) (p : Progress) (offered : List Line)
     (earlier : List Step) (items : List Line) (v : Verdict)
     → SoFar header lines left steps ahead o p offered earlier → Yields ahead next None → IsAll left items
-    → (left ≡ Some (Ok items) → verdict_left (o.held ++ enumerate_from o.next items) earlier ≡ v) → Ends header lines steps v
+    → (left ≡ Some (Ok items) → verdict_left (o.held ++ enumerate_from o.next items) (late_at_end p.header o.last p.world) earlier ≡ v)
+    → Ends header lines steps v
 ends_when header None left steps ahead next o p offered earlier items v f y all is = tt
 ends_when header (Some l) left None ahead next o p offered earlier items v f y all is = tt
 ends_when header (Some l) None (Some s) ahead next o p offered earlier items v f y all is = absurd f.passed

@@ -1,5 +1,5 @@
 -- What the definitions say of a few steps.
-use Rattle.std.specs.Prelude.{◌≡◌, ℕ, true, false, List, [], ◌∷◌}
+use Rattle.std.specs.Prelude.{◌≡◌, ℕ, true, false, List, [], ◌∷◌, None}
 use Rattle.std.proofs.Common.{refl}
 use Rattle.case_forms.specs.declared.calls.Call.TheVariants as calls
 use Rattle.case_forms.specs.declared.calls.Answer.TheVariants as answers
@@ -17,7 +17,7 @@ use Rattle.checker.specs.Headline.{told, accepted, told_end, ended}
 -- thread 1 receives on 5, thread 2 sends on 6, then 1 receives again and 2 shuts
 abbrev facts_trace : Trace
 facts_trace = record {
-  header = record { version = One; skew = 0; msl = 120000000; grain = 1000; minrto = 1000000; extra = 0; initial = Rfc5681; congestion = Full };
+  header = record { version = One; skew = 0; msl = 120000000; grain = 1000; minrto = 1000000; extra = 0; initial = Rfc5681; congestion = Full; slack = None };
   lines =
       record { number = 7; moment = 10; thread = 1; event = events.CallBegin (calls.Recv 5 9); span = nowhere }
       ∷ record { number = 8; moment = 10; thread = 2; event = events.CallBegin (calls.Send 6 (1 ∷ 2 ∷ 3 ∷ [])); span = nowhere }

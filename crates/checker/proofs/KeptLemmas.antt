@@ -19,13 +19,11 @@ use Rattle.verdict.proofs.RuleLemmas.{first_broken-append_none, first_broken-app
 use Rattle.interval_order.specs.Orders.{Order, taking, is_placed, order_of, held_line, is_offered}
 use Rattle.interval_order.specs.OrderRules.{order_rules}
 use Rattle.interval_order.proofs.OrderLemmas.{held_is}
-use Rattle.spec_network.specs.Hosts.{World, Stamped}
+use Rattle.spec_network.specs.Hosts.{Stamped}
 use Rattle.spec_tcp.specs.Machine.{tcp_shape}
 use Rattle.spec_tcp.specs.Steps.{label_step, line_step}
-use Rattle.spec_tcp.specs.Forgetting.{forget}
-use Rattle.spec_tcp_laws.proofs.ForgetWorlds.{step_rules-forget, after-forgets, makes_permitted}
-use Rattle.endpoint_state.specs.Worlds.{Progress, after}
-use Rattle.spec_step.specs.Asked.{broken_by}
+use Rattle.spec_duties.specs.Cases.{Known, Watched as Progress, after, broken_by, forget}
+use Rattle.watched.proofs.CaseLemmas.{rules-forget, known-forgets}
 use Rattle.checker.specs.Seen.{moves, move_of, act_of}
 use Rattle.checker.specs.Verdicts.{act_rules, act_after, broken}
 use Rattle.checker.specs.Kept.{held_act, kept_broken}
@@ -53,10 +51,10 @@ module _ (header : Header) (lines : List Line) (earlier : List Step) where
   held_placed : (n : ℕ) → is_placed (moves earlier) n ≡ true → held_line (order_of header lines (moves earlier)) n ≡ None
   held_placed n is = held_is header lines (moves earlier) n ∙ ap (λ (b : Bool). cond (not b) (line_at header lines n) None) is
 
-  abbrev machine_part : World tcp_shape → Option (Stamped tcp_shape) → List (Rule × Bool)
+  abbrev machine_part : Known → Option (Stamped tcp_shape) → List (Rule × Bool)
   machine_part w act = option_map_or (act_rules header w) act []
 
-  broken_at : (w : World tcp_shape) (moment : ℕ) (label : Label NamedLine) (span : Span)
+  broken_at : (w : Known) (moment : ℕ) (label : Label NamedLine) (span : Span)
       → broken header lines earlier w (record { moment = moment; label = label; span = span })
       ≡ kept_broken header (order_of header lines (moves earlier)) w
       (record { moment = moment; label = label; span = span })
@@ -85,10 +83,10 @@ module _ (header : Header) (lines : List Line) (earlier : List Step) where
   broken_at w moment (F host recovery) span = refl
 
   -- the rules may be asked of the line that is held
-  pub broken_is : (w : World tcp_shape) (s : Step) → broken header lines earlier w s ≡ kept_broken header (order_of header lines (moves earlier)) w s
+  pub broken_is : (w : Known) (s : Step) → broken header lines earlier w s ≡ kept_broken header (order_of header lines (moves earlier)) w s
   broken_is w s = broken_at w s.moment s.label s.span
 
-  act_at : (w : World tcp_shape) (moment : ℕ) (label : Label NamedLine) (span : Span)
+  act_at : (w : Known) (moment : ℕ) (label : Label NamedLine) (span : Span)
       → kept_broken header (order_of header lines (moves earlier)) w (record { moment = moment; label = label; span = span }) ≡ None
       → held_act (order_of header lines (moves earlier)) (record { moment = moment; label = label; span = span })
       ≡ act_of header lines (record { moment = moment; label = label; span = span })
@@ -111,24 +109,24 @@ module _ (header : Header) (lines : List Line) (earlier : List Step) where
   act_at w moment (F host recovery) span ok = refl
 
   -- and the act is that of the line that is held, where no rule is broken
-  pub act_is : (w : World tcp_shape) (s : Step) → kept_broken header (order_of header lines (moves earlier)) w s ≡ None
+  pub act_is : (w : Known) (s : Step) → kept_broken header (order_of header lines (moves earlier)) w s ≡ None
       → held_act (order_of header lines (moves earlier)) s ≡ act_of header lines s
   act_is w s ok = act_at w s.moment s.label s.span ok
 
 -- the rules may be asked of the world of which all is forgotten that may be discarded
-pub broken_forgets : (header : Header) (o : Order) (w : World tcp_shape) (s : Step) → kept_broken header o (forget w) s ≡ kept_broken header o w s
+pub broken_forgets : (header : Header) (o : Order) (w : Known) (s : Step) → kept_broken header o (forget w) s ≡ kept_broken header o w s
 broken_forgets header o w s = ap (λ (rest : List (Rule × Bool)). first_broken (order_rules o (move_of s) ++ rest)) (by_act (held_act o s))
   where
     by_act : (act : Option (Stamped tcp_shape)) → option_map_or (act_rules header (forget w)) act [] ≡ option_map_or (act_rules header w) act []
     by_act None = refl
-    by_act (Some act) = step_rules-forget header act.moment w act.step
+    by_act (Some act) = rules-forget header act.moment w act.step
 
 -- what is kept after an act that breaks no rule is what is kept of the whole world after it
-pub next_forgets : (header : Header) (p : Progress) (w : World tcp_shape) (act : Option (Stamped tcp_shape))
+pub next_forgets : (header : Header) (p : Progress) (w : Known) (act : Option (Stamped tcp_shape))
     → p.header ≡ header → p.world ≡ forget w → first_broken (option_map_or (act_rules header w) act []) ≡ None
     → (option_map_or (λ a. after p a.moment a.step) act p).world ≡ forget (option_map_or (act_after header w) act w)
 next_forgets header p w None h is ok = is
-next_forgets header p w (Some act) h is ok = rw (h, is) (after-forgets header act.moment w act.step (makes_permitted header act.moment w act.step ok))
+next_forgets header p w (Some act) h is ok = rw (h, is) (known-forgets header act.moment w act.step ok)
 
 -- no act changes the header, and each is one step at most
 pub next_header : (p : Progress) (act : Option (Stamped tcp_shape)) → (option_map_or (λ a. after p a.moment a.step) act p).header ≡ p.header
@@ -140,7 +138,7 @@ next_steps p None = omega arith
 next_steps p (Some act) = omega arith
 
 -- the rule of order that a step breaks which takes a line is the least that it breaks
-pub refused_line : (header : Header) (o : Order) (w : World tcp_shape) (s : Step) (named : NamedLine) (rule : Rule)
+pub refused_line : (header : Header) (o : Order) (w : Known) (s : Step) (named : NamedLine) (rule : Rule)
     → s.label ≡ L named
     → Some rule ≡ first_broken (order_rules o (taking s.moment named.number (extras_count named.extras)))
     → Some rule ≡ kept_broken header o w s

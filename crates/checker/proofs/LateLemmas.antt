@@ -22,8 +22,8 @@ use Rattle.interval_order.specs.Orders.{Order, Move, taking, passing, is_placed,
 use Rattle.interval_order.specs.OrderRules.{order_rules}
 use Rattle.interval_order.specs.Later.{TakesBelow, AreLater, late_rule}
 use Rattle.interval_order.proofs.LaterLemmas.{order_with, passing_same, taking_same, beyond_is, not_offered, late_line, line_at-front}
-use Rattle.spec_network.specs.Hosts.{World}
 use Rattle.spec_tcp.specs.Machine.{tcp_shape}
+use Rattle.spec_duties.specs.Cases.{Known}
 use Rattle.checker.specs.Seen.{move_of, moves, act_of, stamped}
 use Rattle.checker.specs.Verdicts.{act_rules, broken}
 use Rattle.checker.specs.Streaming.{NamesBelow}
@@ -77,7 +77,7 @@ module _ (header : Header) (lines : List Line) where
       ∙ passing_same (order_of header lines earlier) more moment later
 
   -- a step that names none of the later lines breaks the same rule
-  pub broken_more : (more : List Line) (earlier : List Step) (w : World tcp_shape) (s : Step)
+  pub broken_more : (more : List Line) (earlier : List Step) (w : Known) (s : Step)
       → TakesBelow next_number (moves earlier) → AreLater s.moment more → NamesBelow next_number s.label
       → broken header (lines ++ more) earlier w s ≡ broken header lines earlier w s
   broken_more more earlier w s takes later below =
@@ -85,7 +85,7 @@ module _ (header : Header) (lines : List Line) where
       ++ option_map_or (act_rules header w) (act_more more s below i) [])
 
   -- a step that names one of them breaks one of four
-  pub broken_late : (between after : List Line) (line : Line) (earlier : List Step) (w : World tcp_shape) (moment : ℕ) (named : NamedLine) (span : Span)
+  pub broken_late : (between after : List Line) (line : Line) (earlier : List Step) (w : Known) (moment : ℕ) (named : NamedLine) (span : Span)
       → TakesBelow next_number (moves earlier) → moment < line.moment → named.number ≡ next_number + length between
       → broken header (lines ++ (between ++ line ∷ after)) earlier w (record { moment = moment; label = L named; span = span })
       ≡ Some (late_rule (order_of header lines (moves earlier)) between line (extras_count named.extras) moment)
@@ -99,7 +99,7 @@ module _ (header : Header) (lines : List Line) where
       ∙ late_line header lines between after line (moves earlier) moment (extras_count named.extras) takes late)
 
   -- a step that names a line past the last breaks the first rule
-  pub broken_beyond : (earlier : List Step) (w : World tcp_shape) (moment : ℕ) (named : NamedLine) (span : Span) → next_number ≤ named.number
+  pub broken_beyond : (earlier : List Step) (w : Known) (moment : ℕ) (named : NamedLine) (span : Span) → next_number ≤ named.number
       → broken header lines earlier w (record { moment = moment; label = L named; span = span }) ≡ Some rules.LineRange
   broken_beyond earlier w moment named span le =
       beyond_is (order_of header lines (moves earlier)) moment named.number (extras_count named.extras)
@@ -107,7 +107,7 @@ module _ (header : Header) (lines : List Line) where
       (not_offered header lines (moves earlier) named.number le)
 
   -- a step that breaks no rule takes no line past the last
-  names_at : (earlier : List Step) (w : World tcp_shape) (moment : ℕ) (label : Label NamedLine) (span : Span)
+  names_at : (earlier : List Step) (w : Known) (moment : ℕ) (label : Label NamedLine) (span : Span)
       → broken header lines earlier w (record { moment = moment; label = label; span = span }) ≡ None
       → NamesBelow next_number label
   names_at earlier w moment (L named) span none = by_test (nat_lt named.number next_number) refl
@@ -125,7 +125,7 @@ module _ (header : Header) (lines : List Line) where
   names_at earlier w moment (R host line) span none = tt
   names_at earlier w moment (F host recovery) span none = tt
 
-  pub names_below : (earlier : List Step) (w : World tcp_shape) (s : Step) → broken header lines earlier w s ≡ None → NamesBelow next_number s.label
+  pub names_below : (earlier : List Step) (w : Known) (s : Step) → broken header lines earlier w s ≡ None → NamesBelow next_number s.label
   names_below earlier w s none = names_at earlier w s.moment s.label s.span none
 
 -- so the steps that were done take no line past the last

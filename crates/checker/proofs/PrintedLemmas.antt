@@ -1,7 +1,7 @@
 -- Texts that stand for a trace and for a witness of its version, one behind the other, are a case whose verdict is theirs; so are the texts that are printed of
 -- them.
 use Rattle.std.proofs.Common.{◌≡◌, ◌≤◌, ◌<◌, ◌+◌, ◌^◌, ℕ, true, false, Bool, ◌&&◌, List, [], ◌∷◌, ◌++◌, map, length}
-use Rattle.std.proofs.Common.{get_or, refl, sym, ap, subst, ◌∙◌, arith, Result, Ok}
+use Rattle.std.proofs.Common.{get_or, refl, sym, ap, subst, ◌∙◌, arith, Option, Result, Ok}
 use Rattle.std.specs.Fmt.{decimal}
 use Rattle.std.specs.Str.{bytes_eq}
 use Rattle.std.specs.Str.Parse.{digits_value}
@@ -33,7 +33,7 @@ use Rattle.line_fields.proofs.Endings.{ending_again}
 use Rattle.line_fields.proofs.Loop.{spelled_raws}
 use Rattle.line_fields.proofs.Texts.{lines_of-concat}
 use Rattle.line_fields.proofs.Written.{first_plain, written_clean}
-use Rattle.trace_reader.specs.Headers.{AreLines, first_words, late_words, header_words}
+use Rattle.trace_reader.specs.Headers.{AreLines, first_words, slack_words, late_words, header_words}
 use Rattle.trace_reader.specs.Events.{event_pieces}
 use Rattle.trace_reader.specs.EventLines.{Place, behind, line_pieces, IsEventLine}
 use Rattle.trace_reader.specs.TraceText.{first_place, IsTraceText, trace_of}
@@ -80,6 +80,8 @@ first_letter versions.Two = refl
 first_letter versions.Three = refl
 first_letter versions.Four = refl
 first_letter versions.FourHalf = refl
+first_letter versions.Five = refl
+first_letter versions.FiveHalf = refl
 
 not_first : (v : Version) (n : ℕ) (ws : List (List ℕ)) (raw : List ℕ) → AllByRecursion IsClean ws → IsOther ws
     → IsLine n (joined ws) raw → begins_witness v raw ≡ false
@@ -99,13 +101,22 @@ version_other versions.Two = (omega arith, λ e. omega arith)
 version_other versions.Three = (omega arith, λ e. omega arith)
 version_other versions.Four = (omega arith, λ e. omega arith)
 version_other versions.FourHalf = (omega arith, λ e. omega arith)
+version_other versions.Five = (omega arith, λ e. omega arith)
+version_other versions.FiveHalf = (omega arith, λ e. omega arith)
 
-late_others : (v : Version) (i : Initial) (j : Judged) → AllByRecursion IsOther (late_words v i j)
-late_others versions.One i j = tt
-late_others versions.Two i j = ((omega arith, λ e. omega arith), tt)
-late_others versions.Three i j = ((omega arith, λ e. omega arith), ((omega arith, λ e. omega arith), tt))
-late_others versions.Four i j = ((omega arith, λ e. omega arith), ((omega arith, λ e. omega arith), ((omega arith, λ e. omega arith), tt)))
-late_others versions.FourHalf i j = ((omega arith, λ e. omega arith), ((omega arith, λ e. omega arith), ((omega arith, λ e. omega arith), tt)))
+slack_other : (slack : Option ℕ) → IsOther (slack_words slack)
+slack_other slack = (omega arith, λ e. omega arith)
+
+late_others : (v : Version) (i : Initial) (j : Judged) (o : Option ℕ) → AllByRecursion IsOther (late_words v i j o)
+late_others versions.One i j o = tt
+late_others versions.Two i j o = ((omega arith, λ e. omega arith), tt)
+late_others versions.Three i j o = ((omega arith, λ e. omega arith), ((omega arith, λ e. omega arith), tt))
+late_others versions.Four i j o = ((omega arith, λ e. omega arith), ((omega arith, λ e. omega arith), ((omega arith, λ e. omega arith), tt)))
+late_others versions.FourHalf i j o = ((omega arith, λ e. omega arith), ((omega arith, λ e. omega arith), ((omega arith, λ e. omega arith), tt)))
+late_others versions.Five i j o =
+    ((omega arith, λ e. omega arith), ((omega arith, λ e. omega arith), ((omega arith, λ e. omega arith), (slack_other o, tt))))
+late_others versions.FiveHalf i j o =
+    ((omega arith, λ e. omega arith), ((omega arith, λ e. omega arith), ((omega arith, λ e. omega arith), (slack_other o, tt))))
 
 header_others : (h : Header) → AllByRecursion IsOther (header_words h)
 header_others h = (
@@ -118,7 +129,7 @@ header_others h = (
         (omega arith, λ e. omega arith),
         (
           (omega arith, λ e. omega arith),
-          ((omega arith, λ e. omega arith), late_others h.version h.initial h.congestion),
+          ((omega arith, λ e. omega arith), late_others h.version h.initial h.congestion h.slack),
         ),
       ),
     ),
@@ -193,13 +204,15 @@ case_parts t w a b s q =
     let parts = parts_at w.version (a ++ b) (s.headers ++ s.events) (q.first ∷ q.raws) (sym lines) place in
     (parts.0 ∙ sym s.joined, parts.1 ∙ sym q.parts)
 
--- both of version 4 are cut alike
+-- both of version 4 are cut alike, and both of version 5
 cut_named : (v : Version) (text : List ℕ) → (trace_part (named_as v) text ≡ trace_part v text) × (witness_part (named_as v) text ≡ witness_part v text)
 cut_named versions.One text = (refl, refl)
 cut_named versions.Two text = (refl, refl)
 cut_named versions.Three text = (refl, refl)
 cut_named versions.Four text = (refl, refl)
 cut_named versions.FourHalf text = (refl, refl)
+cut_named versions.Five text = (refl, refl)
+cut_named versions.FiveHalf text = (refl, refl)
 
 pub case_is : (t : Trace) (w : Witness) (a b : List ℕ) → t.header.version ≡ w.version → IsTraceText t a
     → IsWitnessText w b → case_result (a ++ b) ≡ Ok (verdict t w)
@@ -267,6 +280,8 @@ two_listen_prints = record {
         extra = omega arith;
         initial = λ e. refl;
         congestion = λ e. refl;
+        slack = tt;
+        no_slack = λ e. refl;
       };
   recorded = (refl, omega arith, (refl, omega arith, (refl, omega arith, (refl, omega arith, tt))));
   few = omega arith;

@@ -22,12 +22,13 @@ use Rattle.verdict.specs.declared.report.Verdict.{Verdict}
 use Rattle.verdict.specs.Rules.{first_broken}
 use Rattle.interval_order.specs.Orders.{Take, Move, Order, order_of, is_placed, unplaced, last_moment, held_line, is_offered}
 use Rattle.interval_order.specs.OrderRules.{extras_of, order_rules, has_earlier, is_overdue, has_overdue}
-use Rattle.spec_network.specs.Hosts.{World, Stamped}
+use Rattle.spec_network.specs.Hosts.{Stamped}
 use Rattle.spec_network.specs.HostSteps.{start}
 use Rattle.spec_tcp.specs.Machine.{tcp, tcp_shape}
 use Rattle.spec_tcp.specs.Steps.{label_step}
+use Rattle.spec_duties.specs.Cases.{Known, first_known}
 use Rattle.checker.specs.Seen.{move_of, moves, act_of}
-use Rattle.checker.specs.Verdicts.{act_rules, act_after, broken, next_world, verdict, verdict_from, verdict_left, refused_or}
+use Rattle.checker.specs.Verdicts.{act_rules, act_after, broken, next_world, late_after, verdict, verdict_from, verdict_left, refused_or}
 use Rattle.checker.specs.Again.{placeless, without_spans}
 
 -- a line under its number, without its place
@@ -118,7 +119,7 @@ act_bare header lines moment (K host line) span = refl
 act_bare header lines moment (R host line) span = refl
 act_bare header lines moment (F host recovery) span = refl
 
-broken_bare : (header : Header) (lines : List Line) (earlier : List Step) (w : World tcp_shape) (s : Step)
+broken_bare : (header : Header) (lines : List Line) (earlier : List Step) (w : Known) (s : Step)
     → broken header (map placeless lines) earlier w s ≡ broken header lines earlier w s
 broken_bare header lines earlier w s =
     ap (λ (o : Order). first_broken
@@ -131,15 +132,16 @@ broken_bare header lines earlier w s =
     first_broken (order_rules (order_of header lines (moves earlier)) (move_of s)
     ++ option_map_or (act_rules header w) act [])) (act_bare header lines s.moment s.label s.span)
 
-left_bare : (left : List (ℕ × Line)) (steps : List Step) → verdict_left (map bare left) steps ≡ verdict_left left steps
-left_bare [] steps = refl
-left_bare (e ∷ left) steps = refl
+left_bare : (left : List (ℕ × Line)) (late : Option (ℕ × Rule)) (steps : List Step)
+    → verdict_left (map bare left) late steps ≡ verdict_left left late steps
+left_bare [] late steps = refl
+left_bare (e ∷ left) late steps = refl
 
-verdict_bare : (header : Header) (lines : List Line) (earlier : List Step) (w : World tcp_shape) (steps : List Step)
+verdict_bare : (header : Header) (lines : List Line) (earlier : List Step) (w : Known) (steps : List Step)
     → verdict_from header (map placeless lines) earlier w steps ≡ verdict_from header lines earlier w steps
 verdict_bare header lines earlier w [] =
-    ap (λ (left : List (ℕ × Line)). verdict_left left earlier) (unplaced_bare header lines (moves earlier))
-    ∙ left_bare (unplaced header lines (moves earlier)) earlier
+    ap (λ (left : List (ℕ × Line)). verdict_left left (late_after header earlier w) earlier) (unplaced_bare header lines (moves earlier))
+    ∙ left_bare (unplaced header lines (moves earlier)) (late_after header earlier w) earlier
 verdict_bare header lines earlier w (s ∷ steps) =
     ap (λ (r : Option Rule). refused_or r earlier s
     (verdict_from header (map placeless lines) (earlier ++ s ∷ [])
@@ -154,6 +156,6 @@ verdict_bare header lines earlier w (s ∷ steps) =
 -- traces that are the same but for the places of their lines have one verdict
 pub spans_apart : (t u : Trace) (w : Witness) → without_spans t ≡ without_spans u → verdict t w ≡ verdict u w
 spans_apart t u w same =
-    sym (verdict_bare t.header t.lines [] (start (tcp t.header)) w.steps)
+    sym (verdict_bare t.header t.lines [] (first_known t.header) w.steps)
     ∙ ap (λ (v : Trace). verdict v w) same
-    ∙ verdict_bare u.header u.lines [] (start (tcp u.header)) w.steps
+    ∙ verdict_bare u.header u.lines [] (first_known u.header) w.steps

@@ -15,13 +15,13 @@ use Rattle.witness.specs.Printed.{without_span}
 use Rattle.verdict.specs.declared.rule.Rule.{Rule}
 use Rattle.verdict.specs.declared.report.Verdict.{Verdict}
 use Rattle.verdict.specs.Rules.{first_broken}
-use Rattle.interval_order.specs.Orders.{Move, order_of, unplaced}
+use Rattle.interval_order.specs.Orders.{last_moment, Move, order_of, unplaced}
 use Rattle.interval_order.specs.OrderRules.{order_rules}
-use Rattle.spec_network.specs.Hosts.{World}
 use Rattle.spec_network.specs.HostSteps.{start}
 use Rattle.spec_tcp.specs.Machine.{tcp, tcp_shape}
+use Rattle.spec_duties.specs.Cases.{late_at_end, Known, first_known}
 use Rattle.checker.specs.Seen.{move_of, moves, act_of}
-use Rattle.checker.specs.Verdicts.{act_rules, broken, next_world, takes_line, verdict, verdict_from, verdict_left, refused_or}
+use Rattle.checker.specs.Verdicts.{act_rules, broken, next_world, takes_line, late_after, verdict, verdict_from, verdict_left, refused_or}
 use Rattle.checker.specs.Again.{nowhere}
 
 abbrev bare : Step → Step
@@ -40,20 +40,22 @@ count_from test n (s ∷ steps) = count_from test (n + (if test s.label then 1 e
 count_bare : (test : Label NamedLine → Bool) (steps : List Step) → count_by (λ s. test s.label) (map bare steps) ≡ count_by (λ s. test s.label) steps
 count_bare test steps = count_from test 0 steps
 
-left_bare : (left : List (ℕ × Line)) (steps : List Step) → verdict_left left (map bare steps) ≡ verdict_left left steps
-left_bare [] steps = rw (count_bare takes_line steps, count_bare (λ label. not (takes_line label)) steps) refl
-left_bare (e ∷ left) steps = refl
+left_bare : (left : List (ℕ × Line)) (late : Option (ℕ × Rule)) (steps : List Step)
+    → verdict_left left late (map bare steps) ≡ verdict_left left late steps
+left_bare [] None steps = rw (count_bare takes_line steps, count_bare (λ label. not (takes_line label)) steps) refl
+left_bare [] (Some late) steps = refl
+left_bare (e ∷ left) late steps = refl
 
 refused_bare : (rule : Option Rule) (earlier : List Step) (s : Step) (rest : Verdict)
     → refused_or rule (map bare earlier) (bare s) rest ≡ refused_or rule earlier s rest
 refused_bare None earlier s rest = refl
 refused_bare (Some rule) earlier s rest = rw (length-map earlier bare) refl
 
-verdict_bare : (header : Header) (lines : List Line) (earlier : List Step) (w : World tcp_shape) (steps : List Step)
+verdict_bare : (header : Header) (lines : List Line) (earlier : List Step) (w : Known) (steps : List Step)
     → verdict_from header lines (map bare earlier) w (map bare steps) ≡ verdict_from header lines earlier w steps
 verdict_bare header lines earlier w [] =
-    ap (λ (ms : List Move). verdict_left (unplaced header lines ms) (map bare earlier)) (moves_bare earlier)
-    ∙ left_bare (unplaced header lines (moves earlier)) earlier
+    ap (λ (ms : List Move). verdict_left (unplaced header lines ms) (late_at_end header (last_moment ms) w) (map bare earlier)) (moves_bare earlier)
+    ∙ left_bare (unplaced header lines (moves earlier)) (late_after header earlier w) earlier
 verdict_bare header lines earlier w (s ∷ steps) =
     ap (λ (ms : List Move). refused_or
     (first_broken (order_rules (order_of header lines ms) (move_of s)
@@ -89,8 +91,8 @@ bare_said (s ∷ steps) = ap (λ (ss : List Step). bare s ∷ ss) (bare_said ste
 -- witnesses that are the same but for the places of their steps have one verdict
 pub steps_apart : (t : Trace) (v w : Witness) → map without_span v.steps ≡ map without_span w.steps → verdict t v ≡ verdict t w
 steps_apart t v w same =
-    sym (verdict_bare t.header t.lines [] (start (tcp t.header)) v.steps)
-    ∙ ap (λ (steps : List Step). verdict_from t.header t.lines [] (start (tcp t.header)) steps)
+    sym (verdict_bare t.header t.lines [] (first_known t.header) v.steps)
+    ∙ ap (λ (steps : List Step). verdict_from t.header t.lines [] (first_known t.header) steps)
     (bare_said v.steps ∙ ap (λ (said : List (ℕ × Label NamedLine)). map said_step said) same
     ∙ sym (bare_said w.steps))
-    ∙ verdict_bare t.header t.lines [] (start (tcp t.header)) w.steps
+    ∙ verdict_bare t.header t.lines [] (first_known t.header) w.steps

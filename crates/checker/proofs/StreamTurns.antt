@@ -18,15 +18,14 @@ use Rattle.verdict.specs.declared.rule.Rule.TheVariants.{LineRange}
 use Rattle.verdict.specs.declared.report.Verdict.TheVariants.{No}
 use Rattle.line_fields.specs.declared.fault.TextFault.{TextFault}
 use Rattle.line_fields.specs.Left.{Yields}
-use Rattle.interval_order.specs.Orders.{Order, order_after, unplaced}
+use Rattle.interval_order.specs.Orders.{Order, last_moment, order_after, unplaced}
 use Rattle.interval_order.specs.Later.{TakesBelow, AreLater, with_lines, late_rule}
 use Rattle.interval_order.proofs.LaterLemmas.{order_with}
-use Rattle.spec_tcp.specs.Forgetting.{forget}
-use Rattle.spec_tcp_laws.specs.Runs.{world_at_end}
-use Rattle.endpoint_state.specs.Worlds.{Progress}
+use Rattle.spec_duties.specs.Cases.{Known, Watched as Progress, forget, first_known, known_after_all, late_at_end}
+use Rattle.watched.proofs.ForgetLemmas.{late-forget}
 use Rattle.checker.specs.Seen.{move_of, moves}
 use Rattle.checker.specs.Kept.{kept_broken, kept_progress}
-use Rattle.checker.specs.Verdicts.{broken, next_world, line_named, verdict_from, verdict_left, refused_or}
+use Rattle.checker.specs.Verdicts.{broken, late_after, next_world, line_named, verdict_from, verdict_left, refused_or}
 use Rattle.counted.specs.Counting.{left_of}
 use Rattle.case_forms.specs.Traces.{IsRecorded}
 use Rattle.line_fields.specs.Folding.{read_lines}
@@ -51,7 +50,7 @@ module _ (header : Header) (lines : Option (Result (List Line) TextFault)) (step
   come_lines offered more earlier o n p below come is = record {
     order = is ∙ ap (λ (q : Order). with_lines q more) come.order ∙ sym (order_with header offered more (moves earlier) below);
     header_is = come.header_is;
-    world = come.world ∙ sym (ap (λ acts. forget (world_at_end header acts)) (stamped_more header offered more earlier below));
+    world = come.world ∙ sym (ap (λ acts. forget (known_after_all header (first_known header) acts)) (stamped_more header offered more earlier below));
   }
 
   pub lines_offered : (left next : Option (Result (List Line) TextFault))
@@ -80,7 +79,7 @@ module _ (header : Header) (lines : Option (Result (List Line) TextFault)) (step
       let rest = rest_of_whole lines left offered all f.passed is in
       let late : AreLater s.moment rest.0 = subst (AllLater s.moment) rest.1 later in
       ap (λ (a : List Line). broken header a earlier (whole header a earlier) s) rest.2
-      ∙ ap (λ acts. broken header (offered ++ rest.0) earlier (world_at_end header acts) s) (stamped_more header offered rest.0 earlier f.below)
+      ∙ ap (λ acts. broken header (offered ++ rest.0) earlier (known_after_all header (first_known header) acts) s) (stamped_more header offered rest.0 earlier f.below)
       ∙ broken_more header offered rest.0 earlier (whole header offered earlier) s f.below late names
       ∙ sym (rule_is header offered earlier o p s f.come)
 
@@ -166,17 +165,28 @@ module _ (header : Header) (lines : Option (Result (List Line) TextFault)) (step
   pub all_done : (left : Option (Result (List Line) TextFault)) (ahead : Option (Result (List Step) TextFault))
       (o : Order) (p : Progress) (offered : List Line) (earlier : List Step) (rest : List Line)
       → SoFar header lines left steps ahead o p offered earlier → left ≡ Some (Ok rest)
-      → (all : List Line) → IsWhole lines all → verdict_on header all [] earlier ≡ verdict_left (o.held ++ enumerate_from o.next rest) earlier
+      → (all : List Line) → IsWhole lines all
+      → verdict_on header all [] earlier ≡ verdict_left (o.held ++ enumerate_from o.next rest) (late_at_end p.header o.last p.world) earlier
   all_done left ahead o p offered earlier rest f is all whole_is =
       let behind = rest_of_whole lines left offered all f.passed whole_is in
       let h : Some (Ok behind.0) ≡ Some (Ok rest) = sym behind.1 ∙ is in
       let same : behind.0 ≡ rest = cc in
       let parts : all ≡ offered ++ rest = behind.2 ∙ ap (λ (xs : List Line). offered ++ xs) same in
+      let late : late_after header earlier (whole header offered earlier) ≡ late_at_end p.header o.last p.world =
+      sym (late-forget header (last_moment (moves earlier)) (whole header offered earlier))
+      ∙ ap (λ (k : Known). late_at_end header (last_moment (moves earlier)) k) (sym f.come.world)
+      ∙ ap (λ (q : Order). late_at_end header q.last p.world) (sym f.come.order)
+      ∙ ap (λ (h : Header). late_at_end h o.last p.world) (sym f.come.header_is) in
       ap (verdict_on header all []) (sym (append-nil earlier))
       ∙ f.told all whole_is []
-      ∙ ap (λ (a : List Line). verdict_left (unplaced header a (moves earlier)) earlier) parts
-      ∙ ap (λ (q : Order). verdict_left q.held earlier) (order_with header offered rest (moves earlier) f.below)
-      ∙ ap (λ (q : Order). verdict_left (q.held ++ enumerate_from q.next rest) earlier) (sym f.come.order)
+      ∙ ap (λ (a : List Line). verdict_left (unplaced header a (moves earlier)) (late_after header earlier (whole header a earlier)) earlier) parts
+      ∙ ap (λ acts. verdict_left (unplaced header (offered ++ rest) (moves earlier))
+      (late_after header earlier (known_after_all header (first_known header) acts)) earlier) (stamped_more header offered rest earlier f.below)
+      ∙ ap (λ (q : Order). verdict_left q.held (late_after header earlier (whole header offered earlier)) earlier)
+      (order_with header offered rest (moves earlier) f.below)
+      ∙ ap (λ (q : Order). verdict_left (q.held ++ enumerate_from q.next rest) (late_after header earlier (whole header offered earlier)) earlier)
+      (sym f.come.order)
+      ∙ ap (λ late. verdict_left (o.held ++ enumerate_from o.next rest) late earlier) late
 
 -- ---- lines that are not reached
 

@@ -1,5 +1,5 @@
 -- Traces that are equal except for their spans, and two witnesses of one trace.
-use Rattle.std.specs.Prelude.{◌≡◌, List, [], ◌∷◌, map}
+use Rattle.std.specs.Prelude.{◌≡◌, List, [], ◌∷◌, None, map}
 use Rattle.case_forms.specs.declared.calls.Host.TheVariants.{Zero}
 use Rattle.case_forms.specs.declared.calls.Call.TheVariants as calls
 use Rattle.case_forms.specs.declared.calls.Answer.TheVariants as answers
@@ -58,6 +58,7 @@ two_listen = record {
     extra = 0;
     initial = Rfc5681;
     congestion = Full;
+    slack = None;
   };
   lines =
       record { number = 7; moment = 10; thread = 1; event = events.CallBegin (calls.Listen Zero 80 4); span = nowhere }

@@ -1,5 +1,5 @@
 -- What each verdict says about the whole lists: yes, that the steps explain the trace; no, which rule is broken first.
-use Rattle.std.specs.Prelude.{◌≡◌, ℕ, ◌+◌, ◌<◌, ◌⊎◌, Bool, List, Option, None, Some, slice_get, take, not, count_by}
+use Rattle.std.specs.Prelude.{◌≡◌, ℕ, ◌+◌, ◌<◌, ◌⊎◌, Bool, List, [], Option, None, Some, slice_get, take, not, count_by}
 use Rattle.case_forms.specs.declared.trace.Line.{Line}
 use Rattle.case_forms.specs.declared.trace.Trace.{Trace}
 use Rattle.case_forms.specs.declared.steps.Step.{Step}
@@ -10,17 +10,17 @@ use Rattle.verdict.specs.declared.report.Verdict.{Verdict}
 use Rattle.verdict.specs.declared.report.Verdict.TheVariants.{Yes, No}
 use Rattle.interval_order.specs.Orders.{unplaced}
 use Rattle.verdict.specs.Rules.{first_broken}
-use Rattle.spec_tcp_laws.specs.Runs.{world_at_end}
+use Rattle.spec_duties.specs.Cases.{first_known, known_after_all}
 use Rattle.spec_tcp_laws.specs.Ascending.{IsLeastBroken}
 use Rattle.checker.specs.Seen.{moves, stamped}
-use Rattle.checker.specs.Verdicts.{all_rules, takes_line, line_named}
+use Rattle.checker.specs.Verdicts.{all_rules, late_after, takes_line, line_named}
 use Rattle.checker.specs.Explains.{Explains}
 
 -- the rules that apply to the step at a place, after the steps before it and in the world that they leave
 abbrev pub rules_at : Trace → Witness → ℕ → Step → List (Rule × Bool)
 rules_at t w place s =
     all_rules t.header t.lines (take place w.steps)
-    (world_at_end t.header (stamped t.header t.lines (take place w.steps))) s
+    (known_after_all t.header (first_known t.header) (stamped t.header t.lines (take place w.steps))) s
 
 -- the first of them that it breaks
 abbrev pub broken_at : Trace → Witness → ℕ → Step → Option Rule
@@ -41,6 +41,14 @@ pub record LeavesLine (t : Trace) (w : Witness) (number : ℕ) : Type 0 where
   pub left : slice_get (unplaced t.header t.lines (moves w.steps)) 0 ≡ Some (number, line)
   pub before : (i : ℕ) (s : Step) → slice_get w.steps i ≡ Some s → broken_at t w i s ≡ None
 
+-- no step breaks a rule and each line is taken, but by the moment of the last step a duty is late: this is the least rule
+-- of such a duty, with the line of the segment that waits, else 0
+pub record OwesAtEnd (t : Trace) (w : Witness) (line : ℕ) (rule : Rule) : Type 0 where
+  pub placed : unplaced t.header t.lines (moves w.steps) ≡ []
+  pub late : late_after t.header w.steps
+      (known_after_all t.header (first_known t.header) (stamped t.header t.lines w.steps)) ≡ Some (line, rule)
+  pub before : (i : ℕ) (s : Step) → slice_get w.steps i ≡ Some s → broken_at t w i s ≡ None
+
 -- a yes counts the steps that take lines and the hidden ones
 pub record Counts (w : Witness) (lines hidden : ℕ) : Type 0 where
   pub lines_are : lines ≡ count_by (λ s. takes_line s.label) w.steps
@@ -51,4 +59,5 @@ abbrev pub Says : Trace → Witness → Verdict → Type 0
 Says t w (Yes lines hidden) = Explains t w × Counts w lines hidden
 Says t w (No witness_line trace_line rule) =
     ((witness_line ≡ 0) × (rule ≡ Unplaced) × LeavesLine t w trace_line)
+    ⊎ ((witness_line ≡ 0) × OwesAtEnd t w trace_line rule)
     ⊎ ((place : ℕ) × (witness_line ≡ place + 2) × BreaksFirst t w place trace_line rule)

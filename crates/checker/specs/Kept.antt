@@ -6,11 +6,11 @@ use Rattle.case_forms.specs.declared.trace.Header.{Header}
 use Rattle.case_forms.specs.declared.steps.Step.{Step}
 use Rattle.verdict.specs.declared.rule.Rule.{Rule}
 use Rattle.verdict.specs.Rules.{first_broken}
-use Rattle.spec_network.specs.Hosts.{World, Stamped}
+use Rattle.spec_network.specs.Hosts.{Stamped}
 use Rattle.spec_tcp.specs.Machine.{tcp_shape}
 use Rattle.interval_order.specs.Orders.{Order, held_line}
 use Rattle.interval_order.specs.OrderRules.{order_rules}
-use Rattle.endpoint_state.specs.Worlds.{Progress, after}
+use Rattle.spec_duties.specs.Cases.{Known, Watched as Progress, after}
 use Rattle.checker.specs.Seen.{act_by, move_of}
 use Rattle.checker.specs.Verdicts.{act_rules}
 
@@ -19,7 +19,7 @@ abbrev pub held_act : Order → Step → Option (Stamped tcp_shape)
 held_act o s = act_by (held_line o) s
 
 -- the least rule that it breaks
-abbrev pub kept_broken : Header → Order → World tcp_shape → Step → Option Rule
+abbrev pub kept_broken : Header → Order → Known → Step → Option Rule
 kept_broken header o w s =
     first_broken (order_rules o (move_of s) ++ option_map_or (act_rules header w) (held_act o s) [])
 

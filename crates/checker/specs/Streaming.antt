@@ -17,11 +17,7 @@ use Rattle.counted.specs.Counting.{one_more}
 use Rattle.line_fields.specs.declared.fault.TextFault.{TextFault}
 use Rattle.interval_order.specs.Orders.{Order, order_of, order_after}
 use Rattle.interval_order.specs.Later.{TakesBelow, AreLater, is_among, late_rule}
-use Rattle.spec_network.specs.Hosts.{World}
-use Rattle.spec_tcp.specs.Machine.{tcp_shape}
-use Rattle.spec_tcp.specs.Forgetting.{forget}
-use Rattle.spec_tcp_laws.specs.Runs.{world_at_end}
-use Rattle.endpoint_state.specs.Worlds.{Progress}
+use Rattle.spec_duties.specs.Cases.{Known, Watched as Progress, forget, first_known, known_after_all}
 use Rattle.checker.specs.declared.case.CaseFault.{CaseFault}
 use Rattle.checker.specs.declared.case.CaseFault.TheVariants as faults
 use Rattle.checker.specs.Seen.{move_of, moves, stamped}
@@ -42,11 +38,11 @@ NamesBelow next _ = Unit {0}
 pub record HasCome (header : Header) (lines : List Line) (earlier : List Step) (o : Order) (p : Progress) : Type 0 where
   pub order : o ≡ order_of header lines (moves earlier)
   pub header_is : p.header ≡ header
-  pub world : p.world ≡ forget (world_at_end header (stamped header lines earlier))
+  pub world : p.world ≡ forget (known_after_all header (first_known header) (stamped header lines earlier))
 
 -- the whole world that steps leave
-abbrev pub whole : Header → List Line → List Step → World tcp_shape
-whole header lines earlier = world_at_end header (stamped header lines earlier)
+abbrev pub whole : Header → List Line → List Step → Known
+whole header lines earlier = known_after_all header (first_known header) (stamped header lines earlier)
 
 -- the verdict on the steps that are left
 abbrev pub verdict_on : Header → List Line → List Step → List Step → Verdict

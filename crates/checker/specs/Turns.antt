@@ -9,7 +9,7 @@ use Rattle.verdict.specs.declared.report.Verdict.TheVariants.{No}
 use Rattle.line_fields.specs.declared.fault.TextFault.{TextFault}
 use Rattle.line_fields.specs.Left.{Yields}
 use Rattle.interval_order.specs.Orders.{Order}
-use Rattle.endpoint_state.specs.Worlds.{Progress}
+use Rattle.spec_duties.specs.Cases.{Watched as Progress}
 use Rattle.checker.specs.declared.case.CaseFault.{CaseFault}
 use Rattle.checker.specs.declared.turns.StepCounts.{StepCounts}
 use Rattle.checker.specs.declared.turns.ReplayOutcome.{ReplayOutcome}

@@ -3,7 +3,7 @@
 //! Memory grows with the trace, since all its lines are offered at the start. A step takes time logarithmic in the
 //! number of lines that wait.
 
-ghost use Rattle.std.specs.Prelude.{◌≡◌, ◌↔◌, ◌<◌, ◌++◌, List, [], length, IfOk, IfNone};
+ghost use Rattle.std.specs.Prelude.{◌≡◌, ◌↔◌, ◌<◌, ◌≤◌, ◌++◌, List, [], length, IfOk, IfNone, None};
 ghost use Rattle.case_forms.specs.declared.trace.Line.{Line};
 ghost use Rattle.std.specs.List.{All};
 ghost use Rattle.case_forms.specs.Traces.{first_event_line, IsRecorded, IsTrace};
@@ -11,12 +11,9 @@ ghost use Rattle.case_forms.specs.Witnesses.{IsWithinLimits, IsWitness};
 ghost use Rattle.interval_order.specs.Orders.{passing, order_of, order_after};
 ghost use Rattle.interval_order.specs.OrderRules.{order_rules};
 ghost use Rattle.verdict.specs.Rules.{first_broken};
-ghost use Rattle.spec_network.specs.HostSteps as hosts;
 ghost use Rattle.spec_tcp.specs.Bounds.{most_steps};
-ghost use Rattle.spec_tcp.specs.Machine.{tcp};
 ghost use Rattle.spec_tcp.specs.Steps.{line_step, hidden_step};
-ghost use Rattle.endpoint_state.specs.Worlds.{start, after};
-ghost use Rattle.spec_step.specs.Asked.{broken_by, asked_rules, asked_after};
+ghost use Rattle.spec_duties.specs.Cases.{late_at_end, start, after, broken_by, asked_rules, asked_after, first_known};
 ghost use Rattle.checker.specs.Seen.{move_of};
 ghost use Rattle.checker.specs.Verdicts.{verdict, verdict_from, verdict_left, takes_line, line_named};
 ghost use Rattle.checker.specs.Kept.{kept_broken, kept_progress};
@@ -29,11 +26,11 @@ ghost use Rattle.checker.specs.Consequences.{AllStatesFollow, NoPositionFalls};
 
 use crate::laws::{explained_follows, receives_begin_sends};
 use case_forms::{Header, Label, Line, NamedLine, OutOfMemory, Step, TakenLine, Trace, Witness};
-use endpoint_state::World;
+use endpoint_state::StepFault;
 use interval_order::Window;
-use spec_step::{StepFault, apply_hidden, apply_line_owned};
 use std::alloc::{AllocError, Global};
 use verdict::{Rule, Verdict};
+use watched::{Case, apply_hidden, apply_line_owned};
 
 /// The verdict on a witness for a trace of its version, if both have texts.
 ///
@@ -92,24 +89,20 @@ fn judge(
     requires lines { IsRecorded (first_event_line header.now) 0 lines.now }
     requires few { length steps.now < 10000000 }
     requires within { All (λ s. IsWithinLimits s.label) steps.now }
-    ensures { IfOk result (λ v. v ≡ verdict_from header.now lines.now [] (hosts.start (tcp header.now)) steps.now) }
+    ensures { IfOk result (λ v. v ≡ verdict_from header.now lines.now [] (first_known header.now) steps.now) }
 {
     let mut window = offer_all(alloc, header, lines)?;
-    let mut world = World::start(alloc, header);
+    let mut world = Case::start(alloc, header);
     replay_all(&mut window, &mut world, steps)
 }
 
 // The verdict on these steps, if the window holds all lines and the world is that before the first step.
-fn replay_all(
-    window: &mut Window,
-    world: &mut World,
-    steps: &[Step],
-) -> Result<Verdict, OutOfMemory>
+fn replay_all(window: &mut Window, world: &mut Case, steps: &[Step]) -> Result<Verdict, OutOfMemory>
     requires begun { world.old ≡ start world.old.header }
     requires few { length steps.now < 10000000 }
     requires within { All (λ s. IsWithinLimits s.label) steps.now }
     ensures { IfOk result (λ v. (lines : List Line) → window.old ≡ order_of world.old.header lines [] →
-        v ≡ verdict_from world.old.header lines [] (hosts.start (tcp world.old.header)) steps.now) }
+        v ≡ verdict_from world.old.header lines [] (first_known world.old.header) steps.now) }
 {
     for (place, step) in steps.iter().enumerate() {
         if let Some(rule) = replay(window, world, step)? {
@@ -126,8 +119,23 @@ fn replay_all(
             trace_line: number,
             rule: Rule::Unplaced,
         },
-        None => counted(steps),
+        None => at_end(world, window.last_moment(), steps),
     })
+}
+
+// The verdict if no line is left over: no if a duty is late by the moment of the last step, else yes.
+fn at_end(world: &Case, last: u64, steps: &[Step]) -> Verdict
+    requires { world.now.steps ≤ most_steps }
+    ensures { result ≡ verdict_left [] (late_at_end world.now.header last world.now.world) steps.now }
+{
+    match world.late_at_end(last) {
+        Some((trace_line, rule)) => Verdict::No {
+            witness_line: 0,
+            trace_line,
+            rule,
+        },
+        None => counted(steps),
+    }
 }
 
 // A window to which all these lines were offered.
@@ -146,7 +154,7 @@ fn offer_all(alloc: Global, header: &Header, lines: &[Line]) -> Result<Window, O
 /// Does a step, or says which rule it breaks.
 pub(crate) fn replay(
     window: &mut Window,
-    world: &mut World,
+    world: &mut Case,
     step: &Step,
 ) -> Result<Option<Rule>, OutOfMemory>
     requires steps { world.old.steps < most_steps }
@@ -173,7 +181,7 @@ pub(crate) fn replay(
 }
 
 // Takes a line in the model, or says which of its rules is broken.
-fn take_line(world: &mut World, moment: u64, line: TakenLine) -> Result<Option<Rule>, OutOfMemory>
+fn take_line(world: &mut Case, moment: u64, line: TakenLine) -> Result<Option<Rule>, OutOfMemory>
     requires { world.old.steps < most_steps }
     ensures rule { IfOk result (λ r. r ≡ broken_by world.old moment (line_step line)) }
     ensures after { IfOk result (λ r. IfNone r (world.new ≡ after world.old moment (line_step line))) }
@@ -188,7 +196,7 @@ fn take_line(world: &mut World, moment: u64, line: TakenLine) -> Result<Option<R
 // Does a hidden step, or says which rule it breaks.
 fn pass(
     window: &mut Window,
-    world: &mut World,
+    world: &mut Case,
     moment: u64,
     label: &Label<NamedLine>,
 ) -> Result<Option<Rule>, OutOfMemory>
@@ -211,7 +219,7 @@ fn pass(
 
 // Yes, with the number of steps that take a line and of those that are hidden.
 fn counted(steps: &[Step]) -> Verdict
-    ensures { result ≡ verdict_left [] steps.now }
+    ensures { result ≡ verdict_left [] None steps.now }
 {
     let lines = steps.iter().filter(|step| takes_line(&step.label)).count();
     let hidden = steps.iter().filter(|step| !takes_line(&step.label)).count();

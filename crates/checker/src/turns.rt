@@ -22,12 +22,12 @@ use crate::case::{CaseFault, witness_fault};
 use crate::offering::{offer_reached, refuse_late};
 use crate::replay::{line_named, replay, takes_line};
 use case_forms::{Label, Step};
-use endpoint_state::World;
 use interval_order::Window;
 use line_fields::SourceFault;
 use std::alloc::Global;
 use std::io::BufRead;
 use verdict::Rule;
+use watched::Case;
 use witness::StepReader;
 
 /// The result of one turn.
@@ -116,7 +116,7 @@ fn next_step<A: BufRead, B: BufRead>(
 fn judge_step<A: BufRead>(
     alloc: Global,
     window: &mut Window,
-    world: &mut World,
+    world: &mut Case,
     lines: &mut Ahead<A>,
     step: &Step,
 ) -> Result<Option<Rule>, CaseFault>
@@ -151,7 +151,7 @@ fn judge_step<A: BufRead>(
 fn replay_next<A: BufRead, B: BufRead>(
     alloc: Global,
     window: &mut Window,
-    world: &mut World,
+    world: &mut Case,
     lines: &mut Ahead<A>,
     steps: &mut StepReader<B>,
 ) -> Result<StepOutcome, CaseFault>
@@ -204,7 +204,7 @@ fn turn_of(broken: Option<Rule>, step: Step) -> StepOutcome
 pub(crate) fn replay_steps<A: BufRead, B: BufRead>(
     alloc: Global,
     window: &mut Window,
-    world: &mut World,
+    world: &mut Case,
     lines: &mut Ahead<A>,
     steps: &mut StepReader<B>,
 ) -> Result<ReplayOutcome, CaseFault>
@@ -216,6 +216,7 @@ pub(crate) fn replay_steps<A: BufRead, B: BufRead>(
     ensures ahead { IfOk result (λ r. IsAhead lines.new) }
     ensures working { IfOk result (λ r. fault_of steps.new ≡ None) }
     ensures few { IfOk result (λ r. steps_done r ≤ 10000000) }
+    ensures done { IfOk result (λ r. IsDoneAll r → world.new.steps ≤ most_steps) }
     ensures in_step { IfOk result (λ r. IsDoneAll r → IsInStep window.new (line_ahead lines.new)) }
     ensures tells { (header : Header) (t : Option (Result (List Line) TextFault))
         (s : Option (Result (List Step) TextFault))

@@ -3,7 +3,7 @@
 //! Of the trace, the lines that are reached and not yet placed are kept, and one more; of the witness, one step. The
 //! world keeps what endpoints have outstanding, and each segment that was made or sent, since later steps may name it.
 
-ghost use Rattle.std.specs.Prelude.{◌≡◌, ◌≢◌, ◌↔◌, List, [], Err, IfOk, IfSome, None, Option, Result};
+ghost use Rattle.std.specs.Prelude.{◌≡◌, ◌≢◌, ◌↔◌, ◌≤◌, List, [], Err, IfOk, IfSome, None, Option, Result};
 ghost use Rattle.case_forms.specs.declared.trace.Header.{Header};
 ghost use Rattle.case_forms.specs.declared.trace.Line.{Line};
 ghost use Rattle.case_forms.specs.declared.trace.Trace.{Trace};
@@ -14,7 +14,9 @@ ghost use Rattle.counted.specs.Counting.{left_of, failures_of, one_more};
 ghost use Rattle.line_fields.specs.declared.fault.TextFault.{TextFault};
 ghost use Rattle.line_fields.specs.Left.{Yields};
 ghost use Rattle.witness.specs.StepsLeft.{steps_left, fault_of, number_of, reader_failures};
-ghost use Rattle.endpoint_state.specs.Worlds.{Progress};
+ghost use Rattle.spec_duties.specs.Cases.{late_at_end};
+ghost use Rattle.spec_tcp.specs.Bounds.{most_steps};
+ghost use Rattle.checker.specs.Verdicts.{verdict_left};
 ghost use Rattle.checker.specs.Explains.{Explains, IsYes};
 ghost use Rattle.checker.specs.Judges.{Says};
 ghost use Rattle.checker.specs.Headline.{ReceivesBeginSends};
@@ -32,11 +34,11 @@ use crate::steps::drain_steps;
 use crate::turns::{ReplayOutcome, StepCounts, replay_steps};
 use case_forms::Header;
 use counted::Counted;
-use endpoint_state::World;
 use interval_order::Window;
 use std::alloc::Global;
 use std::io::BufRead;
 use verdict::{Rule, Verdict};
+use watched::Case;
 use witness::StepReader;
 
 /// The trace's fault, else the witness's, else the verdict on the case, however the bytes of both come in pieces. The
@@ -138,7 +140,7 @@ fn judge<A: BufRead, B: BufRead>(
     ensures same_steps { result ≢ Err CaseFault.Read → reader_failures steps.new ≡ reader_failures steps.old }
 {
     let mut window = Window::new(alloc, header);
-    let mut world = World::start(alloc, header);
+    let mut world = Case::start(alloc, header);
     judge_in(alloc, &mut window, &mut world, lines, steps)
 }
 
@@ -146,7 +148,7 @@ fn judge<A: BufRead, B: BufRead>(
 fn judge_in<A: BufRead, B: BufRead>(
     alloc: Global,
     window: &mut Window,
-    world: &mut World,
+    world: &mut Case,
     lines: &mut Ahead<A>,
     steps: &mut StepReader<B>,
 ) -> Result<Verdict, CaseFault>
@@ -168,7 +170,7 @@ fn judge_in<A: BufRead, B: BufRead>(
     ensures same_steps { result ≢ Err CaseFault.Read → reader_failures steps.new ≡ reader_failures steps.old }
 {
     match replay_steps(alloc, window, world, lines, steps)? {
-        ReplayOutcome::All(tally) => end_of_witness(window, lines, tally),
+        ReplayOutcome::All(tally) => end_of_witness(window, world, lines, tally),
         ReplayOutcome::Refused(place, named, rule) => {
             lines.drain()?;
             drain_steps(steps)?;
@@ -184,15 +186,17 @@ fn judge_in<A: BufRead, B: BufRead>(
 // The verdict if each step is done; a fault of a remaining line comes before it.
 fn end_of_witness<A: BufRead>(
     window: &Window,
+    world: &Case,
     lines: &mut Ahead<A>,
     tally: StepCounts,
 ) -> Result<Verdict, CaseFault>
+    requires few { world.now.steps ≤ most_steps }
     requires ahead { IsAhead lines.old }
     requires in_step { IsInStep window.now (line_ahead lines.old) }
     ensures tells { (header : Header) (t : Option (Result (List Line) TextFault))
         (s : Option (Result (List Step) TextFault))
-        (p : Progress) (offered : List Line) (earlier : List Step) (ahead next : Option (Result (List Step) TextFault))
-        → SoFar header t (left_ahead A.remaining lines.old) s ahead window.now p offered earlier
+        (offered : List Line) (earlier : List Step) (ahead next : Option (Result (List Step) TextFault))
+        → SoFar header t (left_ahead A.remaining lines.old) s ahead window.now world.now offered earlier
         → Yields ahead next None
         → Tallied earlier tally.lines tally.hidden
         → Tells header t s result }
@@ -209,11 +213,27 @@ fn end_of_witness<A: BufRead>(
             trace_line: number,
             rule: Rule::Unplaced,
         },
+        None => at_end(world, window.last_moment(), tally),
+    })
+}
+
+// The verdict if no line is left over: no if a duty is late by the moment of the last step, else yes.
+fn at_end(world: &Case, last: u64, tally: StepCounts) -> Verdict
+    requires { world.now.steps ≤ most_steps }
+    ensures { (steps : List Step) → Tallied steps tally.lines tally.hidden
+        → result ≡ verdict_left [] (late_at_end world.now.header last world.now.world) steps }
+{
+    match world.late_at_end(last) {
+        Some((trace_line, rule)) => Verdict::No {
+            witness_line: 0,
+            trace_line,
+            rule,
+        },
         None => Verdict::Yes {
             lines: tally.lines,
             hidden: tally.hidden,
         },
-    })
+    }
 }
 
 // The number of the first line that is not placed, offered or not.

@@ -41,6 +41,8 @@ GivesVersion format versions.Two = format ≡ Once 2
 GivesVersion format versions.Three = ⊥
 GivesVersion format versions.Four = ⊥
 GivesVersion format versions.FourHalf = ⊥
+GivesVersion format versions.Five = ⊥
+GivesVersion format versions.FiveHalf = ⊥
 
 -- what these numbers request
 pub record AsksPlan (settings : Settings) (plan : Plan) : Type 0 where

@@ -71,6 +71,13 @@ impl HostTcp {
         self.sockets.len()
     }
 
+    /// How many endpoints this host had so far.
+    pub fn endpoint_count(&self) -> usize
+        ensures { result ≡ length self.now.endpoints }
+    {
+        self.endpoints.len()
+    }
+
     /// What a socket number names. None: it is not live.
     pub fn thing(&self, number: u32) -> Option<SocketTarget>
         ensures { result ≡ thing_of self.now number }

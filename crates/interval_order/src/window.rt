@@ -191,6 +191,13 @@ impl Window {
         Rule::MomentOff
     }
 
+    /// The moment of the last step, in microseconds; 0 before the first.
+    pub fn last_moment(&self) -> u64
+        ensures { result ≡ self.now.last }
+    {
+        self.last
+    }
+
     /// The number of the next line to be offered.
     pub fn next_number(&self) -> u64
         ensures { result ≡ self.now.next }

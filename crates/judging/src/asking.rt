@@ -17,7 +17,7 @@ pub struct Judgement<'t> {
     pub kept: String,
     /// The strictest level with a yes. None: no level has one.
     pub level: Option<Judged>,
-    /// The case of the last level that was tried: the trace in version 4, and its witness.
+    /// The case of the last level that was tried: the trace in version 4 or 5, and its witness.
     pub case: CaseText<'t>,
 }
 

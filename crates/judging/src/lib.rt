@@ -12,7 +12,7 @@
 //! Private modules:
 //!
 //! - `asking`: the levels, one after the other
-//! - `rewriting`: a trace in version 4
+//! - `rewriting`: a trace in version 4 or 5
 //! - `trying`: one level: the case that is found, and its verdict
 //! - `case_lines`: whether that case has every line of the trace
 //! - `connections`: how many connections it has, and how many were established

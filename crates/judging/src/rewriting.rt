@@ -1,4 +1,4 @@
-//! A trace in version 4: another header, and the same event lines.
+//! A trace in version 4, or in version 5 if it has that version: another header, and the same event lines.
 
 use bstr::ByteSlice;
 use case_forms::{Header, Judged, Lines, OutOfMemory, Trace, Version};
@@ -18,13 +18,14 @@ pub(crate) fn header_text(alloc: Global, header: &Header) -> Result<Vec<u8>, Out
     print_trace(alloc, &Trace { header, lines })
 }
 
-/// The header in version 4, at this level. What an older version doesn't say is read as it is judged: RFC 5681 gives
-/// the first window.
+/// The header in version 4, or in version 5, which keeps its slack, at this level. What an older version doesn't say is
+/// read as it is judged: RFC 5681 gives the first window.
 pub(crate) fn judged_by(header: &Header, level: Judged) -> Header {
-    let version = if header.version.is_half() {
-        Version::FourHalf
-    } else {
-        Version::Four
+    let version = match header.version {
+        Version::One | Version::Two | Version::Four => Version::Four,
+        Version::Three | Version::FourHalf => Version::FourHalf,
+        Version::Five => Version::Five,
+        Version::FiveHalf => Version::FiveHalf,
     };
     Header {
         version,

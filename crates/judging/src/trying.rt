@@ -59,7 +59,7 @@ impl From<CaseFault> for JudgeFault {
 #[derive(Drop)]
 pub(crate) struct Tried<'t> {
     pub level: Judged,
-    /// The trace in version 4, and the witness that was found.
+    /// The trace in version 4 or 5, and the witness that was found.
     pub case: CaseText<'t>,
     /// How the search ended.
     pub ending: Ending,

@@ -74,6 +74,8 @@ first_small versions.Two = omega arith
 first_small versions.Three = omega arith
 first_small versions.Four = omega arith
 first_small versions.FourHalf = omega arith
+first_small versions.Five = omega arith
+first_small versions.FiveHalf = omega arith
 
 pub beside_small : (a b : Recorded) → AreBeside a b → AllSmall (in_order a.entries b.entries)
 beside_small a b x =
@@ -153,6 +155,7 @@ told_by t w zs os both version lines_is steps_is books =
       takes =
           subst (λ (ls : List Line). AllTakeWell h ls w.steps) (sym lines_eq)
           (subst (λ (ss : List witness.Step). AllTakeWell h (lines_said xs) ss) (sym steps_eq) from.1);
+      slack = rw both refl;
       steps_are = ap (λ (ls : List Line). stamped h ls w.steps) lines_eq ∙ ap (λ (ss : List witness.Step). stamped h (lines_said xs) ss) steps_eq ∙ from.0;
       lines_are = ap (map line_told) lines_eq ∙ lines_are h both xs whole;
     }

@@ -37,6 +37,8 @@ use Rattle.spec_network.specs.HostSteps.{start, Lawful}
 use Rattle.spec_tcp.specs.Machine.{tcp, tcp_shape}
 use Rattle.spec_tcp.specs.Steps.{line_step, step_of}
 use Rattle.checker.specs.Seen.{take_of, move_of, moves, act_of, stamped}
+use Rattle.spec_duties.specs.Cases.{first_known}
+use Rattle.watched.proofs.SlackLemmas.{dutiful_any}
 use Rattle.checker.specs.Explains.{Explains}
 use Rattle.merging.specs.Told.{line_told, TakesWell, AllTakeWell, Tells}
 
@@ -372,4 +374,5 @@ told_explains t w steps e told =
       placed = is_placed t w tells placement;
       turns = placement.turns;
       run = subst (λ (xs : List (Stamped tcp_shape)). Lawful (tcp t.header) (start (tcp t.header)) xs) seen e.1;
+      duties = dutiful_any t.header (first_known t.header) (stamped t.header t.lines w.steps) told.slack;
     }

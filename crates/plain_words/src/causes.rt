@@ -8,6 +8,9 @@ pub(crate) const JOINED_SEGMENTS: &str =
 
 pub(crate) const COARSE_CLOCK: &str = "the stack's clock is coarser than `grain`";
 
+pub(crate) const SMALL_SLACK: &str =
+    "`slack` is smaller than the delay between the capture and the stack";
+
 /// What is known at a refused step, if the causes of its rule depend on it.
 #[derive(Clone, Copy, PartialEq, Eq)]
 pub enum Known {

@@ -2,7 +2,7 @@
 //!
 //! docs/reference/rules.md has the same texts; tools/test_rules.py compares them.
 
-use crate::causes::{COARSE_CLOCK, IGNORED_MSS, JOINED_SEGMENTS, Known};
+use crate::causes::{COARSE_CLOCK, IGNORED_MSS, JOINED_SEGMENTS, Known, SMALL_SLACK};
 use verdict::Rule;
 
 /// What a rule means to someone whose case breaks it.
@@ -289,5 +289,83 @@ sample of data sent twice",
         )
         .rfc("7323, 2.2 (the rule is specific to this profile)"),
         Rule::Unplaced => Meaning::of("nothing explains the line", "the witness ends too early"),
+        Rule::Dropped => Meaning::of(
+            "the host drops a segment that it has to process or answer",
+            "the stack ignores a segment that it could process, such as a window update or a FIN; or the witness \
+drops it to explain later lines",
+        )
+        .captured(
+            "the segment was recorded below a firewall or a full buffer, and TCP never received it",
+        )
+        .rfc("9293, 3.10.7; 5961, 3.2"),
+        Rule::Discarded => Meaning::of(
+            "the host doesn't keep data that is next in order",
+            "the stack offered more window than it has room for, or discards data in order under memory pressure",
+        )
+        .rfc("9293, 3.6.1, 3.10.7.4"),
+        Rule::ProcessLate => Meaning::of(
+            "a segment waits too long in the inbox",
+            "the stack holds received segments back, or the witness processes the segment too late",
+        )
+        .captured(SMALL_SLACK)
+        .rfc("9293, 3.10.7"),
+        Rule::SendLate => Meaning::of(
+            "a segment is sent too long after it was built",
+            "the stack holds finished segments back, or the witness builds the segment too early",
+        )
+        .captured(SMALL_SLACK)
+        .rfc("9293, 3.10.2, 3.10.7"),
+        Rule::AckLate => Meaning::of(
+            "an acknowledgment is more than half a second late",
+            "the stack delays acknowledgments by more than half a second, or doesn't acknowledge this segment",
+        )
+        .captured("the capture lost the acknowledgment")
+        .rfc("9293, 3.8.6.3, 3.10.7.4; 5681, 4.2"),
+        Rule::ExpiryLate => Meaning::of(
+            "the retransmission timer should have expired",
+            "the stack's timeout is longer than RFC 6298's, or no timer runs; or the witness lacks the expiry",
+        )
+        .captured("the capture lost the retransmission")
+        .rfc("6298, 2.1, 5.1 to 5.3"),
+        Rule::ResendLate => Meaning::of(
+            "a timer expired, and nothing was retransmitted",
+            "after an expiry, the stack doesn't retransmit, or doesn't begin with the earliest outstanding data",
+        )
+        .captured("the capture lost the retransmission")
+        .rfc("6298, 5.4"),
+        Rule::ProbeLate => Meaning::of(
+            "a closed window should have been probed",
+            "the stack doesn't probe a closed window, or waits more than twice as long from probe to probe",
+        )
+        .captured("the capture lost the probe")
+        .rfc("9293, 3.8.6.1"),
+        Rule::StartLate => Meaning::of(
+            "the host doesn't send what it has to send",
+            "the stack holds data, a SYN or a FIN back for more than a second, though all is acknowledged",
+        )
+        .captured("the capture lost the segment")
+        .rfc("9293, 3.8.6.2.1, 3.10.2, 3.10.4"),
+        Rule::ResetLate => Meaning::of(
+            "an aborted connection sends no reset",
+            "the stack frees an aborted connection without sending a reset",
+        )
+        .captured("the capture lost the reset")
+        .rfc("9293, 3.10.5"),
+        Rule::Resent => Meaning::of(
+            "data is retransmitted twice after one expiry",
+            "the stack retransmits the same data again without a new expiry, or the witness lacks an expiry",
+        )
+        .rfc("6298, 5.4, 5.5; 5681, 3.2"),
+        Rule::ResentBeyond => Meaning::of(
+            "outstanding data beyond the congestion window is retransmitted",
+            "after an expiry, the stack retransmits more at once than its congestion window allows",
+        )
+        .rfc("5681, 3.1"),
+        Rule::AckExcess => Meaning::of(
+            "the host sends more acknowledgments than it received segments",
+            "the stack acknowledges one segment several times, or the witness lacks a received segment",
+        )
+        .captured("the capture lost a received segment")
+        .rfc("5681, 4.2"),
     }
 }

@@ -1,6 +1,6 @@
 //! Which host a recorder is of, known from a type.
 
-ghost use Rattle.std.specs.Prelude.{◌≡◌};
+ghost use Rattle.std.specs.Prelude.{◌≡◌, None};
 ghost use Rattle.case_forms.specs.declared.calls.Host.{Host};
 ghost use Rattle.case_forms.specs.declared.calls.Host.TheVariants.{Zero};
 ghost use Rattle.case_forms.specs.declared.trace.Header.{Header};
@@ -31,6 +31,7 @@ impl Site for Brand {
       extra = 0;
       initial = Rfc5681;
       congestion = Full;
+      slack = None;
     } };
 }
 

@@ -157,6 +157,9 @@ fn reason_of(world: &World, step: &Step, rule: Rule) -> Reason {
         Rule::Inbox | Rule::NotPeer | Rule::Number | Rule::Unacceptable => Reason::Other,
         Rule::AckRange | Rule::QueueFull | Rule::Growth | Rule::Sample => Reason::Other,
         Rule::TimerOff | Rule::TimerEarly | Rule::Recovery | Rule::ScaleUnread => Reason::Other,
-        Rule::Unplaced => Reason::Other,
+        Rule::Unplaced | Rule::Dropped | Rule::Discarded | Rule::ProcessLate => Reason::Other,
+        Rule::SendLate | Rule::AckLate | Rule::ExpiryLate | Rule::ResendLate => Reason::Other,
+        Rule::ProbeLate | Rule::StartLate | Rule::ResetLate | Rule::Resent => Reason::Other,
+        Rule::ResentBeyond | Rule::AckExcess => Reason::Other,
     }
 }

@@ -29,7 +29,8 @@ use Rattle.segment.specs.Encoding.{encoding, as_written}
 
 -- the header, but for the maximum segment lifetime and what a listen queue may hold above its backlog
 abbrev pub header : (msl extra : ℕ) → Header
-header msl extra = record { version = One; skew = 0; msl = msl; grain = 1000; minrto = 1000000; extra = extra; initial = Rfc5681; congestion = Full }
+header msl extra =
+    record { version = One; skew = 0; msl = msl; grain = 1000; minrto = 1000000; extra = extra; initial = Rfc5681; congestion = Full; slack = None }
 
 abbrev pub nowhere : Span
 nowhere = record { line = 0; start = 0; stop = 0 }

@@ -39,7 +39,7 @@ use Rattle.spec_tcp_laws.proofs.ForgetBodies.{append-forgets, body-forget, modif
 use Rattle.spec_tcp_laws.proofs.ForgetCalls.{call_allows-forget, call-forgets}
 
 -- whom a segment finds, of which something was discarded
-abbrev forget_taker : Taker → Taker
+abbrev pub forget_taker : Taker → Taker
 forget_taker Nobody = Nobody
 forget_taker (AtListener l) = AtListener l
 forget_taker (AtEndpoint i e) = AtEndpoint i (forget_endpoint e)
@@ -67,7 +67,7 @@ endpoint_taker-forget b m i = rw (slice_get-map forget_endpoint b.endpoints i) (
     by None = listener-forget b m
     by (Some e) = closed e (is_closed e.state)
 
-taker-forget : (b : HostTcp) (m : Emission) → taker (forget_body b) m ≡ forget_taker (taker b m)
+pub taker-forget : (b : HostTcp) (m : Emission) → taker (forget_body b) m ≡ forget_taker (taker b m)
 taker-forget b m = rw (place-forget b m.rport m.lport) (by (place_of b m.rport m.lport))
   where
     by : (o : Option ℕ)
@@ -77,7 +77,7 @@ taker-forget b m = rw (place-forget b m.rport m.lport) (by (place_of b m.rport m
     by (Some i) = endpoint_taker-forget b m i
 
 -- where positions are read nothing is looked at that may be discarded
-read-forget : (h : Header) (e : Endpoint) (m : Emission) → as_read h.version (forget_endpoint e) m ≡ as_read h.version e m
+pub read-forget : (h : Header) (e : Endpoint) (m : Emission) → as_read h.version (forget_endpoint e) m ≡ as_read h.version e m
 read-forget h e m = rw (rcv_nxt-forget e) refl
 
 taker_rules-forget : (h : Header) (me : Host) (b : HostTcp) (how : TakeChoice) (m : Emission) (moment : ℕ) (t : Taker)

@@ -48,6 +48,19 @@ rule_number rules.TimerEarly = 36
 rule_number rules.Recovery = 37
 rule_number rules.ScaleUnread = 38
 rule_number rules.Unplaced = 39
+rule_number rules.Dropped = 40
+rule_number rules.Discarded = 41
+rule_number rules.ProcessLate = 42
+rule_number rules.SendLate = 43
+rule_number rules.AckLate = 44
+rule_number rules.ExpiryLate = 45
+rule_number rules.ResendLate = 46
+rule_number rules.ProbeLate = 47
+rule_number rules.StartLate = 48
+rule_number rules.ResetLate = 49
+rule_number rules.Resent = 50
+rule_number rules.ResentBeyond = 51
+rule_number rules.AckExcess = 52
 
 -- the numbers of these rules don't fall, and none is below that one
 abbrev pub ascend : ℕ → List (Rule × Bool) → Bool

@@ -84,6 +84,13 @@ impl<V: Drop> Table<V> {
         }
     }
 
+    /// All entries, in the order in which they were added, each with its number.
+    pub fn entries(&self) -> &[(u64, V)]
+        ensures { result.now ≡ self.now.entries }
+    {
+        &self.entries
+    }
+
     /// How many entries there are.
     pub fn len(&self) -> usize
         ensures { result ≡ length self.now.entries }

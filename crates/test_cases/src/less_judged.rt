@@ -1,4 +1,5 @@
-//! Checks each case file as version 4, with each word for how much of congestion control is judged.
+//! Checks each case file as version 4, with each word for how much of congestion control is judged. A case of version
+//! 5 stays one.
 //!
 //! With `congestion full`, a case of an older version has the same answer, with the numbers of trace lines moved. If
 //! less is judged, a yes stays the same yes.
@@ -63,7 +64,7 @@ fn is_shared(version: Version, line: u64) -> bool {
     match version {
         Version::One => 1 < line && line < 7,
         Version::Two | Version::Three => 1 < line && line < 8,
-        Version::Four | Version::FourHalf => false,
+        Version::Four | Version::FourHalf | Version::Five | Version::FiveHalf => false,
     }
 }
 
@@ -135,7 +136,7 @@ fn is_same(rewritten: &Rewritten) -> bool {
     match rewritten.read_as {
         Version::One => !rewritten.carries_a_shift(),
         Version::Two | Version::Three => true,
-        Version::Four | Version::FourHalf => false,
+        Version::Four | Version::FourHalf | Version::Five | Version::FiveHalf => false,
     }
 }
 

@@ -18,13 +18,17 @@ const EMPTY_OF_VERSION_4: &str =
 const EMPTY_OF_ONE_HOST: &str =
     "trace 4\nskew 0\nmsl 1\ngrain 0\nminrto 0\nextra 0\ninitial 5681\nhosts 1\ncongestion none\n";
 
+const EMPTY_OF_VERSION_5: &str =
+    "trace 5\nskew 0\nmsl 1\ngrain 0\nminrto 0\nextra 0\ninitial 5681\nhosts 1\n\
+congestion none\nslack 0\n";
+
 const WITH_A_WITNESS_LINE: &str = "trace 1\nskew 0\nmsl 1\ngrain 0\nminrto 0\nextra 0\nwitness 1\n";
 
 const WITH_A_CUT_WITNESS_LINE: &str =
     "trace 1\nskew 0\nmsl 1\ngrain 0\nminrto 0\nextra 0\nwitness 1";
 
 // A trace, a witness, and what is printed with the status.
-const PAIRS: [(&str, &str, &str); 18] = [
+const PAIRS: [(&str, &str, &str); 21] = [
     ("", "", "bad trace 1 0 0 header\n2"),
     ("", "witness 1\n", "bad trace 1 0 0 header\n2"),
     ("witness 1\n", "witness 1\n", "bad trace 1 0 9 header\n2"),
@@ -59,6 +63,17 @@ const PAIRS: [(&str, &str, &str); 18] = [
     (
         EMPTY_OF_ONE_HOST,
         "witness 4\n9 M 1 80 4000 0 0 S 65535\n",
+        "bad witness 2 4 5 number\n2",
+    ),
+    (
+        EMPTY_OF_VERSION_5,
+        "witness 4\n",
+        "bad witness 1 0 9 header\n2",
+    ),
+    (EMPTY_OF_VERSION_5, "witness 5\n", "yes 0 0\n0"),
+    (
+        EMPTY_OF_VERSION_5,
+        "witness 5\n9 M 1 80 4000 0 0 S 65535\n",
         "bad witness 2 4 5 number\n2",
     ),
     (

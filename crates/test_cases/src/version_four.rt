@@ -1,4 +1,4 @@
-//! Rewrites a case as version 4: the same event lines and steps, after a longer header.
+//! Rewrites a case as version 4: the same event lines and steps, after a longer header. A case of version 5 stays one.
 //!
 //! The header has three lines more than in version 1, two more than in version 2, and one more than in version 3. So
 //! the numbers of event lines move, and so do the numbers by which a witness names them.
@@ -15,7 +15,7 @@ use std::alloc::{AllocError, Global};
 use trace_reader::read_trace;
 use witness::read_witness_for;
 
-/// A case as version 4.
+/// A case as version 4, or one of version 5.
 #[derive(Drop)]
 pub struct Rewritten {
     trace: Trace,
@@ -26,7 +26,7 @@ pub struct Rewritten {
     pub moved_by: u64,
 }
 
-/// Rewrites a case as version 4. The error is the fault of the trace or of the witness.
+/// Rewrites a case as version 4, unless it has version 5. The error is the fault of the trace or of the witness.
 pub fn rewrite(alloc: Global, text: &[u8]) -> Result<Rewritten, TextFault> {
     let texts = Texts::of(text);
     let mut trace = read_trace(alloc, texts.trace)?;
@@ -88,12 +88,13 @@ pub fn moved(number: u64, by: u64) -> u64 {
     number.saturating_add(by).min(u64::from(u32::MAX))
 }
 
-// Version 4 for the same count of recorded hosts.
+// Version 4 for the same count of recorded hosts, or version 5 itself.
 fn rewritten_version(version: Version) -> Version {
-    if version.is_half() {
-        Version::FourHalf
-    } else {
-        Version::Four
+    match version {
+        Version::One | Version::Two | Version::Four => Version::Four,
+        Version::Three | Version::FourHalf => Version::FourHalf,
+        Version::Five => Version::Five,
+        Version::FiveHalf => Version::FiveHalf,
     }
 }
 

@@ -1,4 +1,5 @@
 -- What both hosts of a scene begin with.
+use Rattle.std.specs.Prelude.{None}
 use Rattle.case_forms.specs.declared.trace.Header.{Header}
 use Rattle.case_forms.specs.declared.version.Initial.TheVariants.{Rfc5681}
 use Rattle.case_forms.specs.declared.version.Judged.TheVariants.{Full}
@@ -15,4 +16,5 @@ test_header =
       extra = 1;
       initial = Rfc5681;
       congestion = Full;
+      slack = None;
     }

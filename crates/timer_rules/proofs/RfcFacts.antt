@@ -11,7 +11,8 @@ use Rattle.timer_rules.specs.Timers.{start, sampled, backed_off, raised_for_lost
 
 -- a clock tick of a millisecond, a lifetime of two minutes, and this minimum of the timeout
 abbrev header : ℕ → Header
-header minrto = record { version = One; skew = 0; msl = 120000000; grain = 1000; minrto = minrto; extra = 0; initial = Rfc5681; congestion = Full }
+header minrto =
+    record { version = One; skew = 0; msl = 120000000; grain = 1000; minrto = minrto; extra = 0; initial = Rfc5681; congestion = Full; slack = None }
 
 -- what samples leave of the timers
 abbrev estimate : Option ℕ → ℕ → ℕ → Timers

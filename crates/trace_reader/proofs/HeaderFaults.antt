@@ -8,12 +8,12 @@ use Rattle.std.specs.Str.Parse.{digits_value}
 use Rattle.std.proofs.lemmas.Bool.{eqb-true}
 use Rattle.std.proofs.lemmas.Slice.Eq.{bytes_eq-Decides}
 use Rattle.case_forms.specs.declared.version.Version.{Version}
-use Rattle.case_forms.specs.declared.version.Version.TheVariants.{One, Two, Three, Four, FourHalf}
+use Rattle.case_forms.specs.declared.version.Version.TheVariants.{One, Two, Three, Four, FourHalf, Five, FiveHalf}
 use Rattle.case_forms.specs.declared.version.Initial.{Initial}
 use Rattle.case_forms.specs.declared.version.Initial.TheVariants.{Rfc5681, Rfc6928}
 use Rattle.case_forms.specs.declared.version.Judged.{Judged}
 use Rattle.case_forms.specs.declared.version.Judged.TheVariants.{Full}
-use Rattle.case_forms.specs.Versions.{named_as}
+use Rattle.case_forms.specs.Versions.{named_as, says_slack}
 use Rattle.line_fields.specs.Choice.{kind_named, kind_value}
 use Rattle.line_fields.specs.Faults.{missing_line}
 use Rattle.line_fields.specs.Forms.{numeric, named}
@@ -28,12 +28,14 @@ use Rattle.line_fields.proofs.FieldFaults.{Agrees, number_agrees, named_agrees}
 use Rattle.line_fields.proofs.LineFaults.{whole_is, other_text, text_faults}
 use Rattle.line_fields.proofs.LineRests.{some_word}
 use Rattle.line_fields.proofs.Readers.{field_by}
-use Rattle.trace_reader.specs.HeaderForms.{IsFirstText, Row, row, initial_want, judged_rows, late_rows, header_rows, AreNamed, Fits, Breaks, Other, Bad, More}
+use Rattle.trace_reader.specs.HeaderForms.{IsFirstText, Row, row, initial_want, slack_want, last_rows, judged_rows, late_rows}
+use Rattle.trace_reader.specs.HeaderForms.{header_rows, AreNamed, Fits, Breaks, Other, Bad, More}
 use Rattle.trace_reader.specs.HeaderForms.{IsRow, IsRowFault, AreRows, IsRowsFault, IsHeaderFault, First, Rows}
 use Rattle.trace_reader.specs.declared.late_lines.LateLines.{LateLines}
 use Rattle.trace_reader.specs.Headers.{initial_number, judged_name, all_judged, header_fault, some_left, named_rest, alone, value_line, next_value}
 use Rattle.trace_reader.specs.Headers.{version_in, first_version, first_line, initial_of, initial_value, initial_field}
-use Rattle.trace_reader.specs.Headers.{initial_line, half_line, hosts_line, congestion_line, hosted, late, judged_lines, late_lines, header_with, header_of}
+use Rattle.trace_reader.specs.Headers.{initial_line, half_line, hosts_line, congestion_line, begins_digit, slack_value, slack_field, slack_line, last_line}
+use Rattle.trace_reader.specs.Headers.{hosted, late, judged_lines, late_lines, header_with, header_of}
 use Rattle.trace_reader.proofs.HeaderLaw.{Raws, Headed, is_first, version_taken, version_given, version_takes, version_again}
 use Rattle.trace_reader.proofs.HeaderLaw.{with_first, with_skew, with_msl, with_grain, with_minrto, with_extra}
 
@@ -400,66 +402,107 @@ congestion_then rows next on =
     row_then (kind_value judged_name all_judged) (row (codes "congestion") (named judged_name all_judged))
     (λ w. named_agrees w (kind_named judged_name all_judged w.text)) 9 rows next on
 
+-- how late a host may be
+known : (v : Result ℕ TextFault) (k : Option FaultKind) (w : Word) → Agrees v k w → Agrees (v >>= λ n. good (Some n)) k w
+known (Ok n) None w agree = tt
+known (Ok n) (Some kind) w agree = absurd agree
+known (Err e) None w agree = absurd agree
+known (Err e) (Some kind) w agree = agree
+
+slack_agrees : (w : Word) → Agrees (slack_value w) (slack_want w) w
+slack_agrees w = go (bytes_eq w.text (codes "any")) (begins_digit w.text)
+  where
+    go : (a b : Bool)
+        → Agrees (if a then good None else if b then (number_value 0 1000000000000000000 w >>= λ n. good (Some n)) else Err (fault_at kinds.Field w))
+        (if a then None else if b then numeric 0 1000000000000000000 w else Some kinds.Field) w
+    go true b = tt
+    go false true =
+        known (number_value 0 1000000000000000000 w) (numeric 0 1000000000000000000 w) w (number_agrees 0 1000000000000000000 w)
+    go false false = refl
+
+last_then : {B : Type 0} (v : Version) (f : Option ℕ × Raws → B) → Heads 10 (last_rows v) (λ raws. last_line v raws >>= λ o. good (f o))
+unfolding slack_field
+last_then {B} v f = go (says_slack v)
+  where
+    go : (b : Bool)
+        → Heads 10 (if b then row (codes "slack") slack_want ∷ [] else []) (λ raws. (if b then slack_line raws else good (None, raws)) >>= λ o. good (f o))
+    go true =
+        row_then slack_value (row (codes "slack") slack_want) slack_agrees 10 [] (λ o. good (f o)) (λ slack. no_more_rows 11 (λ raws. f (slack, raws)))
+    go false = no_more_rows 10 (λ raws. f (None, raws))
+
 half_then : {B : Type 0} (f : LateLines × Raws → B) → Heads 7 (late_rows Three) (λ raws. late_lines Three raws >>= λ x. good (f x))
 half_then {B} f = heads_as 7 (late_rows Three) _ (λ raws. initial_line raws >>= λ i. half i.0 i.1) both split
   where
     half : Initial → Raws → Result B TextFault
-    half i raws = half_line raws >>= λ h. Ok (f (late Three i Full, h.1))
+    half i raws = half_line raws >>= λ h. Ok (f (late Three i Full None, h.1))
 
     split : Heads 7 (late_rows Three) (λ raws. initial_line raws >>= λ i. half i.0 i.1)
     split = initial_then (row (codes "half") (numeric 0 0) ∷ []) (λ i. half i.0 i.1)
-        (λ i. number_then (codes "half") 0 0 8 [] (λ h. Ok (f (late Three i Full, h.1))) (λ n. no_more_rows 9 (λ raws. f (late Three i Full, raws))))
+        (λ i. number_then (codes "half") 0 0 8 [] (λ h. Ok (f (late Three i Full None, h.1))) (λ n. no_more_rows 9 (λ raws. f (late Three i Full None, raws))))
 
     both : (raws : Raws) → (late_lines Three raws >>= λ x. good (f x)) ≡ (initial_line raws >>= λ i. half i.0 i.1)
-    both raws = regroup (initial_line raws) (λ i. half_line i.1 >>= λ h. Ok (late Three i.0 Full, h.1)) (λ x. good (f x)) ∙ behind (initial_line raws)
+    both raws = regroup (initial_line raws) (λ i. half_line i.1 >>= λ h. Ok (late Three i.0 Full None, h.1)) (λ x. good (f x)) ∙ behind (initial_line raws)
       where
         behind : (m : Result (Initial × Raws) TextFault)
-            → (m >>= λ i. (half_line i.1 >>= λ h. good (late Three i.0 Full, h.1)) >>= λ x. good (f x)) ≡ (m >>= λ i. half i.0 i.1)
+            → (m >>= λ i. (half_line i.1 >>= λ h. good (late Three i.0 Full None, h.1)) >>= λ x. good (f x)) ≡ (m >>= λ i. half i.0 i.1)
         behind (Err e) = refl
-        behind (Ok i) = regroup (half_line i.1) (λ h. Ok (late Three i.0 Full, h.1)) (λ x. good (f x))
+        behind (Ok i) = regroup (half_line i.1) (λ h. Ok (late Three i.0 Full None, h.1)) (λ x. good (f x))
 
-judged_then : {B : Type 0} (f : LateLines × Raws → B) → Heads 7 judged_rows (λ raws. judged_lines raws >>= λ x. good (f x))
-judged_then {B} f = heads_as 7 judged_rows _ (λ raws. initial_line raws >>= λ i. hosts i.0 i.1) both split
+judged_then : {B : Type 0} (v : Version) (f : LateLines × Raws → B) → Heads 7 (judged_rows v) (λ raws. judged_lines v raws >>= λ x. good (f x))
+judged_then {B} v f = heads_as 7 (judged_rows v) _ (λ raws. initial_line raws >>= λ i. hosts i.0 i.1) both split
   where
+    last : Initial → ℕ → Judged → Raws → Result B TextFault
+    last i n j raws = last_line v raws >>= λ o. Ok (f (late (hosted v n) i j o.0, o.1))
+
     congestion : Initial → ℕ → Raws → Result B TextFault
-    congestion i n raws = congestion_line raws >>= λ c. Ok (f (late (hosted n) i c.0, c.1))
+    congestion i n raws = congestion_line raws >>= λ c. last i n c.0 c.1
 
     hosts : Initial → Raws → Result B TextFault
     hosts i raws = hosts_line raws >>= λ h. congestion i h.0 h.1
 
-    split : Heads 7 judged_rows (λ raws. initial_line raws >>= λ i. hosts i.0 i.1)
-    split = initial_then (row (codes "hosts") (numeric 1 2) ∷ row (codes "congestion") (named judged_name all_judged) ∷ []) (λ i. hosts i.0 i.1)
-        (λ i. number_then (codes "hosts") 1 2 8 (row (codes "congestion") (named judged_name all_judged) ∷ []) (λ h. congestion i h.0 h.1)
-        (λ n. congestion_then [] (λ c. Ok (f (late (hosted n) i c.0, c.1))) (λ j. no_more_rows 10 (λ raws. f (late (hosted n) i j, raws)))))
+    split : Heads 7 (judged_rows v) (λ raws. initial_line raws >>= λ i. hosts i.0 i.1)
+    split = initial_then (row (codes "hosts") (numeric 1 2) ∷ row (codes "congestion") (named judged_name all_judged) ∷ last_rows v) (λ i. hosts i.0 i.1)
+        (λ i. number_then (codes "hosts") 1 2 8 (row (codes "congestion") (named judged_name all_judged) ∷ last_rows v) (λ h. congestion i h.0 h.1)
+        (λ n. congestion_then (last_rows v) (λ c. last i n c.0 c.1) (λ j. last_then v (λ o. (f (late (hosted v n) i j o.0, o.1))))))
 
-    last : (i : Initial) (n : ℕ) (raws : Raws) → ((congestion_line raws >>= λ c. good (late (hosted n) i c.0, c.1)) >>= λ x. good (f x)) ≡ congestion i n raws
-    last i n raws = regroup (congestion_line raws) (λ c. Ok (late (hosted n) i c.0, c.1)) (λ x. good (f x))
+    after_congestion : (i : Initial) (n : ℕ) (m : Result (Judged × Raws) TextFault)
+        → (m >>= λ c. (last_line v c.1 >>= λ o. good (late (hosted v n) i c.0 o.0, o.1)) >>= λ x. good (f x)) ≡ (m >>= λ c. last i n c.0 c.1)
+    after_congestion i n (Err e) = refl
+    after_congestion i n (Ok c) = regroup (last_line v c.1) (λ o. Ok (late (hosted v n) i c.0 o.0, o.1)) (λ x. good (f x))
 
     after_hosts : (i : Initial) (m : Result (ℕ × Raws) TextFault)
-        → (m >>= λ h. (congestion_line h.1 >>= λ c. good (late (hosted h.0) i c.0, c.1)) >>= λ x. good (f x)) ≡ (m >>= λ h. congestion i h.0 h.1)
+        → (m >>= λ h. (congestion_line h.1 >>= λ c. last_line v c.1 >>= λ o. good (late (hosted v h.0) i c.0 o.0, o.1)) >>= λ x. good (f x))
+        ≡ (m >>= λ h. congestion i h.0 h.1)
     after_hosts i (Err e) = refl
-    after_hosts i (Ok h) = last i h.0 h.1
+    after_hosts i (Ok h) =
+        regroup (congestion_line h.1) (λ c. last_line v c.1 >>= λ o. Ok (late (hosted v h.0) i c.0 o.0, o.1)) (λ x. good (f x))
+        ∙ after_congestion i h.0 (congestion_line h.1)
 
     after_initial : (m : Result (Initial × Raws) TextFault)
-        → (m >>= λ i. (hosts_line i.1 >>= λ h. congestion_line h.1 >>= λ c. good (late (hosted h.0) i.0 c.0, c.1)) >>= λ x. good (f x))
+        → (m >>= λ i. (hosts_line i.1 >>= λ h. congestion_line h.1 >>= λ c. last_line v c.1 >>= λ o.
+        good (late (hosted v h.0) i.0 c.0 o.0, o.1)) >>= λ x. good (f x))
         ≡ (m >>= λ i. hosts i.0 i.1)
     after_initial (Err e) = refl
     after_initial (Ok i) =
-        regroup (hosts_line i.1) (λ h. congestion_line h.1 >>= λ c. Ok (late (hosted h.0) i.0 c.0, c.1)) (λ x. good (f x)) ∙ after_hosts i.0 (hosts_line i.1)
+        regroup (hosts_line i.1) (λ h. congestion_line h.1 >>= λ c. last_line v c.1 >>= λ o. Ok (late (hosted v h.0) i.0 c.0 o.0, o.1)) (λ x. good (f x))
+        ∙ after_hosts i.0 (hosts_line i.1)
 
-    both : (raws : Raws) → (judged_lines raws >>= λ x. good (f x)) ≡ (initial_line raws >>= λ i. hosts i.0 i.1)
+    both : (raws : Raws) → (judged_lines v raws >>= λ x. good (f x)) ≡ (initial_line raws >>= λ i. hosts i.0 i.1)
     both raws =
-        regroup (initial_line raws) (λ i. hosts_line i.1 >>= λ h. congestion_line h.1 >>= λ c. Ok (late (hosted h.0) i.0 c.0, c.1)) (λ x. good (f x))
+        regroup (initial_line raws)
+        (λ i. hosts_line i.1 >>= λ h. congestion_line h.1 >>= λ c. last_line v c.1 >>= λ o. Ok (late (hosted v h.0) i.0 c.0 o.0, o.1)) (λ x. good (f x))
         ∙ after_initial (initial_line raws)
 
 late_then : {B : Type 0} (v : Version) (f : LateLines × Raws → B) → Heads 7 (late_rows v) (λ raws. late_lines v raws >>= λ x. good (f x))
-late_then One f = no_more_rows 7 (λ raws. f (late One Rfc5681 Full, raws))
-late_then Two f = heads_as 7 (late_rows Two) _ (λ raws. initial_line raws >>= λ i. good (f (late Two i.0 Full, i.1)))
-    (λ raws. regroup (initial_line raws) (λ i. Ok (late Two i.0 Full, i.1)) (λ x. good (f x)))
-    (initial_then [] (λ i. good (f (late Two i.0 Full, i.1))) (λ i. no_more_rows 8 (λ raws. f (late Two i Full, raws))))
+late_then One f = no_more_rows 7 (λ raws. f (late One Rfc5681 Full None, raws))
+late_then Two f = heads_as 7 (late_rows Two) _ (λ raws. initial_line raws >>= λ i. good (f (late Two i.0 Full None, i.1)))
+    (λ raws. regroup (initial_line raws) (λ i. Ok (late Two i.0 Full None, i.1)) (λ x. good (f x)))
+    (initial_then [] (λ i. good (f (late Two i.0 Full None, i.1))) (λ i. no_more_rows 8 (λ raws. f (late Two i Full None, raws))))
 late_then Three f = half_then f
-late_then Four f = judged_then f
-late_then FourHalf f = judged_then f
+late_then Four f = judged_then Four f
+late_then FourHalf f = judged_then FourHalf f
+late_then Five f = judged_then Five f
+late_then FiveHalf f = judged_then FiveHalf f
 
 abbrev from_extra : Version → List Row
 from_extra v = row (codes "extra") (numeric 0 65535) ∷ late_rows v
@@ -484,15 +527,17 @@ others_then v = number_then (codes "skew") 0 1000000000 2 (from_msl v) (with_ske
 -- ---- the first line
 
 version_err : (text : List ℕ) (e : TextFault) → version_in text ≡ Err e → e ≡ other_text 1 text
-version_err text e = go (is_first text One) (is_first text Two) (is_first text Three) (is_first text Four)
+version_err text e = go (is_first text One) (is_first text Two) (is_first text Three) (is_first text Four) (is_first text Five)
   where
-    go : (a b c d : Bool)
-        → (if a then good One else if b then Ok Two else if c then Ok Three else if d then Ok Four else Err (other_text 1 text)) ≡ Err e → e ≡ other_text 1 text
-    go true b c d same = absurd cc
-    go false true c d same = absurd cc
-    go false false true d same = absurd cc
-    go false false false true same = absurd cc
-    go false false false false same = cc
+    go : (a b c d f : Bool)
+        → (if a then good One else if b then Ok Two else if c then Ok Three else if d then Ok Four else if f then Ok Five else Err (other_text 1 text)) ≡ Err e
+        → e ≡ other_text 1 text
+    go true b c d f same = absurd cc
+    go false true c d f same = absurd cc
+    go false false true d f same = absurd cc
+    go false false false true f same = absurd cc
+    go false false false false true same = absurd cc
+    go false false false false false same = cc
 
 version_agrees : (text : List ℕ) (e : TextFault) → (version_in text ≡ Err e) ↔ ((IsFirstText text → ⊥) × (e ≡ other_text 1 text))
 version_agrees text e = (λ same. (wrong same, version_err text e same), λ g. back (version_in text) refl g)
@@ -510,13 +555,15 @@ first_faults raw e = text_faults IsFirstText 1 version_in version_agrees raw e
 
 -- ---- the header
 
--- both of version 4 have the same lines
+-- both of version 4 have the same lines, and both of version 5
 rows_named : (v : Version) → header_rows v ≡ header_rows (named_as v)
 rows_named One = refl
 rows_named Two = refl
 rows_named Three = refl
 rows_named Four = refl
 rows_named FourHalf = refl
+rows_named Five = refl
+rows_named FiveHalf = refl
 
 pub header_faults : (raws : List (List ℕ)) (e : TextFault) → (header_of raws ≡ Err e) ↔ IsHeaderFault raws e
 unfolding header_of first_line

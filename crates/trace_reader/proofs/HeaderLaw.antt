@@ -1,21 +1,27 @@
 -- The header's lines are read exactly where their bytes spell them.
 use Rattle.std.proofs.Common.{◌≤◌, ◌<◌, ◌^◌, ◌+◌, ℕ, zero, suc, arith}
-use Rattle.std.proofs.Common.{◌≡◌, ◌⊎◌, inl, inr, List, [], ◌∷◌, ◌++◌, Bool, true, false, cond, Result, Ok, Err, refl, sym, ap, subst, ◌∙◌, append_assoc}
-use Rattle.std.specs.Prelude.{codes, map, ◌==◌}
+use Rattle.std.proofs.Common.{◌≡◌, ◌⊎◌, inl, inr, List, [], ◌∷◌, ◌++◌, Bool, true, false, cond, Result, Ok, Err}
+use Rattle.std.proofs.Common.{Option, None, Some, refl, sym, ap, subst, ◌∙◌, append_assoc, length, get_or}
+use Rattle.std.specs.Prelude.{codes, map, ◌==◌, IfSome, if◌then◌else◌}
 use Rattle.std.specs.Fmt.{decimal}
+use Rattle.std.specs.Int.{IsInRange}
 use Rattle.std.specs.Str.{bytes_eq}
 use Rattle.std.specs.List.{AllByRecursion, concat}
-use Rattle.std.proofs.lemmas.Bool.{eqb-true}
+use Rattle.std.specs.Str.Parse.{digits_value}
+use Rattle.std.proofs.lemmas.Bool.{eqb-true, false_from_ne_true}
+use Rattle.std.proofs.lemmas.Bool.Decides.{nat_tests}
+use Rattle.std.proofs.lemmas.Fmt.{decimal_nonempty, digits_decimal}
+use Rattle.std.proofs.lemmas.Str.Parse.{IsNumeralModel, numerals_by_value, tells_by_index}
 use Rattle.std.proofs.lemmas.Slice.Eq.{bytes_eq-Decides}
 use Rattle.bstr.specs.Text.{lines_of, without_terminator}
 use Rattle.case_forms.specs.declared.trace.Header.{Header}
 use Rattle.case_forms.specs.declared.version.Version.{Version}
-use Rattle.case_forms.specs.declared.version.Version.TheVariants.{One, Two, Three, Four, FourHalf}
+use Rattle.case_forms.specs.declared.version.Version.TheVariants.{One, Two, Three, Four, FourHalf, Five, FiveHalf}
 use Rattle.case_forms.specs.declared.version.Initial.{Initial}
 use Rattle.case_forms.specs.declared.version.Initial.TheVariants.{Rfc5681, Rfc6928}
 use Rattle.case_forms.specs.declared.version.Judged.{Judged}
 use Rattle.case_forms.specs.declared.version.Judged.TheVariants.{Full, Recovery, NoControl}
-use Rattle.case_forms.specs.Versions.{says_congestion, named_as}
+use Rattle.case_forms.specs.Versions.{says_congestion, says_slack, named_as}
 use Rattle.line_fields.specs.Choice.{kind_value, kind_field}
 use Rattle.line_fields.specs.declared.fault.FaultKind.TheVariants as kinds
 use Rattle.line_fields.specs.declared.fault.TextFault.{TextFault}
@@ -33,10 +39,11 @@ use Rattle.line_fields.proofs.Texts.{lines_of-raw}
 use Rattle.line_fields.proofs.LineRests.{fields_taken, fields_again, is_raw, text_takes, text_again}
 use Rattle.trace_reader.specs.declared.late_lines.LateLines.{LateLines}
 use Rattle.trace_reader.specs.Headers.{first_words, initial_number, initial_words, half_words, hosts_words, judged_name, all_judged, congestion_words}
-use Rattle.trace_reader.specs.Headers.{late_words, header_words, IsHeader, AreLines}
+use Rattle.trace_reader.specs.Headers.{slack_text, slack_words, judged_words, late_words, header_words, IsHeader, AreLines}
 use Rattle.trace_reader.specs.Headers.{header_fault, some_left, named_rest, alone, value_line, next_value}
 use Rattle.trace_reader.specs.Headers.{version_in, first_version, version_named, first_line, initial_of, initial_value, initial_field, initial_line}
-use Rattle.trace_reader.specs.Headers.{half_line, hosts_line, congestion_line, hosted, late, judged_lines, late_lines, header_with, header_of}
+use Rattle.trace_reader.specs.Headers.{half_line, hosts_line, congestion_line, begins_digit, slack_value, slack_field, slack_line, last_line}
+use Rattle.trace_reader.specs.Headers.{hosted, late, judged_lines, late_lines, header_with, header_of}
 
 abbrev pub Raws : Type 0
 Raws = List (List ℕ)
@@ -303,6 +310,97 @@ congestion_again j raw rest line =
     next_again 9 (codes "congestion") (kind_field judged_name all_judged) IsJudged reads_judged raw (judged_name j) rest j
     (clean_by (codes "congestion") refl) (judged_clean j) line refl
 
+-- ---- how late a host may be
+
+-- the text says so, and keeps to the limit
+abbrev IsSlack : Option ℕ → List ℕ → Type 0
+IsSlack slack text = (text ≡ slack_text slack) × IfSome slack (λ n. n ≤ 1000000000000000000)
+
+digits : IsNumeralModel (λ ds. (i : ℕ) → i < length ds → IsInRange 48 57 (get_or ds i 0)) (digits_value 10)
+digits = numerals_by_value (λ ds. (i : ℕ) → i < length ds → IsInRange 48 57 (get_or ds i 0)) tells_by_index
+
+digit_first : (text : List ℕ) → 0 < length text → IsInRange 48 57 (get_or text 0 0) → begins_digit text ≡ true
+digit_first [] some range = absurd (omega arith)
+digit_first (b ∷ bs) some range = grind (arith, nat_tests)
+
+decimal_begins : (n : ℕ) → n < 2 ^ 64 → begins_digit (decimal n) ≡ true
+decimal_begins n lt = let some = decimal_nonempty n lt in digit_first (decimal n) some (digits_decimal digits n lt 0 some)
+
+digit_not_any : (text : List ℕ) → begins_digit text ≡ true → bytes_eq text (codes "any") ≡ false
+digit_not_any text is = false_from_ne_true (bytes_eq text (codes "any")) (λ h.
+    let same : text ≡ codes "any" = (bytes_eq-Decides text (codes "any")).0 h in
+    let clash : false ≡ true = sym (ap begins_digit same) ∙ is in
+    absurd cc)
+
+slack_taken : (w : Word) (slack : Option ℕ) → slack_value w ≡ Ok slack → IsSlack slack w.text
+slack_taken w slack e = go (bytes_eq w.text (codes "any")) refl (begins_digit w.text) e
+  where
+    go : (a : Bool) → bytes_eq w.text (codes "any") ≡ a → (b : Bool)
+        → cond a (Ok None) (cond b (number_value 0 1000000000000000000 w >>= λ n. Ok (Some n)) (Err (fault_at kinds.Field w))) ≡ Ok slack
+        → IsSlack slack w.text
+    go true is b e = subst (λ (o : Option ℕ). IsSlack o w.text) (ok_is None slack e) ((bytes_eq-Decides w.text (codes "any")).0 is, tt)
+    go false is true e =
+        let x = bind_ok (number_value 0 1000000000000000000 w) (λ n. Ok (Some n)) slack e in
+        let v = (is_number_value 0 1000000000000000000 (omega arith)).takes w x.0 x.1 in
+        subst (λ (o : Option ℕ). IsSlack o w.text) (ok_is (Some x.0) slack x.2) (v.0, v.2)
+    go false is false e = absurd cc
+
+slack_given : (w : Word) (slack : Option ℕ) → IsSlack slack w.text → slack_value w ≡ Ok slack
+slack_given w None v = let any : bytes_eq w.text (codes "any") ≡ true = (bytes_eq-Decides w.text (codes "any")).1 v.0 in rw any refl
+slack_given w (Some n) v =
+    let most = v.1 in
+    let digit : begins_digit w.text ≡ true = ap begins_digit v.0 ∙ decimal_begins n (omega arith) in
+    let other = digit_not_any w.text digit in
+    let number = (is_number_value 0 1000000000000000000 (omega arith)).again w n (v.0, omega arith, v.1) in
+    rw (other, digit, number) refl
+
+reads_slack : IsReader slack_field (λ slack ws. (t : List ℕ) × IsSlack slack t × (ws ≡ t ∷ []))
+unfolding slack_field
+reads_slack = reads_field slack_value IsSlack (record { takes = slack_taken; again = slack_given })
+
+slack_clean : (slack : Option ℕ) → IfSome slack (λ n. n ≤ 1000000000000000000) → IsClean (slack_text slack)
+slack_clean None most = clean_by (codes "any") refl
+slack_clean (Some n) most = IsClean-decimal n (omega arith)
+
+-- what was read of the line that says so
+record IsNamedSlack (raws : Raws) (x : Option ℕ × Raws) : Type 0 where
+  raw : List ℕ
+  first : raws ≡ raw ∷ x.1
+  line : IsLine 10 (joined (slack_words x.0)) raw
+  most : IfSome x.0 (λ n. n ≤ 1000000000000000000)
+
+slack_takes : (raws : Raws) (x : Option ℕ × Raws) → slack_line raws ≡ Ok x → IsNamedSlack raws x
+slack_takes raws x e =
+    let n = next_takes 10 (codes "slack") slack_field IsSlack reads_slack raws x e in
+    let v = n.valued in
+    record {
+      raw = n.raw;
+      first = n.first;
+      line = subst (λ (t : List ℕ). IsLine 10 (joined (codes "slack" ∷ t ∷ [])) n.raw) v.value.0 v.line;
+      most = v.value.1;
+    }
+
+slack_again : (slack : Option ℕ) (raw : List ℕ) (rest : Raws) → IfSome slack (λ n. n ≤ 1000000000000000000) → IsLine 10 (joined (slack_words slack)) raw
+    → slack_line (raw ∷ rest) ≡ Ok (slack, rest)
+slack_again slack raw rest most line =
+    next_again 10 (codes "slack") slack_field IsSlack reads_slack raw (slack_text slack) rest slack
+    (clean_by (codes "slack") refl) (slack_clean slack most) line (refl, most)
+
+-- what was read of it, if the version has that line
+record IsLast (says : Bool) (raws : Raws) (x : Option ℕ × Raws) : Type 0 where
+  heads : Raws
+  front : raws ≡ heads ++ x.1
+  lines : AreLines 10 (if says then slack_words x.0 ∷ [] else []) heads
+  most : IfSome x.0 (λ n. n ≤ 1000000000000000000)
+  none : says ≡ false → x.0 ≡ None
+
+last_takes : (says : Bool) (raws : Raws) (x : Option ℕ × Raws) → cond says (slack_line raws) (Ok (None, raws)) ≡ Ok x → IsLast says raws x
+last_takes true raws x e =
+    let n = slack_takes raws x e in record { heads = n.raw ∷ []; front = n.first; lines = (n.line, tt); most = n.most; none = λ is. absurd cc }
+last_takes false raws x e =
+    subst (λ (y : Option ℕ × Raws). IsLast false raws y) (ok_is (None, raws) x e)
+    (record { heads = []; front = refl; lines = tt; most = tt; none = λ is. refl })
+
 -- ---- the lines that version 1 doesn't have
 
 -- one host or two
@@ -311,18 +409,36 @@ one_or_two zero low high = absurd (omega arith)
 one_or_two (suc zero) low high = inl refl
 one_or_two (suc (suc n)) low high = inr (omega arith)
 
--- the version of so many hosts has these lines, and its texts name version 4
-record IsHosted (n : ℕ) (v : Version) : Type 0 where
-  named : named_as v ≡ Four
-  later : v ≡ One → ⊥
-  says : says_congestion v ≡ true
-  words : (i : Initial) (j : Judged) → late_words v i j ≡ initial_words i ∷ hosts_words n ∷ congestion_words j ∷ []
+-- a version of so many hosts has these lines, and its texts name this version
+record IsHosted (v : Version) (n : ℕ) (w : Version) : Type 0 where
+  named : named_as w ≡ named_as v
+  later : w ≡ One → ⊥
+  says : says_congestion w ≡ true
+  slack : says_slack w ≡ says_slack v
+  words : (i : Initial) (j : Judged) (o : Option ℕ) → late_words w i j o ≡ judged_words v n i j o
 
-is_hosted : (n : ℕ) → 1 ≤ n → n ≤ 2 → IsHosted n (hosted n)
-is_hosted n low high = elim (one_or_two n low high) [
-  | inl one ↦ subst (λ (m : ℕ). IsHosted m (hosted m)) (sym one) (record { named = refl; later = λ e. cc; says = refl; words = λ i j. refl })
-  | inr two ↦ subst (λ (m : ℕ). IsHosted m (hosted m)) (sym two) (record { named = refl; later = λ e. cc; says = refl; words = λ i j. refl })
+by_hosts : (v : Version) → IsHosted v 1 (hosted v 1) → IsHosted v 2 (hosted v 2) → (n : ℕ) → 1 ≤ n → n ≤ 2 → IsHosted v n (hosted v n)
+by_hosts v first second n low high = elim (one_or_two n low high) [
+  | inl one ↦ subst (λ (m : ℕ). IsHosted v m (hosted v m)) (sym one) first
+  | inr two ↦ subst (λ (m : ℕ). IsHosted v m (hosted v m)) (sym two) second
 ]
+
+is_hosted : (v : Version) (n : ℕ) → says_congestion v ≡ true → 1 ≤ n → n ≤ 2 → IsHosted v n (hosted v n)
+is_hosted One n says low high = absurd cc
+is_hosted Two n says low high = absurd cc
+is_hosted Three n says low high = absurd cc
+is_hosted Four n says low high =
+    by_hosts Four (record { named = refl; later = λ e. cc; says = refl; slack = refl; words = λ i j o. refl })
+    (record { named = refl; later = λ e. cc; says = refl; slack = refl; words = λ i j o. refl }) n low high
+is_hosted FourHalf n says low high =
+    by_hosts FourHalf (record { named = refl; later = λ e. cc; says = refl; slack = refl; words = λ i j o. refl })
+    (record { named = refl; later = λ e. cc; says = refl; slack = refl; words = λ i j o. refl }) n low high
+is_hosted Five n says low high =
+    by_hosts Five (record { named = refl; later = λ e. cc; says = refl; slack = refl; words = λ i j o. refl })
+    (record { named = refl; later = λ e. cc; says = refl; slack = refl; words = λ i j o. refl }) n low high
+is_hosted FiveHalf n says low high =
+    by_hosts FiveHalf (record { named = refl; later = λ e. cc; says = refl; slack = refl; words = λ i j o. refl })
+    (record { named = refl; later = λ e. cc; says = refl; slack = refl; words = λ i j o. refl }) n low high
 
 -- what was read of them
 record IsLate (v : Version) (raws : Raws) (x : LateLines × Raws) : Type 0 where
@@ -331,68 +447,84 @@ record IsLate (v : Version) (raws : Raws) (x : LateLines × Raws) : Type 0 where
   named : named_as x.0.version ≡ named_as v
   initial : x.0.version ≡ One → x.0.initial ≡ Rfc5681
   congestion : says_congestion x.0.version ≡ false → x.0.congestion ≡ Full
-  lines : AreLines 7 (late_words x.0.version x.0.initial x.0.congestion) heads
+  slack : IfSome x.0.slack (λ n. n ≤ 1000000000000000000)
+  no_slack : says_slack x.0.version ≡ false → x.0.slack ≡ None
+  lines : AreLines 7 (late_words x.0.version x.0.initial x.0.congestion x.0.slack) heads
 
 half_takes : (raws : Raws) (x : LateLines × Raws) → late_lines Three raws ≡ Ok x → IsLate Three raws x
 half_takes raws x e =
-    let a = bind_ok (initial_line raws) (λ i. half_line i.1 >>= λ h. Ok (late Three i.0 Full, h.1)) x e in
-    let b = bind_ok (half_line a.0.1) (λ h. Ok (late Three a.0.0 Full, h.1)) x a.2 in
+    let a = bind_ok (initial_line raws) (λ i. half_line i.1 >>= λ h. Ok (late Three i.0 Full None, h.1)) x e in
+    let b = bind_ok (half_line a.0.1) (λ h. Ok (late Three a.0.0 Full None, h.1)) x a.2 in
     let n = initial_takes raws a.0 a.1 in
     let h = number_takes 8 (codes "half") 0 0 (omega arith) a.0.1 b.0 b.1 in
     let most = h.high in
     let zero : b.0.0 ≡ 0 = omega (arith, most) in
     let half : IsLine 8 (joined half_words) h.raw = subst (λ (k : ℕ). IsLine 8 (joined (codes "half" ∷ decimal k ∷ [])) h.raw) zero h.line in
-    subst (λ (y : LateLines × Raws). IsLate Three raws y) (ok_is (late Three a.0.0 Full, b.0.1) x b.2) (record {
+    subst (λ (y : LateLines × Raws). IsLate Three raws y) (ok_is (late Three a.0.0 Full None, b.0.1) x b.2) (record {
       heads = n.raw ∷ h.raw ∷ [];
       front = n.first ∙ ap (λ (us : Raws). n.raw ∷ us) h.first;
       named = refl;
       initial = λ one. absurd cc;
       congestion = λ says. refl;
+      slack = tt;
+      no_slack = λ says. refl;
       lines = (n.line, (half, tt));
     })
 
-judged_takes : (v : Version) (raws : Raws) (x : LateLines × Raws) → named_as v ≡ Four → judged_lines raws ≡ Ok x → IsLate v raws x
-judged_takes v raws x four e =
-    let a = bind_ok (initial_line raws) (λ i. hosts_line i.1 >>= λ h. congestion_line h.1 >>= λ c. Ok (late (hosted h.0) i.0 c.0, c.1)) x e in
-    let b = bind_ok (hosts_line a.0.1) (λ h. congestion_line h.1 >>= λ c. Ok (late (hosted h.0) a.0.0 c.0, c.1)) x a.2 in
-    let c = bind_ok (congestion_line b.0.1) (λ c. Ok (late (hosted b.0.0) a.0.0 c.0, c.1)) x b.2 in
+judged_takes : (v : Version) (raws : Raws) (x : LateLines × Raws) → says_congestion v ≡ true → judged_lines v raws ≡ Ok x → IsLate v raws x
+judged_takes v raws x says e =
+    let a = bind_ok (initial_line raws) (λ i. hosts_line i.1 >>= λ h. congestion_line h.1 >>= λ c. last_line v c.1 >>= λ o.
+    Ok (late (hosted v h.0) i.0 c.0 o.0, o.1)) x e in
+    let b = bind_ok (hosts_line a.0.1) (λ h. congestion_line h.1 >>= λ c. last_line v c.1 >>= λ o. Ok (late (hosted v h.0) a.0.0 c.0 o.0, o.1)) x a.2 in
+    let c = bind_ok (congestion_line b.0.1) (λ c. last_line v c.1 >>= λ o. Ok (late (hosted v b.0.0) a.0.0 c.0 o.0, o.1)) x b.2 in
+    let d = bind_ok (last_line v c.0.1) (λ o. Ok (late (hosted v b.0.0) a.0.0 c.0.0 o.0, o.1)) x c.2 in
     let n = initial_takes raws a.0 a.1 in
     let h = number_takes 8 (codes "hosts") 1 2 (omega arith) a.0.1 b.0 b.1 in
     let k = congestion_takes b.0.1 c.0 c.1 in
-    let is = is_hosted b.0.0 h.low h.high in
-    subst (λ (y : LateLines × Raws). IsLate v raws y) (ok_is (late (hosted b.0.0) a.0.0 c.0.0, c.0.1) x c.2) (record {
-      heads = n.raw ∷ h.raw ∷ k.raw ∷ [];
-      front = n.first ∙ ap (λ (us : Raws). n.raw ∷ us) (h.first ∙ ap (λ (us : Raws). h.raw ∷ us) k.first);
-      named = is.named ∙ sym four;
+    let l = last_takes (says_slack v) c.0.1 d.0 d.1 in
+    let is = is_hosted v b.0.0 says h.low h.high in
+    subst (λ (y : LateLines × Raws). IsLate v raws y) (ok_is (late (hosted v b.0.0) a.0.0 c.0.0 d.0.0, d.0.1) x d.2) (record {
+      heads = n.raw ∷ h.raw ∷ k.raw ∷ l.heads;
+      front = n.first ∙ ap (λ (us : Raws). n.raw ∷ us) (h.first ∙ ap (λ (us : Raws). h.raw ∷ us) (k.first ∙ ap (λ (us : Raws). k.raw ∷ us) l.front));
+      named = is.named;
       initial = λ one. absurd (is.later one);
-      congestion = λ says. let clash : true ≡ false = sym is.says ∙ says in absurd cc;
-      lines = subst (λ (ws : List (List (List ℕ))). AreLines 7 ws (n.raw ∷ h.raw ∷ k.raw ∷ [])) (sym (is.words a.0.0 c.0.0)) (n.line, (h.line, (k.line, tt)));
+      congestion = λ none. let clash : true ≡ false = sym is.says ∙ none in absurd cc;
+      slack = l.most;
+      no_slack = λ none. l.none (sym is.slack ∙ none);
+      lines = subst (λ (ws : List (List (List ℕ))). AreLines 7 ws (n.raw ∷ h.raw ∷ k.raw ∷ l.heads)) (sym (is.words a.0.0 c.0.0 d.0.0))
+          (n.line, (h.line, (k.line, l.lines)));
     })
 
 late_takes : (v : Version) (raws : Raws) (x : LateLines × Raws) → late_lines v raws ≡ Ok x → IsLate v raws x
 late_takes One raws x e =
-    subst (λ (y : LateLines × Raws). IsLate One raws y) (ok_is (late One Rfc5681 Full, raws) x e) (record {
+    subst (λ (y : LateLines × Raws). IsLate One raws y) (ok_is (late One Rfc5681 Full None, raws) x e) (record {
       heads = [];
       front = refl;
       named = refl;
       initial = λ one. refl;
       congestion = λ says. refl;
+      slack = tt;
+      no_slack = λ says. refl;
       lines = tt;
     })
 late_takes Two raws x e =
-    let a = bind_ok (initial_line raws) (λ i. Ok (late Two i.0 Full, i.1)) x e in
+    let a = bind_ok (initial_line raws) (λ i. Ok (late Two i.0 Full None, i.1)) x e in
     let n = initial_takes raws a.0 a.1 in
-    subst (λ (y : LateLines × Raws). IsLate Two raws y) (ok_is (late Two a.0.0 Full, a.0.1) x a.2) (record {
+    subst (λ (y : LateLines × Raws). IsLate Two raws y) (ok_is (late Two a.0.0 Full None, a.0.1) x a.2) (record {
       heads = n.raw ∷ [];
       front = n.first;
       named = refl;
       initial = λ one. absurd cc;
       congestion = λ says. refl;
+      slack = tt;
+      no_slack = λ says. refl;
       lines = (n.line, tt);
     })
 late_takes Three raws x e = half_takes raws x e
 late_takes Four raws x e = judged_takes Four raws x refl e
 late_takes FourHalf raws x e = judged_takes FourHalf raws x refl e
+late_takes Five raws x e = judged_takes Five raws x refl e
+late_takes FiveHalf raws x e = judged_takes FiveHalf raws x refl e
 
 -- ---- the first line
 
@@ -407,33 +539,38 @@ first_clean Two = (clean_by (codes "trace") refl, (clean_by (codes "2") refl, tt
 first_clean Three = (clean_by (codes "trace") refl, (clean_by (codes "3") refl, tt))
 first_clean Four = (clean_by (codes "trace") refl, (clean_by (codes "4") refl, tt))
 first_clean FourHalf = (clean_by (codes "trace") refl, (clean_by (codes "4") refl, tt))
+first_clean Five = (clean_by (codes "trace") refl, (clean_by (codes "5") refl, tt))
+first_clean FiveHalf = (clean_by (codes "trace") refl, (clean_by (codes "5") refl, tt))
 
--- the same fields name both of version 4
+-- the same fields name both of version 4, and both of version 5
 pub words_named : (v : Version) → first_words (named_as v) ≡ first_words v
 words_named One = refl
 words_named Two = refl
 words_named Three = refl
 words_named Four = refl
 words_named FourHalf = refl
+words_named Five = refl
+words_named FiveHalf = refl
 
 -- the text is that of the first line
 abbrev pub is_first : List ℕ → Version → Bool
 is_first text v = bytes_eq text (joined (first_words v))
 
-version_by : (text : List ℕ) (fault : TextFault) (v : Version) (a b c d : Bool)
-    → is_first text One ≡ a → is_first text Two ≡ b → is_first text Three ≡ c → is_first text Four ≡ d
-    → cond a (Ok One) (cond b (Ok Two) (cond c (Ok Three) (cond d (Ok Four) (Err fault)))) ≡ Ok v → is_first text v ≡ true
-version_by text fault v true b c d one two three four e = ap (is_first text) (sym (ok_is One v e)) ∙ one
-version_by text fault v false true c d one two three four e = ap (is_first text) (sym (ok_is Two v e)) ∙ two
-version_by text fault v false false true d one two three four e = ap (is_first text) (sym (ok_is Three v e)) ∙ three
-version_by text fault v false false false true one two three four e = ap (is_first text) (sym (ok_is Four v e)) ∙ four
-version_by text fault v false false false false one two three four e = absurd cc
+version_by : (text : List ℕ) (fault : TextFault) (v : Version) (a b c d f : Bool)
+    → is_first text One ≡ a → is_first text Two ≡ b → is_first text Three ≡ c → is_first text Four ≡ d → is_first text Five ≡ f
+    → cond a (Ok One) (cond b (Ok Two) (cond c (Ok Three) (cond d (Ok Four) (cond f (Ok Five) (Err fault))))) ≡ Ok v → is_first text v ≡ true
+version_by text fault v true b c d f one two three four five e = ap (is_first text) (sym (ok_is One v e)) ∙ one
+version_by text fault v false true c d f one two three four five e = ap (is_first text) (sym (ok_is Two v e)) ∙ two
+version_by text fault v false false true d f one two three four five e = ap (is_first text) (sym (ok_is Three v e)) ∙ three
+version_by text fault v false false false true f one two three four five e = ap (is_first text) (sym (ok_is Four v e)) ∙ four
+version_by text fault v false false false false true one two three four five e = ap (is_first text) (sym (ok_is Five v e)) ∙ five
+version_by text fault v false false false false false one two three four five e = absurd cc
 
 pub version_taken : (text : List ℕ) (v : Version) → version_in text ≡ Ok v → text ≡ joined (first_words v)
 version_taken text v e =
     let found =
     version_by text (record { kind = kinds.Header; span = whole_line 1 text }) v
-    (is_first text One) (is_first text Two) (is_first text Three) (is_first text Four) refl refl refl refl e in
+    (is_first text One) (is_first text Two) (is_first text Three) (is_first text Four) (is_first text Five) refl refl refl refl refl e in
     (bytes_eq-Decides text (joined (first_words v))).0 found
 
 pub version_given : (v : Version) → version_in (joined (first_words v)) ≡ Ok (named_as v)
@@ -442,6 +579,8 @@ version_given Two = refl
 version_given Three = refl
 version_given Four = refl
 version_given FourHalf = refl
+version_given Five = refl
+version_given FiveHalf = refl
 
 pub version_takes : (raw : List ℕ) (v : Version) → first_version raw ≡ Ok v → IsLine 1 (joined (first_words v)) raw
 unfolding first_version
@@ -464,6 +603,8 @@ named_text Two raw raws text ended = rw (text, ended) refl
 named_text Three raw raws text ended = rw (text, ended) refl
 named_text Four raw raws text ended = rw (text, ended) refl
 named_text FourHalf raw raws text ended = rw (text, ended) refl
+named_text Five raw raws text ended = rw (text, ended) refl
+named_text FiveHalf raw raws text ended = rw (text, ended) refl
 
 named_by : (v : Version) (raw : List ℕ) (raws : Raws) → IsLine 1 (joined (first_words v)) raw → version_named (raw ∷ raws) ≡ named_as v
 named_by v raw raws line =
@@ -570,6 +711,8 @@ header_takes raws x e =
         extra = t.high;
         initial = l.initial;
         congestion = l.congestion;
+        slack = l.slack;
+        no_slack = l.no_slack;
       };
       lines = (subst (λ (ws : List (List ℕ)). IsLine 1 (joined ws) h.raw) words h.line, (s.line, (m.line, (n.line, (i.line, (t.line, l.lines))))));
     })
@@ -590,48 +733,67 @@ no_line : (number : ℕ) (raws : Raws) → AreLines number [] raws → raws ≡ 
 no_line number [] h = refl
 no_line number (raw ∷ raws) h = absurd h
 
-judged_again : (n : ℕ) (i : Initial) (j : Judged) (heads rest : Raws) → 1 ≤ n → n ≤ 2
-    → AreLines 7 (initial_words i ∷ hosts_words n ∷ congestion_words j ∷ []) heads
-    → judged_lines (heads ++ rest) ≡ Ok (late (hosted n) i j, rest)
-judged_again n i j heads rest low high lines =
-    let a = has_line 7 (initial_words i) (hosts_words n ∷ congestion_words j ∷ []) heads lines in
-    let b = has_line 8 (hosts_words n) (congestion_words j ∷ []) a.rest a.others in
-    let c = has_line 9 (congestion_words j) [] b.rest b.others in
-    let last : c.rest ≡ [] = no_line 10 c.rest c.others in
-    let all : heads ≡ a.raw ∷ b.raw ∷ c.raw ∷ [] =
-    a.first ∙ ap (λ (us : Raws). a.raw ∷ us) (b.first ∙ ap (λ (us : Raws). b.raw ∷ us) (c.first ∙ ap (λ (us : Raws). c.raw ∷ us) last)) in
-    let first = initial_again i a.raw (b.raw ∷ c.raw ∷ rest) a.line in
-    let hosts = number_again 8 (codes "hosts") 1 2 (omega arith) (clean_by (codes "hosts") refl) b.raw (c.raw ∷ rest) n b.line low high in
-    let congestion = congestion_again j c.raw rest c.line in
-    ap (λ (us : Raws). judged_lines (us ++ rest)) all ∙ rw (first, hosts, congestion) refl
+last_again : (says : Bool) (slack : Option ℕ) (heads rest : Raws) → IfSome slack (λ n. n ≤ 1000000000000000000) → (says ≡ false → slack ≡ None)
+    → AreLines 10 (if says then slack_words slack ∷ [] else []) heads
+    → cond says (slack_line (heads ++ rest)) (Ok (None, heads ++ rest)) ≡ Ok (slack, rest)
+last_again true slack heads rest most none lines =
+    let a = has_line 10 (slack_words slack) [] heads lines in
+    let all : heads ≡ a.raw ∷ [] = a.first ∙ ap (λ (us : Raws). a.raw ∷ us) (no_line 11 a.rest a.others) in
+    ap (λ (us : Raws). slack_line (us ++ rest)) all ∙ slack_again slack a.raw rest most a.line
+last_again false slack heads rest most none lines =
+    ap (λ (us : Raws). Ok (None, us ++ rest)) (no_line 10 heads lines) ∙ ap (λ (o : Option ℕ). Ok (o, rest)) (sym (none refl))
 
-late_again : (v : Version) (i : Initial) (j : Judged) (heads rest : Raws) → (v ≡ One → i ≡ Rfc5681) → (says_congestion v ≡ false → j ≡ Full)
-    → AreLines 7 (late_words v i j) heads
-    → late_lines (named_as v) (heads ++ rest) ≡ Ok (late v i j, rest)
-late_again One i j heads rest initial congestion lines =
+judged_again : (v : Version) (n : ℕ) (i : Initial) (j : Judged) (slack : Option ℕ) (heads rest : Raws) → 1 ≤ n → n ≤ 2
+    → IfSome slack (λ n. n ≤ 1000000000000000000) → (says_slack v ≡ false → slack ≡ None) → AreLines 7 (judged_words v n i j slack) heads
+    → judged_lines v (heads ++ rest) ≡ Ok (late (hosted v n) i j slack, rest)
+judged_again v n i j slack heads rest low high most none lines =
+    let others = if says_slack v then slack_words slack ∷ [] else [] in
+    let a = has_line 7 (initial_words i) (hosts_words n ∷ congestion_words j ∷ others) heads lines in
+    let b = has_line 8 (hosts_words n) (congestion_words j ∷ others) a.rest a.others in
+    let c = has_line 9 (congestion_words j) others b.rest b.others in
+    let all : heads ≡ a.raw ∷ b.raw ∷ c.raw ∷ c.rest =
+    a.first ∙ ap (λ (us : Raws). a.raw ∷ us) (b.first ∙ ap (λ (us : Raws). b.raw ∷ us) c.first) in
+    let first = initial_again i a.raw (b.raw ∷ c.raw ∷ (c.rest ++ rest)) a.line in
+    let hosts = number_again 8 (codes "hosts") 1 2 (omega arith) (clean_by (codes "hosts") refl) b.raw (c.raw ∷ (c.rest ++ rest)) n b.line low high in
+    let congestion = congestion_again j c.raw (c.rest ++ rest) c.line in
+    let last = last_again (says_slack v) slack c.rest rest most none c.others in
+    ap (λ (us : Raws). judged_lines v (us ++ rest)) all ∙ rw (first, hosts, congestion, last) refl
+
+late_again : (v : Version) (i : Initial) (j : Judged) (slack : Option ℕ) (heads rest : Raws) → (v ≡ One → i ≡ Rfc5681) → (says_congestion v ≡ false → j ≡ Full)
+    → IfSome slack (λ n. n ≤ 1000000000000000000) → (says_slack v ≡ false → slack ≡ None) → AreLines 7 (late_words v i j slack) heads
+    → late_lines (named_as v) (heads ++ rest) ≡ Ok (late v i j slack, rest)
+late_again One i j slack heads rest initial congestion most none lines =
     ap (λ (us : Raws). late_lines One (us ++ rest)) (no_line 7 heads lines)
-    ∙ ap (λ (k : Initial). Ok (late One k Full, rest)) (sym (initial refl))
-    ∙ ap (λ (k : Judged). Ok (late One i k, rest)) (sym (congestion refl))
-late_again Two i j heads rest initial congestion lines =
+    ∙ ap (λ (k : Initial). Ok (late One k Full None, rest)) (sym (initial refl))
+    ∙ ap (λ (k : Judged). Ok (late One i k None, rest)) (sym (congestion refl))
+    ∙ ap (λ (o : Option ℕ). Ok (late One i j o, rest)) (sym (none refl))
+late_again Two i j slack heads rest initial congestion most none lines =
     let a = has_line 7 (initial_words i) [] heads lines in
     let all : heads ≡ a.raw ∷ [] = a.first ∙ ap (λ (us : Raws). a.raw ∷ us) (no_line 8 a.rest a.others) in
     ap (λ (us : Raws). late_lines Two (us ++ rest)) all
-    ∙ ap (λ (m : Result (Initial × Raws) TextFault). m >>= λ x. Ok (late Two x.0 Full, x.1)) (initial_again i a.raw rest a.line)
-    ∙ ap (λ (k : Judged). Ok (late Two i k, rest)) (sym (congestion refl))
-late_again Three i j heads rest initial congestion lines =
+    ∙ ap (λ (m : Result (Initial × Raws) TextFault). m >>= λ x. Ok (late Two x.0 Full None, x.1)) (initial_again i a.raw rest a.line)
+    ∙ ap (λ (k : Judged). Ok (late Two i k None, rest)) (sym (congestion refl))
+    ∙ ap (λ (o : Option ℕ). Ok (late Two i j o, rest)) (sym (none refl))
+late_again Three i j slack heads rest initial congestion most none lines =
     let a = has_line 7 (initial_words i) (half_words ∷ []) heads lines in
     let b = has_line 8 half_words [] a.rest a.others in
     let all : heads ≡ a.raw ∷ b.raw ∷ [] = a.first ∙ ap (λ (us : Raws). a.raw ∷ us) (b.first ∙ ap (λ (us : Raws). b.raw ∷ us) (no_line 9 b.rest b.others)) in
     let first = initial_again i a.raw (b.raw ∷ rest) a.line in
     let half = number_again 8 (codes "half") 0 0 (omega arith) (clean_by (codes "half") refl) b.raw rest 0 b.line (omega arith) (omega arith) in
-    let read : late_lines Three (a.raw ∷ b.raw ∷ rest) ≡ Ok (late Three i Full, rest) = rw (first, half) refl in
-    ap (λ (us : Raws). late_lines Three (us ++ rest)) all ∙ read ∙ ap (λ (k : Judged). Ok (late Three i k, rest)) (sym (congestion refl))
-late_again Four i j heads rest initial congestion lines = judged_again 2 i j heads rest (omega arith) (omega arith) lines
-late_again FourHalf i j heads rest initial congestion lines = judged_again 1 i j heads rest (omega arith) (omega arith) lines
+    let read : late_lines Three (a.raw ∷ b.raw ∷ rest) ≡ Ok (late Three i Full None, rest) = rw (first, half) refl in
+    ap (λ (us : Raws). late_lines Three (us ++ rest)) all ∙ read
+    ∙ ap (λ (k : Judged). Ok (late Three i k None, rest)) (sym (congestion refl))
+    ∙ ap (λ (o : Option ℕ). Ok (late Three i j o, rest)) (sym (none refl))
+late_again Four i j slack heads rest initial congestion most none lines = judged_again Four 2 i j slack heads rest (omega arith) (omega arith) most none lines
+late_again FourHalf i j slack heads rest initial congestion most none lines =
+    judged_again Four 1 i j slack heads rest (omega arith) (omega arith) most none lines
+late_again Five i j slack heads rest initial congestion most none lines = judged_again Five 2 i j slack heads rest (omega arith) (omega arith) most none lines
+late_again FiveHalf i j slack heads rest initial congestion most none lines =
+    judged_again Five 1 i j slack heads rest (omega arith) (omega arith) most none lines
 
 -- the fields of the header's lines from one line on
 abbrev late_of : Header → List (List (List ℕ))
-late_of h = late_words h.version h.initial h.congestion
+late_of h = late_words h.version h.initial h.congestion h.slack
 
 abbrev from_extra : Header → List (List (List ℕ))
 from_extra h = (codes "extra" ∷ decimal h.extra ∷ []) ∷ late_of h
@@ -679,22 +841,34 @@ header_again h heads rest limits lines =
     let extra =
     number_again 6 (codes "extra") 0 65535 (omega arith) (clean_by (codes "extra") refl) g.raw
     (last ++ rest) h.extra g.line (omega arith) limits.extra in
-    let late_read = late_again h.version h.initial h.congestion last rest limits.initial limits.congestion g.others in
+    let late_read = late_again h.version h.initial h.congestion h.slack last rest limits.initial limits.congestion limits.slack limits.no_slack g.others in
     ap (λ (us : Raws). first_line (us ++ rest) >>= with_first) all ∙ rw (first, skew, msl, grain, minrto, extra, late_read) refl
 
-judged_words_clean : (n : ℕ) (i : Initial) (j : Judged) → n ≤ 2
-    → AllByRecursion (AllByRecursion IsClean) (initial_words i ∷ hosts_words n ∷ congestion_words j ∷ [])
-judged_words_clean n i j few = (
+last_clean : (says : Bool) (slack : Option ℕ) → IfSome slack (λ n. n ≤ 1000000000000000000)
+    → AllByRecursion (AllByRecursion IsClean) (if says then slack_words slack ∷ [] else [])
+last_clean true slack most = ((clean_by (codes "slack") refl, (slack_clean slack most, tt)), tt)
+last_clean false slack most = tt
+
+judged_words_clean : (v : Version) (n : ℕ) (i : Initial) (j : Judged) (slack : Option ℕ) → n ≤ 2 → IfSome slack (λ n. n ≤ 1000000000000000000)
+    → AllByRecursion (AllByRecursion IsClean) (judged_words v n i j slack)
+judged_words_clean v n i j slack few most = (
   (clean_by (codes "initial") refl, (initial_clean i, tt)),
-  ((clean_by (codes "hosts") refl, (IsClean-decimal n (omega arith), tt)), ((clean_by (codes "congestion") refl, (judged_clean j, tt)), tt)),
+  (
+    (clean_by (codes "hosts") refl, (IsClean-decimal n (omega arith), tt)),
+    ((clean_by (codes "congestion") refl, (judged_clean j, tt)), last_clean (says_slack v) slack most),
+  ),
 )
 
-words_clean : (v : Version) (i : Initial) (j : Judged) → AllByRecursion (AllByRecursion IsClean) (late_words v i j)
-words_clean One i j = tt
-words_clean Two i j = ((clean_by (codes "initial") refl, (initial_clean i, tt)), tt)
-words_clean Three i j = ((clean_by (codes "initial") refl, (initial_clean i, tt)), ((clean_by (codes "half") refl, (IsClean-decimal 0 (omega arith), tt)), tt))
-words_clean Four i j = judged_words_clean 2 i j (omega arith)
-words_clean FourHalf i j = judged_words_clean 1 i j (omega arith)
+words_clean : (v : Version) (i : Initial) (j : Judged) (slack : Option ℕ) → IfSome slack (λ n. n ≤ 1000000000000000000)
+    → AllByRecursion (AllByRecursion IsClean) (late_words v i j slack)
+words_clean One i j slack most = tt
+words_clean Two i j slack most = ((clean_by (codes "initial") refl, (initial_clean i, tt)), tt)
+words_clean Three i j slack most =
+    ((clean_by (codes "initial") refl, (initial_clean i, tt)), ((clean_by (codes "half") refl, (IsClean-decimal 0 (omega arith), tt)), tt))
+words_clean Four i j slack most = judged_words_clean Four 2 i j slack (omega arith) most
+words_clean FourHalf i j slack most = judged_words_clean FourHalf 1 i j slack (omega arith) most
+words_clean Five i j slack most = judged_words_clean Five 2 i j slack (omega arith) most
+words_clean FiveHalf i j slack most = judged_words_clean FiveHalf 1 i j slack (omega arith) most
 
 -- no field of a header holds a space, a CR or a LF
 pub header_clean : (h : Header) → IsHeader h → AllByRecursion (AllByRecursion IsClean) (header_words h)
@@ -709,7 +883,7 @@ header_clean h limits =
             (clean_by (codes "grain") refl, (IsClean-decimal h.grain (omega arith), tt)),
             (
               (clean_by (codes "minrto") refl, (IsClean-decimal h.minrto (omega arith), tt)),
-              ((clean_by (codes "extra") refl, (IsClean-decimal h.extra (omega arith), tt)), words_clean h.version h.initial h.congestion),
+              ((clean_by (codes "extra") refl, (IsClean-decimal h.extra (omega arith), tt)), words_clean h.version h.initial h.congestion h.slack limits.slack),
             ),
           ),
         ),
@@ -727,7 +901,7 @@ lines_raw number (ws ∷ lines) (raw ∷ raws) clean h = (is_raw number ws raw c
 pub header_raw : (h : Header) (heads : List (List ℕ)) → IsHeader h → AreLines 1 (header_words h) heads → AllByRecursion IsRaw heads
 header_raw h heads limits lines = lines_raw 1 (header_words h) heads (header_clean h limits) lines
 
--- a text that begins with a header names its version; of both of version 4 that of two hosts
+-- a text that begins with a header names its version; of both of version 4, and of version 5, that of two hosts
 pub header_named : (h : Header) (heads : List (List ℕ)) (rest : List ℕ) → AreLines 1 (header_words h) heads
     → version_named (lines_of (concat heads ++ rest)) ≡ named_as h.version
 header_named h heads rest lines =

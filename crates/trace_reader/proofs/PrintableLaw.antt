@@ -1,6 +1,7 @@
 -- A trace is printed as a text that stands for it, with its spans, exactly where it is within the limits.
-use Rattle.std.proofs.Common.{◌≡◌, ◌≤◌, ◌<◌, ◌+◌, ◌^◌, ℕ, List, [], ◌∷◌, ◌++◌, length, take, get_or, suc, refl, sym, ap, subst, ◌∙◌, inl, arith}
-use Rattle.std.specs.Prelude.{map, codes}
+use Rattle.std.proofs.Common.{◌≡◌, ◌≤◌, ◌<◌, ◌+◌, ◌^◌, ℕ, Bool, true, false, Option, None, Some, List, [], ◌∷◌, ◌++◌}
+use Rattle.std.proofs.Common.{length, take, get_or, suc, refl, sym, ap, subst, ◌∙◌, inl, arith}
+use Rattle.std.specs.Prelude.{map, codes, IfSome, if◌then◌else◌}
 use Rattle.std.specs.Fmt.{decimal}
 use Rattle.std.specs.List.{AllByRecursion}
 use Rattle.std.proofs.Math.Seq.{take-suc}
@@ -27,8 +28,9 @@ use Rattle.case_forms.specs.declared.version.Initial.{Initial}
 use Rattle.case_forms.specs.declared.version.Initial.TheVariants.{Rfc5681, Rfc6928}
 use Rattle.case_forms.specs.declared.version.Judged.{Judged}
 use Rattle.case_forms.specs.declared.version.Judged.TheVariants.{Full, Recovery, NoControl}
-use Rattle.case_forms.specs.Versions.{first_line_of}
-use Rattle.trace_reader.specs.Headers.{IsHeader, AreLines, header_words, first_words, initial_words, initial_number, hosts_words, congestion_words, late_words}
+use Rattle.case_forms.specs.Versions.{first_line_of, says_slack}
+use Rattle.trace_reader.specs.Headers.{IsHeader, AreLines, header_words, first_words, initial_words, initial_number, hosts_words, congestion_words}
+use Rattle.trace_reader.specs.Headers.{slack_words, judged_words, late_words}
 use Rattle.trace_reader.specs.Calls.{IsCall}
 use Rattle.trace_reader.specs.Events.{event_pieces, IsEvent}
 use Rattle.trace_reader.specs.EventLines.{Place, behind, line_pieces, IsEventLine}
@@ -55,6 +57,8 @@ first_printed versions.Two = fed 1 (first_words versions.Two) (omega arith) (ome
 first_printed versions.Three = fed 1 (first_words versions.Three) (omega arith) (omega arith)
 first_printed versions.Four = fed 1 (first_words versions.Four) (omega arith) (omega arith)
 first_printed versions.FourHalf = fed 1 (first_words versions.FourHalf) (omega arith) (omega arith)
+first_printed versions.Five = fed 1 (first_words versions.Five) (omega arith) (omega arith)
+first_printed versions.FiveHalf = fed 1 (first_words versions.FiveHalf) (omega arith) (omega arith)
 
 initial_small : (i : Initial) → initial_number i < 2 ^ 64
 initial_small Rfc5681 = omega arith
@@ -71,12 +75,33 @@ congestion_printed NoControl = fed 9 (congestion_words NoControl) (omega arith) 
 hosts_printed : (n : ℕ) → n ≤ 2 → IsLine 8 (joined (hosts_words n)) (printed (hosts_words n))
 hosts_printed n few = number_fed 8 (codes "hosts") n (omega arith) (omega arith) (omega arith) (omega arith)
 
-late_printed : (v : Version) (i : Initial) (j : Judged) → AreLines 7 (late_words v i j) (map printed (late_words v i j))
-late_printed versions.One i j = tt
-late_printed versions.Two i j = (initial_printed i, tt)
-late_printed versions.Four i j = (initial_printed i, (hosts_printed 2 (omega arith), (congestion_printed j, tt)))
-late_printed versions.FourHalf i j = (initial_printed i, (hosts_printed 1 (omega arith), (congestion_printed j, tt)))
-late_printed versions.Three i j = (initial_printed i, (number_fed 8 (codes "half") 0 (omega arith) (omega arith) (omega arith) (omega arith), tt))
+slack_printed : (slack : Option ℕ) → IfSome slack (λ n. n ≤ 1000000000000000000) → IsLine 10 (joined (slack_words slack)) (printed (slack_words slack))
+slack_printed None most = fed 10 (slack_words None) (omega arith) (omega arith)
+slack_printed (Some n) most = number_fed 10 (codes "slack") n (omega arith) (omega arith) (omega arith) (omega arith)
+
+abbrev last_of : Bool → Option ℕ → List (List (List ℕ))
+last_of says slack = if says then slack_words slack ∷ [] else []
+
+last_printed : (says : Bool) (slack : Option ℕ) → IfSome slack (λ n. n ≤ 1000000000000000000)
+    → AreLines 10 (last_of says slack) (map printed (last_of says slack))
+last_printed true slack most = (slack_printed slack most, tt)
+last_printed false slack most = tt
+
+judged_printed : (v : Version) (n : ℕ) (i : Initial) (j : Judged) (slack : Option ℕ) → n ≤ 2 → IfSome slack (λ n. n ≤ 1000000000000000000)
+    → AreLines 7 (judged_words v n i j slack) (map printed (judged_words v n i j slack))
+judged_printed v n i j slack few most =
+    (initial_printed i, (hosts_printed n few, (congestion_printed j, last_printed (says_slack v) slack most)))
+
+late_printed : (v : Version) (i : Initial) (j : Judged) (slack : Option ℕ) → IfSome slack (λ n. n ≤ 1000000000000000000)
+    → AreLines 7 (late_words v i j slack) (map printed (late_words v i j slack))
+late_printed versions.One i j slack most = tt
+late_printed versions.Two i j slack most = (initial_printed i, tt)
+late_printed versions.Three i j slack most =
+    (initial_printed i, (number_fed 8 (codes "half") 0 (omega arith) (omega arith) (omega arith) (omega arith), tt))
+late_printed versions.Four i j slack most = judged_printed versions.Four 2 i j slack (omega arith) most
+late_printed versions.FourHalf i j slack most = judged_printed versions.FourHalf 1 i j slack (omega arith) most
+late_printed versions.Five i j slack most = judged_printed versions.Five 2 i j slack (omega arith) most
+late_printed versions.FiveHalf i j slack most = judged_printed versions.FiveHalf 1 i j slack (omega arith) most
 
 header_printed : (h : Header) → IsHeader h → AreLines 1 (header_words h) (map printed (header_words h))
 header_printed h limits =
@@ -90,7 +115,10 @@ header_printed h limits =
             number_fed 4 (codes "grain") h.grain (omega arith) (omega arith) (omega arith) (omega arith),
             (
               number_fed 5 (codes "minrto") h.minrto (omega arith) (omega arith) (omega arith) (omega arith),
-              (number_fed 6 (codes "extra") h.extra (omega arith) (omega arith) (omega arith) (omega arith), late_printed h.version h.initial h.congestion),
+              (
+                number_fed 6 (codes "extra") h.extra (omega arith) (omega arith) (omega arith) (omega arith),
+                late_printed h.version h.initial h.congestion h.slack limits.slack,
+              ),
             ),
           ),
         ),
@@ -171,6 +199,8 @@ first_small versions.Two = omega arith
 first_small versions.Three = omega arith
 first_small versions.Four = omega arith
 first_small versions.FourHalf = omega arith
+first_small versions.Five = omega arith
+first_small versions.FiveHalf = omega arith
 
 pub is_printable : (t : Trace) (text : List ℕ) → IsTraceText (with_columns t) text → IsPrintableTrace t
 is_printable t text s =

@@ -2,7 +2,8 @@
 use Rattle.std.specs.Prelude.{◌≡◌, ◌⊎◌, ℕ, ◌+◌, ◌||◌, if◌then◌else◌, List, [], ◌∷◌, ◌++◌, length, Some, None, Ok, codes}
 use Rattle.std.specs.Str.{bytes_eq}
 use Rattle.case_forms.specs.declared.version.Version.{Version}
-use Rattle.case_forms.specs.declared.version.Version.TheVariants.{One, Two, Three, Four, FourHalf}
+use Rattle.case_forms.specs.declared.version.Version.TheVariants.{One, Two, Three, Four, FourHalf, Five, FiveHalf}
+use Rattle.case_forms.specs.Versions.{says_slack}
 use Rattle.line_fields.specs.Forms.{Want, unless_empty, numeric, named}
 use Rattle.line_fields.specs.LineFaults.{IsWholeFault, IsTextFaultOf, IsNextFault}
 use Rattle.line_fields.specs.Lines.{IsLine, line_rest}
@@ -12,7 +13,7 @@ use Rattle.line_fields.specs.Word.{Word, Rest}
 use Rattle.line_fields.specs.declared.fault.FaultKind.{FaultKind}
 use Rattle.line_fields.specs.declared.fault.FaultKind.TheVariants as kinds
 use Rattle.line_fields.specs.declared.fault.TextFault.{TextFault}
-use Rattle.trace_reader.specs.Headers.{judged_name, all_judged, first_words, header_fault}
+use Rattle.trace_reader.specs.Headers.{judged_name, all_judged, begins_digit, first_words, header_fault}
 
 -- the text of the first line, in some version
 abbrev pub IsFirstText : List ℕ → Type 0
@@ -32,21 +33,34 @@ initial_want w =
     unless_empty w (if bytes_eq w.text (codes "5681") || bytes_eq w.text (codes "6928") then None
     else Some kinds.Number)
 
--- the lines of version 4 after line 6
-abbrev pub judged_rows : List Row
-judged_rows =
+-- `any`, or a number, which a digit begins
+abbrev pub slack_want : Want
+slack_want w =
+    if bytes_eq w.text (codes "any") then None
+    else if begins_digit w.text then numeric 0 1000000000000000000 w
+    else Some kinds.Field
+
+-- the line that version 5 alone has
+abbrev pub last_rows : Version → List Row
+last_rows v = if says_slack v then row (codes "slack") slack_want ∷ [] else []
+
+-- the lines of version 4 and 5 after line 6
+abbrev pub judged_rows : Version → List Row
+judged_rows v =
     row (codes "initial") initial_want
     ∷ row (codes "hosts") (numeric 1 2)
     ∷ row (codes "congestion") (named judged_name all_judged)
-    ∷ []
+    ∷ last_rows v
 
 -- the lines that version 1 doesn't have
 abbrev pub late_rows : Version → List Row
 late_rows One = []
 late_rows Two = row (codes "initial") initial_want ∷ []
 late_rows Three = row (codes "initial") initial_want ∷ row (codes "half") (numeric 0 0) ∷ []
-late_rows Four = judged_rows
-late_rows FourHalf = judged_rows
+late_rows Four = judged_rows Four
+late_rows FourHalf = judged_rows FourHalf
+late_rows Five = judged_rows Five
+late_rows FiveHalf = judged_rows FiveHalf
 
 -- the lines from line 2 on
 abbrev pub header_rows : Version → List Row

@@ -1,17 +1,19 @@
--- The header's lines: six, a seventh in version 2, an eighth in version 3, and a ninth in version 4.
-use Rattle.std.specs.Prelude.{◌≡◌, ◌≤◌, ℕ, ◌+◌, ◌==◌, ◌&&◌, Bool, false, if◌then◌else◌, List, [], ◌∷◌}
-use Rattle.std.specs.Prelude.{Result, Ok, Err, codes}
+-- The header's lines: six; a seventh in version 2, an eighth in version 3, a ninth in version 4, a tenth in version 5.
+use Rattle.std.specs.Prelude.{◌≡◌, ◌≤◌, ℕ, ◌+◌, ◌==◌, ◌&&◌, Bool, false, if◌then◌else◌, List, [], ◌∷◌, slice_get}
+use Rattle.std.specs.Prelude.{Option, None, Some, IfSome, Result, Ok, Err, codes}
+use Rattle.std.specs.Char.{is_ascii_digit}
 use Rattle.std.specs.Fmt.{decimal}
+use Rattle.std.specs.Option.{option_map_or}
 use Rattle.std.specs.Str.{bytes_eq}
 use Rattle.bstr.specs.Text.{without_terminator}
 use Rattle.case_forms.specs.declared.trace.Header.{Header}
 use Rattle.case_forms.specs.declared.version.Version.{Version}
-use Rattle.case_forms.specs.declared.version.Version.TheVariants.{One, Two, Three, Four, FourHalf}
+use Rattle.case_forms.specs.declared.version.Version.TheVariants.{One, Two, Three, Four, FourHalf, Five, FiveHalf}
 use Rattle.case_forms.specs.declared.version.Initial.{Initial}
 use Rattle.case_forms.specs.declared.version.Initial.TheVariants.{Rfc5681, Rfc6928}
 use Rattle.case_forms.specs.declared.version.Judged.{Judged}
 use Rattle.case_forms.specs.declared.version.Judged.TheVariants.{Full, Recovery, NoControl}
-use Rattle.case_forms.specs.Versions.{says_congestion}
+use Rattle.case_forms.specs.Versions.{says_congestion, says_slack}
 use Rattle.line_fields.specs.declared.fault.FaultKind.TheVariants as kinds
 use Rattle.line_fields.specs.declared.fault.TextFault.{TextFault}
 use Rattle.line_fields.specs.Word.{Word, Rest}
@@ -28,6 +30,8 @@ version_text Two = codes "2"
 version_text Three = codes "3"
 version_text Four = codes "4"
 version_text FourHalf = codes "4"
+version_text Five = codes "5"
+version_text FiveHalf = codes "5"
 
 -- the fields of the first line
 abbrev pub first_words : Version → List (List ℕ)
@@ -44,6 +48,7 @@ version_named (raw ∷ raws) =
     if begins_trace Two raw then Two
     else if begins_trace Three raw then Three
     else if begins_trace Four raw then Four
+    else if begins_trace Five raw then Five
     else One
 
 -- the number of the RFC that gives the first congestion window
@@ -77,13 +82,32 @@ all_judged = Full ∷ Recovery ∷ NoControl ∷ []
 abbrev pub congestion_words : Judged → List (List ℕ)
 congestion_words congestion = codes "congestion" ∷ judged_name congestion ∷ []
 
+-- how late a host may be: `any` for as late as it likes
+abbrev pub slack_text : Option ℕ → List ℕ
+slack_text None = codes "any"
+slack_text (Some slack) = decimal slack
+
+-- the fields of the line that says so, which version 5 has
+abbrev pub slack_words : Option ℕ → List (List ℕ)
+slack_words slack = codes "slack" ∷ slack_text slack ∷ []
+
+abbrev pub last_words : Version → Option ℕ → List (List (List ℕ))
+last_words v slack = if says_slack v then slack_words slack ∷ [] else []
+
+-- the fields of the lines of version 4 and 5 after line 6
+abbrev pub judged_words : Version → ℕ → Initial → Judged → Option ℕ → List (List (List ℕ))
+judged_words v hosts initial congestion slack =
+    initial_words initial ∷ hosts_words hosts ∷ congestion_words congestion ∷ last_words v slack
+
 -- the fields of the lines that version 1 doesn't have
-abbrev pub late_words : Version → Initial → Judged → List (List (List ℕ))
-late_words One initial congestion = []
-late_words Two initial congestion = initial_words initial ∷ []
-late_words Three initial congestion = initial_words initial ∷ half_words ∷ []
-late_words Four initial congestion = initial_words initial ∷ hosts_words 2 ∷ congestion_words congestion ∷ []
-late_words FourHalf initial congestion = initial_words initial ∷ hosts_words 1 ∷ congestion_words congestion ∷ []
+abbrev pub late_words : Version → Initial → Judged → Option ℕ → List (List (List ℕ))
+late_words One initial congestion slack = []
+late_words Two initial congestion slack = initial_words initial ∷ []
+late_words Three initial congestion slack = initial_words initial ∷ half_words ∷ []
+late_words Four initial congestion slack = judged_words Four 2 initial congestion slack
+late_words FourHalf initial congestion slack = judged_words FourHalf 1 initial congestion slack
+late_words Five initial congestion slack = judged_words Five 2 initial congestion slack
+late_words FiveHalf initial congestion slack = judged_words FiveHalf 1 initial congestion slack
 
 -- the fields of the header's lines
 abbrev pub header_words : Header → List (List (List ℕ))
@@ -94,7 +118,7 @@ header_words h =
     ∷ (codes "grain" ∷ decimal h.grain ∷ [])
     ∷ (codes "minrto" ∷ decimal h.minrto ∷ [])
     ∷ (codes "extra" ∷ decimal h.extra ∷ [])
-    ∷ late_words h.version h.initial h.congestion
+    ∷ late_words h.version h.initial h.congestion h.slack
 
 -- the limits of the header
 pub record IsHeader (h : Header) : Type 0 where
@@ -108,6 +132,9 @@ pub record IsHeader (h : Header) : Type 0 where
   pub initial : h.version ≡ One → h.initial ≡ Rfc5681
   -- a header without that line judges all of congestion control
   pub congestion : says_congestion h.version ≡ false → h.congestion ≡ Full
+  pub slack : IfSome h.slack (λ slack. slack ≤ 1000000000000000000)
+  -- a header without that line says nothing of lateness
+  pub no_slack : says_slack h.version ≡ false → h.slack ≡ None
 
 -- each line with its bytes, numbered consecutively
 abbrev pub AreLines : ℕ → List (List (List ℕ)) → List (List ℕ) → Type 0
@@ -153,13 +180,14 @@ next_value number name read raws = do
   a ← value_line number name read raw.0
   Ok (a, raw.1)
 
--- the version with this text as its first line, else Header; for version 4, that of two hosts
+-- the version with this text as its first line, else Header; for versions 4 and 5, that of two hosts
 abbrev pub version_in : List ℕ → Result Version TextFault
 version_in text =
     if bytes_eq text (joined (first_words One)) then Ok One
     else if bytes_eq text (joined (first_words Two)) then Ok Two
     else if bytes_eq text (joined (first_words Three)) then Ok Three
     else if bytes_eq text (joined (first_words Four)) then Ok Four
+    else if bytes_eq text (joined (first_words Five)) then Ok Five
     else Err (record { kind = kinds.Header; span = whole_line 1 text })
 
 -- the version of a first line, given with its end
@@ -204,38 +232,69 @@ hosts_line raws = next_value 8 (codes "hosts") (number_field 1 2) raws
 abbrev pub congestion_line : List (List ℕ) → Result (Judged × List (List ℕ)) TextFault
 congestion_line raws = next_value 9 (codes "congestion") (kind_field judged_name all_judged) raws
 
--- version 4 with this many hosts
-abbrev pub hosted : ℕ → Version
-hosted count = if count == 1 then FourHalf else Four
+-- the first byte is a digit
+abbrev pub begins_digit : List ℕ → Bool
+begins_digit text = option_map_or is_ascii_digit (slice_get text 0) false
+
+-- how late a host may be: `any`, or a number of microseconds; else Number if a digit begins the field, and Field if not
+abbrev pub slack_value : Word → Result (Option ℕ) TextFault
+slack_value w =
+    if bytes_eq w.text (codes "any") then Ok None
+    else if begins_digit w.text then (number_value 0 1000000000000000000 w >>= λ slack. Ok (Some slack))
+    else Err (fault_at kinds.Field w)
+
+-- the next field, which says so
+unfoldable pub slack_field : Rest → Result (Option ℕ × Rest) TextFault
+slack_field r = do
+  w ← next_field r
+  slack ← slack_value w.0
+  Ok (slack, w.1)
+
+-- the next line, which says so
+abbrev pub slack_line : List (List ℕ) → Result (Option ℕ × List (List ℕ)) TextFault
+slack_line raws = next_value 10 (codes "slack") slack_field raws
+
+-- the next line, if the version has that line
+abbrev pub last_line : Version → List (List ℕ) → Result (Option ℕ × List (List ℕ)) TextFault
+last_line v raws = if says_slack v then slack_line raws else Ok (None, raws)
+
+-- version 4 or 5 with this many hosts
+abbrev pub hosted : Version → ℕ → Version
+hosted v count =
+    if count == 1 then (if says_slack v then FiveHalf else FourHalf) else if says_slack v then Five else Four
 
 -- the content of the late lines
-abbrev pub late : Version → Initial → Judged → LateLines
-late version initial congestion = record { version = version; initial = initial; congestion = congestion }
+abbrev pub late : Version → Initial → Judged → Option ℕ → LateLines
+late version initial congestion slack =
+    record { version = version; initial = initial; congestion = congestion; slack = slack }
 
 -- the content of the lines of version 3 after line 6
 abbrev pub half_lines : List (List ℕ) → Result (LateLines × List (List ℕ)) TextFault
 half_lines raws = do
   initial ← initial_line raws
   half ← half_line initial.1
-  Ok (late Three initial.0 Full, half.1)
+  Ok (late Three initial.0 Full None, half.1)
 
--- and that of the lines of version 4, which determine its version
-abbrev pub judged_lines : List (List ℕ) → Result (LateLines × List (List ℕ)) TextFault
-judged_lines raws = do
+-- and that of the lines of version 4 or 5, which say how many hosts the version is for
+abbrev pub judged_lines : Version → List (List ℕ) → Result (LateLines × List (List ℕ)) TextFault
+judged_lines v raws = do
   initial ← initial_line raws
   hosts ← hosts_line initial.1
   congestion ← congestion_line hosts.1
-  Ok (late (hosted hosts.0) initial.0 congestion.0, congestion.1)
+  slack ← last_line v congestion.1
+  Ok (late (hosted v hosts.0) initial.0 congestion.0 slack.0, slack.1)
 
 -- the content of the lines that version 1 doesn't have; for version 1 it is always the same
 abbrev pub late_lines : Version → List (List ℕ) → Result (LateLines × List (List ℕ)) TextFault
-late_lines One raws = Ok (late One Rfc5681 Full, raws)
+late_lines One raws = Ok (late One Rfc5681 Full None, raws)
 late_lines Two raws = do
   initial ← initial_line raws
-  Ok (late Two initial.0 Full, initial.1)
+  Ok (late Two initial.0 Full None, initial.1)
 late_lines Three raws = half_lines raws
-late_lines Four raws = judged_lines raws
-late_lines FourHalf raws = judged_lines raws
+late_lines Four raws = judged_lines Four raws
+late_lines FourHalf raws = judged_lines FourHalf raws
+late_lines Five raws = judged_lines Five raws
+late_lines FiveHalf raws = judged_lines FiveHalf raws
 
 -- the header with these numbers, and the content of the late lines
 abbrev pub header_with : (skew msl grain minrto extra : ℕ) → LateLines → Header
@@ -248,6 +307,7 @@ header_with skew msl grain minrto extra late = record {
   extra = extra;
   initial = late.initial;
   congestion = late.congestion;
+  slack = late.slack;
 }
 
 -- the header, and the lines after it

@@ -25,6 +25,7 @@ pub(crate) fn first_text(version: Version) -> &'static str
         Version::Two => "trace 2",
         Version::Three => "trace 3",
         Version::Four | Version::FourHalf => "trace 4",
+        Version::Five | Version::FiveHalf => "trace 5",
     }
 }
 
@@ -37,7 +38,7 @@ fn begins_trace(version: Version, raw: &[u8]) -> bool
 }
 
 /// The version in the first line of a text, if this line has an end; version 1 if it names none. A trace of version 4
-/// counts as one of two hosts here, since only its line 8 says how many were recorded.
+/// or 5 counts as one of two hosts here, since only its line 8 says how many were recorded.
 pub fn version_named(text: &[u8]) -> Version
     ensures { result ≡ version_named (lines_of text.now) }
 {
@@ -45,11 +46,13 @@ pub fn version_named(text: &[u8]) -> Version
         Some(raw) if begins_trace(Version::Two, raw) => Version::Two,
         Some(raw) if begins_trace(Version::Three, raw) => Version::Three,
         Some(raw) if begins_trace(Version::Four, raw) => Version::Four,
+        Some(raw) if begins_trace(Version::Five, raw) => Version::Five,
         _ => Version::One,
     }
 }
 
-// The version with this first line; for version 4, the one with two hosts. Any other text is Header, at the whole line.
+// The version with this first line; for versions 4 and 5, the one with two hosts. Any other text is Header, at the
+// whole line.
 #[tactic(auto, unfolding(crate::specs::Headers::first_version))]
 fn first_version(raw: &[u8]) -> Result<Version, TextFault>
     ensures { Gives (λ version. version) result (first_version raw.now) }
@@ -66,6 +69,9 @@ fn first_version(raw: &[u8]) -> Result<Version, TextFault>
     }
     if is_text(text, first_text(Version::Four)) {
         return Ok(Version::Four);
+    }
+    if is_text(text, first_text(Version::Five)) {
+        return Ok(Version::Five);
     }
     let span = Span {
         line: 1,

@@ -49,5 +49,6 @@ pub(crate) fn header<A: BufRead>(
         extra,
         initial: late.initial,
         congestion: late.congestion,
+        slack: late.slack,
     })
 }

@@ -4,7 +4,7 @@ ghost use Rattle.std.specs.Prelude.{◌≡◌, ◌∷◌, [], ◌++◌, OnOk, ma
 ghost use Rattle.std.specs.List.{concat};
 ghost use Rattle.std.specs.Fmt.{decimal};
 ghost use Rattle.line_fields.specs.Spelling.{printed};
-ghost use Rattle.trace_reader.specs.Headers.{judged_name, late_words};
+ghost use Rattle.trace_reader.specs.Headers.{judged_name, initial_number, judged_words, last_words, late_words};
 ghost use Rattle.trace_reader.specs.Printed.{header_text};
 
 use crate::first_line::first_text;
@@ -42,37 +42,68 @@ fn judged_name(congestion: Judged) -> &'static str
     }
 }
 
-// Writes the lines that version 1 doesn't have: the RFC of the first congestion window; which hosts were recorded; and
-// how much of congestion control is judged.
-fn push_late(
-    out: &mut Vec<u8>,
-    version: Version,
-    initial: Initial,
-    congestion: Judged,
-) -> Result<(), OutOfMemory>
-    ensures { OnOk result (out.new.items
-        ≡ out.old.items ++ concat (map printed (late_words version initial congestion))) }
+// The number of the RFC that gives the first congestion window.
+fn initial_number(initial: Initial) -> u64
+    ensures { result ≡ initial_number initial }
 {
-    let number = match initial {
+    match initial {
         Initial::Rfc5681 => 5681,
         Initial::Rfc6928 => 6928,
-    };
+    }
+}
+
+// Writes the line that says how late a host may be, if the version has it.
+fn push_slack(out: &mut Vec<u8>, version: Version, slack: Option<u64>) -> Result<(), OutOfMemory>
+    ensures { OnOk result (out.new.items ≡ out.old.items ++ concat (map printed (last_words version slack))) }
+{
+    if !version.says_slack() {
+        return Ok(());
+    }
+    match slack {
+        None => push_word_line(out, "slack", "any"),
+        Some(slack) => push_number_line(out, "slack", slack),
+    }
+}
+
+// Writes the lines of version 4 or 5 after line 6.
+fn push_judged(
+    out: &mut Vec<u8>,
+    version: Version,
+    hosts: u64,
+    initial: Initial,
+    congestion: Judged,
+    slack: Option<u64>,
+) -> Result<(), OutOfMemory>
+    ensures { OnOk result (out.new.items
+        ≡ out.old.items ++ concat (map printed (judged_words version hosts initial congestion slack))) }
+{
+    push_number_line(out, "initial", initial_number(initial))?;
+    push_number_line(out, "hosts", hosts)?;
+    push_word_line(out, "congestion", judged_name(congestion))?;
+    push_slack(out, version, slack)?;
+    Ok(())
+}
+
+// Writes the lines that version 1 doesn't have: the RFC of the first congestion window; which hosts were recorded; how
+// much of congestion control is judged; and how late a host may be.
+fn push_late(out: &mut Vec<u8>, header: &Header) -> Result<(), OutOfMemory>
+    ensures { OnOk result (out.new.items ≡ out.old.items ++ concat (map printed
+        (late_words header.now.version header.now.initial header.now.congestion header.now.slack))) }
+{
+    let version = header.version;
+    let initial = header.initial;
     match version {
         Version::One => Ok(()),
-        Version::Two => push_number_line(out, "initial", number),
+        Version::Two => push_number_line(out, "initial", initial_number(initial)),
         Version::Three => {
-            push_number_line(out, "initial", number)?;
+            push_number_line(out, "initial", initial_number(initial))?;
             push_number_line(out, "half", 0)
         }
-        Version::Four => {
-            push_number_line(out, "initial", number)?;
-            push_number_line(out, "hosts", 2)?;
-            push_word_line(out, "congestion", judged_name(congestion))
+        Version::Four | Version::Five => {
+            push_judged(out, version, 2, initial, header.congestion, header.slack)
         }
-        Version::FourHalf => {
-            push_number_line(out, "initial", number)?;
-            push_number_line(out, "hosts", 1)?;
-            push_word_line(out, "congestion", judged_name(congestion))
+        Version::FourHalf | Version::FiveHalf => {
+            push_judged(out, version, 1, initial, header.congestion, header.slack)
         }
     }
 }
@@ -88,6 +119,6 @@ pub(crate) fn push_header(out: &mut Vec<u8>, header: &Header) -> Result<(), OutO
     push_number_line(out, "grain", header.grain)?;
     push_number_line(out, "minrto", header.minrto)?;
     push_number_line(out, "extra", u64::from(header.extra))?;
-    push_late(out, header.version, header.initial, header.congestion)?;
+    push_late(out, header)?;
     Ok(())
 }

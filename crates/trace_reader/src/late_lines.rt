@@ -7,6 +7,7 @@ ghost use Rattle.line_fields.specs.Reading.{Gives};
 ghost use Rattle.line_fields.specs.Rows.{rows_of, with_rest, Reads};
 ghost use Rattle.trace_reader.specs.Headers.{value_line, initial_field, initial_line};
 ghost use Rattle.trace_reader.specs.Headers.{judged_name, all_judged, congestion_line};
+ghost use Rattle.trace_reader.specs.Headers.{begins_digit, slack_field, slack_line, last_line};
 ghost use Rattle.trace_reader.specs.Headers.{hosted, half_lines, judged_lines, late_lines};
 
 use crate::named_lines::{named_rest, next_number};
@@ -27,12 +28,18 @@ const HOSTS_LINE: u64 = 8;
 // The number of the line that says how much of congestion control is judged.
 const CONGESTION_LINE: u64 = 9;
 
+// The number of the line that says how late a host may be.
+const SLACK_LINE: u64 = 10;
+
+const MAX_SLACK: u64 = 1_000_000_000_000_000_000;
+
 /// The content of the header's lines after line 6, or the values for a version that doesn't have them.
 #[derive(Clone, Copy)]
 pub(crate) struct LateLines {
     pub(crate) version: Version,
     pub(crate) initial: Initial,
     pub(crate) congestion: Judged,
+    pub(crate) slack: Option<u64>,
 }
 
 // The next field, one of the two RFCs by number. Any other number is Number.
@@ -123,12 +130,92 @@ fn next_congestion<A: BufRead>(
     Ok(congestion)
 }
 
-// The version of a text of version 4, given the count of recorded hosts.
-fn hosted(hosts: u64) -> Version
-    ensures { result ≡ hosted hosts }
+// Whether the first byte is a digit.
+fn begins_digit(text: &[u8]) -> bool
+    ensures { result ≡ begins_digit text.now }
+{
+    match text.first() {
+        Some(byte) => byte.is_ascii_digit(),
+        None => false,
+    }
+}
+
+// The next field, which says how late a host may be: `any`, or a number. Another field is Number if a digit begins it,
+// else Field.
+#[tactic(auto, unfolding(crate::specs::Headers::slack_field))]
+fn slack_field(fields: &mut Fields) -> Result<Option<u64>, TextFault>
+    ensures { Gives (λ slack. (slack, fields.new)) result (slack_field fields.old) }
+{
+    let field = fields.next()?;
+    if field.is("any") {
+        return Ok(None);
+    }
+    if !begins_digit(field.text) {
+        return Err(field.fault(FaultKind::Field));
+    }
+    let slack = field.number(0, MAX_SLACK)?;
+    Ok(Some(slack))
+}
+
+// How late a host may be, from a line made of `slack` and that field.
+#[tactic(auto, unfolding(crate::specs::Headers::value_line))]
+fn named_slack(raw: &[u8]) -> Result<Option<u64>, TextFault>
+    ensures { Gives (λ slack. slack) result (value_line 10 (codes "slack") slack_field raw.now) }
+{
+    let (mut fields, fault) = named_rest(SLACK_LINE, "slack", raw)?;
+    let slack = slack_field(&mut fields)?;
+    if !fields.is_empty() {
+        return Err(fault);
+    }
+    Ok(slack)
+}
+
+// How late a host may be, from the next line, which is `slack` and that field.
+#[tactic(auto, unfolding(crate::specs::Headers::next_value))]
+fn next_slack<A: BufRead>(
+    source: &mut Counted<A>,
+    line: &mut Vec<u8>,
+) -> Result<Option<u64>, SourceFault>
+    ensures value { Reads with_rest slack_line
+        (rows_of (left_of A.remaining source.old)) (rows_of (left_of A.remaining source.new)) result }
+    ensures read { result ≡ Err SourceFault.Read → failures_of source.new ≡ one_more (failures_of source.old) }
+    ensures same { result ≢ Err SourceFault.Read → failures_of source.new ≡ failures_of source.old }
+{
+    require_line(source, SLACK_LINE, line)?;
+    let slack = named_slack(line.as_slice())?;
+    Ok(slack)
+}
+
+// How late a host may be, from the next line, if the version has that line.
+fn last_line<A: BufRead>(
+    source: &mut Counted<A>,
+    line: &mut Vec<u8>,
+    version: Version,
+) -> Result<Option<u64>, SourceFault>
+    ensures value { Reads with_rest (last_line version)
+        (rows_of (left_of A.remaining source.old)) (rows_of (left_of A.remaining source.new)) result }
+    ensures read { result ≡ Err SourceFault.Read → failures_of source.new ≡ one_more (failures_of source.old) }
+    ensures same { result ≢ Err SourceFault.Read → failures_of source.new ≡ failures_of source.old }
+{
+    if version.says_slack() {
+        next_slack(source, line)
+    } else {
+        Ok(None)
+    }
+}
+
+// The version of a text of version 4 or 5, given the count of recorded hosts.
+fn hosted(version: Version, hosts: u64) -> Version
+    ensures { result ≡ hosted version hosts }
 {
     if hosts == 1 {
-        Version::FourHalf
+        if version.says_slack() {
+            Version::FiveHalf
+        } else {
+            Version::FourHalf
+        }
+    } else if version.says_slack() {
+        Version::Five
     } else {
         Version::Four
     }
@@ -150,15 +237,18 @@ fn half_lines<A: BufRead>(
         version: Version::Three,
         initial,
         congestion: Judged::Full,
+        slack: None,
     })
 }
 
-// The RFC of the first congestion window, how many hosts were recorded, and how much of congestion control is judged.
+// The RFC of the first congestion window, how many hosts were recorded, how much of congestion control is judged, and
+// in version 5 how late a host may be.
 fn judged_lines<A: BufRead>(
     source: &mut Counted<A>,
     line: &mut Vec<u8>,
+    version: Version,
 ) -> Result<LateLines, SourceFault>
-    ensures value { Reads with_rest judged_lines
+    ensures value { Reads with_rest (judged_lines version)
         (rows_of (left_of A.remaining source.old)) (rows_of (left_of A.remaining source.new)) result }
     ensures read { result ≡ Err SourceFault.Read → failures_of source.new ≡ one_more (failures_of source.old) }
     ensures same { result ≢ Err SourceFault.Read → failures_of source.new ≡ failures_of source.old }
@@ -166,10 +256,12 @@ fn judged_lines<A: BufRead>(
     let initial = next_initial(source, line)?;
     let hosts = next_number(source, line, HOSTS_LINE, "hosts", 1, 2)?;
     let congestion = next_congestion(source, line)?;
+    let slack = last_line(source, line, version)?;
     Ok(LateLines {
-        version: hosted(hosts),
+        version: hosted(version, hosts),
         initial,
         congestion,
+        slack,
     })
 }
 
@@ -189,6 +281,7 @@ pub(crate) fn late_lines<A: BufRead>(
             version,
             initial: Initial::Rfc5681,
             congestion: Judged::Full,
+            slack: None,
         }),
         Version::Two => {
             let initial = next_initial(source, line)?;
@@ -196,9 +289,12 @@ pub(crate) fn late_lines<A: BufRead>(
                 version,
                 initial,
                 congestion: Judged::Full,
+                slack: None,
             })
         }
         Version::Three => half_lines(source, line),
-        Version::Four | Version::FourHalf => judged_lines(source, line),
+        Version::Four | Version::FourHalf | Version::Five | Version::FiveHalf => {
+            judged_lines(source, line, version)
+        }
     }
 }

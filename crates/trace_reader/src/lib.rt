@@ -11,10 +11,10 @@
 //! - `TraceReader`: a text whose lines are read on request; `SourceFault`: a fault, or a read that failed
 //! - `print_trace`: the text of a trace
 //!
-//! A text has a header of six lines (seven in version 2, eight in version 3, nine in version 4), followed by event
-//! lines. `specs/TraceText` defines which text is the text of which trace; read it first. `specs/Headers`,
-//! `specs/EventLines`, `specs/Events` and `specs/Calls` define the forms of the lines. This crate only reads lines;
-//! `checker` decides whether a trace can be explained.
+//! A text has a header of six lines (seven in version 2, eight in version 3, nine in version 4, ten in version 5),
+//! followed by event lines. `specs/TraceText` defines which text is the text of which trace; read it first.
+//! `specs/Headers`, `specs/EventLines`, `specs/Events` and `specs/Calls` define the forms of the lines. This crate only
+//! reads lines; `checker` decides whether a trace can be explained.
 //!
 //! Private modules:
 //!

@@ -51,9 +51,15 @@ pub(crate) fn header_of(version: Version) -> Header
         extra: 1,
         initial: match version {
             Version::One => Initial::Rfc5681,
-            Version::Two | Version::Three | Version::Four | Version::FourHalf => Initial::Rfc6928,
+            Version::Two
+            | Version::Three
+            | Version::Four
+            | Version::FourHalf
+            | Version::Five
+            | Version::FiveHalf => Initial::Rfc6928,
         },
         congestion: Judged::Full,
+        slack: None,
     }
 }
 

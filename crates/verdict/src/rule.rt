@@ -5,8 +5,8 @@ ghost use Rattle.verdict.specs.Rules.{rule_name};
 
 use std::fmt;
 
-/// A rule of the order of lines (the first six and the last) or of the model. If a step breaks several, the first in
-/// this list is reported.
+/// A rule of the order of lines (the first six and `Unplaced`), of the model, or, after `Unplaced`, of what a host must
+/// do (version 5). If a step breaks several, the first in this list is reported.
 #[derive(Clone, Copy, Debug, PartialEq, Eq)]
 pub enum Rule {
     /// L names no event line, or names an unplaced line with another count of extra numbers than its kind needs.
@@ -87,6 +87,32 @@ pub enum Rule {
     ScaleUnread,
     /// A line is not placed after the last step.
     Unplaced,
+    /// A segment is dropped that the host has to process or answer (RFC 9293, 3.10.7).
+    Dropped,
+    /// What is next in order is received but not kept (RFC 9293, 3.10.7.4).
+    Discarded,
+    /// A segment waits too long in the inbox (RFC 9293, 3.10.7).
+    ProcessLate,
+    /// A segment is sent too long after it was built (RFC 9293, 3.10.2 and 3.10.7).
+    SendLate,
+    /// An acknowledgment is late (RFC 9293, 3.8.6.3; RFC 5681, 4.2).
+    AckLate,
+    /// The retransmission timer expires late (RFC 6298, 5.1 to 5.3).
+    ExpiryLate,
+    /// The retransmission after an expiry is late (RFC 6298, 5.4).
+    ResendLate,
+    /// A probe of a closed window is late (RFC 9293, 3.8.6.1).
+    ProbeLate,
+    /// What may be sent is sent late (RFC 9293, 3.8.6.2.1, 3.10.2 and 3.10.4).
+    StartLate,
+    /// The reset of an aborted connection is late (RFC 9293, 3.10.5).
+    ResetLate,
+    /// A position is retransmitted twice after one expiry (RFC 6298, 5.4; RFC 5681, 3.2).
+    Resent,
+    /// A retransmission ends beyond the congestion window (RFC 5681, 3.1).
+    ResentBeyond,
+    /// There are more acknowledgments than received segments (RFC 5681, 4.2).
+    AckExcess,
 }
 
 impl Rule {
@@ -135,6 +161,19 @@ impl Rule {
             Rule::Recovery => "recovery",
             Rule::ScaleUnread => "scale-unread",
             Rule::Unplaced => "unplaced",
+            Rule::Dropped => "dropped",
+            Rule::Discarded => "discarded",
+            Rule::ProcessLate => "process-late",
+            Rule::SendLate => "send-late",
+            Rule::AckLate => "ack-late",
+            Rule::ExpiryLate => "expiry-late",
+            Rule::ResendLate => "resend-late",
+            Rule::ProbeLate => "probe-late",
+            Rule::StartLate => "start-late",
+            Rule::ResetLate => "reset-late",
+            Rule::Resent => "resent",
+            Rule::ResentBeyond => "resent-beyond",
+            Rule::AckExcess => "ack-excess",
         }
     }
 }

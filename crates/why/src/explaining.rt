@@ -251,6 +251,18 @@ fn compare(out: &mut String, scene: &Scene, rule: Rule) -> Done {
         (Rule::ScaleUnread, Object::Processing(it), Some(m)) => {
             processing::scale_unread(out, it.endpoint, m)
         }
+        (
+            Rule::ProcessLate
+            | Rule::SendLate
+            | Rule::AckLate
+            | Rule::ExpiryLate
+            | Rule::ResendLate
+            | Rule::ProbeLate
+            | Rule::StartLate
+            | Rule::ResetLate,
+            _,
+            _,
+        ) => say_slack(out, scene),
         // What the step is about says it all.
         (
             Rule::ThreadBusy
@@ -284,9 +296,22 @@ fn compare(out: &mut String, scene: &Scene, rule: Rule) -> Done {
             | Rule::ScaleUnread
             | Rule::TimerOff
             | Rule::TimerEarly
-            | Rule::Recovery,
+            | Rule::Recovery
+            | Rule::Dropped
+            | Rule::Discarded
+            | Rule::Resent
+            | Rule::ResentBeyond
+            | Rule::AckExcess,
             _,
             _,
         ) => Ok(()),
+    }
+}
+
+// How late the header lets a host be.
+fn say_slack(out: &mut String, scene: &Scene) -> Done {
+    match scene.header().slack {
+        Some(slack) => writeln!(out, "a host may be at most {slack} microseconds late"),
+        None => Ok(()),
     }
 }

@@ -1,4 +1,4 @@
-//! Which level, in a header of version 4, leaves a refusal unjudged.
+//! Which level, in a header of version 4 or 5, leaves a refusal unjudged.
 
 use crate::Done;
 use crate::scene::{Object, Scene};
@@ -18,7 +18,9 @@ pub(crate) fn say_unjudged(out: &mut String, scene: &Scene, rule: Rule) -> Done 
     };
     let (before, after) = match header.version {
         Version::One | Version::Two | Version::Three => ("in version 4, the header line ", ""),
-        Version::Four | Version::FourHalf => ("", " in the header"),
+        Version::Four | Version::FourHalf | Version::Five | Version::FiveHalf => {
+            ("", " in the header")
+        }
     };
     let condition = word_if(rule == Rule::OldData, " if an F step comes first");
     out.push_str("stacks with CUBIC, BBR, SACK or RACK-TLP do this; ")?;

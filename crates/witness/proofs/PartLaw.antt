@@ -210,6 +210,8 @@ reads_shift versions.Two iss = reads_scaled versions.Two iss refl
 reads_shift versions.Three iss = reads_scaled versions.Three iss refl
 reads_shift versions.Four iss = reads_scaled versions.Four iss refl
 reads_shift versions.FourHalf iss = reads_scaled versions.FourHalf iss refl
+reads_shift versions.Five iss = reads_scaled versions.Five iss refl
+reads_shift versions.FiveHalf iss = reads_scaled versions.FiveHalf iss refl
 
 abbrev make_start : ℕ × Option ℕ → Start
 make_start y = with_shift (word y.0) y.1

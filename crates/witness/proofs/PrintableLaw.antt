@@ -214,6 +214,8 @@ first_short versions.Two = omega arith
 first_short versions.Three = omega arith
 first_short versions.Four = omega arith
 first_short versions.FourHalf = omega arith
+first_short versions.Five = omega arith
+first_short versions.FiveHalf = omega arith
 
 pub is_printed : (w : Witness) → IsPrintableWitness w → IsWitnessText (with_columns w) (witness_text w)
 is_printed w p = record {

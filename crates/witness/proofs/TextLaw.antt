@@ -75,6 +75,8 @@ first_words versions.Two = codes "witness" ∷ codes "2" ∷ []
 first_words versions.Three = codes "witness" ∷ codes "3" ∷ []
 first_words versions.Four = codes "witness" ∷ codes "4" ∷ []
 first_words versions.FourHalf = codes "witness" ∷ codes "4" ∷ []
+first_words versions.Five = codes "witness" ∷ codes "5" ∷ []
+first_words versions.FiveHalf = codes "witness" ∷ codes "5" ∷ []
 
 words_joined : (v : Version) → joined (first_words v) ≡ first_text v
 words_joined versions.One = refl
@@ -82,6 +84,8 @@ words_joined versions.Two = refl
 words_joined versions.Three = refl
 words_joined versions.Four = refl
 words_joined versions.FourHalf = refl
+words_joined versions.Five = refl
+words_joined versions.FiveHalf = refl
 
 words_clean : (v : Version) → AllByRecursion IsClean (first_words v)
 words_clean versions.One = (clean_by (codes "witness") refl, (clean_by (codes "1") refl, tt))
@@ -89,6 +93,8 @@ words_clean versions.Two = (clean_by (codes "witness") refl, (clean_by (codes "2
 words_clean versions.Three = (clean_by (codes "witness") refl, (clean_by (codes "3") refl, tt))
 words_clean versions.Four = (clean_by (codes "witness") refl, (clean_by (codes "4") refl, tt))
 words_clean versions.FourHalf = (clean_by (codes "witness") refl, (clean_by (codes "4") refl, tt))
+words_clean versions.Five = (clean_by (codes "witness") refl, (clean_by (codes "5") refl, tt))
+words_clean versions.FiveHalf = (clean_by (codes "witness") refl, (clean_by (codes "5") refl, tt))
 
 pub first_ends : (v : Version) → NoReturn (first_text v)
 first_ends v = subst NoReturn (words_joined v) (joined_no_return (first_words v) (words_clean v))
@@ -119,13 +125,15 @@ named_text versions.Two raw raws text ended = rw (text, ended) refl
 named_text versions.Three raw raws text ended = rw (text, ended) refl
 named_text versions.Four raw raws text ended = rw (text, ended) refl
 named_text versions.FourHalf raw raws text ended = rw (text, ended) refl
+named_text versions.Five raw raws text ended = rw (text, ended) refl
+named_text versions.FiveHalf raw raws text ended = rw (text, ended) refl
 
 named_by : (v : Version) (raw : List ℕ) (raws : List (List ℕ)) → IsLine 1 (first_text v) raw → version_named (raw ∷ raws) ≡ named_as v
 named_by v raw raws line =
     let own = ending_again raw (first_text v) (first_ends v) line.ends in
     named_text v raw raws own.0 own.1
 
--- it is read whichever version it is of; one of a half case of version 4 as one of two hosts
+-- it is read whichever version it is of; one of a half case of version 4 or 5 as one of two hosts
 pub some_again : (w : Witness) (text : List ℕ) → IsWitnessText w text → witness_of text ≡ Ok (seen_alone w)
 some_again w text t =
     let version = ap version_named (text_lines w text t) ∙ named_by w.version t.first t.raws t.begins in

@@ -16,6 +16,7 @@ pub(crate) fn first_text(version: Version) -> &'static str
         Version::Two => "witness 2",
         Version::Three => "witness 3",
         Version::Four | Version::FourHalf => "witness 4",
+        Version::Five | Version::FiveHalf => "witness 5",
     }
 }
 

@@ -13,10 +13,10 @@
 //! - `print_witness`: the text of a witness, which reads back as the same witness; `push_witness`: the same, appended
 //!   to a `Vec`
 //!
-//! A text is bytes. Its first line is `witness 1`, `witness 2`, `witness 3` or `witness 4`, by its version. Each
-//! further line is a step: a moment in microseconds and a label, one of `L`, `D`, `M`, `T`, `K`, `R` and `F` with its
-//! fields. `specs/WitnessText` defines which text is the text of which witness (`IsWitnessText`), and which fault comes
-//! first (`witness_of`); read it first. `specs/Labels` defines how a label is spelled. `interval_order` checks whether
+//! A text is bytes. Its first line is one of `witness 1` to `witness 5`, by its version. Each further line is a step: a
+//! moment in microseconds and a label, one of `L`, `D`, `M`, `T`, `K`, `R` and `F` with its fields.
+//! `specs/WitnessText` defines which text is the text of which witness (`IsWitnessText`), and which fault comes first
+//! (`witness_of`); read it first. `specs/Labels` defines how a label is spelled. `interval_order` checks whether
 //! moments rise and each line is used once. `line_fields` reads lines, fields and answers.
 //!
 //! Private modules:

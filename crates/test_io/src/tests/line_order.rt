@@ -14,6 +14,7 @@ const HEADER: Header = Header {
     extra: 0,
     initial: Initial::Rfc5681,
     congestion: Judged::Full,
+    slack: None,
 };
 
 fn line(number: u64, moment: u64, thread: u32) -> Line

@@ -81,9 +81,12 @@ fn has_own_thread(line: &Line) -> bool {
 fn has_own_window(header: &Header) -> bool {
     match header.version {
         Version::One => matches!(header.initial, Initial::Rfc5681),
-        Version::Two | Version::Three | Version::Four | Version::FourHalf => {
-            matches!(header.initial, Initial::Rfc6928)
-        }
+        Version::Two
+        | Version::Three
+        | Version::Four
+        | Version::FourHalf
+        | Version::Five
+        | Version::FiveHalf => matches!(header.initial, Initial::Rfc6928),
     }
 }
 

@@ -33,6 +33,7 @@ fn header() -> Header
         extra: 1,
         initial: Initial::Rfc5681,
         congestion: Judged::Full,
+        slack: None,
     }
 }
 

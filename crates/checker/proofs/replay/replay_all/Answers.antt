@@ -1,10 +1,11 @@
-use Rattle.std.proofs.Common.{◌≡◌, ◌+◌, ◌∙◌, ap, subst, sym}
+use Rattle.std.proofs.Common.{◌≡◌, ◌+◌, [], ◌∙◌, ap, subst, sym}
 use Rattle.std.specs.Option.{IfNone}
 use Rattle.case_forms.specs.declared.steps.Step.{Step}
 use Rattle.verdict.specs.declared.report.Verdict.TheVariants.{No}
 use Rattle.interval_order.specs.Orders.{order_after}
 use Rattle.checker.specs.Seen.{move_of}
-use Rattle.checker.specs.Verdicts.{line_named}
+use Rattle.spec_duties.specs.Cases.{late_at_end}
+use Rattle.checker.specs.Verdicts.{line_named, verdict_left}
 use Rattle.checker.specs.Kept.{kept_broken, kept_progress}
 use Rattle.checker.proofs.CheckLemmas.{turn_more, turn_come, turn_no, turn_end, turn_done, left_some, left_none}
 use Rattle.checker.proofs.replay.replay_all.Goals as goal
@@ -53,14 +54,16 @@ loop-place-preserved c =
 
 pub returns-in-Some-first_left : goal.returns-in-Some-first_left
 returns-in-Some-first_left c = λ lines offered.
-    sym (left_some c.loop-place.window.held c.args.steps.now c.first_left.result c.in-Some-first_left.number c.first_left.ensures c.in-Some-first_left.is)
+    sym (left_some c.loop-place.window.held _ c.args.steps.now c.first_left.result c.in-Some-first_left.number c.first_left.ensures c.in-Some-first_left.is)
     ∙ sym (turn_end c.args.world.now.header lines c.args.steps.now c.loop-place.place c.loop-place.window
     c.loop-place.world c.loop-place-test.false (c.loop-place.invariant.come lines offered))
     ∙ c.loop-place.invariant.told lines offered
 
 pub returns-in-None : goal.returns-in-None
 returns-in-None c = λ lines offered.
-    c.counted.ensures ∙ sym (left_none c.loop-place.window.held c.args.steps.now c.first_left.result c.first_left.ensures c.in-None.is)
+    subst (λ last. c.at_end.result ≡ verdict_left [] (late_at_end c.loop-place.world.header last c.loop-place.world.world) c.args.steps.now)
+    c.last_moment.ensures c.at_end.ensures
+    ∙ sym (left_none c.loop-place.window.held _ c.args.steps.now c.first_left.result c.first_left.ensures c.in-None.is)
     ∙ sym (turn_end c.args.world.now.header lines c.args.steps.now c.loop-place.place c.loop-place.window
     c.loop-place.world c.loop-place-test.false (c.loop-place.invariant.come lines offered))
     ∙ c.loop-place.invariant.told lines offered

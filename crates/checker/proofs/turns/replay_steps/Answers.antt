@@ -53,6 +53,14 @@ loop-takes_line-preserved g c =
           );
     }
 
+pub returns-in-End-clause-done : goal.returns-in-End-clause-done
+returns-in-End-clause-done g c = λ over.
+    let inv = c.loop-takes_line.invariant in
+    let done = inv.done in
+    let few = inv.few in
+    let steps = c.in_ok-takes_line.ensures.steps (subst IsOnward (sym c.in-End.is) tt) in
+    omega (arith, steps, done, few)
+
 pub returns-in-End-clause-tells : goal.returns-in-End-clause-tells
 returns-in-End-clause-tells g c = λ header t s begun.
     let so_far = c.loop-takes_line.invariant.goes header t s begun in

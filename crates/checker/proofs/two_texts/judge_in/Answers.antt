@@ -29,7 +29,7 @@ returns-in_err-drain_steps-in-Refused-clause-tells g c = λ header t s begun.
 pub returns-in-All-clause-tells : goal.returns-in-All-clause-tells
 returns-in-All-clause-tells g c = λ header t s begun.
     let over = rw c.in-All.is at (c.in_ok-tally.ensures.tells header t s begun) in
-    c.end_of_witness.ensures.tells header t s c.replay_steps.new.world over.0 over.1 over.2
+    c.end_of_witness.ensures.tells header t s over.0 over.1 over.2
     (steps_left g.B.Read.remaining c.replay_steps.new.steps) over.3 over.4 over.5
 
 pub returns-in_ok-drain_steps-in-Refused-clause-tells : goal.returns-in_ok-drain_steps-in-Refused-clause-tells

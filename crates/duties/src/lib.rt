@@ -1,0 +1,35 @@
+//! Duties and limits: what a host must do, by when, and how often at most. They watch the steps of the model and add
+//! refusals; no step has another effect for them.
+//!
+//! `spec_duties` has the definitions, in a file for each duty. Here is what is kept between steps, the rules of a step,
+//! and what is kept after it, given what the step shows of the world. `watched` computes that, and joins both with the
+//! model. Each function looks up a bounded number of entries.
+//!
+//! - `watching`: the rules of a step, and what is kept after it
+//! - `owed`: what an endpoint owes; `acknowledge`, `expire`, `retransmit`, `probe`, `start`, `reset`: a duty each
+//! - `resent`, `excess`: the limits
+//! - `views`, `deadlines`: what duties read of an endpoint; when one is late
+#![tactic(auto)]
+
+mod acknowledge;
+mod deadlines;
+mod excess;
+mod expire;
+mod owed;
+mod probe;
+mod resent;
+mod reset;
+mod retransmit;
+mod start;
+mod views;
+mod watching;
+
+pub use acknowledge::acknowledge_due;
+pub use deadlines::is_late_at_once;
+pub use expire::expiry_due;
+pub use owed::{admits_lates, either, lates_of, none_late};
+pub use probe::probing_due;
+pub use reset::reset_since;
+pub use start::start_due;
+pub use views::{unborn, view_of};
+pub use watching::Duties;

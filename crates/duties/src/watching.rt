@@ -1,0 +1,423 @@
+//! The rules of duties at a step, and what is kept after it.
+
+ghost use Rattle.std.specs.Prelude.{◌≡◌, false, OnOk};
+ghost use Rattle.std.specs.Map.{lookup};
+ghost use Rattle.std.specs.Option.{option_map_or};
+ghost use Rattle.std.specs.Result.{result_err};
+ghost use Rattle.verdict.specs.Rules.{first_broken};
+ghost use Rattle.spec_network.specs.Tables.{on, pick};
+ghost use Rattle.spec_duties.specs.Watching.{built_after, built_by, builds_mere_ack, closed_at, counts_for, counts_now};
+ghost use Rattle.spec_duties.specs.Watching.{drops_needed, duties_after, duty_rules, inbox_after, is_needed, is_spared};
+ghost use Rattle.spec_duties.specs.Watching.{joined, leaves_late, left, limit_rules, listener_closed, listening_after};
+ghost use Rattle.spec_duties.specs.Watching.{listening_at, moved, moved_by, new_listening, owed_by, owed_table_after};
+ghost use Rattle.spec_duties.specs.Watching.{queued, sent_late, start, touched_rules};
+
+use crate::deadlines::is_late_at_once;
+use crate::excess::{is_excess, is_mere_ack, one_more};
+use crate::owed::{admits_lates, lates_of, nothing, owed_after};
+use crate::resent::{is_resent, is_resent_beyond};
+use case_forms::{Header, Host, OutOfMemory};
+use spec_duties::{
+    Built, Dropping, Event, Listening, Mail, Owed, Post, Queueing, Sight, Spared, Touched, View,
+};
+use std::alloc::Global;
+use std::marker::Model;
+use tables::Table;
+use verdict::Rule;
+
+/// What duties keep: what each endpoint owes, each listener's children, since when each segment in an inbox waits, and
+/// when each segment was built that isn't sent yet.
+#[derive(Drop)]
+pub struct Duties {
+    owed_0: Table<Owed>,
+    owed_1: Table<Owed>,
+    listening_0: Table<Listening>,
+    listening_1: Table<Listening>,
+    inbox: Table<Option<u64>>,
+    built: Table<Option<Built>>,
+}
+
+impl Model for Duties {
+    ghost use Rattle.spec_duties.specs.Watching.{Duties};
+
+    ghost Value = { Duties };
+
+    ghost view = { λ a. record {
+      owed = record { zero = a.owed_0.entries; one = a.owed_1.entries };
+      listening = record { zero = a.listening_0.entries; one = a.listening_1.entries };
+      inbox = a.inbox.entries;
+      built = a.built.entries;
+    } };
+}
+
+impl Duties {
+    /// Before the first step.
+    pub fn start(alloc: Global) -> Duties
+        ensures { result ≡ start }
+    {
+        Duties {
+            owed_0: Table::new(alloc),
+            owed_1: Table::new(alloc),
+            listening_0: Table::new(alloc),
+            listening_1: Table::new(alloc),
+            inbox: Table::new(alloc),
+            built: Table::new(alloc),
+        }
+    }
+
+    /// What the endpoint at a place owes.
+    pub fn owed_by(&self, host: Host, place: u32) -> Owed
+        ensures { result ≡ owed_by self.now host place }
+    {
+        let table = match host {
+            Host::Zero => &self.owed_0,
+            Host::One => &self.owed_1,
+        };
+        match table.get(u64::from(place)) {
+            Some(owed) => *owed,
+            None => nothing(),
+        }
+    }
+
+    fn listening_at(&self, host: Host, place: u32) -> Listening
+        ensures { result ≡ listening_at (pick self.now.listening host) place }
+    {
+        match host {
+            Host::Zero => listening_at(&self.listening_0, place),
+            Host::One => listening_at(&self.listening_1, place),
+        }
+    }
+
+    /// When the listener was closed that created an endpoint, in microseconds. None: it wasn't, or there is none.
+    pub fn listener_closed(&self, host: Host, v: &View) -> Option<u64>
+        ensures { result ≡ listener_closed self.now host v.now }
+    {
+        match v.listener {
+            Some(place) => self.listening_at(host, place).closed,
+            None => None,
+        }
+    }
+
+    /// The segments that came, each with its line and the moment since which it waits, in microseconds; None if it left
+    /// the inbox.
+    pub fn inbox(&self) -> &[(u64, Option<u64>)]
+        ensures { result.now ≡ self.now.inbox }
+    {
+        self.inbox.entries()
+    }
+
+    fn is_spared(&self, host: Host, spared: Spared) -> bool
+        ensures { result ≡ is_spared self.now host spared }
+    {
+        match spared {
+            Spared::No => false,
+            Spared::Yes => true,
+            Spared::IfFull { listener, backlog } => {
+                u32::from(backlog) <= self.listening_at(host, listener).children
+            }
+        }
+    }
+
+    fn is_needed(&self, dropping: &Dropping) -> bool
+        ensures { result ≡ is_needed self.now dropping.now }
+    {
+        dropping.takeable && !self.is_spared(dropping.host, dropping.spared) || dropping.answerable
+    }
+
+    fn drops_needed(&self, dropping: &Option<Dropping>) -> bool
+        ensures { result ≡ drops_needed self.now dropping.now }
+    {
+        match dropping {
+            Some(dropping) => self.is_needed(dropping),
+            None => false,
+        }
+    }
+
+    fn leaves_late(&self, slack: u64, moment: u64, mail: Mail) -> bool
+        ensures { result ≡ leaves_late slack moment self.now mail }
+    {
+        match mail {
+            Mail::Leaves(line) => match self.inbox.get(line) {
+                Some(since) => is_late_at_once(slack, moment, *since),
+                None => false,
+            },
+            Mail::Nothing | Mail::Enters(_) => false,
+        }
+    }
+
+    fn built_by(&self, post: Post) -> Option<Built>
+        ensures { result ≡ built_by self.now post }
+    {
+        match post {
+            Post::Sends(number) => match self.built.get(u64::from(number)) {
+                Some(built) => *built,
+                None => None,
+            },
+            Post::Nothing | Post::Builds(_) => None,
+        }
+    }
+
+    fn admits_touched(
+        &self,
+        header: &Header,
+        slack: u64,
+        moment: u64,
+        counts: bool,
+        touched: &Touched,
+    ) -> Result<(), Rule>
+        ensures { result_err result ≡ first_broken (touched_rules header.now slack moment self.now counts touched.now) }
+    {
+        let owed = self.owed_by(touched.host, touched.place);
+        let closed = self.listener_closed(touched.host, &touched.before);
+        admits_lates(lates_of(slack, moment, &touched.before, closed, &owed))?;
+        admits_limits(header, touched, counts, &owed)
+    }
+
+    /// Whether no duty refuses a step, with this slack in microseconds. The error is the first broken rule.
+    pub fn admits(
+        &self,
+        header: &Header,
+        slack: u64,
+        moment: u64,
+        sight: &Sight,
+    ) -> Result<(), Rule>
+        ensures { result_err result ≡ first_broken (duty_rules header.now slack moment self.now sight.now) }
+    {
+        if self.drops_needed(&sight.dropping) {
+            return Err(Rule::Dropped);
+        }
+        if sight.discards {
+            return Err(Rule::Discarded);
+        }
+        if self.leaves_late(slack, moment, sight.mail) {
+            return Err(Rule::ProcessLate);
+        }
+        let built = self.built_by(sight.post);
+        if is_sent_late(slack, moment, built) {
+            return Err(Rule::SendLate);
+        }
+        match &sight.touched {
+            Some(touched) => {
+                self.admits_touched(header, slack, moment, counts_now(built), touched)
+            }
+            None => Ok(()),
+        }
+    }
+}
+
+fn listening_at(table: &Table<Listening>, place: u32) -> Listening
+    ensures { result ≡ listening_at table.now.entries place }
+{
+    match table.get(u64::from(place)) {
+        Some(listening) => *listening,
+        None => Listening {
+            children: 0,
+            closed: None,
+        },
+    }
+}
+
+fn is_sent_late(slack: u64, moment: u64, built: Option<Built>) -> bool
+    ensures { result ≡ sent_late slack moment built }
+{
+    match built {
+        Some(built) => is_late_at_once(slack, moment, Some(built.since)),
+        None => false,
+    }
+}
+
+fn counts_now(built: Option<Built>) -> bool
+    ensures { result ≡ counts_now built }
+{
+    match built {
+        Some(built) => built.counts,
+        None => false,
+    }
+}
+
+fn admits_limits(header: &Header, touched: &Touched, counts: bool, owed: &Owed) -> Result<(), Rule>
+    ensures { result_err result ≡ first_broken (limit_rules header.now touched.now counts owed.now) }
+{
+    if is_resent(
+        header.congestion,
+        &touched.event,
+        &touched.before,
+        owed.again,
+    ) {
+        return Err(Rule::Resent);
+    }
+    if is_resent_beyond(header.congestion, &touched.event, &touched.before) {
+        return Err(Rule::ResentBeyond);
+    }
+    if is_excess(counts, owed.answers) {
+        return Err(Rule::AckExcess);
+    }
+    Ok(())
+}
+
+// The listener for which an endpoint counts.
+fn counts_for(v: &View) -> Option<u32>
+    ensures { result ≡ counts_for v.now }
+{
+    if v.state.is_closed() {
+        None
+    } else {
+        v.listener
+    }
+}
+
+fn join(table: &mut Table<Listening>, place: u32) -> Result<(), OutOfMemory>
+    ensures { OnOk result (table.new.entries ≡ joined table.old.entries place) }
+{
+    let mut listening = listening_at(table, place);
+    listening.children = one_more(listening.children);
+    table.insert(u64::from(place), listening)
+}
+
+fn leave(table: &mut Table<Listening>, place: u32) -> Result<(), OutOfMemory>
+    ensures { OnOk result (table.new.entries ≡ left table.old.entries place) }
+{
+    let mut listening = listening_at(table, place);
+    listening.children = listening.children.saturating_sub(1);
+    table.insert(u64::from(place), listening)
+}
+
+fn close(table: &mut Table<Listening>, moment: u64, place: u32) -> Result<(), OutOfMemory>
+    ensures { OnOk result (table.new.entries ≡ closed_at moment table.old.entries place) }
+{
+    let mut listening = listening_at(table, place);
+    listening.closed = Some(moment);
+    table.insert(u64::from(place), listening)
+}
+
+fn move_child(
+    table: &mut Table<Listening>,
+    before: Option<u32>,
+    after: Option<u32>,
+) -> Result<(), OutOfMemory>
+    ensures { OnOk result (table.new.entries ≡ moved before after table.old.entries) }
+{
+    match (before, after) {
+        (None, Some(place)) => join(table, place),
+        (Some(place), None) => leave(table, place),
+        (None, None) | (Some(_), Some(_)) => Ok(()),
+    }
+}
+
+// Whether a segment that is built now is a mere acknowledgment.
+fn builds_mere_ack(after: &View, touched: &Option<Touched>) -> bool
+    ensures { result ≡ option_map_or (builds_mere_ack after.now) touched.now false }
+{
+    let Some(touched) = touched else {
+        return false;
+    };
+    match &touched.event {
+        Event::Builds(plan) => is_mere_ack(plan, &touched.before, after),
+        Event::Opens
+        | Event::Calls { .. }
+        | Event::Processes { .. }
+        | Event::Drops { .. }
+        | Event::Sends(_)
+        | Event::Expires(_)
+        | Event::Recovers => false,
+    }
+}
+
+fn note_mail(inbox: &mut Table<Option<u64>>, moment: u64, mail: Mail) -> Result<(), OutOfMemory>
+    ensures { OnOk result (inbox.new.entries ≡ inbox_after moment mail inbox.old.entries) }
+{
+    match mail {
+        Mail::Nothing => Ok(()),
+        Mail::Enters(line) => inbox.insert(line, Some(moment)),
+        Mail::Leaves(line) => inbox.insert(line, None),
+    }
+}
+
+fn note_post(
+    built: &mut Table<Option<Built>>,
+    moment: u64,
+    sight: &Sight,
+    after: &View,
+) -> Result<(), OutOfMemory>
+    ensures { OnOk result
+        (built.new.entries ≡ built_after after.now moment sight.now.touched sight.now.post built.old.entries) }
+{
+    match sight.post {
+        Post::Nothing => Ok(()),
+        Post::Builds(number) => {
+            let counts = builds_mere_ack(after, &sight.touched);
+            let it = Built {
+                since: moment,
+                counts,
+            };
+            built.insert(u64::from(number), Some(it))
+        }
+        Post::Sends(number) => built.insert(u64::from(number), None),
+    }
+}
+
+impl Duties {
+    // What the endpoint owes that the step touches.
+    fn note_owed(
+        &mut self,
+        moment: u64,
+        counts: bool,
+        touched: &Touched,
+        after: &View,
+    ) -> Result<(), OutOfMemory>
+        ensures { OnOk result (self.new
+            ≡ record self.old { owed = owed_table_after after.now moment counts self.old touched.now }) }
+    {
+        let owed = self.owed_by(touched.host, touched.place);
+        let closed = self.listener_closed(touched.host, &touched.before);
+        let next = owed_after(touched, after, moment, closed, counts, &owed);
+        match touched.host {
+            Host::Zero => self.owed_0.insert(u64::from(touched.place), next),
+            Host::One => self.owed_1.insert(u64::from(touched.place), next),
+        }
+    }
+
+    // The listener of that endpoint.
+    fn note_child(&mut self, touched: &Touched, after: &View) -> Result<(), OutOfMemory>
+        ensures { OnOk result (self.new
+            ≡ record self.old { listening = moved_by after.now self.old.listening touched.now }) }
+    {
+        let (was, is) = (counts_for(&touched.before), counts_for(after));
+        match touched.host {
+            Host::Zero => move_child(&mut self.listening_0, was, is),
+            Host::One => move_child(&mut self.listening_1, was, is),
+        }
+    }
+
+    fn note_queueing(&mut self, moment: u64, queueing: Queueing) -> Result<(), OutOfMemory>
+        ensures { OnOk result (self.new
+            ≡ record self.old { listening = queued moment queueing self.old.listening }) }
+    {
+        match queueing {
+            Queueing::Nothing => Ok(()),
+            Queueing::Accepts { host, listener } => match host {
+                Host::Zero => leave(&mut self.listening_0, listener),
+                Host::One => leave(&mut self.listening_1, listener),
+            },
+            Queueing::Closes { host, listener } => match host {
+                Host::Zero => close(&mut self.listening_0, moment, listener),
+                Host::One => close(&mut self.listening_1, moment, listener),
+            },
+        }
+    }
+
+    /// Notes a step, if the endpoint that it touched is then seen like this. If memory runs out, the duties are of no
+    /// use any more.
+    pub fn note(&mut self, moment: u64, sight: &Sight, after: &View) -> Result<(), OutOfMemory>
+        ensures { OnOk result (self.new ≡ duties_after after.now moment sight.now self.old) }
+    {
+        let counts = counts_now(self.built_by(sight.post));
+        if let Some(touched) = &sight.touched {
+            self.note_owed(moment, counts, touched, after)?;
+            self.note_child(touched, after)?;
+        }
+        self.note_queueing(moment, sight.queueing)?;
+        note_mail(&mut self.inbox, moment, sight.mail)?;
+        note_post(&mut self.built, moment, sight, after)
+    }
+}

@@ -1,0 +1,89 @@
+-- The model of a case with its duties.
+use Rattle.std.specs.Prelude.{◌≡◌, ℕ, suc, Bool, List, [], ◌∷◌, ◌++◌, Option, None}
+use Rattle.std.specs.Option.{option_map_or}
+use Rattle.case_forms.specs.declared.trace.Header.{Header}
+use Rattle.verdict.specs.declared.rule.Rule.{Rule}
+use Rattle.verdict.specs.Rules.{first_broken}
+use Rattle.spec_network.specs.Hosts.{Stamped, Step, World}
+use Rattle.spec_network.specs.HostRules.{step_rules}
+use Rattle.spec_network.specs.HostSteps as network
+use Rattle.spec_network.specs.Tables.{on}
+use Rattle.spec_tcp.specs.Forgetting as forgetting
+use Rattle.spec_tcp.specs.Machine.{tcp, tcp_shape}
+use Rattle.spec_duties.specs.Sights.{Sight, sight, view_in}
+use Rattle.spec_duties.specs.Watching as watching
+use Rattle.spec_duties.specs.Watching.{Duties, duty_rules, duties_after}
+use Rattle.spec_duties.specs.End as end
+
+-- the model's world, and what its hosts owe
+pub record Known : Type 0 where
+  pub model : World tcp_shape
+  pub duties : Duties
+
+-- a case: its header, what is known, and how many steps were done
+pub record Watched : Type 0 where
+  pub header : Header
+  pub world : Known
+  pub steps : ℕ
+
+abbrev pub first_known : Header → Known
+first_known h = record { model = network.start (tcp h); duties = watching.start }
+
+abbrev pub start : Header → Watched
+start h = record { header = h; world = first_known h; steps = 0 }
+
+-- the rules of duties if the header gives a slack; none if it says `any`
+abbrev pub judged_rules : Header → (moment : ℕ) → Duties → Sight → List (Rule × Bool)
+judged_rules h moment d s = on h.slack [] (λ slack. duty_rules h slack moment d s)
+
+-- what is kept after a step: nothing new at `any`
+abbrev pub noted_by : Header → (moment : ℕ) → (after : World tcp_shape) → Sight → Duties → Duties
+noted_by h moment w s d = on h.slack d (λ slack. duties_after (view_in w s.touched) moment s d)
+
+-- the rules of duties at a step
+abbrev pub watch_rules : Header → (moment : ℕ) → Known → Step tcp_shape → List (Rule × Bool)
+watch_rules h moment k step = judged_rules h moment k.duties (sight h moment k.model step)
+
+-- the rules of a step: those of the model, then those of duties
+abbrev pub case_rules : Header → (moment : ℕ) → Known → Step tcp_shape → List (Rule × Bool)
+case_rules h moment k step = step_rules (tcp h) moment k.model step ++ watch_rules h moment k step
+
+-- what is known after it
+abbrev pub known_after : Header → (moment : ℕ) → Known → Step tcp_shape → Known
+known_after h moment k step = record {
+  model = network.after (tcp h) moment k.model step;
+  duties =
+      noted_by h moment (network.after (tcp h) moment k.model step) (sight h moment k.model step) k.duties;
+}
+
+abbrev pub known_after_all : Header → Known → List (Stamped tcp_shape) → Known
+known_after_all h k [] = k
+known_after_all h k (x ∷ xs) = known_after_all h (known_after h x.moment k x.step) xs
+
+-- the least rule that is broken at the end, with its line
+abbrev pub late_at_end : Header → (moment : ℕ) → Known → Option (ℕ × Rule)
+late_at_end h moment k = on h.slack None (λ slack. end.late_at_end slack moment k.duties k.model)
+
+-- what may be discarded is
+abbrev pub forget : Known → Known
+forget k = record k { model = forgetting.forget k.model }
+
+abbrev pub after : Watched → (moment : ℕ) → Step tcp_shape → Watched
+after p moment step =
+    record p { world = forget (known_after p.header moment p.world step); steps = suc p.steps }
+
+abbrev pub broken_by : Watched → (moment : ℕ) → Step tcp_shape → Option Rule
+broken_by p moment step = first_broken (case_rules p.header moment p.world step)
+
+-- the rules of a step that there may be, and the case after it
+abbrev pub asked_rules : Watched → (moment : ℕ) → Option (Step tcp_shape) → List (Rule × Bool)
+asked_rules p moment asked = option_map_or (case_rules p.header moment p.world) asked []
+
+abbrev pub asked_after : Watched → (moment : ℕ) → Option (Step tcp_shape) → Watched
+asked_after p moment asked = option_map_or (after p moment) asked p
+
+-- no duty refuses a step of a run
+abbrev pub Dutiful : Header → Known → List (Stamped tcp_shape) → Type 0
+Dutiful h k [] = Unit {0}
+Dutiful h k (x ∷ xs) =
+    (first_broken (watch_rules h x.moment k x.step) ≡ None) × Dutiful h (known_after h x.moment k x.step) xs

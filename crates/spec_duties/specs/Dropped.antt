@@ -1,0 +1,120 @@
+-- Which segments may be dropped, and which of them ask for an acknowledgment (RFC 9293, 3.10.7); and what may not be
+-- discarded.
+use Rattle.std.specs.Prelude.{ℕ, ◌+◌, ◌==◌, nat_le, nat_lt, Bool, true, false, not, ◌&&◌, ◌||◌, if◌then◌else◌, Option}
+use Rattle.std.specs.Prelude.{None, Some, is_some, length, slice_get}
+use Rattle.std.specs.Option.{option_map_or}
+use Rattle.seqno.specs.Numbers.{number_of}
+use Rattle.case_forms.specs.States.{is_syn_sent}
+use Rattle.case_forms.specs.declared.calls.Host.{Host}
+use Rattle.case_forms.specs.declared.calls.State.{State}
+use Rattle.case_forms.specs.declared.calls.State.TheVariants as states
+use Rattle.case_forms.specs.declared.steps.TakeChoice.{TakeChoice}
+use Rattle.case_forms.specs.declared.trace.Header.{Header}
+use Rattle.case_forms.specs.declared.version.Version.{Version}
+use Rattle.verdict.specs.Rules.{first_broken}
+use Rattle.verdict.specs.declared.rule.Rule.{Rule}
+use Rattle.verdict.specs.declared.rule.Rule.TheVariants as rules
+use Rattle.spec_network.specs.HostRules.{step_rules}
+use Rattle.spec_network.specs.Hosts as network
+use Rattle.spec_network.specs.Hosts.{World}
+use Rattle.spec_tcp.specs.Arrives.{Taker, Nobody, AtListener, AtEndpoint}
+use Rattle.spec_tcp.specs.Endpoints.{rcv_nxt, receive_window, segment_length}
+use Rattle.spec_tcp.specs.declared.endpoint.Emission.{Emission}
+use Rattle.spec_tcp.specs.declared.endpoint.Endpoint.{Endpoint}
+use Rattle.spec_tcp.specs.Heard.{as_read}
+use Rattle.spec_tcp.specs.HostTcp.{HostTcp}
+use Rattle.spec_tcp.specs.Machine.{tcp, tcp_shape}
+use Rattle.spec_tcp.specs.Same.{same_word}
+pub use Rattle.spec_duties.specs.declared.sights.Spared.{Spared}
+use Rattle.spec_duties.specs.declared.sights.Spared.TheVariants as spared
+pub use Rattle.spec_duties.specs.declared.sights.Dropping.{Dropping}
+
+-- processing a segment with nothing chosen: `T h k 0 0 0`
+abbrev pub bare : TakeChoice
+bare = record { cwnd = 0; keep = false; sample = false }
+
+-- the rule of the model that this would break
+abbrev pub taking_breaks : Header → (moment : ℕ) → World tcp_shape → Host → (line : ℕ) → Option Rule
+taking_breaks h moment w host line = first_broken (step_rules (tcp h) moment w (network.At host (network.Takes line bare)))
+
+-- the rule of the model that a reset in answer would break
+abbrev pub answering_breaks : Header → World tcp_shape → Host → (line : ℕ) → Option Rule
+answering_breaks h w host line = first_broken (step_rules (tcp h) 0 w (network.At host (network.Answers line)))
+
+abbrev pub is_unacceptable : Option Rule → Bool
+is_unacceptable (Some rules.Unacceptable) = true
+is_unacceptable _ = false
+
+abbrev pub is_ack_range : Option Rule → Bool
+is_ack_range (Some rules.AckRange) = true
+is_ack_range _ = false
+
+-- the segment's number is exactly the next one expected
+abbrev pub is_next : Endpoint → Emission → Bool
+is_next e m = option_map_or (λ irs. same_word m.seq (number_of irs (rcv_nxt e))) e.irs false
+
+-- a reset that may be challenged instead (RFC 5961, 3.2)
+abbrev pub is_challenged : Endpoint → Emission → Bool
+is_challenged e m = m.flags.rst && not (is_syn_sent e.state) && not (is_next e m)
+
+-- a segment that doesn't fit into a closed receive window (RFC 9293, 3.10.7.4, first)
+abbrev pub meets_closed_window : Endpoint → Emission → Bool
+meets_closed_window e m = not (is_syn_sent e.state) && receive_window e == 0 && nat_lt 0 (segment_length m)
+
+-- what could be processed need not be: a listener's backlog is reached (RFC 9293, 3.9.1.2), a reset is challenged, or
+-- the receive window is closed
+abbrev pub spared_at_listener : HostTcp → (place : ℕ) → Spared
+spared_at_listener b l =
+    option_map_or (λ x. spared.IfFull l x.backlog) (slice_get b.listeners l) spared.No
+
+abbrev pub spared_by : HostTcp → Emission → Taker → Spared
+spared_by b m Nobody = spared.No
+spared_by b m (AtListener l) = spared_at_listener b l
+spared_by b m (AtEndpoint i e) = if is_challenged e m || meets_closed_window e m then spared.Yes else spared.No
+
+-- what a step that drops a segment shows of it: it has to be answered with a reset if that is permitted, unless an
+-- acknowledgment is as good
+abbrev pub dropping_of : Host → (taking answering : Option Rule) → Spared → Dropping
+dropping_of host taking answering spares = record {
+  host = host;
+  takeable = not (is_some taking);
+  spared = spares;
+  answerable = not (is_some answering) && not (is_unacceptable taking);
+}
+
+-- the segment has bytes or a FIN
+abbrev pub has_content : Emission → Bool
+has_content m = nat_lt 0 (length m.payload) || m.flags.fin
+
+-- a dropped segment asks for an acknowledgment: it is unacceptable, or acknowledges what was never sent, or could be
+-- processed; a reset only if it could be, and then it is a challenge (RFC 9293, 3.10.7.4, first and fifth)
+abbrev pub asks : Emission → (taking : Option Rule) → Endpoint → Bool
+asks m taking e =
+    not (is_syn_sent e.state)
+    && (if m.flags.rst then not (is_some taking)
+    else is_unacceptable taking || is_ack_range taking && m.flags.ack || not (is_some taking))
+
+-- the states in which what is next in order is kept (RFC 9293, 3.10.7.4, seventh)
+abbrev pub keeps_order : State → Bool
+keeps_order states.SynReceived = true
+keeps_order states.Established = true
+keeps_order states.FinWait1 = true
+keeps_order states.FinWait2 = true
+keeps_order _ = false
+
+-- the segment holds the next position expected
+abbrev pub holds_next : Endpoint → Emission → Bool
+holds_next e m = nat_le m.pos (rcv_nxt e) && nat_lt (rcv_nxt e) (m.pos + segment_length m)
+
+-- nothing of a segment is kept, though it holds what is next in order, and there is room; once the socket is closed, a
+-- reset may answer (RFC 9293, 3.6.1)
+abbrev pub discards : TakeChoice → Endpoint → Emission → Bool
+discards how e m =
+    not how.keep && keeps_order e.state && not e.closed && not m.flags.rst && nat_lt (rcv_nxt e) e.window.rcv_adv
+    && holds_next e m
+
+-- the same for whoever processes it; an endpoint reads the segment first
+abbrev pub discards_at : Version → TakeChoice → Emission → Taker → Bool
+discards_at version how m Nobody = false
+discards_at version how m (AtListener l) = false
+discards_at version how m (AtEndpoint i e) = discards how e (as_read version e m)

@@ -1,0 +1,17 @@
+pub mod Views
+pub mod Events
+pub mod Deadlines
+pub mod Acknowledge
+pub mod Expire
+pub mod Retransmit
+pub mod Probe
+pub mod Start
+pub mod Reset
+pub mod Resent
+pub mod Excess
+pub mod Owed
+pub mod Dropped
+pub mod Sights
+pub mod Watching
+pub mod End
+pub mod Cases

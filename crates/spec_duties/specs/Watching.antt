@@ -1,0 +1,184 @@
+-- The rules of duties at a step, and what is kept after it.
+use Rattle.std.specs.Prelude.{ℕ, ◌-◌, nat_eq, nat_le, Bool, true, false, not, ◌&&◌, ◌||◌, if◌then◌else◌, List, []}
+use Rattle.std.specs.Prelude.{◌∷◌, ◌++◌, Option, None, Some, is_some, unwrap_or}
+use Rattle.std.specs.Map.{lookup}
+use Rattle.std.specs.Option.{option_map, option_map_or}
+use Rattle.indexmap.specs.IndexMap.{insert_entry}
+use Rattle.case_forms.specs.States.{is_closed}
+use Rattle.case_forms.specs.declared.calls.Host.{Host}
+use Rattle.case_forms.specs.declared.trace.Header.{Header}
+use Rattle.verdict.specs.declared.rule.Rule.{Rule}
+use Rattle.verdict.specs.declared.rule.Rule.TheVariants as rules
+use Rattle.spec_network.specs.Tables.{Both, on, pick, with_host, waiting, settled}
+use Rattle.spec_duties.specs.Views.{View}
+use Rattle.spec_duties.specs.Events as events
+use Rattle.spec_duties.specs.Events.{Event}
+use Rattle.spec_duties.specs.Deadlines.{is_late}
+use Rattle.spec_duties.specs.Resent.{is_resent, is_resent_beyond}
+use Rattle.spec_duties.specs.Excess.{one_more, is_excess, is_mere_ack}
+use Rattle.spec_duties.specs.Owed.{Owed, nothing, lates_of, late_rules, owed_after}
+use Rattle.spec_duties.specs.Dropped.{Spared, Dropping}
+use Rattle.spec_duties.specs.Sights.{Mail, Post, Queueing, Sight, Touched}
+use Rattle.spec_duties.specs.declared.sights.Mail.TheVariants as mail
+use Rattle.spec_duties.specs.declared.sights.Post.TheVariants as post
+use Rattle.spec_duties.specs.declared.sights.Queueing.TheVariants as queueing
+use Rattle.spec_duties.specs.declared.sights.Spared.TheVariants as spared
+pub use Rattle.spec_duties.specs.declared.tables.Listening.{Listening}
+pub use Rattle.spec_duties.specs.declared.tables.Built.{Built}
+
+-- what each endpoint owes, by its place; each listener, by its place; since when each segment in an inbox waits, by its
+-- line; and the segments that were built, by their numbers. What left an inbox or was sent leaves None in its place
+pub record Duties : Type 0 where
+  pub owed : Both (List (ℕ × Owed))
+  pub listening : Both (List (ℕ × Listening))
+  pub inbox : List (ℕ × Option ℕ)
+  pub built : List (ℕ × Option Built)
+
+abbrev pub start : Duties
+start = record {
+  owed = record { zero = []; one = [] };
+  listening = record { zero = []; one = [] };
+  inbox = [];
+  built = [];
+}
+
+-- what an endpoint owes
+abbrev pub owed_by : Duties → Host → (place : ℕ) → Owed
+owed_by d host place = unwrap_or (lookup (nat_eq place) (pick d.owed host)) nothing
+
+-- a listener: without children, and open, unless something else is known
+abbrev pub new_listening : Listening
+new_listening = record { children = 0; closed = None }
+
+abbrev pub listening_at : List (ℕ × Listening) → (place : ℕ) → Listening
+listening_at table place = unwrap_or (lookup (nat_eq place) table) new_listening
+
+-- when the listener was closed that created an endpoint, if it was
+abbrev pub listener_closed : Duties → Host → View → Option ℕ
+listener_closed d host v = option_map_or (λ l. (listening_at (pick d.listening host) l).closed) v.listener None
+
+-- what could be processed need not be
+abbrev pub is_spared : Duties → Host → Spared → Bool
+is_spared d host spared.No = false
+is_spared d host spared.Yes = true
+is_spared d host (spared.IfFull l backlog) = nat_le backlog (listening_at (pick d.listening host) l).children
+
+-- a segment is dropped that has to be processed or answered (RFC 9293, 3.10.7)
+abbrev pub is_needed : Duties → Dropping → Bool
+is_needed d x = (x.takeable && not (is_spared d x.host x.spared)) || x.answerable
+
+abbrev pub drops_needed : Duties → Option Dropping → Bool
+drops_needed d dropping = option_map_or (is_needed d) dropping false
+
+-- duty process: what arrived leaves the inbox at once (RFC 9293, 3.10.7)
+abbrev pub leaves_late : (slack moment : ℕ) → Duties → Mail → Bool
+leaves_late slack moment d (mail.Leaves line) = is_late slack moment (waiting line d.inbox)
+leaves_late slack moment d it = false
+
+-- duty send: what was built is sent at once (RFC 9293, 3.10.2 and 3.10.7)
+abbrev pub built_by : Duties → Post → Option Built
+built_by d (post.Sends number) = waiting number d.built
+built_by d it = None
+
+abbrev pub sent_late : (slack moment : ℕ) → Option Built → Bool
+sent_late slack moment built = is_late slack moment (option_map (λ b. b.since) built)
+
+-- the segment that is sent is a mere acknowledgment
+abbrev pub counts_now : Option Built → Bool
+counts_now built = option_map_or (λ b. b.counts) built false
+
+-- the limits on repetition
+abbrev pub limit_rules : Header → Touched → (counts : Bool) → Owed → List (Rule × Bool)
+limit_rules h t counts o =
+    (rules.Resent, is_resent h.congestion t.event t.before o.again)
+    ∷ (rules.ResentBeyond, is_resent_beyond h.congestion t.event t.before)
+    ∷ (rules.AckExcess, is_excess counts o.answers) ∷ []
+
+-- the rules of an endpoint that a step touches
+abbrev pub touched_rules : Header → (slack moment : ℕ) → Duties → (counts : Bool) → Touched → List (Rule × Bool)
+touched_rules h slack moment d counts t =
+    late_rules (lates_of slack moment t.before (listener_closed d t.host t.before) (owed_by d t.host t.place))
+    ++ limit_rules h t counts (owed_by d t.host t.place)
+
+-- all rules of duties at a step
+abbrev pub duty_rules : Header → (slack moment : ℕ) → Duties → Sight → List (Rule × Bool)
+duty_rules h slack moment d s =
+    (rules.Dropped, drops_needed d s.dropping) ∷ (rules.Discarded, s.discards)
+    ∷ (rules.ProcessLate, leaves_late slack moment d s.mail)
+    ∷ (rules.SendLate, sent_late slack moment (built_by d s.post))
+    ∷ on s.touched [] (touched_rules h slack moment d (counts_now (built_by d s.post)))
+
+-- what is owed after a step at an endpoint, which is then seen like this
+abbrev pub owed_table_after : (after : View) → (moment : ℕ) → (counts : Bool) → Duties → Touched
+    → Both (List (ℕ × Owed))
+owed_table_after after moment counts d t =
+    with_host d.owed t.host
+    (insert_entry nat_eq (pick d.owed t.host) t.place
+    (owed_after t.event t.before after moment (listener_closed d t.host t.before) counts (owed_by d t.host t.place)))
+
+-- the listener for which an endpoint counts: until it is accepted or CLOSED
+abbrev pub counts_for : View → Option ℕ
+counts_for v = if is_closed v.state then None else v.listener
+
+-- a listener has one child more, or one less
+abbrev pub joined : List (ℕ × Listening) → (place : ℕ) → List (ℕ × Listening)
+joined table l =
+    insert_entry nat_eq table l (record (listening_at table l) { children = one_more (listening_at table l).children })
+
+abbrev pub left : List (ℕ × Listening) → (place : ℕ) → List (ℕ × Listening)
+left table l = insert_entry nat_eq table l (record (listening_at table l) { children = (listening_at table l).children - 1 })
+
+abbrev pub closed_at : (moment : ℕ) → List (ℕ × Listening) → (place : ℕ) → List (ℕ × Listening)
+closed_at moment table l = insert_entry nat_eq table l (record (listening_at table l) { closed = Some moment })
+
+-- an endpoint begins to count for a listener, or ends
+abbrev pub moved : (before after : Option ℕ) → List (ℕ × Listening) → List (ℕ × Listening)
+moved None None table = table
+moved None (Some l) table = joined table l
+moved (Some l) None table = left table l
+moved (Some l) (Some m) table = table
+
+abbrev pub moved_by : (after : View) → Both (List (ℕ × Listening)) → Touched → Both (List (ℕ × Listening))
+moved_by after both t =
+    with_host both t.host (moved (counts_for t.before) (counts_for after) (pick both t.host))
+
+abbrev pub queued : (moment : ℕ) → Queueing → Both (List (ℕ × Listening)) → Both (List (ℕ × Listening))
+queued moment queueing.Nothing both = both
+queued moment (queueing.Accepts host l) both = with_host both host (left (pick both host) l)
+queued moment (queueing.Closes host l) both = with_host both host (closed_at moment (pick both host) l)
+
+abbrev pub listening_after : (after : View) → (moment : ℕ) → Sight → Both (List (ℕ × Listening))
+    → Both (List (ℕ × Listening))
+listening_after after moment s both = queued moment s.queueing (on s.touched both (moved_by after both))
+
+-- the inbox after a step
+abbrev pub inbox_after : (moment : ℕ) → Mail → List (ℕ × Option ℕ) → List (ℕ × Option ℕ)
+inbox_after moment mail.Nothing inbox = inbox
+inbox_after moment (mail.Enters line) inbox = insert_entry nat_eq inbox line (Some moment)
+inbox_after moment (mail.Leaves line) inbox = settled line inbox
+
+-- whether a segment that is built now is a mere acknowledgment
+abbrev pub builds_mere_ack : (after : View) → Touched → Bool
+builds_mere_ack after t = by t.event
+  where
+    by : Event → Bool
+    by (events.Builds m) = is_mere_ack m t.before after
+    by event = false
+
+-- the built segments after a step
+abbrev pub built_after : (after : View) → (moment : ℕ) → Option Touched → Post → List (ℕ × Option Built)
+    → List (ℕ × Option Built)
+built_after after moment touched post.Nothing built = built
+built_after after moment touched (post.Builds number) built =
+    insert_entry nat_eq built number
+    (Some (record { since = moment; counts = option_map_or (builds_mere_ack after) touched false }))
+built_after after moment touched (post.Sends number) built = settled number built
+
+-- what is kept after a step, if its endpoint is then seen like this
+abbrev pub duties_after : (after : View) → (moment : ℕ) → Sight → Duties → Duties
+duties_after after moment s d = record {
+  owed = on s.touched d.owed (owed_table_after after moment (counts_now (built_by d s.post)) d);
+  listening = listening_after after moment s d.listening;
+  inbox = inbox_after moment s.mail d.inbox;
+  built = built_after after moment s.touched s.post d.built;
+}

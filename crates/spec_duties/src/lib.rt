@@ -1,0 +1,35 @@
+//! Duties and limits: what a host must do, by when, and how often at most.
+//!
+//! Duties watch the steps of the model and add refusals; nothing here is part of the model's state, and no step has
+//! another effect for them. A duty is kept for each endpoint, each segment in an inbox and each segment that was built.
+//! It has a deadline, and is late at a moment that is after the deadline and the slack of the header.
+//!
+//! This crate has no code, only the values that duties keep and the definitions. `duties` implements them.
+//!
+//! - `views`: what duties read of an endpoint; `events`: what a step does at one
+//! - `owed`: what an endpoint owes; `tables`: what is kept for listeners and built segments
+//! - `sights`: all that duties read of the world at a step
+//!
+//! The definitions:
+//!
+//! - `specs/Deadlines`: when a duty is late
+//! - `specs/Acknowledge`, `specs/Expire`, `specs/Retransmit`, `specs/Probe`, `specs/Start`, `specs/Reset`: a duty of an
+//!   endpoint each: when it arises, by when it is due, and what ends it
+//! - `specs/Resent`, `specs/Excess`: how often positions and acknowledgments are sent at most
+//! - `specs/Dropped`: which segments may be dropped, and which of them ask for an acknowledgment
+//! - `specs/Owed`: all that an endpoint owes; `specs/Sights`: what a step shows of the world
+//! - `specs/Watching`: the rules of a step, and what is kept after it; `specs/End`: the comparison after the last step
+//! - `specs/Cases`: the model and its duties together
+#![tactic(auto)]
+
+mod events;
+mod owed;
+mod sights;
+mod tables;
+mod views;
+
+pub use events::{Event, Sending};
+pub use owed::{Lates, Owed, Probing};
+pub use sights::{Dropping, Mail, Post, Queueing, Sight, Spared, Touched};
+pub use tables::{Built, Listening};
+pub use views::View;

@@ -1,0 +1,15 @@
+-- What the effect of a call shows.
+use Rattle.std.proofs.Common.{◌≡◌, ℕ, refl}
+use Rattle.std.specs.Option.{option_map_or}
+use Rattle.case_forms.specs.declared.calls.Answer.{Answer}
+use Rattle.case_forms.specs.declared.trace.Header.{Header}
+use Rattle.spec_network.specs.Hosts.{World, Turn, Idle, Called, Answered}
+use Rattle.spec_tcp.specs.Machine.{tcp_shape}
+use Rattle.endpoint_state.specs.Turns.{pending_call}
+use Rattle.spec_duties.specs.Sights.{effect_sight, pending_sight, unseen}
+
+pub effect_is : (h : Header) (w : World tcp_shape) (answer : Answer) (u : Turn tcp_shape)
+    → effect_sight h w answer u ≡ option_map_or (pending_sight h w answer) (pending_call u) unseen
+effect_is h w answer Idle = refl
+effect_is h w answer (Called call) = refl
+effect_is h w answer (Answered given) = refl

@@ -1,0 +1,175 @@
+-- A step of a case: the rules of the model and of duties, and the case after it.
+use Rattle.std.proofs.Common.{◌≡◌, ℕ, suc, Bool, List, [], ◌++◌, Option, None, Some, Result, Ok, Err, refl, sym, ap, subst, ◌∙◌}
+use Rattle.std.specs.Prelude.{OnOk, IfErr}
+use Rattle.std.specs.Option.{option_map_or}
+use Rattle.case_forms.specs.declared.trace.Header.{Header}
+use Rattle.verdict.specs.declared.rule.Rule.{Rule}
+use Rattle.verdict.specs.Rules.{first_broken}
+use Rattle.verdict.proofs.RuleLemmas.{none_both, first_broken-append_none, first_broken-append_some}
+use Rattle.spec_network.specs.HostRules.{step_rules}
+use Rattle.spec_network.specs.HostSteps as network
+use Rattle.spec_network.specs.Hosts.{Step, World}
+use Rattle.spec_network.specs.Tables.{on}
+use Rattle.spec_tcp.specs.Forgetting as forgetting
+use Rattle.spec_tcp.specs.Machine.{tcp, tcp_shape}
+use Rattle.spec_tcp_laws.proofs.ForgetWorlds.{step_rules-forget, after-forgets, makes_permitted}
+use Rattle.endpoint_state.specs.Worlds.{Progress}
+use Rattle.endpoint_state.specs.declared.fault.StepFault.{StepFault}
+use Rattle.endpoint_state.specs.declared.fault.StepFault.TheVariants.{Broken, OutOfMemory}
+use Rattle.spec_step.specs.Asked as plain
+use Rattle.spec_step.specs.Faults.{IfBroken}
+use Rattle.spec_duties.specs.Sights.{sight, unseen, view_in}
+use Rattle.spec_duties.specs.Watching.{Duties, duty_rules, duties_after}
+use Rattle.spec_duties.specs.Cases.{Known, Watched, after, asked_after, asked_rules, forget, case_rules, judged_rules, known_after, noted_by, watch_rules}
+use Rattle.spec_duties.specs.declared.sights.Sight.{Sight}
+use Rattle.watched.specs.Watched.{case_of, noted, seen}
+use Rattle.watched.proofs.ForgetLemmas.{sight-forget, view_in-forget}
+
+-- what duties watch decides the rules, and what they note
+pub judged-seen : (h : Header) (moment : ℕ) (d : Duties) (s : Sight) → judged_rules h moment d (seen h s) ≡ judged_rules h moment d s
+judged-seen h moment d s = by h.slack
+  where
+    by : (o : Option ℕ)
+        → on o [] (λ slack. duty_rules h slack moment d (on o unseen (λ slack. s)))
+        ≡ on o [] (λ slack. duty_rules h slack moment d s)
+    by None = refl
+    by (Some slack) = refl
+
+pub noted-seen : (h : Header) (moment : ℕ) (w : World tcp_shape) (s : Sight) (d : Duties) → noted_by h moment w (seen h s) d ≡ noted_by h moment w s d
+noted-seen h moment w s d = by h.slack
+  where
+    by : (o : Option ℕ)
+        → on o d (λ slack. duties_after (view_in w (on o unseen (λ slack. s)).touched) moment (on o unseen (λ slack. s)) d)
+        ≡ on o d (λ slack. duties_after (view_in w s.touched) moment s d)
+    by None = refl
+    by (Some slack) = refl
+
+-- what may be discarded isn't noted
+pub noted-forget : (h : Header) (moment : ℕ) (w : World tcp_shape) (s : Sight) (d : Duties)
+    → noted_by h moment (forgetting.forget w) s d ≡ noted_by h moment w s d
+noted-forget h moment w s d = ap (λ v. on h.slack d (λ slack. duties_after v moment s d)) (view_in-forget w s.touched)
+
+-- what the code notes is what is kept
+kept_is : (h : Header) (w : World tcp_shape) (d : Duties) (steps moment : ℕ) (step : Step tcp_shape)
+    → noted moment (seen h (sight h moment w step))
+    (record { header = h; world = record { model = forgetting.forget (network.after (tcp h) moment w step); duties = d }; steps = suc steps })
+    ≡ after (record { header = h; world = record { model = w; duties = d }; steps = steps }) moment step
+kept_is h w d steps moment step =
+    ap wrap (noted-seen h moment (forgetting.forget (network.after (tcp h) moment w step)) (sight h moment w step) d
+    ∙ noted-forget h moment (network.after (tcp h) moment w step) (sight h moment w step) d)
+  where
+    wrap : Duties → Watched
+    wrap d = record { header = h; world = record { model = forgetting.forget (network.after (tcp h) moment w step); duties = d }; steps = suc steps }
+
+-- the rules may be asked of what is kept
+pub rules-forget : (h : Header) (moment : ℕ) (k : Known) (step : Step tcp_shape) → case_rules h moment (forget k) step ≡ case_rules h moment k step
+rules-forget h moment k step =
+    ap (λ (rs : List (Rule × Bool)). rs ++ watch_rules h moment (forget k) step) (step_rules-forget h moment k.model step)
+    ∙ ap (λ (s : Sight). step_rules (tcp h) moment k.model step ++ judged_rules h moment k.duties s) (sight-forget h moment k.model step)
+
+-- and what is kept leads to what is kept
+pub known-forgets : (h : Header) (moment : ℕ) (k : Known) (step : Step tcp_shape) → first_broken (case_rules h moment k step) ≡ None
+    → forget (known_after h moment (forget k) step) ≡ forget (known_after h moment k step)
+known-forgets h moment k step none =
+    let permitted = (none_both (step_rules (tcp h) moment k.model step) (watch_rules h moment k step) none).0 in
+    let world = after-forgets h moment k.model step (makes_permitted h moment k.model step permitted) in
+    let was = network.after (tcp h) moment (forget k).model step in
+    let is = network.after (tcp h) moment k.model step in
+    ap (λ (w : World tcp_shape). pair w (noted_by h moment was (sight h moment (forget k).model step) k.duties)) world
+    ∙ ap (λ (s : Sight). pair (forgetting.forget is) (noted_by h moment was s k.duties)) (sight-forget h moment k.model step)
+    ∙ ap (pair (forgetting.forget is)) (
+    sym (noted-forget h moment was (sight h moment k.model step) k.duties)
+    ∙ ap (λ (w : World tcp_shape). noted_by h moment w (sight h moment k.model step) k.duties) world
+    ∙ noted-forget h moment is (sight h moment k.model step) k.duties)
+  where
+    pair : World tcp_shape → Duties → Known
+    pair w d = record { model = w; duties = d }
+
+-- what a fault of the model says of a step of a case
+pub model_breaks_asked : (h : Header) (moment : ℕ) (k : Known) (steps : ℕ) (fault : StepFault) (asked : Option (Step tcp_shape))
+    → IfBroken fault (λ rule. first_broken (plain.asked_rules (record { header = h; world = k.model; steps = steps }) moment asked) ≡ Some rule)
+    → IfBroken fault (λ rule. first_broken (asked_rules (record { header = h; world = k; steps = steps }) moment asked) ≡ Some rule)
+model_breaks_asked h moment k steps (Broken rule) None e = e
+model_breaks_asked h moment k steps (Broken rule) (Some step) e =
+    first_broken-append_some (step_rules (tcp h) moment k.model step) (watch_rules h moment k step) rule e
+model_breaks_asked h moment k steps OutOfMemory asked e = tt
+
+-- what a fault of duties says
+second_breaks : (fault : StepFault) (xs ys : List (Rule × Bool)) (o : Option Rule) → first_broken xs ≡ None → o ≡ first_broken ys
+    → IfBroken fault (λ rule. o ≡ Some rule) → IfBroken fault (λ rule. first_broken (xs ++ ys) ≡ Some rule)
+second_breaks (Broken rule) xs ys o none is e = first_broken-append_none xs ys none ∙ (sym is ∙ e)
+second_breaks OutOfMemory xs ys o none is e = tt
+
+duty_breaks : {A : Type 0} (r : Result A StepFault) (xs ys : List (Rule × Bool)) (o : Option Rule) → first_broken xs ≡ None → o ≡ first_broken ys
+    → IfErr r (λ fault. IfBroken fault (λ rule. o ≡ Some rule)) → IfErr r (λ fault. IfBroken fault (λ rule. first_broken (xs ++ ys) ≡ Some rule))
+duty_breaks (Ok x) xs ys o none is e = tt
+duty_breaks (Err fault) xs ys o none is e = second_breaks fault xs ys o none is e
+
+duty_admits : {A : Type 0} (r : Result A StepFault) (xs ys : List (Rule × Bool)) (o : Option Rule) → first_broken xs ≡ None → o ≡ first_broken ys
+    → OnOk r (o ≡ None) → OnOk r (first_broken (xs ++ ys) ≡ None)
+duty_admits (Ok x) xs ys o none is e = first_broken-append_none xs ys none ∙ (sym is ∙ e)
+duty_admits (Err fault) xs ys o none is e = tt
+
+-- nothing is broken if nothing is seen
+unseen_rules : (h : Header) (moment : ℕ) (d : Duties) → first_broken (judged_rules h moment d unseen) ≡ None
+unseen_rules h moment d = by h.slack
+  where
+    by : (o : Option ℕ) → first_broken (on o [] (λ slack. duty_rules h slack moment d unseen)) ≡ None
+    by None = refl
+    by (Some slack) = refl
+
+-- the rules of a step that there may be
+asked_list : (h : Header) (moment : ℕ) (k : Known) (steps : ℕ) (asked : Option (Step tcp_shape))
+    → first_broken (asked_rules (record { header = h; world = k; steps = steps }) moment asked)
+    ≡ first_broken (plain.asked_rules (record { header = h; world = k.model; steps = steps }) moment asked
+    ++ judged_rules h moment k.duties (option_map_or (sight h moment k.model) asked unseen))
+asked_list h moment k steps None = sym (unseen_rules h moment k.duties)
+asked_list h moment k steps (Some step) = refl
+
+-- what was judged: the rules of duties at what they watch of that step
+abbrev pub IsJudged : Header → (moment : ℕ) → Known → Option (Step tcp_shape) → Option Rule → Type 0
+IsJudged h moment k asked o =
+    o ≡ first_broken (judged_rules h moment k.duties (seen h (option_map_or (sight h moment k.model) asked unseen)))
+
+pub asked_breaks : {A : Type 0} (r : Result A StepFault) (h : Header) (moment : ℕ) (k : Known) (steps : ℕ) (asked : Option (Step tcp_shape)) (o : Option Rule)
+    → first_broken (plain.asked_rules (record { header = h; world = k.model; steps = steps }) moment asked) ≡ None
+    → IsJudged h moment k asked o
+    → IfErr r (λ fault. IfBroken fault (λ rule. o ≡ Some rule))
+    → IfErr r (λ fault. IfBroken fault (λ rule. first_broken (asked_rules (record { header = h; world = k; steps = steps }) moment asked) ≡ Some rule))
+asked_breaks r h moment k steps asked o none is e =
+    let seeing = option_map_or (sight h moment k.model) asked unseen in
+    subst (λ (b : Option Rule). IfErr r (λ fault. IfBroken fault (λ rule. b ≡ Some rule))) (sym (asked_list h moment k steps asked))
+    (duty_breaks r (plain.asked_rules (record { header = h; world = k.model; steps = steps }) moment asked)
+    (judged_rules h moment k.duties seeing) o none (is ∙ ap first_broken (judged-seen h moment k.duties seeing)) e)
+
+pub asked_admits : {A : Type 0} (r : Result A StepFault) (h : Header) (moment : ℕ) (k : Known) (steps : ℕ) (asked : Option (Step tcp_shape)) (o : Option Rule)
+    → first_broken (plain.asked_rules (record { header = h; world = k.model; steps = steps }) moment asked) ≡ None
+    → IsJudged h moment k asked o
+    → OnOk r (o ≡ None) → OnOk r (first_broken (asked_rules (record { header = h; world = k; steps = steps }) moment asked) ≡ None)
+asked_admits r h moment k steps asked o none is e =
+    let seeing = option_map_or (sight h moment k.model) asked unseen in
+    subst (λ (b : Option Rule). OnOk r (b ≡ None)) (sym (asked_list h moment k steps asked))
+    (duty_admits r (plain.asked_rules (record { header = h; world = k.model; steps = steps }) moment asked)
+    (judged_rules h moment k.duties seeing) o none (is ∙ ap first_broken (judged-seen h moment k.duties seeing)) e)
+
+-- the case after a step that duties noted
+pub note_is : {A : Type 0} (r : Result A StepFault) (n : Watched) (p u : Progress) (d : Duties) (moment : ℕ) (asked : Option (Step tcp_shape)) (s : Sight)
+    → u ≡ plain.asked_after p moment asked → s ≡ seen p.header (option_map_or (sight p.header moment p.world) asked unseen)
+    → OnOk r (n ≡ noted moment s (case_of u d)) → OnOk r (n ≡ asked_after (case_of p d) moment asked)
+note_is (Err e) n p u d moment asked s is sees said = tt
+note_is (Ok x) n p u d moment None s is sees said =
+    said ∙ ap (λ (s : Sight). noted moment s (case_of u d)) sees
+    ∙ ap (λ (u : Progress). noted moment (seen p.header unseen) (case_of u d)) is
+    ∙ nothing_noted p.header.slack
+  where
+    wrap : Duties → Watched
+    wrap d = record { header = p.header; world = record { model = p.world; duties = d }; steps = p.steps }
+
+    nothing_noted : (o : Option ℕ)
+        → wrap (on o d (λ slack. duties_after (view_in p.world (on o unseen (λ slack. unseen)).touched) moment (on o unseen (λ slack. unseen)) d)) ≡ wrap d
+    nothing_noted None = refl
+    nothing_noted (Some slack) = refl
+note_is (Ok x) n p u d moment (Some step) s is sees said =
+    said ∙ ap (λ (s : Sight). noted moment s (case_of u d)) sees
+    ∙ ap (λ (u : Progress). noted moment (seen p.header (sight p.header moment p.world step)) (case_of u d)) is
+    ∙ kept_is p.header p.world d p.steps moment step

@@ -1,0 +1,7 @@
+pub mod AscendLemmas
+mod CallLemmas
+pub mod CaseLemmas
+mod EndLemmas
+pub mod ForgetLemmas
+mod PlaceLemmas
+pub mod SlackLemmas

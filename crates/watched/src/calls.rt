@@ -1,0 +1,192 @@
+//! What duties read of the world at the effect of a call.
+
+ghost use Rattle.std.specs.Prelude.{◌≡◌, ◌<◌, ◌^◌, if◌then◌else◌, length, None, Some};
+ghost use Rattle.case_forms.specs.declared.calls.Host.TheVariants.{Zero, One};
+ghost use Rattle.case_forms.specs.declared.trace.Header.{Header};
+ghost use Rattle.spec_network.specs.HostRules.{aim_of};
+ghost use Rattle.spec_network.specs.Hosts.{Effect};
+ghost use Rattle.spec_network.specs.Tables.{on, pick};
+ghost use Rattle.spec_tcp.specs.Bounds.{most_steps};
+ghost use Rattle.spec_tcp.specs.HostTcp.{given, queue_of};
+ghost use Rattle.spec_tcp.specs.Machine.{aim, tcp};
+ghost use Rattle.spec_duties.specs.Sights.{accept_sight, accepting, call_sight, close_sight, is_done, on_thing};
+ghost use Rattle.spec_duties.specs.Sights.{opened_sight, other_sight, pending_sight, sight};
+
+use crate::sights::{at_next, at_place, touching, unseen};
+use case_forms::{Answer, Call, Host};
+use endpoint_state::{HostTcp, World};
+use spec_duties::{Event, Queueing, Sight};
+use spec_tcp::SocketTarget;
+
+fn is_done(answer: &Answer) -> bool
+    ensures { result ≡ is_done answer.now }
+{
+    matches!(answer, Answer::Done)
+}
+
+// A listener loses the first child of its queue, unless that is CLOSED.
+fn accepting(host: Host, b: &HostTcp, place: u32) -> Queueing
+    ensures { result ≡ accepting host b.now place (queue_of b.now place) }
+{
+    let Some(listener) = b.listener_at(place) else {
+        return Queueing::Nothing;
+    };
+    let Some(child) = listener.queue.first() else {
+        return Queueing::Nothing;
+    };
+    match b.endpoint_at(child) {
+        Some(endpoint) if !endpoint.state.is_closed() => Queueing::Accepts {
+            host,
+            listener: place,
+        },
+        _ => Queueing::Nothing,
+    }
+}
+
+fn accept_sight(host: Host, b: &HostTcp, answer: &Answer, thing: SocketTarget) -> Sight
+    ensures { result ≡ accept_sight host b.now answer.now thing }
+{
+    match (answer, thing) {
+        (Answer::Given(_), SocketTarget::ListenerAt(place)) => Sight {
+            queueing: accepting(host, b, place),
+            ..unseen()
+        },
+        _ => unseen(),
+    }
+}
+
+fn close_sight(host: Host, b: &HostTcp, aborts: bool, answer: &Answer, thing: SocketTarget) -> Sight
+    ensures { result ≡ close_sight host b.now aborts answer.now thing }
+{
+    match thing {
+        SocketTarget::EndpointAt(place) => {
+            touching(at_place(host, b, Event::Calls { aborts }, place))
+        }
+        SocketTarget::ListenerAt(listener) => {
+            if is_done(answer) {
+                Sight {
+                    queueing: Queueing::Closes { host, listener },
+                    ..unseen()
+                }
+            } else {
+                unseen()
+            }
+        }
+    }
+}
+
+fn other_sight(host: Host, b: &HostTcp, thing: SocketTarget) -> Sight
+    ensures { result ≡ other_sight host b.now thing }
+{
+    match thing {
+        SocketTarget::EndpointAt(place) => {
+            touching(at_place(host, b, Event::Calls { aborts: false }, place))
+        }
+        SocketTarget::ListenerAt(_) => unseen(),
+    }
+}
+
+fn opened_sight(host: Host, b: &HostTcp, answer: &Answer) -> Sight
+    requires { length b.now.endpoints < 2 ^ 32 }
+    ensures { result ≡ opened_sight host b.now answer.now }
+{
+    match answer {
+        Answer::Given(_) => touching(at_next(host, b, Event::Opens)),
+        Answer::Done
+        | Answer::Bytes(_)
+        | Answer::Again
+        | Answer::Eof
+        | Answer::Closed
+        | Answer::NotConn
+        | Answer::Refused
+        | Answer::Reset
+        | Answer::Timeout
+        | Answer::InUse
+        | Answer::BadSocket
+        | Answer::State(_) => unseen(),
+    }
+}
+
+// A call with this answer, at the host that it applies to.
+fn call_sight(host: Host, b: &HostTcp, call: &Call, answer: &Answer) -> Sight
+    requires { length b.now.endpoints < 2 ^ 32 }
+    ensures { result ≡ call_sight host b.now call.now answer.now }
+{
+    match call {
+        Call::Connect(_, _, _) => opened_sight(host, b, answer),
+        Call::Accept(number) => match b.thing(*number) {
+            Some(thing) => accept_sight(host, b, answer, thing),
+            None => unseen(),
+        },
+        Call::Send(number, _) | Call::Shut(number) => match b.thing(*number) {
+            Some(thing) => other_sight(host, b, thing),
+            None => unseen(),
+        },
+        Call::Close(number) => match b.thing(*number) {
+            Some(thing) => close_sight(host, b, false, answer, thing),
+            None => unseen(),
+        },
+        Call::Abort(number) => match b.thing(*number) {
+            Some(thing) => close_sight(host, b, is_done(answer), answer, thing),
+            None => unseen(),
+        },
+        Call::Listen(_, _, _) | Call::Await(_) | Call::Recv(_, _) | Call::Status(_) => unseen(),
+    }
+}
+
+// The host that gave a socket number. None: neither did.
+fn giver(world: &World, number: u32) -> Option<Host>
+    ensures { result ≡ (if given (pick world.now.world.hosts Zero).body number then Some Zero
+        else if given (pick world.now.world.hosts One).body number then Some One else None) }
+{
+    if world.body(Host::Zero).is_given(number) {
+        Some(Host::Zero)
+    } else if world.body(Host::One).is_given(number) {
+        Some(Host::One)
+    } else {
+        None
+    }
+}
+
+// The host that a call applies to. None: neither gave its socket number.
+fn meant(world: &World, call: &Call) -> Option<Host>
+    ensures { (h : Header) → result ≡ aim_of (tcp h) world.now.world.hosts (aim call.now) }
+{
+    match call {
+        Call::Listen(host, _, _) => Some(*host),
+        Call::Connect(host, _, _) => Some(*host),
+        Call::Await(number) => giver(world, *number),
+        Call::Accept(number) => giver(world, *number),
+        Call::Send(number, _) => giver(world, *number),
+        Call::Recv(number, _) => giver(world, *number),
+        Call::Shut(number) => giver(world, *number),
+        Call::Close(number) => giver(world, *number),
+        Call::Abort(number) => giver(world, *number),
+        Call::Status(number) => giver(world, *number),
+    }
+}
+
+// An open call with this answer, at the host that it applies to.
+#[tactic(auto, using(crate::proofs::PlaceLemmas::places_fit))]
+fn pending_sight(world: &World, call: &Call, answer: &Answer) -> Sight
+    requires { world.now.steps < most_steps }
+    ensures { (h : Header) → result ≡ pending_sight h world.now.world answer.now call.now }
+{
+    let Some(host) = meant(world, call) else {
+        return unseen();
+    };
+    world.is_kept();
+    call_sight(host, world.body(host), call, answer)
+}
+
+/// What duties read of the world at the effect of a thread's open call, with this answer.
+#[tactic(auto, using(crate::proofs::CallLemmas::effect_is))]
+pub(crate) fn sight_of_effect(world: &World, moment: u64, thread: u32, answer: &Answer) -> Sight
+    requires { world.now.steps < most_steps }
+    ensures { result ≡ sight world.now.header moment world.now.world (Effect thread answer.now) }
+{
+    match world.pending_call(thread) {
+        Some(call) => pending_sight(world, call, answer),
+        None => unseen(),
+    }
+}

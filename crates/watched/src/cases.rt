@@ -1,0 +1,224 @@
+//! The model of a case with its duties.
+
+ghost use Rattle.std.specs.Prelude.{◌≡◌, ◌<◌, ◌≤◌, Some, None, OnOk, IfErr};
+ghost use Rattle.std.specs.Option.{option_map_or};
+ghost use Rattle.std.specs.Result.{result_err};
+ghost use Rattle.case_forms.specs.Witnesses.{IsWithinLimits};
+ghost use Rattle.verdict.specs.Rules.{first_broken};
+ghost use Rattle.spec_step.specs.Faults.{IfBroken};
+ghost use Rattle.spec_tcp.specs.Bounds.{most_steps};
+ghost use Rattle.spec_tcp.specs.Steps.{line_step, hidden_step};
+ghost use Rattle.spec_duties.specs.Cases.{after, asked_after, asked_rules, broken_by, judged_rules, late_at_end, noted_by};
+ghost use Rattle.spec_duties.specs.Cases.{start};
+ghost use Rattle.spec_duties.specs.Sights.{sight, unseen};
+ghost use Rattle.watched.specs.Watched.{case_of, noted, seen};
+
+use crate::ending;
+use crate::sights::{sight_of_hidden, sight_of_line, unseen, view_in};
+use case_forms::{Header, Label, TakenLine};
+use duties::Duties;
+use endpoint_state::{StepFault, World};
+use spec_duties::Sight;
+use std::alloc::Global;
+use std::marker::Model;
+use verdict::Rule;
+
+/// The world of a case, and what its hosts owe. Nothing is owed if the header says `slack any`.
+#[derive(Drop)]
+pub struct Case {
+    world: World,
+    duties: Duties,
+}
+
+impl Model for Case {
+    ghost use Rattle.spec_duties.specs.Cases.{Watched};
+
+    ghost Value = { Watched };
+
+    ghost view = { λ a. record {
+      header = a.world.header;
+      world = record { model = a.world.world; duties = a.duties };
+      steps = a.world.steps;
+    } };
+}
+
+impl Case {
+    /// Before the first step.
+    pub fn start(alloc: Global, header: &Header) -> Case
+        ensures { result ≡ start header.now }
+    {
+        Case {
+            world: World::start(alloc, header),
+            duties: Duties::start(alloc),
+        }
+    }
+
+    /// The header.
+    pub fn header(&self) -> &Header
+        ensures { result.now ≡ self.now.header }
+    {
+        self.world.header()
+    }
+
+    /// How many steps were done.
+    pub fn steps(&self) -> u64
+        ensures { result ≡ self.now.steps }
+    {
+        self.world.steps()
+    }
+
+    /// The world of the model.
+    pub fn world(&self) -> &World
+        ensures world { result.now.world ≡ self.now.world.model }
+        ensures header { result.now.header ≡ self.now.header }
+        ensures steps { result.now.steps ≡ self.now.steps }
+    {
+        &self.world
+    }
+
+    /// What its hosts owe.
+    pub fn duties(&self) -> &Duties
+        ensures { result.now ≡ self.now.world.duties }
+    {
+        &self.duties
+    }
+
+    /// The least rule that a duty breaks at the end, if the last step was at this moment, in microseconds, with its
+    /// line: that of a segment that still waits in an inbox, else 0. None: no duty is late.
+    pub fn late_at_end(&self, moment: u64) -> Option<(u64, Rule)>
+        requires { self.now.steps ≤ most_steps }
+        ensures { result ≡ late_at_end self.now.header moment self.now.world }
+    {
+        match self.world.header().slack {
+            Some(slack) => ending::late_at_end(slack, moment, &self.duties, &self.world),
+            None => None,
+        }
+    }
+}
+
+// What duties watch of a step that takes a line.
+fn seen_of_line(world: &World, moment: u64, line: &TakenLine) -> Sight
+    ensures { result ≡ seen world.now.header (sight world.now.header moment world.now.world (line_step line.now)) }
+{
+    match world.header().slack {
+        Some(_) => sight_of_line(world, moment, line),
+        None => unseen(),
+    }
+}
+
+// The same for a step that takes none.
+fn seen_of_hidden<Taken>(world: &World, moment: u64, label: &Label<Taken>) -> Sight
+    requires { world.now.steps < most_steps }
+    ensures { result ≡ seen world.now.header
+        (option_map_or (sight world.now.header moment world.now.world) (hidden_step label.now) unseen) }
+{
+    match world.header().slack {
+        Some(_) => sight_of_hidden(world, moment, label),
+        None => unseen(),
+    }
+}
+
+// Whether no duty refuses a step. The error is the first broken rule.
+fn judged(world: &World, duties: &Duties, moment: u64, sight: &Sight) -> Result<(), Rule>
+    ensures { result_err result ≡ first_broken (judged_rules world.now.header moment duties.now sight.now) }
+{
+    match world.header().slack {
+        Some(slack) => duties.admits(world.header(), slack, moment, sight),
+        None => Ok(()),
+    }
+}
+
+// Notes a step that the model permits, if no duty refuses it.
+fn note(
+    world: &World,
+    duties: &mut Duties,
+    moment: u64,
+    sight: &Sight,
+    judged: Result<(), Rule>,
+) -> Result<(), StepFault>
+    ensures ok { OnOk result (case_of world.now duties.new ≡ noted moment sight.now (case_of world.now duties.old)) }
+    ensures none { OnOk result (result_err judged ≡ None) }
+    ensures broken { IfErr result (λ fault. IfBroken fault (λ rule. result_err judged ≡ Some rule)) }
+{
+    if let Err(rule) = judged {
+        return Err(StepFault::Broken(rule));
+    }
+    if world.header().slack.is_some() {
+        let now = view_in(world, &sight.touched);
+        duties.note(moment, sight, &now)?;
+    }
+    Ok(())
+}
+
+// Does a step that takes a line, in the world and for the duties.
+fn do_line(
+    world: &mut World,
+    duties: &mut Duties,
+    moment: u64,
+    line: TakenLine,
+) -> Result<(), StepFault>
+    requires { world.old.steps < most_steps }
+    ensures ok { OnOk result (case_of world.new duties.new ≡ after (case_of world.old duties.old) moment (line_step line)) }
+    ensures admitted { OnOk result (broken_by (case_of world.old duties.old) moment (line_step line) ≡ None) }
+    ensures broken { IfErr result (λ fault. IfBroken fault
+        (λ rule. broken_by (case_of world.old duties.old) moment (line_step line) ≡ Some rule)) }
+{
+    let sight = seen_of_line(world, moment, &line);
+    let judged = judged(world, duties, moment, &sight);
+    match spec_step::apply_line_owned(world, moment, line) {
+        Ok(()) => note(world, duties, moment, &sight, judged),
+        Err(fault) => Err(fault),
+    }
+}
+
+// Does a step that takes none, in the same way.
+fn do_hidden<Taken>(
+    world: &mut World,
+    duties: &mut Duties,
+    moment: u64,
+    label: &Label<Taken>,
+) -> Result<(), StepFault>
+    requires steps { world.old.steps < most_steps }
+    requires label { IsWithinLimits label.now }
+    ensures ok { OnOk result
+        (case_of world.new duties.new ≡ asked_after (case_of world.old duties.old) moment (hidden_step label.now)) }
+    ensures admitted { OnOk result
+        (first_broken (asked_rules (case_of world.old duties.old) moment (hidden_step label.now)) ≡ None) }
+    ensures broken { IfErr result (λ fault. IfBroken fault (λ rule.
+        first_broken (asked_rules (case_of world.old duties.old) moment (hidden_step label.now)) ≡ Some rule)) }
+{
+    let sight = seen_of_hidden(world, moment, label);
+    let judged = judged(world, duties, moment, &sight);
+    match spec_step::apply_hidden(world, moment, label) {
+        Ok(()) => note(world, duties, moment, &sight, judged),
+        Err(fault) => Err(fault),
+    }
+}
+
+/// Does a step that takes a line, at a moment in microseconds. The error is the least rule that it breaks, of the model
+/// or of a duty, or that memory ran out; the case is of no use then.
+pub fn apply_line_owned(case: &mut Case, moment: u64, line: TakenLine) -> Result<(), StepFault>
+    requires { case.old.steps < most_steps }
+    ensures ok { OnOk result (case.new ≡ after case.old moment (line_step line)) }
+    ensures admitted { OnOk result (broken_by case.old moment (line_step line) ≡ None) }
+    ensures broken { IfErr result (λ fault. IfBroken fault (λ rule. broken_by case.old moment (line_step line)
+        ≡ Some rule)) }
+{
+    do_line(&mut case.world, &mut case.duties, moment, line)
+}
+
+/// Does a step that takes no line, in the same way. A label that takes one does nothing here.
+pub fn apply_hidden<Taken>(
+    case: &mut Case,
+    moment: u64,
+    label: &Label<Taken>,
+) -> Result<(), StepFault>
+    requires steps { case.old.steps < most_steps }
+    requires label { IsWithinLimits label.now }
+    ensures ok { OnOk result (case.new ≡ asked_after case.old moment (hidden_step label.now)) }
+    ensures admitted { OnOk result (first_broken (asked_rules case.old moment (hidden_step label.now)) ≡ None) }
+    ensures broken { IfErr result (λ fault. IfBroken fault
+        (λ rule. first_broken (asked_rules case.old moment (hidden_step label.now)) ≡ Some rule)) }
+{
+    do_hidden(&mut case.world, &mut case.duties, moment, label)
+}

@@ -1,0 +1,19 @@
+//! The model of a case with its duties: each step of the model, watched.
+//!
+//! `spec_duties` has the definitions; `Cases` there joins duties with the model. Nothing is kept and nothing refused if
+//! the header says `slack any`. A step looks up a bounded number of entries; only the end walks endpoints and inboxes,
+//! once.
+//!
+//! - `cases`: a case with its duties: each step, and the comparison at the end
+//! - `sights`: what a step shows of the world; `calls`: the same for the effect of a call; `dropped`: for a segment that
+//!   is dropped
+//! - `ending`: what is late at the end
+#![tactic(auto)]
+
+mod calls;
+mod cases;
+mod dropped;
+mod ending;
+mod sights;
+
+pub use cases::{Case, apply_hidden, apply_line_owned};

@@ -1,0 +1,308 @@
+//! All that duties read of the world at a step.
+
+ghost use Rattle.std.specs.Prelude.{◌≡◌, ◌<◌, ◌^◌, suc, length, nat_eq};
+ghost use Rattle.std.specs.Map.{lookup};
+ghost use Rattle.std.specs.Option.{option_map_or};
+ghost use Rattle.case_forms.specs.Witnesses.{IsWithinLimits};
+ghost use Rattle.spec_network.specs.Hosts as network;
+ghost use Rattle.spec_network.specs.Tables.{on, pick};
+ghost use Rattle.spec_tcp.specs.Bounds.{most_steps};
+ghost use Rattle.spec_tcp.specs.Steps.{hidden_step, line_step};
+ghost use Rattle.spec_duties.specs.Dropped.{has_content};
+ghost use Rattle.spec_duties.specs.Sights.{at_drop, at_next, at_place, at_ports, at_sender, at_target, processing_of};
+ghost use Rattle.spec_duties.specs.Sights.{sending_of, sight, touching, unseen, view_in};
+ghost use Rattle.spec_duties.specs.declared.sights.Post.TheVariants as post;
+ghost use Rattle.spec_duties.specs.declared.sights.Mail.TheVariants as mail;
+ghost use Rattle.watched.specs.Targets.{taker_at};
+
+use crate::calls::sight_of_effect;
+use crate::dropped::{
+    Target, answering_breaks, asks, discards_at, dropping_of, has_content, spared_by,
+    taking_breaks, target_of,
+};
+use case_forms::{Host, Label, Ports, SegmentPlan, TakeChoice, TakenLine};
+use duties::{unborn, view_of};
+use endpoint_state::{HostTcp, World};
+use spec_duties::{Event, Mail, Post, Queueing, Sending, Sight, Touched, View};
+use spec_tcp::Emission;
+use verdict::Rule;
+
+/// Nothing that duties watch.
+pub(crate) fn unseen() -> Sight
+    ensures { result ≡ unseen }
+{
+    Sight {
+        touched: None,
+        mail: Mail::Nothing,
+        post: Post::Nothing,
+        queueing: Queueing::Nothing,
+        dropping: None,
+        discards: false,
+    }
+}
+
+pub(crate) fn touching(touched: Option<Touched>) -> Sight
+    ensures { result ≡ touching touched }
+{
+    Sight {
+        touched,
+        ..unseen()
+    }
+}
+
+/// A step touches the endpoint at a place.
+pub(crate) fn at_place(host: Host, b: &HostTcp, event: Event, place: u32) -> Option<Touched>
+    ensures { result ≡ at_place host b.now event place }
+{
+    match b.endpoint_at(place) {
+        Some(endpoint) => Some(Touched {
+            host,
+            place,
+            event,
+            before: view_of(endpoint),
+        }),
+        None => None,
+    }
+}
+
+fn at_ports(host: Host, b: &HostTcp, event: Event, lport: u16, rport: u16) -> Option<Touched>
+    ensures { result ≡ at_ports host b.now event lport rport }
+{
+    match b.place_of(lport, rport) {
+        Some(place) => at_place(host, b, event, place),
+        None => None,
+    }
+}
+
+/// A new endpoint, in the next place.
+pub(crate) fn at_next(host: Host, b: &HostTcp, event: Event) -> Option<Touched>
+    requires { length b.now.endpoints < 2 ^ 32 }
+    ensures { result ≡ at_next host b.now event }
+{
+    Some(Touched {
+        host,
+        place: b.endpoint_count() as u32,
+        event,
+        before: unborn(),
+    })
+}
+
+fn sending_of(m: &Emission) -> Event
+    ensures { result ≡ sending_of m.now }
+{
+    Event::Sends(Sending {
+        flags: m.flags,
+        pos: m.pos,
+        length: m.length(),
+    })
+}
+
+fn at_sender(host: Host, b: &HostTcp, m: &Emission) -> Option<Touched>
+    ensures { result ≡ at_sender host b.now m.now }
+{
+    if m.is_reset_reply {
+        None
+    } else {
+        at_place(host, b, sending_of(m), m.sender.number)
+    }
+}
+
+fn processing_of(m: &Emission) -> Event
+    ensures { result ≡ processing_of m.now }
+{
+    Event::Processes {
+        length: m.length(),
+        rst: m.flags.rst,
+    }
+}
+
+fn at_target(host: Host, b: &HostTcp, m: &Emission, target: Target) -> Option<Touched>
+    requires { length b.now.endpoints < 2 ^ 32 }
+    ensures { result ≡ at_target host b.now m.now (taker_at b.now target) }
+{
+    match target {
+        Target::Nobody => None,
+        Target::Listener(_) => at_next(host, b, processing_of(m)),
+        Target::Endpoint(place) => at_place(host, b, processing_of(m), place),
+    }
+}
+
+fn at_drop(
+    host: Host,
+    b: &HostTcp,
+    m: &Emission,
+    taking: Option<Rule>,
+    target: Target,
+) -> Option<Touched>
+    ensures { result ≡ at_drop host b.now m.now taking (taker_at b.now target) }
+{
+    let Target::Endpoint(place) = target else {
+        return None;
+    };
+    let Some(endpoint) = b.endpoint_at(place) else {
+        return None;
+    };
+    let event = Event::Drops {
+        asks: asks(m, taking, endpoint),
+        unlimited: has_content(m),
+    };
+    at_place(host, b, event, place)
+}
+
+// A host drops what waits under this line.
+fn sight_of_drop(world: &World, host: Host, line: u64, moment: u64) -> Sight
+    ensures { result ≡ sight world.now.header moment world.now.world (network.At host (network.Drops line)) }
+{
+    let Some(m) = world.waiting(host, line) else {
+        return unseen();
+    };
+    let body = world.body(host);
+    let taking = taking_breaks(world, moment, host, line);
+    let answering = answering_breaks(world, host, line);
+    let target = target_of(body, m);
+    Sight {
+        touched: at_drop(host, body, m, taking, target),
+        mail: Mail::Leaves(line),
+        dropping: Some(dropping_of(host, taking, answering, spared_by(body, m, target))),
+        ..unseen()
+    }
+}
+
+// A host processes what waits under this line.
+#[tactic(auto, using(crate::proofs::PlaceLemmas::places_fit, endpoint_state::proofs::Readable::kept_reads))]
+fn sight_of_taking(world: &World, host: Host, line: u64, how: TakeChoice, moment: u64) -> Sight
+    requires { world.now.steps < most_steps }
+    ensures { result ≡ sight world.now.header moment world.now.world (network.At host (network.Takes line how)) }
+{
+    let Some(m) = world.waiting(host, line) else {
+        return unseen();
+    };
+    world.is_kept();
+    let body = world.body(host);
+    let target = target_of(body, m);
+    Sight {
+        touched: at_target(host, body, m, target),
+        mail: Mail::Leaves(line),
+        discards: discards_at(world.header().version, body, how, m, target),
+        ..unseen()
+    }
+}
+
+// A host builds a segment.
+fn sight_of_making(world: &World, host: Host, plan: &SegmentPlan, moment: u64) -> Sight
+    requires { world.now.steps < most_steps }
+    ensures { result ≡ sight world.now.header moment world.now.world (network.At host (network.Makes plan.now)) }
+{
+    let event = Event::Builds(*plan);
+    Sight {
+        touched: at_ports(host, world.body(host), event, plan.lport, plan.rport),
+        post: Post::Builds(fresh(world)),
+        ..unseen()
+    }
+}
+
+// A host answers by a reset what waits under this line.
+fn sight_of_reset(world: &World, host: Host, line: u64, moment: u64) -> Sight
+    requires { world.now.steps < most_steps }
+    ensures { result ≡ sight world.now.header moment world.now.world (network.At host (network.Answers line)) }
+{
+    Sight {
+        mail: Mail::Leaves(line),
+        post: Post::Builds(fresh(world)),
+        ..unseen()
+    }
+}
+
+// The number of the next segment to be built.
+#[tactic(auto, using(crate::proofs::PlaceLemmas::count_fits))]
+fn fresh(world: &World) -> u32
+    requires { world.now.steps < most_steps }
+    ensures { result ≡ suc world.now.world.count }
+{
+    world.is_kept();
+    world.count() + 1
+}
+
+fn sight_of_sending(world: &World, host: Host, number: u32) -> Sight
+    ensures { result ≡ on (lookup (nat_eq number) (pick world.now.world.hosts host).made) unseen
+        (λ m. record unseen {
+          touched = at_sender host (pick world.now.world.hosts host).body m.emission;
+          post = post.Sends number;
+        }) }
+{
+    match world.made(host, number) {
+        Some(made) => Sight {
+            touched: at_sender(host, world.body(host), made.emission()),
+            post: Post::Sends(number),
+            ..unseen()
+        },
+        None => unseen(),
+    }
+}
+
+fn sight_of_arrival(line: u64) -> Sight
+    ensures { result ≡ record unseen { mail = mail.Enters line } }
+{
+    Sight {
+        mail: Mail::Enters(line),
+        ..unseen()
+    }
+}
+
+fn sight_at_ports(world: &World, host: Host, event: Event, ports: Ports) -> Sight
+    ensures { result ≡ touching (at_ports host (pick world.now.world.hosts host).body event ports.lport ports.rport) }
+{
+    touching(at_ports(host, world.body(host), event, ports.lport, ports.rport))
+}
+
+/// What duties read of the world at a step that takes a line.
+pub(crate) fn sight_of_line(world: &World, moment: u64, line: &TakenLine) -> Sight
+    ensures { result ≡ sight world.now.header moment world.now.world (line_step line.now) }
+{
+    match line {
+        TakenLine::CallBegin { .. } | TakenLine::CallEnd { .. } => unseen(),
+        TakenLine::Sent { host, made, .. } => sight_of_sending(world, *host, *made),
+        TakenLine::Came { line, .. } | TakenLine::Heard { line, .. } => sight_of_arrival(*line),
+        TakenLine::Expired {
+            host,
+            ports,
+            expired,
+            ..
+        } => sight_at_ports(world, *host, Event::Expires(expired.timer()), *ports),
+    }
+}
+
+/// What duties read of the world at a step that takes none.
+pub(crate) fn sight_of_hidden<Taken>(world: &World, moment: u64, label: &Label<Taken>) -> Sight
+    requires { world.now.steps < most_steps }
+    ensures { result ≡ option_map_or (sight world.now.header moment world.now.world) (hidden_step label.now) unseen }
+{
+    match label {
+        Label::L(_) => unseen(),
+        Label::D { thread, answer } => sight_of_effect(world, moment, *thread, answer),
+        Label::M { host, plan } => sight_of_making(world, *host, plan, moment),
+        Label::T { host, line, choice } => sight_of_taking(world, *host, *line, *choice, moment),
+        Label::K { host, line } => sight_of_drop(world, *host, *line, moment),
+        Label::R { host, line } => sight_of_reset(world, *host, *line, moment),
+        Label::F { host, recovery } => {
+            let ports = Ports {
+                lport: recovery.lport,
+                rport: recovery.rport,
+            };
+            sight_at_ports(world, *host, Event::Recovers, ports)
+        }
+    }
+}
+
+/// The endpoint that a step touched, as it is in this world.
+pub(crate) fn view_in(world: &World, touched: &Option<Touched>) -> View
+    ensures { result ≡ view_in world.now.world touched.now }
+{
+    match touched {
+        Some(touched) => match world.body(touched.host).endpoint_at(touched.place) {
+            Some(endpoint) => view_of(endpoint),
+            None => unborn(),
+        },
+        None => unborn(),
+    }
+}
