@@ -17,7 +17,6 @@ use Rattle.spec_network.specs.Hosts.{Stamped}
 use Rattle.spec_merge.specs.Keys.{rank}
 use Rattle.spec_merge.specs.Placing as placing
 use Rattle.spec_tcp.specs.Machine.{tcp, tcp_shape}
-use Rattle.spec_duties.specs.Watching.{slack_of}
 use Rattle.checker.specs.Seen.{stamped}
 
 -- what an event of that thread is to the model, for which the threads of segments and timers don't exist
@@ -50,8 +49,8 @@ AllTakeWell h lines (s ∷ steps) = TakesWell h lines s.label × AllTakeWell h l
 pub record Tells (t : Trace) (w : Witness) (steps : List (Stamped tcp_shape)) : Type 0 where
   pub trace : IsTrace t
   pub version : t.header.version ≡ w.version
-  -- how late a host may be isn't judged
-  pub slack : slack_of t.header ≡ None
+  -- duties aren't judged
+  pub slack : t.header.slack ≡ None
   pub takes : AllTakeWell t.header t.lines w.steps
   pub steps_are : stamped t.header t.lines w.steps ≡ steps
   pub lines_are : map line_told t.lines ≡ placing.lines_of (tcp t.header) steps

@@ -1,6 +1,6 @@
 //! The recordings of two hosts, merged.
 
-ghost use Rattle.std.specs.Prelude.{◌≡◌, ◌≤◌, ◌+◌, false, IfOk, IfErr};
+ghost use Rattle.std.specs.Prelude.{◌≡◌, ◌≤◌, ◌+◌, false, IfOk, IfErr, None};
 ghost use Rattle.case_forms.specs.declared.calls.Host.TheVariants.{Zero, One};
 ghost use Rattle.case_forms.specs.Traces.{first_event_line};
 ghost use Rattle.case_forms.specs.Versions.{is_half};
@@ -94,6 +94,7 @@ pub fn merge_recordings(
     requires hosts { (zero.now.me ≡ Zero) × (one.now.me ≡ One) }
     requires headers { zero.now.header ≡ one.now.header }
     requires whole { is_half zero.now.header.version ≡ false }
+    requires slack { zero.now.header.slack ≡ None }
     requires few { steps_in zero.now.entries + steps_in one.now.entries ≤ 100000000 }
     requires above { AllAbove zero.now.entries × AllAbove one.now.entries }
     ensures header { IfOk result (λ r. r.trace.header ≡ zero.now.header) }

@@ -1,6 +1,6 @@
 //! The books of both hosts, merged.
 
-ghost use Rattle.std.specs.Prelude.{◌≡◌, false, IfOk, IfErr};
+ghost use Rattle.std.specs.Prelude.{◌≡◌, false, IfOk, IfErr, None};
 ghost use Rattle.case_forms.specs.declared.calls.Host.TheVariants.{Zero, One};
 ghost use Rattle.case_forms.specs.Traces.{first_event_line};
 ghost use Rattle.case_forms.specs.Versions.{is_half};
@@ -26,6 +26,7 @@ pub fn merge(alloc: Global, zero: HostBook, one: HostBook) -> Result<Recorded, M
     requires hosts { (zero.core.recorded.me ≡ Zero) × (one.core.recorded.me ≡ One) }
     requires headers { zero.core.recorded.header ≡ one.core.recorded.header }
     requires whole { is_half zero.core.recorded.header.version ≡ false }
+    requires slack { zero.core.recorded.header.slack ≡ None }
     ensures header { IfOk result (λ r. r.trace.header ≡ zero.core.recorded.header) }
     ensures told { IfOk result (λ r.
         Tells r.trace r.witness (merged zero.core.recorded.header (first_event_line zero.core.recorded.header)
