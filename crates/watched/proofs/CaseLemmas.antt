@@ -1,5 +1,5 @@
 -- A step of a case: the rules of the model and of duties, and the case after it.
-use Rattle.std.proofs.Common.{◌≡◌, ℕ, suc, Bool, List, [], ◌++◌, Option, None, Some, Result, Ok, Err, refl, sym, ap, subst, ◌∙◌}
+use Rattle.std.proofs.Common.{◌≡◌, ℕ, suc, Bool, List, [], ◌++◌, Option, None, Some, Result, Ok, Err, refl, sym, ap, subst, ◌∙◌, append-nil}
 use Rattle.std.specs.Prelude.{OnOk, IfErr}
 use Rattle.std.specs.Option.{option_map_or}
 use Rattle.case_forms.specs.declared.trace.Header.{Header}
@@ -22,27 +22,8 @@ use Rattle.spec_duties.specs.Sights.{sight, unseen, view_in}
 use Rattle.spec_duties.specs.Watching.{Duties, duty_rules, duties_after}
 use Rattle.spec_duties.specs.Cases.{Known, Watched, after, asked_after, asked_rules, forget, case_rules, judged_rules, known_after, noted_by, watch_rules}
 use Rattle.spec_duties.specs.declared.sights.Sight.{Sight}
-use Rattle.watched.specs.Watched.{case_of, noted, seen}
+use Rattle.watched.specs.Watched.{case_of, noted}
 use Rattle.watched.proofs.ForgetLemmas.{sight-forget, view_in-forget}
-
--- what duties watch decides the rules, and what they note
-pub judged-seen : (h : Header) (moment : ℕ) (d : Duties) (s : Sight) → judged_rules h moment d (seen h s) ≡ judged_rules h moment d s
-judged-seen h moment d s = by h.slack
-  where
-    by : (o : Option ℕ)
-        → on o [] (λ slack. duty_rules h slack moment d (on o unseen (λ slack. s)))
-        ≡ on o [] (λ slack. duty_rules h slack moment d s)
-    by None = refl
-    by (Some slack) = refl
-
-pub noted-seen : (h : Header) (moment : ℕ) (w : World tcp_shape) (s : Sight) (d : Duties) → noted_by h moment w (seen h s) d ≡ noted_by h moment w s d
-noted-seen h moment w s d = by h.slack
-  where
-    by : (o : Option ℕ)
-        → on o d (λ slack. duties_after (view_in w (on o unseen (λ slack. s)).touched) moment (on o unseen (λ slack. s)) d)
-        ≡ on o d (λ slack. duties_after (view_in w s.touched) moment s d)
-    by None = refl
-    by (Some slack) = refl
 
 -- what may be discarded isn't noted
 pub noted-forget : (h : Header) (moment : ℕ) (w : World tcp_shape) (s : Sight) (d : Duties)
@@ -51,12 +32,10 @@ noted-forget h moment w s d = ap (λ v. on h.slack d (λ slack. duties_after v m
 
 -- what the code notes is what is kept
 kept_is : (h : Header) (w : World tcp_shape) (d : Duties) (steps moment : ℕ) (step : Step tcp_shape)
-    → noted moment (seen h (sight h moment w step))
+    → noted moment (sight h moment w step)
     (record { header = h; world = record { model = forgetting.forget (network.after (tcp h) moment w step); duties = d }; steps = suc steps })
     ≡ after (record { header = h; world = record { model = w; duties = d }; steps = steps }) moment step
-kept_is h w d steps moment step =
-    ap wrap (noted-seen h moment (forgetting.forget (network.after (tcp h) moment w step)) (sight h moment w step) d
-    ∙ noted-forget h moment (network.after (tcp h) moment w step) (sight h moment w step) d)
+kept_is h w d steps moment step = ap wrap (noted-forget h moment (network.after (tcp h) moment w step) (sight h moment w step) d)
   where
     wrap : Duties → Watched
     wrap d = record { header = h; world = record { model = forgetting.forget (network.after (tcp h) moment w step); duties = d }; steps = suc steps }
@@ -129,7 +108,7 @@ asked_list h moment k steps (Some step) = refl
 -- what was judged: the rules of duties at what they watch of that step
 abbrev pub IsJudged : Header → (moment : ℕ) → Known → Option (Step tcp_shape) → Option Rule → Type 0
 IsJudged h moment k asked o =
-    o ≡ first_broken (judged_rules h moment k.duties (seen h (option_map_or (sight h moment k.model) asked unseen)))
+    o ≡ first_broken (judged_rules h moment k.duties (option_map_or (sight h moment k.model) asked unseen))
 
 pub asked_breaks : {A : Type 0} (r : Result A StepFault) (h : Header) (moment : ℕ) (k : Known) (steps : ℕ) (asked : Option (Step tcp_shape)) (o : Option Rule)
     → first_broken (plain.asked_rules (record { header = h; world = k.model; steps = steps }) moment asked) ≡ None
@@ -137,39 +116,79 @@ pub asked_breaks : {A : Type 0} (r : Result A StepFault) (h : Header) (moment : 
     → IfErr r (λ fault. IfBroken fault (λ rule. o ≡ Some rule))
     → IfErr r (λ fault. IfBroken fault (λ rule. first_broken (asked_rules (record { header = h; world = k; steps = steps }) moment asked) ≡ Some rule))
 asked_breaks r h moment k steps asked o none is e =
-    let seeing = option_map_or (sight h moment k.model) asked unseen in
     subst (λ (b : Option Rule). IfErr r (λ fault. IfBroken fault (λ rule. b ≡ Some rule))) (sym (asked_list h moment k steps asked))
     (duty_breaks r (plain.asked_rules (record { header = h; world = k.model; steps = steps }) moment asked)
-    (judged_rules h moment k.duties seeing) o none (is ∙ ap first_broken (judged-seen h moment k.duties seeing)) e)
+    (judged_rules h moment k.duties (option_map_or (sight h moment k.model) asked unseen)) o none is e)
 
 pub asked_admits : {A : Type 0} (r : Result A StepFault) (h : Header) (moment : ℕ) (k : Known) (steps : ℕ) (asked : Option (Step tcp_shape)) (o : Option Rule)
     → first_broken (plain.asked_rules (record { header = h; world = k.model; steps = steps }) moment asked) ≡ None
     → IsJudged h moment k asked o
     → OnOk r (o ≡ None) → OnOk r (first_broken (asked_rules (record { header = h; world = k; steps = steps }) moment asked) ≡ None)
 asked_admits r h moment k steps asked o none is e =
-    let seeing = option_map_or (sight h moment k.model) asked unseen in
     subst (λ (b : Option Rule). OnOk r (b ≡ None)) (sym (asked_list h moment k steps asked))
     (duty_admits r (plain.asked_rules (record { header = h; world = k.model; steps = steps }) moment asked)
-    (judged_rules h moment k.duties seeing) o none (is ∙ ap first_broken (judged-seen h moment k.duties seeing)) e)
+    (judged_rules h moment k.duties (option_map_or (sight h moment k.model) asked unseen)) o none is e)
 
 -- the case after a step that duties noted
 pub note_is : {A : Type 0} (r : Result A StepFault) (n : Watched) (p u : Progress) (d : Duties) (moment : ℕ) (asked : Option (Step tcp_shape)) (s : Sight)
-    → u ≡ plain.asked_after p moment asked → s ≡ seen p.header (option_map_or (sight p.header moment p.world) asked unseen)
+    → u ≡ plain.asked_after p moment asked → s ≡ option_map_or (sight p.header moment p.world) asked unseen
     → OnOk r (n ≡ noted moment s (case_of u d)) → OnOk r (n ≡ asked_after (case_of p d) moment asked)
 note_is (Err e) n p u d moment asked s is sees said = tt
 note_is (Ok x) n p u d moment None s is sees said =
     said ∙ ap (λ (s : Sight). noted moment s (case_of u d)) sees
-    ∙ ap (λ (u : Progress). noted moment (seen p.header unseen) (case_of u d)) is
+    ∙ ap (λ (u : Progress). noted moment unseen (case_of u d)) is
     ∙ nothing_noted p.header.slack
   where
     wrap : Duties → Watched
     wrap d = record { header = p.header; world = record { model = p.world; duties = d }; steps = p.steps }
 
-    nothing_noted : (o : Option ℕ)
-        → wrap (on o d (λ slack. duties_after (view_in p.world (on o unseen (λ slack. unseen)).touched) moment (on o unseen (λ slack. unseen)) d)) ≡ wrap d
+    nothing_noted : (o : Option ℕ) → wrap (on o d (λ slack. duties_after (view_in p.world unseen.touched) moment unseen d)) ≡ wrap d
     nothing_noted None = refl
     nothing_noted (Some slack) = refl
 note_is (Ok x) n p u d moment (Some step) s is sees said =
     said ∙ ap (λ (s : Sight). noted moment s (case_of u d)) sees
-    ∙ ap (λ (u : Progress). noted moment (seen p.header (sight p.header moment p.world step)) (case_of u d)) is
+    ∙ ap (λ (u : Progress). noted moment (sight p.header moment p.world step) (case_of u d)) is
     ∙ kept_is p.header p.world d p.steps moment step
+
+-- ---- without a slack
+
+-- the rules are those of the model
+plain_rules : (p : Progress) (d : Duties) (moment : ℕ) (asked : Option (Step tcp_shape)) → p.header.slack ≡ None
+    → first_broken (asked_rules (case_of p d) moment asked) ≡ first_broken (plain.asked_rules p moment asked)
+plain_rules p d moment None any = refl
+plain_rules p d moment (Some step) any =
+    let model = step_rules (tcp p.header) moment p.world step in
+    ap (λ o. first_broken (model ++ on o [] (λ slack. duty_rules p.header slack moment d (sight p.header moment p.world step)))) any
+    ∙ ap first_broken (append-nil model)
+
+pub plain_admits : {A : Type 0} (r : Result A StepFault) (p : Progress) (d : Duties) (moment : ℕ) (asked : Option (Step tcp_shape)) → p.header.slack ≡ None
+    → OnOk r (first_broken (plain.asked_rules p moment asked) ≡ None) → OnOk r (first_broken (asked_rules (case_of p d) moment asked) ≡ None)
+plain_admits (Ok x) p d moment asked any e = plain_rules p d moment asked any ∙ e
+plain_admits (Err fault) p d moment asked any e = tt
+
+plain_fault : (fault : StepFault) (p : Progress) (d : Duties) (moment : ℕ) (asked : Option (Step tcp_shape)) → p.header.slack ≡ None
+    → IfBroken fault (λ rule. first_broken (plain.asked_rules p moment asked) ≡ Some rule)
+    → IfBroken fault (λ rule. first_broken (asked_rules (case_of p d) moment asked) ≡ Some rule)
+plain_fault (Broken rule) p d moment asked any e = plain_rules p d moment asked any ∙ e
+plain_fault OutOfMemory p d moment asked any e = tt
+
+pub plain_breaks : {A : Type 0} (r : Result A StepFault) (p : Progress) (d : Duties) (moment : ℕ) (asked : Option (Step tcp_shape)) → p.header.slack ≡ None
+    → IfErr r (λ fault. IfBroken fault (λ rule. first_broken (plain.asked_rules p moment asked) ≡ Some rule))
+    → IfErr r (λ fault. IfBroken fault (λ rule. first_broken (asked_rules (case_of p d) moment asked) ≡ Some rule))
+plain_breaks (Ok x) p d moment asked any e = tt
+plain_breaks (Err fault) p d moment asked any e = plain_fault fault p d moment asked any e
+
+-- and nothing is noted
+pub plain_is : {A : Type 0} (r : Result A StepFault) (p u : Progress) (d : Duties) (moment : ℕ) (asked : Option (Step tcp_shape)) → p.header.slack ≡ None
+    → OnOk r (u ≡ plain.asked_after p moment asked) → OnOk r (case_of u d ≡ asked_after (case_of p d) moment asked)
+plain_is (Err e) p u d moment asked any is = tt
+plain_is (Ok x) p u d moment None any is = ap (λ (u : Progress). case_of u d) is
+plain_is (Ok x) p u d moment (Some step) any is =
+    ap (λ (u : Progress). case_of u d) is
+    ∙ ap wrap (sym (ap (λ o. on o d (λ slack. duties_after (view_in now (sight p.header moment p.world step).touched) moment (sight p.header moment p.world step) d)) any))
+  where
+    now : World tcp_shape
+    now = network.after (tcp p.header) moment p.world step
+
+    wrap : Duties → Watched
+    wrap d = record { header = p.header; world = record { model = forgetting.forget now; duties = d }; steps = suc p.steps }

@@ -1,9 +1,6 @@
 -- A case in its parts, and what is noted of a step in them.
 use Rattle.std.specs.Prelude.{ℕ}
-use Rattle.case_forms.specs.declared.trace.Header.{Header}
-use Rattle.spec_network.specs.Tables.{on}
 use Rattle.endpoint_state.specs.Worlds.{Progress}
-use Rattle.spec_duties.specs.Sights.{unseen}
 use Rattle.spec_duties.specs.declared.sights.Sight.{Sight}
 use Rattle.spec_duties.specs.Watching.{Duties}
 use Rattle.spec_duties.specs.Cases.{Watched, noted_by}
@@ -11,10 +8,6 @@ use Rattle.spec_duties.specs.Cases.{Watched, noted_by}
 -- the world of a case, and what its hosts owe
 abbrev pub case_of : Progress → Duties → Watched
 case_of p d = record { header = p.header; world = record { model = p.world; duties = d }; steps = p.steps }
-
--- what duties watch: nothing if the header gives no slack
-abbrev pub seen : Header → Sight → Sight
-seen h s = on h.slack unseen (λ slack. s)
 
 -- a case whose model did a step, once its duties noted it
 abbrev pub noted : (moment : ℕ) → Sight → Watched → Watched

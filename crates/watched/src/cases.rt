@@ -1,7 +1,6 @@
 //! The model of a case with its duties.
 
 ghost use Rattle.std.specs.Prelude.{◌≡◌, ◌<◌, ◌≤◌, Some, None, OnOk, IfErr};
-ghost use Rattle.std.specs.Option.{option_map_or};
 ghost use Rattle.std.specs.Result.{result_err};
 ghost use Rattle.case_forms.specs.Witnesses.{IsWithinLimits};
 ghost use Rattle.verdict.specs.Rules.{first_broken};
@@ -10,11 +9,10 @@ ghost use Rattle.spec_tcp.specs.Bounds.{most_steps};
 ghost use Rattle.spec_tcp.specs.Steps.{line_step, hidden_step};
 ghost use Rattle.spec_duties.specs.Cases.{after, asked_after, asked_rules, broken_by, judged_rules, late_at_end, noted_by};
 ghost use Rattle.spec_duties.specs.Cases.{start};
-ghost use Rattle.spec_duties.specs.Sights.{sight, unseen};
-ghost use Rattle.watched.specs.Watched.{case_of, noted, seen};
+ghost use Rattle.watched.specs.Watched.{case_of, noted};
 
 use crate::ending;
-use crate::sights::{sight_of_hidden, sight_of_line, unseen, view_in};
+use crate::sights::{sight_of_hidden, sight_of_line, view_in};
 use case_forms::{Header, Label, TakenLine};
 use duties::Duties;
 use endpoint_state::{StepFault, World};
@@ -96,28 +94,6 @@ impl Case {
     }
 }
 
-// What duties watch of a step that takes a line.
-fn seen_of_line(world: &World, moment: u64, line: &TakenLine) -> Sight
-    ensures { result ≡ seen world.now.header (sight world.now.header moment world.now.world (line_step line.now)) }
-{
-    match world.header().slack {
-        Some(_) => sight_of_line(world, moment, line),
-        None => unseen(),
-    }
-}
-
-// The same for a step that takes none.
-fn seen_of_hidden<Taken>(world: &World, moment: u64, label: &Label<Taken>) -> Sight
-    requires { world.now.steps < most_steps }
-    ensures { result ≡ seen world.now.header
-        (option_map_or (sight world.now.header moment world.now.world) (hidden_step label.now) unseen) }
-{
-    match world.header().slack {
-        Some(_) => sight_of_hidden(world, moment, label),
-        None => unseen(),
-    }
-}
-
 // Whether no duty refuses a step. The error is the first broken rule.
 fn judged(world: &World, duties: &Duties, moment: u64, sight: &Sight) -> Result<(), Rule>
     ensures { result_err result ≡ first_broken (judged_rules world.now.header moment duties.now sight.now) }
@@ -151,6 +127,52 @@ fn note(
 }
 
 // Does a step that takes a line, in the world and for the duties.
+fn watch_line(
+    world: &mut World,
+    duties: &mut Duties,
+    moment: u64,
+    line: TakenLine,
+) -> Result<(), StepFault>
+    requires { world.old.steps < most_steps }
+    ensures ok { OnOk result (case_of world.new duties.new ≡ after (case_of world.old duties.old) moment (line_step line)) }
+    ensures admitted { OnOk result (broken_by (case_of world.old duties.old) moment (line_step line) ≡ None) }
+    ensures broken { IfErr result (λ fault. IfBroken fault
+        (λ rule. broken_by (case_of world.old duties.old) moment (line_step line) ≡ Some rule)) }
+{
+    let sight = sight_of_line(world, moment, &line);
+    let judged = judged(world, duties, moment, &sight);
+    match spec_step::apply_line_owned(world, moment, line) {
+        Ok(()) => note(world, duties, moment, &sight, judged),
+        Err(fault) => Err(fault),
+    }
+}
+
+// Does a step that takes none, in the same way.
+fn watch_hidden<Taken>(
+    world: &mut World,
+    duties: &mut Duties,
+    moment: u64,
+    label: &Label<Taken>,
+) -> Result<(), StepFault>
+    requires steps { world.old.steps < most_steps }
+    requires label { IsWithinLimits label.now }
+    ensures ok { OnOk result
+        (case_of world.new duties.new ≡ asked_after (case_of world.old duties.old) moment (hidden_step label.now)) }
+    ensures admitted { OnOk result
+        (first_broken (asked_rules (case_of world.old duties.old) moment (hidden_step label.now)) ≡ None) }
+    ensures broken { IfErr result (λ fault. IfBroken fault (λ rule.
+        first_broken (asked_rules (case_of world.old duties.old) moment (hidden_step label.now)) ≡ Some rule)) }
+{
+    let sight = sight_of_hidden(world, moment, label);
+    let judged = judged(world, duties, moment, &sight);
+    match spec_step::apply_hidden(world, moment, label) {
+        Ok(()) => note(world, duties, moment, &sight, judged),
+        Err(fault) => Err(fault),
+    }
+}
+
+// The same for a step that takes a line, if duties are judged; else the model alone does it.
+#[tactic(auto, using(crate::proofs::CaseLemmas::plain_is, crate::proofs::CaseLemmas::plain_admits, crate::proofs::CaseLemmas::plain_breaks))]
 fn do_line(
     world: &mut World,
     duties: &mut Duties,
@@ -163,15 +185,14 @@ fn do_line(
     ensures broken { IfErr result (λ fault. IfBroken fault
         (λ rule. broken_by (case_of world.old duties.old) moment (line_step line) ≡ Some rule)) }
 {
-    let sight = seen_of_line(world, moment, &line);
-    let judged = judged(world, duties, moment, &sight);
-    match spec_step::apply_line_owned(world, moment, line) {
-        Ok(()) => note(world, duties, moment, &sight, judged),
-        Err(fault) => Err(fault),
+    match world.header().slack {
+        Some(_) => watch_line(world, duties, moment, line),
+        None => spec_step::apply_line_owned(world, moment, line),
     }
 }
 
-// Does a step that takes none, in the same way.
+// The same for a step that takes none.
+#[tactic(auto, using(crate::proofs::CaseLemmas::plain_is, crate::proofs::CaseLemmas::plain_admits, crate::proofs::CaseLemmas::plain_breaks))]
 fn do_hidden<Taken>(
     world: &mut World,
     duties: &mut Duties,
@@ -187,11 +208,9 @@ fn do_hidden<Taken>(
     ensures broken { IfErr result (λ fault. IfBroken fault (λ rule.
         first_broken (asked_rules (case_of world.old duties.old) moment (hidden_step label.now)) ≡ Some rule)) }
 {
-    let sight = seen_of_hidden(world, moment, label);
-    let judged = judged(world, duties, moment, &sight);
-    match spec_step::apply_hidden(world, moment, label) {
-        Ok(()) => note(world, duties, moment, &sight, judged),
-        Err(fault) => Err(fault),
+    match world.header().slack {
+        Some(_) => watch_hidden(world, duties, moment, label),
+        None => spec_step::apply_hidden(world, moment, label),
     }
 }
 
