@@ -16,11 +16,15 @@ To check this, run: tcpwit many --workers 4 < FOLDER/many.txt | diff - FOLDER/wa
 
 A line belongs to the host that it names; a call on a socket number belongs to the host that returned this number. A call on a
 number that was never returned is in both halves. A half is left out if its host has no line, or if a case of version 1 shows a SYN
-of this host with a shift: version 1 ignores it, version 3 doesn't.
+of this host with a shift: version 1 ignores it, version 3 doesn't. In LEFT_OUT, a host drops what an older connection sent; in a half
+case, nothing shows that, so the host would have to process it.
 """
 
 import pathlib
 import sys
+
+# Cases without halves.
+LEFT_OUT = {"dropped-a-segment-of-an-older-connection"}
 
 # How many lines the header of a whole case has, by its first line.
 HEADERS = {"trace 1": 6, "trace 2": 7, "trace 4": 9, "trace 5": 10}
@@ -216,7 +220,7 @@ def main(data, folder):
     halves = []
     for row in (data / "expected.txt").read_text().splitlines():
         name, wanted = row.split("\t")
-        if wanted.startswith("yes "):
+        if wanted.startswith("yes ") and name not in LEFT_OUT:
             text = (data / f"{name}.case").read_bytes().decode("ascii")
             halves += halves_of(name, text)
     for name, text, _ in halves:
