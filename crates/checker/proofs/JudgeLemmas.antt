@@ -23,7 +23,8 @@ use Rattle.spec_tcp_laws.proofs.Ascending.{first_is_least}
 use Rattle.spec_duties.specs.Cases.{Known, first_known, known_after_all}
 use Rattle.watched.proofs.AscendLemmas.{all_ascend as step_ascend}
 use Rattle.checker.specs.Seen.{move_of, moves, act_of, stamped}
-use Rattle.checker.specs.Verdicts.{act_after, act_rules, all_rules, broken, next_world, takes_line, line_named, verdict, verdict_from, verdict_left, late_after, refused_or}
+use Rattle.checker.specs.Verdicts.{act_after, act_rules, all_rules, broken, next_world, takes_line, line_named, verdict, verdict_from, verdict_left, late_after}
+use Rattle.checker.specs.Verdicts.{refused_or}
 use Rattle.checker.specs.Explains.{Explains, IsYes}
 use Rattle.checker.specs.Judges.{broken_at, rules_at, Says}
 use Rattle.checker.proofs.YesLemmas.{after_more, yes_explains, explains_yes}
@@ -168,7 +169,8 @@ verdict_says t w (No witness_line trace_line rule) is =
   where
     least_at : (place : ℕ) (s : Step) → broken_at t w place s ≡ Some rule → IsLeastBroken (rules_at t w place s) rule
     least_at place s broken = first_is_least 1 (rules_at t w place s) rule
-        (all_ascend t.header t.lines (take place w.steps) (known_after_all t.header (first_known t.header) (stamped t.header t.lines (take place w.steps))) s) broken
+        (all_ascend t.header t.lines (take place w.steps)
+        (known_after_all t.header (first_known t.header) (stamped t.header t.lines (take place w.steps))) s) broken
 
     by : SaysLeft t [] w.steps (No witness_line trace_line rule) → Says t w (No witness_line trace_line rule)
     by (inl said) = inl (said.0, said.1, record { line = said.2.0; left = said.2.1; before = said.3 })

@@ -63,7 +63,8 @@ same_counts u w lines hidden c (Yes some others) is said =
     is ∙ ap (λ (n : ℕ). Yes n others) (d.lines_are ∙ sym c.lines_are) ∙ ap (λ (n : ℕ). Yes lines n) (d.hidden_are ∙ sym c.hidden_are)
 same_counts u w lines hidden c (No witness_line trace_line rule) is said = absurd said
 
-pub yes_stays : (j : Judged) (t : Trace) (w : Witness) (lines hidden : ℕ) → t.header.slack ≡ None → extent j ≤ extent t.header.congestion → verdict t w ≡ Yes lines hidden
+pub yes_stays : (j : Judged) (t : Trace) (w : Witness) (lines hidden : ℕ) → t.header.slack ≡ None → extent j ≤ extent t.header.congestion
+    → verdict t w ≡ Yes lines hidden
     → verdict (trace_by j t) w ≡ Yes lines hidden
 yes_stays j t w lines hidden any le is =
     let said = verdict_says t w (Yes lines hidden) is in

@@ -79,7 +79,8 @@ module _ (header : Header) (lines : Option (Result (List Line) TextFault)) (step
       let rest = rest_of_whole lines left offered all f.passed is in
       let late : AreLater s.moment rest.0 = subst (AllLater s.moment) rest.1 later in
       ap (λ (a : List Line). broken header a earlier (whole header a earlier) s) rest.2
-      ∙ ap (λ acts. broken header (offered ++ rest.0) earlier (known_after_all header (first_known header) acts) s) (stamped_more header offered rest.0 earlier f.below)
+      ∙ ap (λ acts. broken header (offered ++ rest.0) earlier (known_after_all header (first_known header) acts) s)
+      (stamped_more header offered rest.0 earlier f.below)
       ∙ broken_more header offered rest.0 earlier (whole header offered earlier) s f.below late names
       ∙ sym (rule_is header offered earlier o p s f.come)
 

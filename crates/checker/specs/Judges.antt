@@ -41,8 +41,8 @@ pub record LeavesLine (t : Trace) (w : Witness) (number : ℕ) : Type 0 where
   pub left : slice_get (unplaced t.header t.lines (moves w.steps)) 0 ≡ Some (number, line)
   pub before : (i : ℕ) (s : Step) → slice_get w.steps i ≡ Some s → broken_at t w i s ≡ None
 
--- no step breaks a rule and each line is taken, but by the moment of the last step a duty is late: this is the least rule
--- of such a duty, with the line of the segment that waits, else 0
+-- no step breaks a rule and each line is taken, but by the moment of the last step a duty is late: this is the least
+-- rule of such a duty, with the line of the segment that waits, else 0
 pub record OwesAtEnd (t : Trace) (w : Witness) (line : ℕ) (rule : Rule) : Type 0 where
   pub placed : unplaced t.header t.lines (moves w.steps) ≡ []
   pub late : late_after t.header w.steps

@@ -141,7 +141,8 @@ sent_less slack more moment None le e = refl
 sent_less slack more moment (Some b) le e = late_less slack more moment (Some b.since) le e
 
 touched_less : (h : Header) (slack more moment : ℕ) (d : Duties) (counts : Bool) (o : Option Touched) → slack ≤ more
-    → AreFewer (on o [] (touched_rules (with_slack (Some slack) h) slack moment d counts)) (on o [] (touched_rules (with_slack (Some more) h) more moment d counts))
+    → AreFewer (on o [] (touched_rules (with_slack (Some slack) h) slack moment d counts))
+    (on o [] (touched_rules (with_slack (Some more) h) more moment d counts))
 touched_less h slack more moment d counts None le = tt
 touched_less h slack more moment d counts (Some t) le =
     let l = lates_less slack more moment t.before (listener_closed d t.host t.before) (owed_by d t.host t.place) le in

@@ -1,7 +1,8 @@
 //! What was received is acknowledged within half a second.
 
 ghost use Rattle.std.specs.Prelude.{◌≡◌};
-ghost use Rattle.spec_duties.specs.Acknowledge.{acknowledge_after, acknowledge_due, acknowledged_after, answered_lately};
+ghost use Rattle.spec_duties.specs.Acknowledge.{acknowledge_after, acknowledge_due, acknowledged_after};
+ghost use Rattle.spec_duties.specs.Acknowledge.{answered_lately};
 ghost use Rattle.spec_duties.specs.Acknowledge.{asks_ack, is_answer, longest_delay, receives};
 
 use crate::deadlines::due_within;

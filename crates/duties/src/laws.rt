@@ -8,8 +8,8 @@ pub fn nothing_is_judged()
     ensures { NothingIsJudged }
 {}
 
-/// What a step refuses with a slack, it refuses with each smaller one; the same holds for what is late at the end. None,
-/// which is `any`, is the greatest slack.
+/// What a step refuses with a slack, it refuses with each smaller one; the same holds for what is late at the end.
+/// None, which is `any`, is the greatest slack.
 pub fn less_late_is_more_accepted()
     ensures { (less more : Option ℕ) → AtMost less more → LessLateIsMoreAccepted less more }
 {}

@@ -3,7 +3,8 @@
 ghost use Rattle.std.specs.Prelude.{◌≡◌};
 ghost use Rattle.std.specs.Result.{result_err};
 ghost use Rattle.verdict.specs.Rules.{first_broken};
-ghost use Rattle.spec_duties.specs.Owed.{late_rules, lates_of, lates_of_open, none_late, nothing, once_closed, owed_after};
+ghost use Rattle.spec_duties.specs.Owed.{late_rules, lates_of, lates_of_open, none_late, nothing, once_closed};
+ghost use Rattle.spec_duties.specs.Owed.{owed_after};
 ghost use Rattle.spec_duties.specs.Owed.{owed_open};
 ghost use Rattle.spec_duties.specs.End.{either};
 
@@ -177,7 +178,8 @@ pub(crate) fn owed_after(
     counts: bool,
     owed: &Owed,
 ) -> Owed
-    ensures { result ≡ owed_after touched.now.event touched.now.before after.now moment listener_closed counts owed.now }
+    ensures { result
+        ≡ owed_after touched.now.event touched.now.before after.now moment listener_closed counts owed.now }
 {
     let next = owed_open(touched, after, moment, listener_closed, counts, owed);
     if after.state.is_closed() {

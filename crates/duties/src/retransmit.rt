@@ -2,7 +2,8 @@
 
 ghost use Rattle.std.specs.Prelude.{◌≡◌};
 ghost use Rattle.spec_duties.specs.Events.{acknowledges_more, holds, is_sending};
-ghost use Rattle.spec_duties.specs.Retransmit.{is_probe_timeout, is_timeout, probe_after, retransmit_after, sends_oldest};
+ghost use Rattle.spec_duties.specs.Retransmit.{is_probe_timeout, is_timeout, probe_after, retransmit_after};
+ghost use Rattle.spec_duties.specs.Retransmit.{sends_oldest};
 
 use case_forms::Timer;
 use spec_duties::{Event, Sending, View};

@@ -168,7 +168,8 @@ pub told_as : (h : Header) (t : Trace) (w : Witness) (zs os : List TcpEntry) →
     → Tells t w (merged h (first_event_line h) zs os)
 told_as h t w zs os both any is version lines_is steps_is books =
     subst (λ (g : Header). Tells t w (merged g (first_event_line g) zs os)) is
-    (told_by t w zs os (ap (λ (g : Header). is_half g.version) is ∙ both) (ap (λ (g : Header). g.slack) is ∙ any) (version ∙ ap (λ (g : Header). g.version) (sym is))
+    (told_by t w zs os (ap (λ (g : Header). is_half g.version) is ∙ both) (ap (λ (g : Header). g.slack) is ∙ any)
+    (version ∙ ap (λ (g : Header). g.version) (sym is))
     (lines_is ∙ ap (λ (g : Header). lines_said (all_renumbered (new_names g (in_order zs os)) (in_order zs os))) (sym is))
     (steps_is ∙ ap (λ (g : Header). steps_said (all_renumbered (new_names g (in_order zs os)) (in_order zs os))) (sym is))
     (subst (λ (g : Header). Books (tcp g) (first_event_line g) zs os) (sym is) books))

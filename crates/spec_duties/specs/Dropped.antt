@@ -35,7 +35,8 @@ bare = record { cwnd = 0; keep = false; sample = false }
 
 -- the rule of the model that this would break
 abbrev pub taking_breaks : Header → (moment : ℕ) → World tcp_shape → Host → (line : ℕ) → Option Rule
-taking_breaks h moment w host line = first_broken (step_rules (tcp h) moment w (network.At host (network.Takes line bare)))
+taking_breaks h moment w host line =
+    first_broken (step_rules (tcp h) moment w (network.At host (network.Takes line bare)))
 
 -- the rule of the model that a reset in answer would break
 abbrev pub answering_breaks : Header → World tcp_shape → Host → (line : ℕ) → Option Rule

@@ -66,4 +66,5 @@ line_of waits rule = 0
 -- the least of these rules, with its line
 abbrev pub late_at_end : (slack moment : ℕ) → Duties → World tcp_shape → Option (ℕ × Rule)
 late_at_end slack moment d w =
-    option_map (λ rule. (line_of (first_waiting slack moment d.inbox) rule, rule)) (first_broken (end_rules slack moment d w))
+    option_map (λ rule. (line_of (first_waiting slack moment d.inbox) rule, rule))
+    (first_broken (end_rules slack moment d w))

@@ -1,5 +1,6 @@
 -- All that duties read of the world at a step.
-use Rattle.std.specs.Prelude.{ℕ, suc, nat_eq, Bool, true, false, not, if◌then◌else◌, List, [], ◌∷◌, length, Option, None}
+use Rattle.std.specs.Prelude.{ℕ, suc, nat_eq, Bool, true, false, not, if◌then◌else◌, List, [], ◌∷◌, length, Option}
+use Rattle.std.specs.Prelude.{None}
 use Rattle.std.specs.Prelude.{Some, slice_get}
 use Rattle.std.specs.Map.{lookup}
 use Rattle.std.specs.Option.{option_map, option_map_or}
@@ -27,7 +28,8 @@ use Rattle.spec_tcp.specs.Machine.{tcp, tcp_shape, aim}
 use Rattle.spec_duties.specs.Views.{View, view_of, unborn}
 use Rattle.spec_duties.specs.Events as events
 use Rattle.spec_duties.specs.Events.{Event}
-use Rattle.spec_duties.specs.Dropped.{Dropping, taking_breaks, answering_breaks, spared_by, dropping_of, has_content, asks}
+use Rattle.spec_duties.specs.Dropped.{Dropping, taking_breaks, answering_breaks, spared_by, dropping_of, has_content}
+use Rattle.spec_duties.specs.Dropped.{asks}
 use Rattle.spec_duties.specs.Dropped.{discards_at}
 pub use Rattle.spec_duties.specs.declared.sights.Mail.{Mail}
 use Rattle.spec_duties.specs.declared.sights.Mail.TheVariants as mail

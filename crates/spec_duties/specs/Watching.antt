@@ -126,7 +126,8 @@ joined table l =
     insert_entry nat_eq table l (record (listening_at table l) { children = one_more (listening_at table l).children })
 
 abbrev pub left : List (ℕ × Listening) → (place : ℕ) → List (ℕ × Listening)
-left table l = insert_entry nat_eq table l (record (listening_at table l) { children = (listening_at table l).children - 1 })
+left table l =
+    insert_entry nat_eq table l (record (listening_at table l) { children = (listening_at table l).children - 1 })
 
 abbrev pub closed_at : (moment : ℕ) → List (ℕ × Listening) → (place : ℕ) → List (ℕ × Listening)
 closed_at moment table l = insert_entry nat_eq table l (record (listening_at table l) { closed = Some moment })

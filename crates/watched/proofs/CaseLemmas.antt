@@ -185,7 +185,8 @@ plain_is (Err e) p u d moment asked any is = tt
 plain_is (Ok x) p u d moment None any is = ap (λ (u : Progress). case_of u d) is
 plain_is (Ok x) p u d moment (Some step) any is =
     ap (λ (u : Progress). case_of u d) is
-    ∙ ap wrap (sym (ap (λ o. on o d (λ slack. duties_after (view_in now (sight p.header moment p.world step).touched) moment (sight p.header moment p.world step) d)) any))
+    ∙ ap wrap (sym (ap (λ o. on o d (λ slack. duties_after (view_in now (sight p.header moment p.world step).touched) moment
+    (sight p.header moment p.world step) d)) any))
   where
     now : World tcp_shape
     now = network.after (tcp p.header) moment p.world step

@@ -80,7 +80,8 @@ target-seen host b m Nobody = refl
 target-seen host b m (AtListener l) = next-seen host b (processing_of m)
 target-seen host b m (AtEndpoint i e) = place-seen host b (processing_of m) i
 
-drop-seen : (host : Host) (b : HostTcp) (m : Emission) (taking : Option Rule) (t : Taker) → at_drop host (forget_body b) m taking (forget_taker t) ≡ at_drop host b m taking t
+drop-seen : (host : Host) (b : HostTcp) (m : Emission) (taking : Option Rule) (t : Taker)
+    → at_drop host (forget_body b) m taking (forget_taker t) ≡ at_drop host b m taking t
 drop-seen host b m taking Nobody = refl
 drop-seen host b m taking (AtListener l) = refl
 drop-seen host b m taking (AtEndpoint i e) = place-seen host b _ i
@@ -98,7 +99,8 @@ discards-forget h how m (AtEndpoint i e) = rw (read-forget h e m, rcv_nxt-forget
 sender-seen : (host : Host) (b : HostTcp) (m : Emission) → at_sender host (forget_body b) m ≡ at_sender host b m
 sender-seen host b m = rw (place-seen host b (sending_of m) m.sender.number) refl
 
-taking-forget : (h : Header) (moment : ℕ) (w : World tcp_shape) (host : Host) (line : ℕ) → taking_breaks h moment (forget w) host line ≡ taking_breaks h moment w host line
+taking-forget : (h : Header) (moment : ℕ) (w : World tcp_shape) (host : Host) (line : ℕ)
+    → taking_breaks h moment (forget w) host line ≡ taking_breaks h moment w host line
 taking-forget h moment w host line = ap first_broken (step_rules-forget h moment w (network.At host (network.Takes line bare)))
 
 answering-forget : (h : Header) (w : World tcp_shape) (host : Host) (line : ℕ) → answering_breaks h (forget w) host line ≡ answering_breaks h w host line
@@ -173,7 +175,8 @@ accept-seen host b answers.InUse t = refl
 accept-seen host b answers.BadSocket t = refl
 accept-seen host b (answers.State s) t = refl
 
-close-seen : (host : Host) (b : HostTcp) (aborts : Bool) (answer : Answer) (t : SocketTarget) → close_sight host (forget_body b) aborts answer t ≡ close_sight host b aborts answer t
+close-seen : (host : Host) (b : HostTcp) (aborts : Bool) (answer : Answer) (t : SocketTarget)
+    → close_sight host (forget_body b) aborts answer t ≡ close_sight host b aborts answer t
 close-seen host b aborts answer (ListenerAt l) = refl
 close-seen host b aborts answer (EndpointAt i) = rw (place-seen host b _ i) refl
 

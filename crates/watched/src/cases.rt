@@ -7,7 +7,8 @@ ghost use Rattle.verdict.specs.Rules.{first_broken};
 ghost use Rattle.spec_step.specs.Faults.{IfBroken};
 ghost use Rattle.spec_tcp.specs.Bounds.{most_steps};
 ghost use Rattle.spec_tcp.specs.Steps.{line_step, hidden_step};
-ghost use Rattle.spec_duties.specs.Cases.{after, asked_after, asked_rules, broken_by, judged_rules, late_at_end, noted_by};
+ghost use Rattle.spec_duties.specs.Cases.{after, asked_after, asked_rules, broken_by, judged_rules, late_at_end};
+ghost use Rattle.spec_duties.specs.Cases.{noted_by};
 ghost use Rattle.spec_duties.specs.Cases.{start};
 ghost use Rattle.watched.specs.Watched.{case_of, noted};
 
@@ -134,7 +135,8 @@ fn watch_line(
     line: TakenLine,
 ) -> Result<(), StepFault>
     requires { world.old.steps < most_steps }
-    ensures ok { OnOk result (case_of world.new duties.new ≡ after (case_of world.old duties.old) moment (line_step line)) }
+    ensures ok { OnOk result
+        (case_of world.new duties.new ≡ after (case_of world.old duties.old) moment (line_step line)) }
     ensures admitted { OnOk result (broken_by (case_of world.old duties.old) moment (line_step line) ≡ None) }
     ensures broken { IfErr result (λ fault. IfBroken fault
         (λ rule. broken_by (case_of world.old duties.old) moment (line_step line) ≡ Some rule)) }
@@ -180,7 +182,8 @@ fn do_line(
     line: TakenLine,
 ) -> Result<(), StepFault>
     requires { world.old.steps < most_steps }
-    ensures ok { OnOk result (case_of world.new duties.new ≡ after (case_of world.old duties.old) moment (line_step line)) }
+    ensures ok { OnOk result
+        (case_of world.new duties.new ≡ after (case_of world.old duties.old) moment (line_step line)) }
     ensures admitted { OnOk result (broken_by (case_of world.old duties.old) moment (line_step line) ≡ None) }
     ensures broken { IfErr result (λ fault. IfBroken fault
         (λ rule. broken_by (case_of world.old duties.old) moment (line_step line) ≡ Some rule)) }

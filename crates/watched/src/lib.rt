@@ -5,8 +5,8 @@
 //! once.
 //!
 //! - `cases`: a case with its duties: each step, and the comparison at the end
-//! - `sights`: what a step shows of the world; `calls`: the same for the effect of a call; `dropped`: for a segment that
-//!   is dropped
+//! - `sights`: what a step shows of the world; `calls`: the same for the effect of a call; `dropped`: for a segment
+//!   that is dropped
 //! - `ending`: what is late at the end; `laws`: what duties read of the world
 #![tactic(auto)]
 
