@@ -18,7 +18,7 @@ use Rattle.spec_tcp.specs.Machine.{tcp, tcp_shape}
 use Rattle.spec_tcp_laws.specs.Judging.{extent, header_by}
 use Rattle.spec_tcp_laws.proofs.JudgedRuns.{judged_start, lawful_by}
 use Rattle.spec_duties.specs.Cases.{first_known, known_after_all}
-use Rattle.watched.proofs.SlackLemmas.{dutiful_any, late_any}
+use Rattle.duties.proofs.SlackLemmas.{dutiful_any, late_any}
 use Rattle.checker.specs.Explains.{Explains, IsYes}
 use Rattle.checker.specs.Judges.{Counts}
 use Rattle.checker.specs.Judging.{trace_by}

@@ -1,1 +1,2 @@
 mod EdgeLemmas
+pub mod SlackLemmas

@@ -9,12 +9,14 @@
 //! - `owed`: what an endpoint owes; `acknowledge`, `expire`, `retransmit`, `probe`, `start`, `reset`: a duty each
 //! - `resent`, `excess`: the limits
 //! - `views`, `deadlines`: what duties read of an endpoint; when one is late
+//! - `laws`: what a greater slack accepts
 #![tactic(auto)]
 
 mod acknowledge;
 mod deadlines;
 mod excess;
 mod expire;
+mod laws;
 mod owed;
 mod probe;
 mod resent;
@@ -27,6 +29,7 @@ mod watching;
 pub use acknowledge::acknowledge_due;
 pub use deadlines::is_late_at_once;
 pub use expire::expiry_due;
+pub use laws::{less_late_is_more_accepted, nothing_is_judged, slack_is_not_noted};
 pub use owed::{admits_lates, either, lates_of, none_late};
 pub use probe::probing_due;
 pub use reset::reset_since;

@@ -38,7 +38,7 @@ use Rattle.spec_tcp.specs.Machine.{tcp, tcp_shape}
 use Rattle.spec_tcp.specs.Steps.{line_step, step_of}
 use Rattle.checker.specs.Seen.{take_of, move_of, moves, act_of, stamped}
 use Rattle.spec_duties.specs.Cases.{first_known, known_after_all}
-use Rattle.watched.proofs.SlackLemmas.{dutiful_any, late_any}
+use Rattle.duties.proofs.SlackLemmas.{dutiful_any, late_any}
 use Rattle.checker.specs.Explains.{Explains}
 use Rattle.merging.specs.Told.{line_told, TakesWell, AllTakeWell, Tells}
 

@@ -15,3 +15,4 @@ pub mod Sights
 pub mod Watching
 pub mod End
 pub mod Cases
+pub mod Slack

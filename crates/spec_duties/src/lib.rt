@@ -19,7 +19,7 @@
 //! - `specs/Dropped`: which segments may be dropped, and which of them ask for an acknowledgment
 //! - `specs/Owed`: all that an endpoint owes; `specs/Sights`: what a step shows of the world
 //! - `specs/Watching`: the rules of a step, and what is kept after it; `specs/End`: the comparison after the last step
-//! - `specs/Cases`: the model and its duties together
+//! - `specs/Cases`: the model and its duties together; `specs/Slack`: what a greater slack accepts
 #![tactic(auto)]
 
 mod events;

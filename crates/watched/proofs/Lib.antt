@@ -4,4 +4,3 @@ pub mod CaseLemmas
 mod EndLemmas
 pub mod ForgetLemmas
 mod PlaceLemmas
-pub mod SlackLemmas

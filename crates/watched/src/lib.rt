@@ -7,13 +7,15 @@
 //! - `cases`: a case with its duties: each step, and the comparison at the end
 //! - `sights`: what a step shows of the world; `calls`: the same for the effect of a call; `dropped`: for a segment that
 //!   is dropped
-//! - `ending`: what is late at the end
+//! - `ending`: what is late at the end; `laws`: what duties read of the world
 #![tactic(auto)]
 
 mod calls;
 mod cases;
 mod dropped;
 mod ending;
+mod laws;
 mod sights;
 
 pub use cases::{Case, apply_hidden, apply_line_owned};
+pub use laws::{case_rules_ascend, nothing_discarded_is_seen};

@@ -1,0 +1,223 @@
+-- The slack: without one nothing is owed, and with a greater one more is accepted.
+use Rattle.std.proofs.Common.{◌≡◌, ℕ, suc, ◌≤◌, ◌+◌, Bool, true, false, List, [], ◌∷◌, ◌++◌, Option, None, Some, nat_lt, refl, ap, sym, ◌∙◌, arith}
+use Rattle.std.specs.Prelude.{◌||◌, if◌then◌else◌, is_some}
+use Rattle.std.specs.Option.{option_map}
+use Rattle.case_forms.specs.States.{is_closed}
+use Rattle.case_forms.specs.declared.calls.Host.{Host}
+use Rattle.case_forms.specs.declared.calls.Host.TheVariants.{Zero, One}
+use Rattle.case_forms.specs.declared.trace.Header.{Header}
+use Rattle.verdict.specs.Rules.{first_broken}
+use Rattle.verdict.specs.declared.rule.Rule.{Rule}
+use Rattle.verdict.specs.declared.rule.Rule.TheVariants as rules
+use Rattle.spec_network.specs.Hosts.{Stamped, World}
+use Rattle.spec_network.specs.Tables.{on, pick, waiting}
+use Rattle.spec_tcp.specs.Machine.{tcp_shape}
+use Rattle.spec_tcp.specs.declared.endpoint.Endpoint.{Endpoint}
+use Rattle.spec_duties.specs.Acknowledge.{acknowledge_due}
+use Rattle.spec_duties.specs.Cases.{Known, Dutiful, judged_rules, known_after, late_at_end, noted_by}
+use Rattle.spec_duties.specs.Deadlines.{is_late}
+use Rattle.spec_duties.specs.End as end
+use Rattle.spec_duties.specs.End.{either, end_rules, first_waiting, lates_at, lates_from, lates_of_all, lates_of_host}
+use Rattle.spec_duties.specs.Expire.{expiry_due}
+use Rattle.spec_duties.specs.Owed.{late_rules, lates_of, lates_of_open, none_late}
+use Rattle.spec_duties.specs.Probe.{probing_due}
+use Rattle.spec_duties.specs.Reset.{reset_since}
+use Rattle.spec_duties.specs.Sights.{sight}
+use Rattle.spec_duties.specs.Slack.{AtMost, LessLateIsMoreAccepted, NothingIsJudged, SlackIsNotNoted, with_slack}
+use Rattle.spec_duties.specs.Start.{start_due}
+use Rattle.spec_duties.specs.Views.{view_of}
+use Rattle.spec_duties.specs.Watching.{Duties, built_by, counts_now, duty_rules, leaves_late, limit_rules, listener_closed, owed_by, sent_late, touched_rules}
+use Rattle.spec_duties.specs.declared.owed.Lates.{Lates}
+use Rattle.spec_duties.specs.declared.owed.Owed.{Owed}
+use Rattle.spec_duties.specs.declared.sights.Mail.{Mail}
+use Rattle.spec_duties.specs.declared.sights.Mail.TheVariants as mail
+use Rattle.spec_duties.specs.declared.sights.Sight.{Sight}
+use Rattle.spec_duties.specs.declared.sights.Touched.{Touched}
+use Rattle.spec_duties.specs.declared.tables.Built.{Built}
+use Rattle.spec_duties.specs.declared.views.View.{View}
+
+-- ---- without a slack
+
+nothing_judged : (h : Header) (moment : ℕ) (d : Duties) (s : Sight) → h.slack ≡ None → judged_rules h moment d s ≡ []
+nothing_judged h moment d s any = ap (λ o. on o [] (λ slack. duty_rules h slack moment d s)) any
+
+pub dutiful_any : (h : Header) (k : Known) (xs : List (Stamped tcp_shape)) → h.slack ≡ None → Dutiful h k xs
+dutiful_any h k [] any = tt
+dutiful_any h k (x ∷ xs) any = (
+  ap first_broken (nothing_judged h x.moment k.duties (sight h x.moment k.model x.step) any),
+  dutiful_any h (known_after h x.moment k x.step) xs any,
+)
+
+pub late_any : (h : Header) (moment : ℕ) (k : Known) → h.slack ≡ None → late_at_end h moment k ≡ None
+late_any h moment k any = ap (λ o. on o None (λ slack. end.late_at_end slack moment k.duties k.model)) any
+
+pub nothing_is_judged : NothingIsJudged
+nothing_is_judged = record { rules = nothing_judged; runs = dutiful_any; end = late_any }
+
+pub slack_is_not_noted : SlackIsNotNoted
+slack_is_not_noted h a b moment w s d = refl
+
+-- ---- with a greater one
+
+abbrev AreFewer : List (Rule × Bool) → List (Rule × Bool) → Type 0
+AreFewer [] [] = Unit {0}
+AreFewer [] (y ∷ ys) = ⊥
+AreFewer (x ∷ xs) [] = ⊥
+AreFewer (x ∷ xs) (y ∷ ys) = (x.1 ≡ false → y.1 ≡ false) × AreFewer xs ys
+
+fewer_none : (xs ys : List (Rule × Bool)) → AreFewer xs ys → first_broken xs ≡ None → first_broken ys ≡ None
+fewer_none [] [] f e = refl
+fewer_none [] (y ∷ ys) f e = absurd f
+fewer_none (x ∷ xs) [] f e = absurd f
+fewer_none ((q, true) ∷ xs) ((r, b) ∷ ys) f e = absurd cc
+fewer_none ((q, false) ∷ xs) ((r, b) ∷ ys) f e = rw (f.0 refl) (fewer_none xs ys f.1 e)
+
+late_less : (slack more moment : ℕ) (due : Option ℕ) → slack ≤ more → is_late slack moment due ≡ false → is_late more moment due ≡ false
+late_less slack more moment None le e = refl
+late_less slack more moment (Some deadline) le e = grind arith
+
+-- what is late in the second is late in the first
+record LatesLess (a b : Lates) : Type 0 where
+  acknowledge : a.acknowledge ≡ false → b.acknowledge ≡ false
+  expire : a.expire ≡ false → b.expire ≡ false
+  retransmit : a.retransmit ≡ false → b.retransmit ≡ false
+  probe : a.probe ≡ false → b.probe ≡ false
+  start : a.start ≡ false → b.start ≡ false
+  reset : a.reset ≡ false → b.reset ≡ false
+
+or_less : (a b c d : Bool) → (a ≡ false → c ≡ false) → (b ≡ false → d ≡ false) → a || b ≡ false → c || d ≡ false
+or_less true b c d f g e = absurd cc
+or_less false true c d f g e = absurd cc
+or_less false false c d f g e = rw (f refl, g refl) refl
+
+open_less : (slack more moment : ℕ) (v : View) (o : Owed) (a b : Bool) → slack ≤ more → (a ≡ false → b ≡ false)
+    → LatesLess (lates_of_open slack moment v o a) (lates_of_open more moment v o b)
+open_less slack more moment v o a b le reset = record {
+  acknowledge = late_less slack more moment (acknowledge_due o.acknowledge) le;
+  expire = late_less slack more moment (expiry_due v o.opened) le;
+  retransmit =
+      or_less (is_late slack moment o.retransmit) (is_late slack moment o.probe)
+      (is_late more moment o.retransmit) (is_late more moment o.probe)
+      (late_less slack more moment o.retransmit le) (late_less slack more moment o.probe le);
+  probe = late_less slack more moment (probing_due v o.probing) le;
+  start = late_less slack more moment (start_due o.start) le;
+  reset = reset;
+}
+
+none_less : (a b : Bool) → (a ≡ false → b ≡ false) → LatesLess (none_late a) (none_late b)
+none_less a b reset = record {
+  acknowledge = λ e. e;
+  expire = λ e. e;
+  retransmit = λ e. e;
+  probe = λ e. e;
+  start = λ e. e;
+  reset = reset;
+}
+
+lates_less : (slack more moment : ℕ) (v : View) (listener : Option ℕ) (o : Owed) → slack ≤ more
+    → LatesLess (lates_of slack moment v listener o) (lates_of more moment v listener o)
+lates_less slack more moment v listener o le = by (is_closed v.state)
+  where
+    reset : is_late slack moment (reset_since v listener o.reset) ≡ false → is_late more moment (reset_since v listener o.reset) ≡ false
+    reset = late_less slack more moment (reset_since v listener o.reset) le
+
+    by : (c : Bool)
+        → LatesLess
+        (if c then none_late (is_late slack moment (reset_since v listener o.reset))
+        else lates_of_open slack moment v o (is_late slack moment (reset_since v listener o.reset)))
+        (if c then none_late (is_late more moment (reset_since v listener o.reset))
+        else lates_of_open more moment v o (is_late more moment (reset_since v listener o.reset)))
+    by true = none_less _ _ reset
+    by false = open_less slack more moment v o _ _ le reset
+
+-- the rules of an endpoint
+leaves_less : (slack more moment : ℕ) (d : Duties) (it : Mail) → slack ≤ more → leaves_late slack moment d it ≡ false → leaves_late more moment d it ≡ false
+leaves_less slack more moment d mail.Nothing le e = refl
+leaves_less slack more moment d (mail.Enters line) le e = refl
+leaves_less slack more moment d (mail.Leaves line) le e = late_less slack more moment (waiting line d.inbox) le e
+
+sent_less : (slack more moment : ℕ) (b : Option Built) → slack ≤ more → sent_late slack moment b ≡ false → sent_late more moment b ≡ false
+sent_less slack more moment None le e = refl
+sent_less slack more moment (Some b) le e = late_less slack more moment (Some b.since) le e
+
+touched_less : (h : Header) (slack more moment : ℕ) (d : Duties) (counts : Bool) (o : Option Touched) → slack ≤ more
+    → AreFewer (on o [] (touched_rules (with_slack (Some slack) h) slack moment d counts)) (on o [] (touched_rules (with_slack (Some more) h) more moment d counts))
+touched_less h slack more moment d counts None le = tt
+touched_less h slack more moment d counts (Some t) le =
+    let l = lates_less slack more moment t.before (listener_closed d t.host t.before) (owed_by d t.host t.place) le in
+    (l.acknowledge, (l.expire, (l.retransmit, (l.probe, (l.start, (l.reset, (λ e. e, (λ e. e, (λ e. e, tt)))))))))
+
+step_less : (less more : Option ℕ) → AtMost less more → (h : Header) (moment : ℕ) (d : Duties) (s : Sight)
+    → first_broken (judged_rules (with_slack less h) moment d s) ≡ None
+    → first_broken (judged_rules (with_slack more h) moment d s) ≡ None
+step_less less None at h moment d s e = refl
+step_less None (Some more) at h moment d s e = absurd at
+step_less (Some slack) (Some more) at h moment d s e =
+    fewer_none (duty_rules (with_slack (Some slack) h) slack moment d s) (duty_rules (with_slack (Some more) h) more moment d s) (
+      λ e. e,
+      (
+        λ e. e,
+        (
+          leaves_less slack more moment d s.mail at,
+          (sent_less slack more moment (built_by d s.post) at, touched_less h slack more moment d (counts_now (built_by d s.post)) s.touched at),
+        ),
+      ),
+    ) e
+
+-- the end
+waiting_less : (slack more moment : ℕ) (inbox : List (ℕ × Option ℕ)) → slack ≤ more
+    → is_some (first_waiting slack moment inbox) ≡ false → is_some (first_waiting more moment inbox) ≡ false
+waiting_less slack more moment [] le e = refl
+waiting_less slack more moment (x ∷ inbox) le e =
+    by (is_late slack moment x.1) refl (waiting_less slack more moment inbox le) e
+  where
+    by : (b : Bool) → is_late slack moment x.1 ≡ b
+        → (is_some (first_waiting slack moment inbox) ≡ false → is_some (first_waiting more moment inbox) ≡ false)
+        → is_some (if b then Some x.0 else first_waiting slack moment inbox) ≡ false
+        → is_some (if is_late more moment x.1 then Some x.0 else first_waiting more moment inbox) ≡ false
+    by true is rest e = absurd cc
+    by false is rest e = rw (late_less slack more moment x.1 le is) (rest e)
+
+either_less : (a b c d : Lates) → LatesLess a c → LatesLess b d → LatesLess (either a b) (either c d)
+either_less a b c d f g = record {
+  acknowledge = or_less a.acknowledge b.acknowledge c.acknowledge d.acknowledge f.acknowledge g.acknowledge;
+  expire = or_less a.expire b.expire c.expire d.expire f.expire g.expire;
+  retransmit = or_less a.retransmit b.retransmit c.retransmit d.retransmit f.retransmit g.retransmit;
+  probe = or_less a.probe b.probe c.probe d.probe f.probe g.probe;
+  start = or_less a.start b.start c.start d.start f.start g.start;
+  reset = or_less a.reset b.reset c.reset d.reset f.reset g.reset;
+}
+
+from_less : (slack more moment : ℕ) (d : Duties) (host : Host) (place : ℕ) (a b : Lates) (es : List Endpoint) → slack ≤ more → LatesLess a b
+    → LatesLess (lates_from slack moment d host place a es) (lates_from more moment d host place b es)
+from_less slack more moment d host place a b [] le f = f
+from_less slack more moment d host place a b (e ∷ es) le f =
+    from_less slack more moment d host (suc place) _ _ es le
+    (either_less a (lates_at slack moment d host place e) b (lates_at more moment d host place e) f
+    (lates_less slack more moment (view_of e) (listener_closed d host (view_of e)) (owed_by d host place) le))
+
+all_less : (slack more moment : ℕ) (d : Duties) (w : World tcp_shape) → slack ≤ more → LatesLess (lates_of_all slack moment d w) (lates_of_all more moment d w)
+all_less slack more moment d w le =
+    from_less slack more moment d One 0 _ _ w.hosts.one.body.endpoints le
+    (from_less slack more moment d Zero 0 _ _ w.hosts.zero.body.endpoints le (none_less false false (λ e. e)))
+
+mapped_none : {X Y : Type 0} (f : X → Y) (o : Option X) → option_map f o ≡ None → o ≡ None
+mapped_none f None e = refl
+mapped_none f (Some x) e = absurd (let n : Some (f x) ≡ None = e in cc n)
+
+end_less : (less more : Option ℕ) → AtMost less more → (h : Header) (moment : ℕ) (k : Known)
+    → late_at_end (with_slack less h) moment k ≡ None → late_at_end (with_slack more h) moment k ≡ None
+end_less less None at h moment k e = refl
+end_less None (Some more) at h moment k e = absurd at
+end_less (Some slack) (Some more) at h moment k e =
+    let l = all_less slack more moment k.duties k.model at in
+    let none : first_broken (end_rules more moment k.duties k.model) ≡ None =
+    fewer_none (end_rules slack moment k.duties k.model) (end_rules more moment k.duties k.model) (
+      waiting_less slack more moment k.duties.inbox at,
+      (l.acknowledge, (l.expire, (l.retransmit, (l.probe, (l.start, (l.reset, tt)))))),
+    )
+    (mapped_none _ (first_broken (end_rules slack moment k.duties k.model)) e) in
+    ap (option_map (λ rule. (end.line_of (first_waiting more moment k.duties.inbox) rule, rule))) none
+
+pub less_late : (less more : Option ℕ) → AtMost less more → LessLateIsMoreAccepted less more
+less_late less more at = record { steps = step_less less more at; end = end_less less more at }
