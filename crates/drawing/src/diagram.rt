@@ -4,7 +4,7 @@ use crate::Done;
 use crate::callers::Callers;
 use crate::fates::{Fate, Fates};
 use crate::picture::{Point, arrow, at, begin, dot, end, line, text};
-use crate::range::{Drawn, Range};
+use crate::range::{Drawn, Range, last_line};
 use case_forms::{Answer, Call, Event, Host, Line, OutOfMemory, Timer, Wire};
 use line_fields::timer_name;
 use plain_words::{AnswerWords, CallWords, HostName, Numbers, SegmentWords, StepWords, word_if};
@@ -72,6 +72,7 @@ fn marked_line(case: &Case, fates: &Fates) -> Option<u64> {
         Refusal::Nowhere => None,
         Refusal::At { .. } => Some(fates.last),
         Refusal::Unplaced(line) => Some(line),
+        Refusal::Late { .. } => Some(last_line(case)),
     }
 }
 
@@ -251,7 +252,7 @@ impl Drawing<'_> {
         text(self.texts, class, at, &format_args!("timer {name} expires"))
     }
 
-    // What is refused: a step with its rule, or a line that no step uses.
+    // What is refused: a step with its rule, a line that no step uses, or a duty that is late at the end.
     fn refusal(&mut self, case: &Case) -> Done {
         match case.refusal() {
             Refusal::Nowhere => Ok(()),
@@ -262,6 +263,9 @@ impl Drawing<'_> {
             Refusal::Unplaced(line) => {
                 self.mark(&format_args!("refused (unplaced): no step uses line {line}"))
             }
+            Refusal::Late { rule, .. } => self.mark(&format_args!(
+                "refused ({rule}): a duty is late at the end"
+            )),
         }
     }
 

@@ -29,9 +29,7 @@ pub(crate) struct Drawn {
 impl Drawn {
     /// The lines of a case that are in a range.
     pub(crate) fn of(range: Range, case: &Case, fates: &Fates) -> Drawn {
-        let first = case.trace.header.first_event_line();
-        let count = case.trace.lines.as_slice().len() as u64;
-        let last = first.saturating_add(count).saturating_sub(1);
+        let (first, last) = (case.trace.header.first_event_line(), last_line(case));
         let to = match (range.from, range.to, line_refused(case, fates)) {
             (None, None, Some(line)) => {
                 let earliest = first.saturating_add(LINES - 1);
@@ -55,13 +53,23 @@ impl Drawn {
 }
 
 // The line at which a case is refused: that of the refused step or, if the step is hidden or its line was used before,
-// the line before the step. None: the case is not refused.
+// the line before the step. If a duty is late at the end, it is the last line. None: the case is not refused.
 fn line_refused(case: &Case, fates: &Fates) -> Option<u64> {
-    if let Refusal::Unplaced(number) = case.refusal() {
-        return Some(number);
-    }
-    match &case.refused_step()?.label {
+    let step = match case.refusal() {
+        Refusal::Nowhere => return None,
+        Refusal::At { step, .. } => step,
+        Refusal::Unplaced(number) => return Some(number),
+        Refusal::Late { .. } => return Some(last_line(case)),
+    };
+    match &step.label {
         Label::L(named) if case.line(named.number).is_some() => Some(named.number.max(fates.last)),
         _ => Some(fates.last),
     }
+}
+
+/// The number of the last line of a case's trace.
+pub(crate) fn last_line(case: &Case) -> u64 {
+    let first = case.trace.header.first_event_line();
+    let count = case.trace.lines.as_slice().len() as u64;
+    first.saturating_add(count).saturating_sub(1)
 }

@@ -17,7 +17,7 @@ struct Showing<'s> {
 }
 
 /// The case as text: each line of the trace at its step, and hidden steps indented between them. A refused step is
-/// marked, and lines that no step uses follow at the end.
+/// marked, and lines that no step uses follow at the end; so does a duty that is late then.
 pub fn show(alloc: Global, case: &Case) -> Result<String, OutOfMemory> {
     let mut out = String::new(alloc);
     let mut showing = Showing {
@@ -27,6 +27,7 @@ pub fn show(alloc: Global, case: &Case) -> Result<String, OutOfMemory> {
     };
     showing.steps(case)?;
     showing.rest(case)?;
+    showing.late(case.refusal())?;
     drop(showing);
     Ok(out)
 }
@@ -77,7 +78,15 @@ impl Showing<'_> {
     fn mark(&mut self, refusal: Refusal) -> Done {
         match refusal {
             Refusal::At { rule, .. } => writeln!(self.out, "^^^^^^^ refused: {rule}"),
-            Refusal::Nowhere | Refusal::Unplaced(_) => Ok(()),
+            Refusal::Nowhere | Refusal::Unplaced(_) | Refusal::Late { .. } => Ok(()),
+        }
+    }
+
+    // Writes which duty is late after the last step, if one is.
+    fn late(&mut self, refusal: Refusal) -> Done {
+        match refusal {
+            Refusal::Late { rule, .. } => writeln!(self.out, "refused after the last step: {rule}"),
+            Refusal::Nowhere | Refusal::At { .. } | Refusal::Unplaced(_) => Ok(()),
         }
     }
 }

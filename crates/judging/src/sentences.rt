@@ -109,7 +109,9 @@ pub(crate) fn lines_kept(alloc: Global, lines: CaseLines) -> Result<String, OutO
 fn say_none(out: &mut String, ending: Ending) -> Result<(), OutOfMemory> {
     out.push_str("No witness was found, even without judging congestion control.\n")?;
     out.push_str(match ending {
-        Ending::Whole => "",
+        // The search does steps by the model alone, so a rule of duties is broken.
+        Ending::Whole => "The search explained every line, but it doesn't judge duties;\n\
+a witness that keeps to them may still exist.\n",
         Ending::Exhausted { .. } =>
             "The search ran out of alternatives. It makes at most two changes at once, near the refused line;\n\
 a witness that needs other changes may still exist.\n",
@@ -124,7 +126,10 @@ a witness that needs other changes may still exist.\n",
 fn sentence(alloc: Global, refused: Option<Refused>) -> Result<String, OutOfMemory> {
     let mut out = String::new(alloc);
     if let Some(refused) = refused {
-        write!(out, "line {}", refused.line)?;
+        match refused.line {
+            0 => out.push_str("after the last step")?,
+            line => write!(out, "line {line}")?,
+        }
         say_reason(&mut out, &refused)?;
     }
     Ok(out)

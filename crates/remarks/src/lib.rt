@@ -1,9 +1,10 @@
 //! Lists suspicious behavior that breaks no rule.
 //!
-//! A yes says nothing about what a host should have done: the checker requires no host to acknowledge, to retransmit or
-//! to deliver. `remark` replays a case up to its end, or up to the step that is refused, and lists what may be a defect
-//! although no rule is broken, one line each. The verdicts don't depend on this crate. Each function is proved only to
-//! be safe and to return. The time is linear in the size of the case, except for the searches in tables.
+//! A yes says little about what a host should have done: unless the header gives a slack, the checker requires no host
+//! to acknowledge, to retransmit or to deliver. `remark` replays a case up to its end, or up to the step that is
+//! refused, and lists what may be a defect although no rule is broken, one line each. The verdicts don't depend on this
+//! crate. Each function is proved only to be safe and to return. The time is linear in the size of the case, except for
+//! the searches in tables.
 //!
 //! - `remark`, `Remarked`: the remarks on a case
 //!

@@ -26,9 +26,18 @@ pub enum Refusal<'c> {
     /// The verdict is yes, or the witness can't be read.
     Nowhere,
     /// At this step.
-    At { step: &'c Step, rule: Rule },
+    At {
+        step: &'c Step,
+        rule: Rule,
+    },
     /// After the last step: no step uses this line of the trace.
     Unplaced(u64),
+    /// After the last step: a duty is late, which breaks this rule.
+    Late {
+        rule: Rule,
+        /// The line of the segment that still waits in an inbox; 0 for any other duty.
+        line: u64,
+    },
 }
 
 impl<'t> Case<'t> {
@@ -68,10 +77,19 @@ impl<'t> Case<'t> {
 
     /// Where the case is refused.
     pub fn refusal(&self) -> Refusal<'_> {
-        match (&self.verdict, self.refused_step()) {
-            (Ok(Verdict::No { rule, .. }), Some(step)) => Refusal::At { step, rule: *rule },
-            (Ok(Verdict::No { trace_line, .. }), None) => Refusal::Unplaced(*trace_line),
-            (Ok(Verdict::Yes { .. }) | Err(_), _) => Refusal::Nowhere,
+        let Ok(
+            Verdict::No {
+                trace_line,
+                rule,
+                ..
+            },
+        ) = &self.verdict
+        else {
+            return Refusal::Nowhere;
+        };
+        match self.refused_step() {
+            Some(step) => Refusal::At { step, rule: *rule },
+            None => refused_at_end(*trace_line, *rule),
         }
     }
 
@@ -95,6 +113,14 @@ impl<'t> Case<'t> {
         let place = number.checked_sub(self.trace.header.first_event_line())?;
         let lines = self.trace.lines.as_slice();
         lines.get(usize::try_from(place).ok()?)
+    }
+}
+
+// What breaks a rule after the last step, with its line.
+fn refused_at_end<'c>(line: u64, rule: Rule) -> Refusal<'c> {
+    match rule {
+        Rule::Unplaced => Refusal::Unplaced(line),
+        rule => Refusal::Late { rule, line },
     }
 }
 

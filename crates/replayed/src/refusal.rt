@@ -11,11 +11,12 @@ use trace_reader::Counted;
 use verdict::{Rule, Verdict};
 use witness::StepReader;
 
-/// The step that a verdict refuses.
+/// The step that a verdict refuses, or what it refuses after the last step.
 #[derive(Clone, Copy)]
 pub struct Refused {
-    /// The number of its line in the trace. If the step uses no line: the line of the segment that it processes, drops
-    /// or answers, or else the line after the last one used.
+    /// The number of the step's line in the trace. If the step uses no line: the line of the segment that it processes,
+    /// drops or answers, or else the line after the last one used. After the last step: the first line that isn't
+    /// placed, or that of the segment that waits too long; 0 for any other duty that is late.
     pub line: u64,
     pub rule: Rule,
     pub reason: Reason,
@@ -42,11 +43,11 @@ pub fn refused_by<A: BufRead + Drop, B: BufRead + Drop>(
         Verdict::Yes { .. } => Ok(None),
         Verdict::No {
             witness_line: 0,
-            trace_line,
-            ..
+            trace_line: line,
+            rule,
         } => Ok(Some(Refused {
-            line: trace_line,
-            rule: Rule::Unplaced,
+            line,
+            rule,
             reason: Reason::Other,
         })),
         Verdict::No {

@@ -5,7 +5,7 @@ use crate::known::{Origin, say_cause};
 use crate::marks::mark;
 use crate::scene::{Object, Scene};
 use crate::unjudged::say_unjudged;
-use crate::{Done, building, calls, inbox, numbers, order, processing, timers, wire};
+use crate::{Done, building, calls, inbox, late, numbers, order, processing, timers, wire};
 use case_forms::{Answer, Event, Host, Label, Line, OutOfMemory, Step};
 use checker::{CaseFault, check_case};
 use line_fields::{FaultKind, TextFault};
@@ -79,7 +79,7 @@ fn explain_no(
     explained
 }
 
-// What is known at the refused step, what the rule compares, and the usual causes.
+// What is known at the refused step or after the last one, what the rule compares, and the usual causes.
 fn explain_refusal(
     out: &mut String,
     scene: &mut Scene,
@@ -87,10 +87,10 @@ fn explain_refusal(
     origin: Origin,
 ) -> Result<(), ReplayFault> {
     scene.run()?;
-    if let Some(step) = scene.step
-        && !is_of_order(rule)
-    {
-        describe_step(out, scene, step)?;
+    match scene.step {
+        Some(step) if !is_of_order(rule) => describe_step(out, scene, step)?,
+        Some(_) => {}
+        None => late::describe_end(out, scene)?,
     }
     compare(out, scene, rule)?;
     say_cause(out, scene, rule, origin)?;
@@ -262,7 +262,7 @@ fn compare(out: &mut String, scene: &Scene, rule: Rule) -> Done {
             | Rule::ResetLate,
             _,
             _,
-        ) => say_slack(out, scene),
+        ) => late::slack(out, scene, rule),
         // What the step is about says it all.
         (
             Rule::ThreadBusy
@@ -305,13 +305,5 @@ fn compare(out: &mut String, scene: &Scene, rule: Rule) -> Done {
             _,
             _,
         ) => Ok(()),
-    }
-}
-
-// How late the header lets a host be.
-fn say_slack(out: &mut String, scene: &Scene) -> Done {
-    match scene.header().slack {
-        Some(slack) => writeln!(out, "a host may be at most {slack} microseconds late"),
-        None => Ok(()),
     }
 }

@@ -12,7 +12,7 @@
 //! - `marks`: a line with a fault, and a mark under its columns
 //! - `scene`: the world before the refused step, and what the step is about
 //! - `described`: an endpoint in words; `inbox`: a received segment in words
-//! - `order`, `calls`, `building`, `wire`, `processing`, `numbers`, `timers`: what the rules compare
+//! - `order`, `calls`, `building`, `wire`, `processing`, `numbers`, `timers`, `late`: what the rules compare
 //! - `answers`: the answers that a call may have
 //! - `known`: what is known at the step of the causes of its rule
 //! - `fitting`, `segment_window`, `changes`: the other windows that a segment would fit, kept while the case is
@@ -29,6 +29,7 @@ mod explaining;
 mod fitting;
 mod inbox;
 mod known;
+mod late;
 mod marks;
 mod numbers;
 mod order;

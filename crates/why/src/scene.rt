@@ -6,7 +6,7 @@ use case_forms::{
     TakeChoice, Timer, Wire,
 };
 use endpoint_state::{Endpoint, World};
-use replayed::{Case, Replay, ReplayFault};
+use replayed::{Case, Refusal, Replay, ReplayFault};
 use spec_tcp::{Arrived, Emission};
 use std::alloc::Global;
 use std::collections::BTreeMap;
@@ -118,6 +118,11 @@ impl<'c> Scene<'c> {
     /// The event lines of the trace.
     pub(crate) fn lines(&self) -> &'c [Line] {
         self.case.trace.lines.as_slice()
+    }
+
+    /// Where the case is refused.
+    pub(crate) fn refusal(&self) -> Refusal<'c> {
+        self.case.refusal()
     }
 
     /// The moment of the step.
