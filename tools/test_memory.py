@@ -14,6 +14,12 @@ ROUNDS, SIZE = 3000, 1460
 # Ports that no call opened.
 UNEXPLAINED = "999999999 9 O 0 0fa1005000000001000000005010200000000000\n"
 DONE, NO = 0, 1
+# Runs the program that its words name; prints its status and its peak memory in kilobytes.
+MEASURE = """
+import os, sys
+_, ended, usage = os.wait4(os.spawnvp(os.P_NOWAIT, sys.argv[1], sys.argv[1:]), 0)
+print(os.waitstatus_to_exitcode(ended), usage.ru_maxrss, file=sys.stderr)
+"""
 
 
 def write_transfer(name):
@@ -35,13 +41,13 @@ class Memory(unittest.TestCase):
         write_transfer(self.trace)
 
     def peak(self, status, *words):
-        """The largest memory of a subcommand that ends with this status, in bytes for each byte of the trace. The memory of this process
-        before it runs the program counts, so the trace isn't read here."""
-        with open(self.trace, "rb") as source, subprocess.Popen([*LAB, *words], stdin=source, stdout=subprocess.DEVNULL) as program:
-            _, ended, usage = os.wait4(program.pid, 0)
-            program.returncode = os.waitstatus_to_exitcode(ended)
-        self.assertEqual(program.returncode, status)
-        return usage.ru_maxrss * 1024 / os.path.getsize(self.trace)
+        """The largest memory of a subcommand that ends with this status, in bytes for each byte of the trace. The memory of the process
+        that runs the program counts until the program starts, so a small one does."""
+        with open(self.trace, "rb") as source:
+            measured = subprocess.run([sys.executable, "-c", MEASURE, *LAB, *words], stdin=source, stdout=subprocess.DEVNULL, stderr=subprocess.PIPE)
+        ended, kilobytes = measured.stderr.split()[-2:]
+        self.assertEqual(int(ended), status)
+        return int(kilobytes) * 1024 / os.path.getsize(self.trace)
 
     def test_judge(self):
         self.assertLess(self.peak(DONE, "judge", "--case", self.case), 3)
