@@ -19,14 +19,15 @@ pub enum Verdict {
         /// How many steps use no line (hidden steps).
         hidden: u64,
     },
-    /// They don't, and this is the first step that shows it.
+    /// They don't, and this is the first step that shows it, or what is left after the last step.
     No {
-        /// The step's line in the witness, from 1; 0 for the rule `unplaced`.
+        /// The step's line in the witness, from 1; 0 if no step breaks a rule, but a line is not placed, or a duty is
+        /// late after the last step.
         witness_line: u64,
-        /// The number of a trace line that the step names, 0 if it names none; for the rule `unplaced` the first line
-        /// that is not placed.
+        /// The number of a trace line that the step names, 0 if it names none. Without a step: for the rule `unplaced`,
+        /// the first line that is not placed; for `process-late`, the line of the segment that waits; else 0.
         trace_line: u64,
-        /// The lowest-numbered rule that the step breaks.
+        /// The lowest-numbered rule that is broken.
         rule: Rule,
     },
 }
