@@ -10,6 +10,7 @@ ghost use Rattle.spec_tcp.specs.Steps.{line_step, hidden_step};
 ghost use Rattle.spec_duties.specs.Cases.{after, asked_after, asked_rules, broken_by, judged_rules, late_at_end};
 ghost use Rattle.spec_duties.specs.Cases.{noted_by};
 ghost use Rattle.spec_duties.specs.Cases.{start};
+ghost use Rattle.spec_duties.specs.Sights.{sight, unseen};
 ghost use Rattle.watched.specs.Watched.{case_of, noted};
 
 use crate::ending;
@@ -96,6 +97,7 @@ impl Case {
 }
 
 // Whether no duty refuses a step. The error is the first broken rule.
+#[inline(always)]
 fn judged(world: &World, duties: &Duties, moment: u64, sight: &Sight) -> Result<(), Rule>
     ensures { result_err result ≡ first_broken (judged_rules world.now.header moment duties.now sight.now) }
 {
@@ -106,6 +108,7 @@ fn judged(world: &World, duties: &Duties, moment: u64, sight: &Sight) -> Result<
 }
 
 // Notes a step that the model permits, if no duty refuses it.
+#[inline(always)]
 fn note(
     world: &World,
     duties: &mut Duties,
@@ -128,6 +131,7 @@ fn note(
 }
 
 // Does a step that takes a line, in the world and for the duties.
+#[inline(always)]
 fn watch_line(
     world: &mut World,
     duties: &mut Duties,
@@ -150,6 +154,7 @@ fn watch_line(
 }
 
 // Does a step that takes none, in the same way.
+#[inline(never)]
 fn watch_hidden<Taken>(
     world: &mut World,
     duties: &mut Duties,
@@ -173,7 +178,52 @@ fn watch_hidden<Taken>(
     }
 }
 
-// The same for a step that takes a line, if duties are judged; else the model alone does it.
+// The same for a line of which duties see nothing.
+#[tactic(auto, using(crate::proofs::CaseLemmas::unseen_is, crate::proofs::CaseLemmas::unseen_admits))]
+fn pass_line(
+    world: &mut World,
+    duties: &mut Duties,
+    moment: u64,
+    line: TakenLine,
+) -> Result<(), StepFault>
+    requires steps { world.old.steps < most_steps }
+    requires unseen { sight world.old.header moment world.old.world (line_step line) ≡ unseen }
+    ensures ok { OnOk result
+        (case_of world.new duties.new ≡ after (case_of world.old duties.old) moment (line_step line)) }
+    ensures admitted { OnOk result (broken_by (case_of world.old duties.old) moment (line_step line) ≡ None) }
+    ensures broken { IfErr result (λ fault. IfBroken fault
+        (λ rule. broken_by (case_of world.old duties.old) moment (line_step line) ≡ Some rule)) }
+{
+    spec_step::apply_line_owned(world, moment, line)
+}
+
+// The same for any line, if duties are judged. They see nothing of the beginning and the end of a call.
+#[inline(never)]
+fn judge_line(
+    world: &mut World,
+    duties: &mut Duties,
+    moment: u64,
+    line: TakenLine,
+) -> Result<(), StepFault>
+    requires { world.old.steps < most_steps }
+    ensures ok { OnOk result
+        (case_of world.new duties.new ≡ after (case_of world.old duties.old) moment (line_step line)) }
+    ensures admitted { OnOk result (broken_by (case_of world.old duties.old) moment (line_step line) ≡ None) }
+    ensures broken { IfErr result (λ fault. IfBroken fault
+        (λ rule. broken_by (case_of world.old duties.old) moment (line_step line) ≡ Some rule)) }
+{
+    match line {
+        TakenLine::CallBegin { .. } | TakenLine::CallEnd { .. } => {
+            pass_line(world, duties, moment, line)
+        }
+        TakenLine::Sent { .. }
+        | TakenLine::Came { .. }
+        | TakenLine::Heard { .. }
+        | TakenLine::Expired { .. } => watch_line(world, duties, moment, line),
+    }
+}
+
+// The same if duties are judged or not; if not, the model alone does the step.
 #[tactic(auto, using(crate::proofs::CaseLemmas::plain_is, crate::proofs::CaseLemmas::plain_admits, crate::proofs::CaseLemmas::plain_breaks))]
 fn do_line(
     world: &mut World,
@@ -189,7 +239,7 @@ fn do_line(
         (λ rule. broken_by (case_of world.old duties.old) moment (line_step line) ≡ Some rule)) }
 {
     match world.header().slack {
-        Some(_) => watch_line(world, duties, moment, line),
+        Some(_) => judge_line(world, duties, moment, line),
         None => spec_step::apply_line_owned(world, moment, line),
     }
 }
