@@ -1,6 +1,7 @@
 //! The model of a case with its duties.
 
 ghost use Rattle.std.specs.Prelude.{◌≡◌, ◌<◌, ◌≤◌, Some, None, OnOk, IfErr};
+ghost use Rattle.std.specs.Option.{option_map_or};
 ghost use Rattle.std.specs.Result.{result_err};
 ghost use Rattle.case_forms.specs.Witnesses.{IsWithinLimits};
 ghost use Rattle.verdict.specs.Rules.{first_broken};
@@ -13,8 +14,11 @@ ghost use Rattle.spec_duties.specs.Cases.{start};
 ghost use Rattle.spec_duties.specs.Sights.{sight, unseen};
 ghost use Rattle.watched.specs.Watched.{case_of, noted};
 
+use crate::calls::sight_of_effect;
 use crate::ending;
-use crate::sights::{sight_of_hidden, sight_of_line, view_in};
+use crate::sights::{
+    sight_of_hidden, sight_of_line, sight_of_making, sight_of_sending, sight_of_taking, view_in,
+};
 use case_forms::{Header, Label, TakenLine};
 use duties::Duties;
 use endpoint_state::{StepFault, World};
@@ -130,55 +134,32 @@ fn note(
     Ok(())
 }
 
-// Does a step that takes a line, in the world and for the duties.
+// Does a step that takes a line, in the world and for the duties, which see this of it. It is inlined for each kind of
+// step, so that only what this kind shows is compared.
 #[inline(always)]
 fn watch_line(
     world: &mut World,
     duties: &mut Duties,
     moment: u64,
     line: TakenLine,
+    seen: &Sight,
 ) -> Result<(), StepFault>
-    requires { world.old.steps < most_steps }
+    requires steps { world.old.steps < most_steps }
+    requires seen { seen.now ≡ sight world.old.header moment world.old.world (line_step line) }
     ensures ok { OnOk result
         (case_of world.new duties.new ≡ after (case_of world.old duties.old) moment (line_step line)) }
     ensures admitted { OnOk result (broken_by (case_of world.old duties.old) moment (line_step line) ≡ None) }
     ensures broken { IfErr result (λ fault. IfBroken fault
         (λ rule. broken_by (case_of world.old duties.old) moment (line_step line) ≡ Some rule)) }
 {
-    let sight = sight_of_line(world, moment, &line);
-    let judged = judged(world, duties, moment, &sight);
+    let judged = judged(world, duties, moment, seen);
     match spec_step::apply_line_owned(world, moment, line) {
-        Ok(()) => note(world, duties, moment, &sight, judged),
+        Ok(()) => note(world, duties, moment, seen, judged),
         Err(fault) => Err(fault),
     }
 }
 
-// Does a step that takes none, in the same way.
-#[inline(never)]
-fn watch_hidden<Taken>(
-    world: &mut World,
-    duties: &mut Duties,
-    moment: u64,
-    label: &Label<Taken>,
-) -> Result<(), StepFault>
-    requires steps { world.old.steps < most_steps }
-    requires label { IsWithinLimits label.now }
-    ensures ok { OnOk result
-        (case_of world.new duties.new ≡ asked_after (case_of world.old duties.old) moment (hidden_step label.now)) }
-    ensures admitted { OnOk result
-        (first_broken (asked_rules (case_of world.old duties.old) moment (hidden_step label.now)) ≡ None) }
-    ensures broken { IfErr result (λ fault. IfBroken fault (λ rule.
-        first_broken (asked_rules (case_of world.old duties.old) moment (hidden_step label.now)) ≡ Some rule)) }
-{
-    let sight = sight_of_hidden(world, moment, label);
-    let judged = judged(world, duties, moment, &sight);
-    match spec_step::apply_hidden(world, moment, label) {
-        Ok(()) => note(world, duties, moment, &sight, judged),
-        Err(fault) => Err(fault),
-    }
-}
-
-// The same for a line of which duties see nothing.
+// Does one of which they see nothing.
 #[tactic(auto, using(crate::proofs::CaseLemmas::unseen_is, crate::proofs::CaseLemmas::unseen_admits))]
 fn pass_line(
     world: &mut World,
@@ -197,7 +178,7 @@ fn pass_line(
     spec_step::apply_line_owned(world, moment, line)
 }
 
-// The same for any line, if duties are judged. They see nothing of the beginning and the end of a call.
+// Does one, if duties are judged. They see nothing of the beginning and the end of a call.
 #[inline(never)]
 fn judge_line(
     world: &mut World,
@@ -216,14 +197,18 @@ fn judge_line(
         TakenLine::CallBegin { .. } | TakenLine::CallEnd { .. } => {
             pass_line(world, duties, moment, line)
         }
-        TakenLine::Sent { .. }
-        | TakenLine::Came { .. }
-        | TakenLine::Heard { .. }
-        | TakenLine::Expired { .. } => watch_line(world, duties, moment, line),
+        TakenLine::Sent { host, made, .. } => {
+            let sight = sight_of_sending(world, host, made);
+            watch_line(world, duties, moment, line, &sight)
+        }
+        TakenLine::Came { .. } | TakenLine::Heard { .. } | TakenLine::Expired { .. } => {
+            let sight = sight_of_line(world, moment, &line);
+            watch_line(world, duties, moment, line, &sight)
+        }
     }
 }
 
-// The same if duties are judged or not; if not, the model alone does the step.
+// Does one; the model alone does it if no duty is judged.
 #[tactic(auto, using(crate::proofs::CaseLemmas::plain_is, crate::proofs::CaseLemmas::plain_admits, crate::proofs::CaseLemmas::plain_breaks))]
 fn do_line(
     world: &mut World,
@@ -244,7 +229,71 @@ fn do_line(
     }
 }
 
-// The same for a step that takes none.
+// Does a step that takes no line, which duties see like this. It is inlined for each kind of step.
+#[inline(always)]
+fn watch_hidden<Taken>(
+    world: &mut World,
+    duties: &mut Duties,
+    moment: u64,
+    label: &Label<Taken>,
+    seen: &Sight,
+) -> Result<(), StepFault>
+    requires steps { world.old.steps < most_steps }
+    requires label { IsWithinLimits label.now }
+    requires seen { seen.now
+        ≡ option_map_or (sight world.old.header moment world.old.world) (hidden_step label.now) unseen }
+    ensures ok { OnOk result
+        (case_of world.new duties.new ≡ asked_after (case_of world.old duties.old) moment (hidden_step label.now)) }
+    ensures admitted { OnOk result
+        (first_broken (asked_rules (case_of world.old duties.old) moment (hidden_step label.now)) ≡ None) }
+    ensures broken { IfErr result (λ fault. IfBroken fault (λ rule.
+        first_broken (asked_rules (case_of world.old duties.old) moment (hidden_step label.now)) ≡ Some rule)) }
+{
+    let judged = judged(world, duties, moment, seen);
+    match spec_step::apply_hidden(world, moment, label) {
+        Ok(()) => note(world, duties, moment, seen, judged),
+        Err(fault) => Err(fault),
+    }
+}
+
+// Does one, if duties are judged.
+#[inline(never)]
+fn judge_hidden<Taken>(
+    world: &mut World,
+    duties: &mut Duties,
+    moment: u64,
+    label: &Label<Taken>,
+) -> Result<(), StepFault>
+    requires steps { world.old.steps < most_steps }
+    requires label { IsWithinLimits label.now }
+    ensures ok { OnOk result
+        (case_of world.new duties.new ≡ asked_after (case_of world.old duties.old) moment (hidden_step label.now)) }
+    ensures admitted { OnOk result
+        (first_broken (asked_rules (case_of world.old duties.old) moment (hidden_step label.now)) ≡ None) }
+    ensures broken { IfErr result (λ fault. IfBroken fault (λ rule.
+        first_broken (asked_rules (case_of world.old duties.old) moment (hidden_step label.now)) ≡ Some rule)) }
+{
+    match label {
+        Label::D { thread, answer } => {
+            let sight = sight_of_effect(world, moment, *thread, answer);
+            watch_hidden(world, duties, moment, label, &sight)
+        }
+        Label::M { host, plan } => {
+            let sight = sight_of_making(world, *host, plan, moment);
+            watch_hidden(world, duties, moment, label, &sight)
+        }
+        Label::T { host, line, choice } => {
+            let sight = sight_of_taking(world, *host, *line, *choice, moment);
+            watch_hidden(world, duties, moment, label, &sight)
+        }
+        Label::L(_) | Label::K { .. } | Label::R { .. } | Label::F { .. } => {
+            let sight = sight_of_hidden(world, moment, label);
+            watch_hidden(world, duties, moment, label, &sight)
+        }
+    }
+}
+
+// Does one; the model alone does it if no duty is judged.
 #[tactic(auto, using(crate::proofs::CaseLemmas::plain_is, crate::proofs::CaseLemmas::plain_admits, crate::proofs::CaseLemmas::plain_breaks))]
 fn do_hidden<Taken>(
     world: &mut World,
@@ -262,7 +311,7 @@ fn do_hidden<Taken>(
         first_broken (asked_rules (case_of world.old duties.old) moment (hidden_step label.now)) ≡ Some rule)) }
 {
     match world.header().slack {
-        Some(_) => watch_hidden(world, duties, moment, label),
+        Some(_) => judge_hidden(world, duties, moment, label),
         None => spec_step::apply_hidden(world, moment, label),
     }
 }

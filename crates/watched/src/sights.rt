@@ -179,10 +179,16 @@ fn sight_of_drop(world: &World, host: Host, line: u64, moment: u64) -> Sight
     }
 }
 
-// A host processes what waits under this line.
+/// A host processes what waits under this line.
 #[tactic(auto, using(crate::proofs::PlaceLemmas::places_fit, endpoint_state::proofs::Readable::kept_reads))]
 #[inline(always)]
-fn sight_of_taking(world: &World, host: Host, line: u64, how: TakeChoice, moment: u64) -> Sight
+pub(crate) fn sight_of_taking(
+    world: &World,
+    host: Host,
+    line: u64,
+    how: TakeChoice,
+    moment: u64,
+) -> Sight
     requires { world.now.steps < most_steps }
     ensures { result ≡ sight world.now.header moment world.now.world (network.At host (network.Takes line how)) }
 {
@@ -200,9 +206,9 @@ fn sight_of_taking(world: &World, host: Host, line: u64, how: TakeChoice, moment
     }
 }
 
-// A host builds a segment.
+/// A host builds a segment.
 #[inline(always)]
-fn sight_of_making(world: &World, host: Host, plan: &SegmentPlan, moment: u64) -> Sight
+pub(crate) fn sight_of_making(world: &World, host: Host, plan: &SegmentPlan, moment: u64) -> Sight
     requires { world.now.steps < most_steps }
     ensures { result ≡ sight world.now.header moment world.now.world (network.At host (network.Makes plan.now)) }
 {
@@ -238,8 +244,9 @@ fn fresh(world: &World) -> u32
     world.count() + 1
 }
 
+/// A host sends the segment that it built under this number.
 #[inline(always)]
-fn sight_of_sending(world: &World, host: Host, number: u32) -> Sight
+pub(crate) fn sight_of_sending(world: &World, host: Host, number: u32) -> Sight
     ensures { result ≡ on (lookup (nat_eq number) (pick world.now.world.hosts host).made) unseen
         (λ m. record unseen {
           touched = at_sender host (pick world.now.world.hosts host).body m.emission;
@@ -274,7 +281,6 @@ fn sight_at_ports(world: &World, host: Host, event: Event, ports: Ports) -> Sigh
 }
 
 /// What duties read of the world at a step that takes a line.
-#[inline(always)]
 pub(crate) fn sight_of_line(world: &World, moment: u64, line: &TakenLine) -> Sight
     ensures { result ≡ sight world.now.header moment world.now.world (line_step line.now) }
 {
@@ -292,7 +298,6 @@ pub(crate) fn sight_of_line(world: &World, moment: u64, line: &TakenLine) -> Sig
 }
 
 /// What duties read of the world at a step that takes none.
-#[inline(always)]
 pub(crate) fn sight_of_hidden<Taken>(world: &World, moment: u64, label: &Label<Taken>) -> Sight
     requires { world.now.steps < most_steps }
     ensures { result ≡ option_map_or (sight world.now.header moment world.now.world) (hidden_step label.now) unseen }
