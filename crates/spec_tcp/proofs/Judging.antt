@@ -11,6 +11,7 @@ use Rattle.case_forms.specs.declared.version.Judged.{Judged}
 use Rattle.case_forms.specs.declared.version.Judged.TheVariants.{Full, Recovery, NoControl}
 use Rattle.verdict.specs.declared.rule.Rule.TheVariants as rules
 use Rattle.window_rules.specs.declared.control.Profile.TheVariants as profiles
+use Rattle.window_rules.specs.declared.growth.SlowStart.TheVariants.{Recommended, Permitted}
 use Rattle.spec_tcp.specs.Signals.{profile_of}
 use Rattle.spec_tcp.specs.Steps.{first_broken_step}
 use Rattle.spec_tcp.proofs.Telling.{header, ack, begins, consumes, effects, ends, makes, opening_lines, opening_steps, recovers, sevens, takes}
@@ -21,7 +22,7 @@ abbrev judging : Judged → Header
 judging j = record (header 120000000 0) { congestion = j }
 
 -- the profiles
-pub all_is_judged : profile_of (record (judging Full) { initial = initials.Rfc6928 }) ≡ profiles.Rfc6928
+pub all_is_judged : profile_of (record (judging Full) { initial = initials.Rfc6928 }) ≡ profiles.Rfc6928 Recommended
 all_is_judged = refl
 
 pub recovery_is_judged : profile_of (judging Recovery) ≡ profiles.Unbounded

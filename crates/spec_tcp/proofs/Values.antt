@@ -7,6 +7,7 @@ use Rattle.seqno.specs.Numbers.{number_of}
 use Rattle.seqno.specs.Near.{near_position}
 use Rattle.streams.specs.Transmissions.{once}
 use Rattle.window_rules.specs.declared.control.Profile.TheVariants as profiles
+use Rattle.window_rules.specs.declared.growth.SlowStart.TheVariants.{Recommended}
 use Rattle.spec_tcp.specs.Endpoints.{Endpoint, new_endpoint}
 use Rattle.spec_tcp.specs.Arrives.OtherStates.Sequence.{reads_as}
 use Rattle.spec_tcp.specs.Recovery.{greatest_at_recovery}
@@ -38,7 +39,7 @@ copy_far_ahead_is_not_read = refl
 -- segments above it (RFC 5681, 3.2, steps 2 and 3)
 abbrev doubting : Endpoint
 doubting =
-    let e : Endpoint = new_endpoint 4000 80 None states.Established profiles.Rfc5681 in
+    let e : Endpoint = new_endpoint 4000 80 None states.Established (profiles.Rfc5681 Recommended) in
     record e {
       stream = record e.stream { snd_una = 1 };
       transmissions = replicate 51 (once 0);

@@ -20,6 +20,7 @@ use Rattle.segment.specs.Encoding.{as_written, encoding}
 use Rattle.verdict.specs.declared.rule.Rule.TheVariants as rules
 use Rattle.spec_tcp.specs.Endpoints.{is_scaling, new_endpoint, window_in}
 use Rattle.window_rules.specs.declared.control.Profile.TheVariants as profiles
+use Rattle.window_rules.specs.declared.growth.SlowStart.TheVariants.{Recommended}
 use Rattle.spec_tcp.specs.Steps.{first_broken_step}
 use Rattle.spec_tcp.proofs.Telling.{header, packet, begins, ends, sends, gets, step, takes, takes_of, effects, consumes, makes, ack, syn, syn_ack}
 
@@ -33,7 +34,7 @@ a_syn_is_not_scaled = refl
 pub fifteen_is_fourteen : window_in true false (Some 15) 1 ≡ 16384
 fifteen_is_fourteen = refl
 
-pub one_side_alone_scales_nothing : is_scaling (record (new_endpoint 4000 80 None states.Established profiles.Rfc5681) { shift = Some 7 }) ≡ false
+pub one_side_alone_scales_nothing : is_scaling (record (new_endpoint 4000 80 None states.Established (profiles.Rfc5681 Recommended)) { shift = Some 7 }) ≡ false
 one_side_alone_scales_nothing = refl
 
 abbrev second : Initial → Header

@@ -3,10 +3,12 @@
 use Rattle.std.specs.Prelude.{ℕ, ◌==◌, nat_lt, not, ◌&&◌, if◌then◌else◌, Option}
 use Rattle.std.specs.Option.{option_map_or}
 use Rattle.case_forms.specs.States.{is_syn_sent}
+use Rattle.case_forms.specs.Versions.{says_slack}
 use Rattle.case_forms.specs.declared.version.Initial.{Initial}
 use Rattle.case_forms.specs.declared.version.Initial.TheVariants as initials
 use Rattle.case_forms.specs.declared.version.Judged.{Judged}
 use Rattle.case_forms.specs.declared.version.Judged.TheVariants as judged
+use Rattle.case_forms.specs.declared.version.Version.{Version}
 use Rattle.case_forms.specs.declared.trace.Header.{Header}
 use Rattle.window_rules.specs.declared.control.At.{At}
 use Rattle.window_rules.specs.declared.control.Profile.{Profile}
@@ -14,19 +16,25 @@ use Rattle.window_rules.specs.declared.control.Profile.TheVariants as profiles
 use Rattle.window_rules.specs.declared.control.Signal.{Signal}
 use Rattle.window_rules.specs.declared.control.Signal.TheVariants.{Syn, SynAcked, NewAck, Duplicate, Other}
 use Rattle.window_rules.specs.declared.control.Signal.TheVariants.{Timeout, Recovery}
+use Rattle.window_rules.specs.declared.growth.SlowStart.{SlowStart}
+use Rattle.window_rules.specs.declared.growth.SlowStart.TheVariants.{Recommended, Permitted}
 use Rattle.spec_tcp.specs.Endpoints.{Endpoint, Emission, flight}
 use Rattle.spec_tcp.specs.Arrives.OtherStates.Ack.{is_new_ack, acknowledges_syn, acked, is_duplicate}
 
--- the profile for the RFC of the first window, and for how much of congestion control is judged
-abbrev pub profile_named : Initial → Judged → Profile
-profile_named initials.Rfc5681 judged.Full = profiles.Rfc5681
-profile_named initials.Rfc6928 judged.Full = profiles.Rfc6928
-profile_named initial judged.Recovery = profiles.Unbounded
-profile_named initial judged.NoControl = profiles.NoControl
+-- how much slow start adds: from version 5 on, all that RFC 5681, 3.1, permits
+abbrev pub slow_start_named : Version → SlowStart
+slow_start_named version = if says_slack version then Permitted else Recommended
+
+-- the profile for the version, for the RFC of the first window, and for how much of congestion control is judged
+abbrev pub profile_named : Version → Initial → Judged → Profile
+profile_named version initials.Rfc5681 judged.Full = profiles.Rfc5681 (slow_start_named version)
+profile_named version initials.Rfc6928 judged.Full = profiles.Rfc6928 (slow_start_named version)
+profile_named version initial judged.Recovery = profiles.Unbounded
+profile_named version initial judged.NoControl = profiles.NoControl
 
 -- the profile that the header names
 abbrev pub profile_of : Header → Profile
-profile_of h = profile_named h.initial h.congestion
+profile_of h = profile_named h.version h.initial h.congestion
 
 -- the moment, and the smoothed round trip before it
 abbrev pub at_moment : Endpoint → ℕ → At

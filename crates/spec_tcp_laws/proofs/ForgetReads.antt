@@ -26,12 +26,10 @@ ended-forget e = rw (rcv_nxt-forget e) (is_fin-fade (suc e.stream.receive.delive
 pub waiting-forget : (e : Endpoint) → waiting (forget_endpoint e).stream.receive ≡ waiting e.stream.receive
 waiting-forget e = ap leading (drop-fade (suc e.stream.receive.delivered) e.stream.receive.taken)
 
-pub again-forget : (e : Endpoint) (upto : ℕ)
-    → retransmitted (forget_endpoint e).transmissions e.stream.snd_una upto
-    ≡ retransmitted e.transmissions e.stream.snd_una upto
-again-forget e upto =
-    ap (λ (xs : List Transmission). any_again (take (upto - e.stream.snd_una) xs))
-    (drop-covered (once 0) e.stream.snd_una e.stream.snd_una e.transmissions (omega arith))
+pub again-forget : (e : Endpoint) (from upto : ℕ) → e.stream.snd_una ≤ from
+    → retransmitted (forget_endpoint e).transmissions from upto ≡ retransmitted e.transmissions from upto
+again-forget e from upto unacked =
+    ap (λ (xs : List Transmission). any_again (take (upto - from) xs)) (drop-covered (once 0) e.stream.snd_una from e.transmissions unacked)
 
 pub piece-forget : (e : Endpoint) (position count : ℕ) → e.stream.snd_una ≤ position
     → piece (forget_endpoint e).stream.accepted position count ≡ piece e.stream.accepted position count

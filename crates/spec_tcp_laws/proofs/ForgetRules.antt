@@ -1,6 +1,10 @@
 -- The rules at an endpoint read nothing that was discarded.
-use Rattle.std.proofs.Common.{◌≡◌, ℕ, false, Option, None, Some, refl}
+use Rattle.std.proofs.Common.{◌≡◌, ℕ, ◌-◌, Bool, true, false, not, ◌&&◌, if◌then◌else◌, Option, None, Some, refl, arith}
 use Rattle.std.specs.Option.{option_map_or}
+use Rattle.std.proofs.lemmas.Bool.Decides.{nat_tests}
+use Rattle.case_forms.specs.Versions.{says_slack}
+use Rattle.case_forms.specs.declared.version.Version.{Version}
+use Rattle.streams.specs.Transmissions.{retransmitted}
 use Rattle.case_forms.specs.declared.trace.Header.{Header}
 use Rattle.case_forms.specs.declared.taken_line.Expired.{Expired}
 use Rattle.case_forms.specs.declared.taken_line.Expired.TheVariants.{Giveup, Msl2, Persist, Rto}
@@ -15,6 +19,7 @@ use Rattle.spec_tcp.specs.Calls.Receive.{recv_allows}
 use Rattle.case_forms.specs.declared.steps.SegmentPlan.{SegmentPlan}
 use Rattle.spec_tcp.specs.Makes.{making_rules}
 use Rattle.case_forms.specs.declared.steps.TakeChoice.{TakeChoice}
+use Rattle.spec_tcp.specs.Arrives.OtherStates.Ack.{is_new_ack, may_sample}
 use Rattle.spec_tcp.specs.Arrives.OtherStates.Sequence.{is_acceptable_at, read_position}
 use Rattle.spec_tcp.specs.Arrives.OtherStates.{connected_rules}
 use Rattle.spec_tcp.specs.Arrives.SynSent.{syn_sent_rules}
@@ -40,7 +45,7 @@ recv-forget e most _ = refl
 
 pub syn_sent_rules-forget : (e : Endpoint) (how : TakeChoice) (m : Emission) (moment : ℕ)
     → syn_sent_rules (forget_endpoint e) how m moment ≡ syn_sent_rules e how m moment
-syn_sent_rules-forget e how m moment = rw (snd_max-forget e, again-forget e 1) refl
+syn_sent_rules-forget e how m moment = rw (snd_max-forget e, again-forget e e.stream.snd_una 1 (omega arith)) refl
 
 read_position-forget : (e : Endpoint) (m : Emission) → read_position (forget_endpoint e) m ≡ read_position e m
 read_position-forget e m = rw (rcv_nxt-forget e) refl
@@ -54,9 +59,20 @@ acceptable-forget e m = rw (read_position-forget e m) (by (read_position e m))
     by None = refl
     by (Some pos) = rw (rcv_nxt-forget e) refl
 
+-- a sample reads what isn't acknowledged
+sample-forget : (v : Version) (e : Endpoint) (m : Emission) → may_sample v (forget_endpoint e) m ≡ may_sample v e m
+sample-forget v e m = by (is_new_ack e m) (says_slack v) refl
+  where
+    by : (new later : Bool) → is_new_ack e m ≡ new
+        → (new && not (retransmitted (forget_endpoint e).transmissions (if later then m.ack - 1 else e.stream.snd_una) m.ack))
+        ≡ (new && not (retransmitted e.transmissions (if later then m.ack - 1 else e.stream.snd_una) m.ack))
+    by false later is = refl
+    by true true is = rw (again-forget e (m.ack - 1) m.ack (grind (arith, nat_tests, is))) refl
+    by true false is = rw (again-forget e e.stream.snd_una m.ack (omega arith)) refl
+
 pub connected_rules-forget : (h : Header) (b : HostTcp) (me : EndpointId) (e : Endpoint) (how : TakeChoice) (m : Emission) (moment : ℕ)
     → connected_rules h b me (forget_endpoint e) how m moment ≡ connected_rules h b me e how m moment
-connected_rules-forget h b me e how m moment = rw (acceptable-forget e m, rcv_nxt-forget e, snd_max-forget e, again-forget e m.ack) refl
+connected_rules-forget h b me e how m moment = rw (acceptable-forget e m, rcv_nxt-forget e, snd_max-forget e, sample-forget h.version e m) refl
 
 pub expiry_rules-forget : (h : Header) (moment : ℕ) (e : Endpoint) (x : Expired) → expiry_rules h moment (forget_endpoint e) x ≡ expiry_rules h moment e x
 expiry_rules-forget h moment e (Rto growth) = rw (snd_max-forget e) refl

@@ -1,5 +1,5 @@
 -- Which rules an endpoint's profile may break: on the congestion window, on its growth and on fast recovery. Where less is judged, none more is broken.
-use Rattle.std.proofs.Common.{◌≡◌, ℕ, ◌+◌, ◌≤◌, Bool, true, false, None, refl, arith}
+use Rattle.std.proofs.Common.{◌≡◌, ℕ, ◌+◌, ◌≤◌, Bool, true, false, None, inl, refl, arith}
 use Rattle.std.specs.Prelude.{nat_lt, ◌&&◌, ◌||◌, ◌==◌, not}
 use Rattle.std.specs.List.{AllByRecursion}
 use Rattle.std.proofs.lemmas.Bool.Decides.{nat_tests}
@@ -13,6 +13,7 @@ use Rattle.case_forms.specs.declared.version.Initial.{Initial}
 use Rattle.case_forms.specs.declared.version.Initial.TheVariants as initials
 use Rattle.case_forms.specs.declared.version.Judged.{Judged}
 use Rattle.case_forms.specs.declared.version.Judged.TheVariants as judged
+use Rattle.case_forms.specs.declared.version.Version.{Version}
 use Rattle.verdict.specs.Rules.{first_broken}
 use Rattle.verdict.proofs.RuleLemmas.{all_none, none_all}
 use Rattle.window_rules.specs.Control.{control_edge, greatest, may_recover}
@@ -39,15 +40,15 @@ use Rattle.spec_tcp_laws.specs.Judging.{body_by, endpoint_by, extent, header_by}
 use Rattle.spec_tcp_laws.proofs.Rules.{at_most_from, neither, not_false}
 
 -- the words on congestion control judge as much as their profiles do
-pub judges_at_most : (i : Initial) (j k : Judged) → extent j ≤ extent k → JudgesAtMost (profile_named i j) (profile_named i k)
-judges_at_most i judged.Full judged.Full le = record { windows = λ is. refl; duplicates = λ is. is }
-judges_at_most i judged.Full judged.Recovery le = absurd (omega (le, arith))
-judges_at_most i judged.Full judged.NoControl le = absurd (omega (le, arith))
-judges_at_most initials.Rfc5681 judged.Recovery judged.Full le = record { windows = λ is. absurd cc; duplicates = λ is. refl }
-judges_at_most initials.Rfc6928 judged.Recovery judged.Full le = record { windows = λ is. absurd cc; duplicates = λ is. refl }
-judges_at_most i judged.Recovery judged.Recovery le = record { windows = λ is. refl; duplicates = λ is. is }
-judges_at_most i judged.Recovery judged.NoControl le = absurd (omega (le, arith))
-judges_at_most i judged.NoControl k le = record { windows = λ is. absurd cc; duplicates = λ is. absurd cc }
+pub judges_at_most : (v : Version) (i : Initial) (j k : Judged) → extent j ≤ extent k → JudgesAtMost (profile_named v i j) (profile_named v i k)
+judges_at_most v i judged.Full judged.Full le = record { windows = λ is. inl refl; duplicates = λ is. is }
+judges_at_most v i judged.Full judged.Recovery le = absurd (omega (le, arith))
+judges_at_most v i judged.Full judged.NoControl le = absurd (omega (le, arith))
+judges_at_most v initials.Rfc5681 judged.Recovery judged.Full le = record { windows = λ is. absurd cc; duplicates = λ is. refl }
+judges_at_most v initials.Rfc6928 judged.Recovery judged.Full le = record { windows = λ is. absurd cc; duplicates = λ is. refl }
+judges_at_most v i judged.Recovery judged.Recovery le = record { windows = λ is. inl refl; duplicates = λ is. is }
+judges_at_most v i judged.Recovery judged.NoControl le = absurd (omega (le, arith))
+judges_at_most v i judged.NoControl k le = record { windows = λ is. absurd cc; duplicates = λ is. absurd cc }
 
 -- by this profile less of the endpoint is judged, and its values are such as it allows
 pub record MayJudge (p : Profile) (e : Endpoint) : Type 0 where

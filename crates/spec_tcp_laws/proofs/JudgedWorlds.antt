@@ -99,7 +99,8 @@ may_judge : (j : Judged) (h : Header) (w : World tcp_shape) → extent j ≤ ext
     → MayJudgeAll (profile_of (header_by j h)) (pick w.hosts host).body
 may_judge j h w le is host i e at = record {
   less =
-      subst (λ (q : Profile). JudgesAtMost (profile_of (header_by j h)) q) (sym (is.profiles (name host i) e at)) (judges_at_most h.initial j h.congestion le);
+      subst (λ (q : Profile). JudgesAtMost (profile_of (header_by j h)) q) (sym (is.profiles (name host i) e at))
+      (judges_at_most h.version h.initial j h.congestion le);
   limited = is.values (name host i) e at;
 }
 

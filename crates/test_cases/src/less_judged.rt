@@ -2,7 +2,7 @@
 //! 5 stays one.
 //!
 //! With `congestion full`, a case of an older version has the same answer, with the numbers of trace lines moved. If
-//! less is judged, a yes stays the same yes.
+//! less is judged, a yes stays the same yes. It also does in version 5 with the slack `any`, which permits more.
 
 use crate::asking::{decided, judged};
 use crate::report::{Done, Report};
@@ -34,7 +34,7 @@ pub fn ask_version_four(cases: &[Case], report: &mut Report<'_>) -> Done {
     )?;
     report.count(
         covered.words,
-        "case files none loses a yes when less is judged\n",
+        "case files none loses a yes when less is judged, or in version 5 with the slack any\n",
     )
 }
 
@@ -114,6 +114,30 @@ fn ask_less(case: &Case, full: &str, rewritten: &mut Rewritten, report: &mut Rep
         recovery.as_str(),
         nothing.as_str(),
         report,
+    )?;
+    rewritten.permit_more(report.alloc)?;
+    ask_later(case, Judged::Full, full, rewritten, report)?;
+    ask_later(case, Judged::Recovery, recovery.as_str(), rewritten, report)?;
+    ask_later(case, Judged::NoControl, nothing.as_str(), rewritten, report)
+}
+
+// Checks that an answer stays if it is a yes and the case becomes one of version 5 with the slack `any`.
+fn ask_later(
+    case: &Case,
+    congestion: Judged,
+    wanted: &str,
+    rewritten: &mut Rewritten,
+    report: &mut Report<'_>,
+) -> Done {
+    if !wanted.starts_with("yes ") {
+        return Ok(());
+    }
+    let found = rewritten.answer(report.alloc, congestion)?;
+    report.compare(
+        case.name.as_str(),
+        "version 5, slack any",
+        wanted,
+        found.as_str(),
     )
 }
 

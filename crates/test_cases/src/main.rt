@@ -5,9 +5,9 @@
 //! inputs of several cases, pairs of texts that no case would be split into, the command lines of
 //! `data/command_lines.txt`, what `tcpwit_lab` prints for some cases (`data/told.txt`, `data/remarked.txt`), and the
 //! witnesses that are found for recordings of the Linux kernel (`data/kernel/`) and for written traces (`data/found/`).
-//! Each case file is also checked as version 4. If all answers are as expected, it prints three lines with the counts.
-//! Else standard error has a line for each answer that differs, with the name of the case, how it was checked, what was
-//! expected and what was found, and the program ends with status 1.
+//! Each case file is also checked as versions 4 and 5. If all answers are as expected, it prints three lines with the
+//! counts. Else standard error has a line for each answer that differs, with the name of the case, how it was checked,
+//! what was expected and what was found, and the program ends with status 1.
 //!
 //! - `report`: what the checks found
 //! - `table`: cases, and those of the files
@@ -19,8 +19,9 @@
 //! - `stored`: texts that `tcpwit_lab` must print for a case
 //! - `kernel`: witnesses found for recordings of the Linux kernel and for written traces
 //! - `drawn`: which lines of a long case are drawn; `printed`: bytes that no terminal interprets
-//! - `version_four`: rewrites a case as version 4
-//! - `less_judged`: each case file as version 4, with more and less of congestion control judged
+//! - `version_four`: rewrites a case as version 4, and as version 5
+//! - `less_judged`: each case file as version 4, with more and less of congestion control judged, and as version 5 with
+//!   the slack `any`
 #![tactic(auto)]
 
 mod asking;

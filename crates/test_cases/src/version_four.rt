@@ -1,7 +1,8 @@
 //! Rewrites a case as version 4: the same event lines and steps, after a longer header. A case of version 5 stays one.
 //!
 //! The header has three lines more than in version 1, two more than in version 2, and one more than in version 3. So
-//! the numbers of event lines move, and so do the numbers by which a witness names them.
+//! the numbers of event lines move, and so do the numbers by which a witness names them. They move by one line more if
+//! the case then becomes one of version 5.
 
 use crate::asking::judged;
 use case_forms::{
@@ -47,6 +48,19 @@ pub fn rewrite(alloc: Global, text: &[u8]) -> Result<Rewritten, TextFault> {
 }
 
 impl Rewritten {
+    /// Makes it a case of version 5 with the slack `any`.
+    pub fn permit_more(&mut self, alloc: Global) -> Result<(), OutOfMemory> {
+        let version = later_version(self.trace.header.version);
+        let moved_by = version
+            .first_event_line()
+            .saturating_sub(self.trace.header.version.first_event_line());
+        self.witness.steps = moved_steps(alloc, &self.trace, &self.witness.steps, moved_by)?;
+        self.witness.version = version;
+        self.trace.header.version = version;
+        self.trace.header.slack = None;
+        Ok(())
+    }
+
     /// The answer to the case if this much of congestion control is judged, as it would be printed, then its status.
     pub fn answer(&mut self, alloc: Global, congestion: Judged) -> Result<String, OutOfMemory> {
         self.trace.header.congestion = congestion;
@@ -95,6 +109,15 @@ fn rewritten_version(version: Version) -> Version {
         Version::Three | Version::FourHalf => Version::FourHalf,
         Version::Five => Version::Five,
         Version::FiveHalf => Version::FiveHalf,
+    }
+}
+
+// Version 5 for the same count of recorded hosts.
+fn later_version(version: Version) -> Version {
+    if version.is_half() {
+        Version::FiveHalf
+    } else {
+        Version::Five
     }
 }
 

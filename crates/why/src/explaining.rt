@@ -243,7 +243,9 @@ fn compare(out: &mut String, scene: &Scene, rule: Rule) -> Done {
             let cwnd = choice.cwnd;
             writeln!(out, "the step chooses cwnd {cwnd}, a child begins with 0")
         }
-        (Rule::Sample, Object::Processing(it), Some(m)) => processing::sample(out, it.endpoint, m),
+        (Rule::Sample, Object::Processing(it), Some(m)) => {
+            processing::sample(out, scene.header().version, it.endpoint, m)
+        }
         (Rule::Sample, Object::Listening(..), _) => {
             out.push_str("the step measures a round trip, ")?;
             out.push_str("but a child has sent nothing that could be acknowledged\n")

@@ -12,7 +12,7 @@ use replayed::end_of;
 use spec_tcp::Arrived;
 use std::alloc::Global;
 use verdict::Rule;
-use window_rules::{Congestion, congestion_edge, counted_after, may_grow, on_duplicate};
+use window_rules::{Congestion, SlowStart, congestion_edge, counted_after, may_grow, on_duplicate};
 
 /// Other windows of the endpoint that builds the segment of a step.
 #[derive(Drop)]
@@ -110,9 +110,8 @@ impl OtherWindows {
         match change {
             Change::Begins | Change::Timeout | Change::Recovery => after.congestion,
             Change::Acknowledged(acked) if acked < POSITIONS && was.counted < POSITIONS => {
-                let least = if was.cwnd < was.ssthresh { was.smss } else { 0 };
                 Congestion {
-                    cwnd: may_grow(&was, acked.max(u64::from(least))) as u32,
+                    cwnd: may_grow(SlowStart::Permitted, &was, acked) as u32,
                     counted: counted_after(&was, acked),
                     ..after.congestion
                 }
@@ -135,7 +134,9 @@ pub(crate) fn say_fitting(out: &mut String, scene: &Scene, rule: Rule) -> Done {
         }
         (Object::Building(it), Some(others))
             if rule == Rule::Congestion && u32::from(it.plan.len) <= others.now.congestion.smss => {
-            fits_upper(out, others, end_of(it.plan))?;
+            if it.endpoint.control.profile.slow_start() == SlowStart::Recommended {
+                fits_upper(out, others, end_of(it.plan))?;
+            }
             fits_segments(out, others)
         }
         _ => Ok(()),
@@ -162,8 +163,8 @@ fn fits_upper(out: &mut String, others: &OtherWindows, end: u64) -> Done {
     };
     if una < POSITIONS && end <= congestion_edge(una, &window) {
         out.push_str("it would fit if slow start added one SMSS for each acknowledgment, ")?;
-        write!(out, "with cwnd {cwnd}. RFC 5681, 3.1, allows that; ")?;
-        out.push_str("this profile allows min(N, SMSS)\n")?;
+        write!(out, "with cwnd {cwnd}. RFC 5681, 3.1, and version 5 allow ")?;
+        out.push_str("that; this version allows min(N, SMSS)\n")?;
     }
     Ok(())
 }

@@ -2,7 +2,7 @@
 
 use crate::scene::{Processing, Scene};
 use crate::{Done, numbers};
-use case_forms::{Host, TakeChoice};
+use case_forms::{Host, TakeChoice, Version};
 use endpoint::greatest_taking;
 use endpoint_state::{Endpoint, World};
 use plain_words::HostName;
@@ -84,11 +84,16 @@ pub(crate) fn acknowledges_more(endpoint: &Endpoint, m: &Arrived) -> bool {
 }
 
 /// What the segment newly acknowledges.
-pub(crate) fn sample(out: &mut String, endpoint: &Endpoint, m: &Arrived) -> Done {
+pub(crate) fn sample(out: &mut String, version: Version, endpoint: &Endpoint, m: &Arrived) -> Done {
     let (una, ack) = (endpoint.stream.snd_una, m.ack());
     if acknowledges_more(endpoint, m) {
+        let which = if version.says_slack() {
+            "the last"
+        } else {
+            "a"
+        };
         write!(out, "it acknowledges from {una} up to {ack}, ")?;
-        out.push_str("and a position there was sent more than once\n")
+        writeln!(out, "and {which} position there was sent more than once")
     } else {
         write!(out, "it acknowledges nothing new: SND.UNA is {una}; ")?;
         out.push_str("a round trip is measured by a new acknowledgment, not by a reset\n")

@@ -5,6 +5,7 @@ use Rattle.window_rules.specs.declared.control.Profile.TheVariants.{Rfc5681, Rfc
 use Rattle.window_rules.specs.declared.control.Signal.TheVariants.{Syn, SynAcked, NewAck, Duplicate, Other, Timeout, Recovery}
 use Rattle.window_rules.specs.declared.control.At.{At}
 use Rattle.window_rules.specs.declared.control.Control.{Control}
+use Rattle.window_rules.specs.declared.growth.SlowStart.TheVariants.{Recommended, Permitted}
 use Rattle.window_rules.specs.Windows.{greatest_window}
 use Rattle.window_rules.specs.Control.{began, greatest, after, control_edge, may_recover}
 
@@ -14,7 +15,11 @@ now = record { moment = 5000; srtt = None }
 -- an endpoint by RFC 5681 whose segments have 1000 bytes, with no duplicate acknowledgment
 abbrev sending : ℕ → ℕ → ℕ → Control
 sending cwnd ssthresh counted =
-    record { values = record { cwnd = cwnd; ssthresh = ssthresh; smss = 1000; counted = counted; dup = 0; fast = false }; profile = Rfc5681 }
+    record { values = record { cwnd = cwnd; ssthresh = ssthresh; smss = 1000; counted = counted; dup = 0; fast = false }; profile = Rfc5681 Recommended }
+
+-- by another profile
+abbrev by_profile : Profile → Control → Control
+by_profile p c = record c { profile = p }
 
 -- after so many duplicate acknowledgments
 abbrev doubting : ℕ → Control
@@ -25,27 +30,36 @@ abbrev recovering : ℕ → ℕ → Control
 recovering cwnd ssthresh = let c = sending cwnd ssthresh 0 in record c { values = record c.values { dup = 4; fast = true } }
 
 -- the handshake (RFC 5681, 3.1; RFC 6928, 2)
-pub no_window_before_the_acknowledgment : greatest (began Rfc5681) (Syn 1460) now ≡ (0, greatest_window)
+pub no_window_before_the_acknowledgment : greatest (began (Rfc5681 Recommended)) (Syn 1460) now ≡ (0, greatest_window)
 no_window_before_the_acknowledgment = refl
 
-pub the_syn_brings_the_size : (after (began Rfc5681) (Syn 1460) now 0 0).values.smss ≡ 1460
+pub the_syn_brings_the_size : (after (began (Rfc5681 Recommended)) (Syn 1460) now 0 0).values.smss ≡ 1460
 the_syn_brings_the_size = refl
 
-pub four_segments : greatest (began Rfc5681) (SynAcked 1095 false) now ≡ (4380, greatest_window)
+pub four_segments : greatest (began (Rfc5681 Recommended)) (SynAcked 1095 false) now ≡ (4380, greatest_window)
 four_segments = refl
 
-pub one_after_a_lost_syn : greatest (began Rfc5681) (SynAcked 1460 true) now ≡ (1460, greatest_window)
+pub one_after_a_lost_syn : greatest (began (Rfc5681 Recommended)) (SynAcked 1460 true) now ≡ (1460, greatest_window)
 one_after_a_lost_syn = refl
 
-pub ten_segments : greatest (began Rfc6928) (SynAcked 1460 false) now ≡ (14600, greatest_window)
+pub ten_segments : greatest (began (Rfc6928 Recommended)) (SynAcked 1460 false) now ≡ (14600, greatest_window)
 ten_segments = refl
 
-pub ten_after_a_lost_syn : greatest (began Rfc6928) (SynAcked 1460 true) now ≡ (14600, greatest_window)
+pub ten_after_a_lost_syn : greatest (began (Rfc6928 Recommended)) (SynAcked 1460 true) now ≡ (14600, greatest_window)
 ten_after_a_lost_syn = refl
 
 -- new acknowledgments (RFC 5681, 3.1, equations 2 and 3)
 pub slow_start : greatest (sending 4000 10000 0) (NewAck 3000) now ≡ (5000, 10000)
 slow_start = refl
+
+pub slow_start_of_what_is_acknowledged : greatest (sending 4000 10000 0) (NewAck 1) now ≡ (4001, 10000)
+slow_start_of_what_is_acknowledged = refl
+
+pub slow_start_of_a_segment : greatest (by_profile (Rfc5681 Permitted) (sending 4000 10000 0)) (NewAck 1) now ≡ (5000, 10000)
+slow_start_of_a_segment = refl
+
+pub avoidance_stays : greatest (by_profile (Rfc6928 Permitted) (sending 10000 5000 0)) (NewAck 1) now ≡ (10100, 5000)
+avoidance_stays = refl
 
 pub congestion_avoidance : greatest (sending 10000 5000 0) (NewAck 1000) now ≡ (10100, 5000)
 congestion_avoidance = refl
@@ -113,16 +127,13 @@ timeout = refl
 pub second_timeout : greatest (sending 8000 4000 0) (Timeout 5000 false true) now ≡ (1000, 4000)
 second_timeout = refl
 
-pub timeout_of_the_syn : greatest (began Rfc5681) (Timeout 1 true false) now ≡ (536, greatest_window)
+pub timeout_of_the_syn : greatest (began (Rfc5681 Recommended)) (Timeout 1 true false) now ≡ (536, greatest_window)
 timeout_of_the_syn = refl
 
 pub timeout_ends_recovery : after (recovering 8500 2500) (Timeout 5000 false false) now 1000 2500 ≡ sending 1000 2500 0
 timeout_ends_recovery = refl
 
 -- no window is bounded, by each profile that says so
-abbrev by_profile : Profile → Control → Control
-by_profile p c = record c { profile = p }
-
 pub no_bound_on_growth : greatest (by_profile Unbounded (sending 4000 10000 0)) (NewAck 3000) now ≡ (4294967295, 4294967295)
 no_bound_on_growth = refl
 

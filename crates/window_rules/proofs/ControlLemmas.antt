@@ -14,7 +14,7 @@ use Rattle.window_rules.specs.Growth.{counted_after, fills_window, is_avoiding, 
 use Rattle.window_rules.specs.Losses.{halved, on_timeout}
 use Rattle.window_rules.specs.Allowed.{MayFly, MayBegin, MayBegin6928, MayInflate, MayHalve, MayHold}
 use Rattle.window_rules.specs.Laws.{IsGreatest}
-use Rattle.window_rules.specs.Control.{bounds_windows, began, first_window, greatest_bounded, greatest, after, control_edge}
+use Rattle.window_rules.specs.Control.{bounds_windows, began, first_window, slow_start_of, greatest_bounded, greatest, after, control_edge}
 use Rattle.window_rules.specs.Counts.{HasCounts, IsCounted, IsAcked}
 use Rattle.window_rules.specs.ControlLaws.{MayFirst, MayChooseBounded, MayChoose, MayLowerBounded, MayLower, IsLimited, is_loss}
 use Rattle.window_rules.proofs.GrowthLemmas.{growth_greatest}
@@ -32,11 +32,11 @@ all_up_to : IsGreatest (λ v. ⊤) greatest_window
 all_up_to v = ((λ x. x.1), (λ h. (tt, h)))
 
 first_greatest : (p : Profile) (smss : ℕ) (syn_lost : Bool) → IsGreatest (MayFirst p smss syn_lost) (first_window p smss syn_lost)
-first_greatest Rfc5681 smss syn_lost = begin_greatest smss syn_lost
+first_greatest (Rfc5681 slow) smss syn_lost = begin_greatest smss syn_lost
   where
     begin_greatest : (smss : ℕ) (syn_lost : Bool) → IsGreatest (MayBegin smss syn_lost) (initial_window smss syn_lost)
     begin_greatest = search rules
-first_greatest Rfc6928 smss syn_lost = ten_greatest smss
+first_greatest (Rfc6928 slow) smss syn_lost = ten_greatest smss
   where
     ten_greatest : (smss : ℕ) → IsGreatest (MayBegin6928 smss) (initial_window_6928 smss)
     ten_greatest = search rules
@@ -56,7 +56,7 @@ halve_greatest = search rules
 window_bounded : (c : Control) (s : Signal) (at : At) → IsLimited c → IsGreatest (MayChooseBounded c s) ((greatest_bounded c s at).0)
 window_bounded c (Syn smss) at fits = up_to c.values.cwnd fits.cwnd
 window_bounded c (SynAcked smss syn_lost) at fits = first_greatest c.profile smss syn_lost
-window_bounded c (NewAck acked) at fits = growth_greatest c.values acked
+window_bounded c (NewAck acked) at fits = growth_greatest (slow_start_of c.profile) c.values acked
 window_bounded c Duplicate at fits = inflate_greatest c.values
 window_bounded c Other at fits = up_to c.values.cwnd fits.cwnd
 window_bounded c (Timeout flight syn_pending again) at fits = up_to_capped c.values.smss

@@ -1,6 +1,7 @@
 -- Values of RFC 9293 and RFC 5681, said of the definitions, so that a slip in one of them does not check.
 use Rattle.std.proofs.Common.{◌≡◌, ℕ, true, false, refl}
 use Rattle.window_rules.specs.declared.congestion.Congestion.{Congestion}
+use Rattle.window_rules.specs.declared.growth.SlowStart.TheVariants.{Recommended, Permitted}
 use Rattle.window_rules.specs.Windows.{greatest_window, offered_edge, congestion_edge, initial_window, initial_window_6928, scaled_window}
 use Rattle.window_rules.specs.Growth.{may_grow, counted_after, on_duplicate}
 use Rattle.window_rules.specs.Losses.{on_timeout, recovery_window, on_fast}
@@ -63,17 +64,27 @@ pub a_shift_of_fifteen_is_fourteen : scaled_window 3 15 ≡ scaled_window 3 14
 a_shift_of_fifteen_is_fourteen = refl
 
 -- slow start (RFC 5681, 3.1, equation 2)
-pub slow_by_bytes : may_grow (sending 4000 10000 0) 500 ≡ 4500
+pub slow_by_bytes : may_grow Recommended (sending 4000 10000 0) 500 ≡ 4500
 slow_by_bytes = refl
 
-pub slow_by_a_segment : may_grow (sending 4000 10000 0) 3000 ≡ 5000
+pub slow_by_a_segment : may_grow Recommended (sending 4000 10000 0) 3000 ≡ 5000
 slow_by_a_segment = refl
 
+-- the same where all is permitted that the RFC permits
+pub slow_by_at_most_a_segment : may_grow Permitted (sending 4000 10000 0) 500 ≡ 5000
+slow_by_at_most_a_segment = refl
+
+pub slow_at_equality : may_grow Permitted (sending 10000 10000 0) 1 ≡ 11000
+slow_at_equality = refl
+
+pub no_segment_above_the_threshold : may_grow Permitted (sending 10000 5000 0) 1 ≡ 10100
+no_segment_above_the_threshold = refl
+
 -- congestion avoidance (RFC 5681, 3.1, equation 3)
-pub avoiding_by_a_part : may_grow (sending 10000 5000 0) 1000 ≡ 10100
+pub avoiding_by_a_part : may_grow Recommended (sending 10000 5000 0) 1000 ≡ 10100
 avoiding_by_a_part = refl
 
-pub avoiding_by_a_window : may_grow (sending 10000 5000 9500) 500 ≡ 11000
+pub avoiding_by_a_window : may_grow Recommended (sending 10000 5000 9500) 500 ≡ 11000
 avoiding_by_a_window = refl
 
 pub window_is_spent : counted_after (sending 10000 5000 9500) 500 ≡ 0
@@ -85,10 +96,10 @@ window_is_left_over = refl
 pub part_is_counted : counted_after (sending 10000 5000 0) 1000 ≡ 1000
 part_is_counted = refl
 
-pub greater_at_equality : may_grow (sending 10000 10000 0) 1000 ≡ 11000
+pub greater_at_equality : may_grow Recommended (sending 10000 10000 0) 1000 ≡ 11000
 greater_at_equality = refl
 
-pub at_least_a_byte : may_grow (sending 2000000 5000 0) 1 ≡ 2000001
+pub at_least_a_byte : may_grow Recommended (sending 2000000 5000 0) 1 ≡ 2000001
 at_least_a_byte = refl
 
 -- limited transmit (RFC 5681, 3.2, step 1)
@@ -120,7 +131,7 @@ recovery_by_choice = refl
 pub recovery_inflates : on_duplicate (record (doubting 4) { fast = true }) ≡ 5000
 recovery_inflates = refl
 
-pub recovery_ends : may_grow (record (sending 8500 2500 0) { fast = true }) 5000 ≡ 2500
+pub recovery_ends : may_grow Recommended (record (sending 8500 2500 0) { fast = true }) 5000 ≡ 2500
 recovery_ends = refl
 
 pub timeout_halves : on_timeout (sending 8000 4000 0) 5000 false false ≡ (1000, 2500)
@@ -133,7 +144,7 @@ pub syn_timeout : on_timeout (sending 0 greatest_window 0) 1 true false ≡ (100
 syn_timeout = refl
 
 -- nothing is above the greatest window
-pub growth_is_capped : may_grow (sending 4294967295 4294967295 0) 5000 ≡ 4294967295
+pub growth_is_capped : may_grow Recommended (sending 4294967295 4294967295 0) 5000 ≡ 4294967295
 growth_is_capped = refl
 
 pub half_is_capped : on_fast (doubting 3) 1000000000000000000 ≡ (4294967295, 4294967295)

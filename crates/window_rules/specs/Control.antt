@@ -7,6 +7,8 @@ use Rattle.window_rules.specs.declared.control.Signal.TheVariants.{Syn, SynAcked
 use Rattle.window_rules.specs.declared.control.Signal.TheVariants.{Duplicate, Other, Timeout, Recovery}
 use Rattle.window_rules.specs.declared.control.At.{At}
 use Rattle.window_rules.specs.declared.control.Control.{Control}
+use Rattle.window_rules.specs.declared.growth.SlowStart.{SlowStart}
+use Rattle.window_rules.specs.declared.growth.SlowStart.TheVariants.{Permitted}
 use Rattle.window_rules.specs.Windows.{start, greatest_window, congestion_edge, initial_window, initial_window_6928}
 use Rattle.window_rules.specs.Growth.{may_grow, counted_after, on_duplicate}
 use Rattle.window_rules.specs.Losses.{halved, on_timeout, recovery_window}
@@ -17,31 +19,38 @@ began profile = record { values = start; profile = profile }
 
 -- congestion windows and slow start thresholds are bounded
 abbrev pub bounds_windows : Profile → Bool
-bounds_windows Rfc5681 = true
-bounds_windows Rfc6928 = true
+bounds_windows (Rfc5681 slow) = true
+bounds_windows (Rfc6928 slow) = true
 bounds_windows Unbounded = false
 bounds_windows NoControl = false
 
 -- fast recovery needs duplicate acknowledgments (RFC 5681, 3.2, step 2)
 abbrev pub counts_duplicates : Profile → Bool
-counts_duplicates Rfc5681 = true
-counts_duplicates Rfc6928 = true
+counts_duplicates (Rfc5681 slow) = true
+counts_duplicates (Rfc6928 slow) = true
 counts_duplicates Unbounded = true
 counts_duplicates NoControl = false
 
 -- the greatest window once the SYN is acknowledged (RFC 5681, 3.1; RFC 6928, 2)
 abbrev pub first_window : Profile → (smss : ℕ) (syn_lost : Bool) → ℕ
-first_window Rfc5681 smss syn_lost = initial_window smss syn_lost
-first_window Rfc6928 smss syn_lost = initial_window_6928 smss
+first_window (Rfc5681 slow) smss syn_lost = initial_window smss syn_lost
+first_window (Rfc6928 slow) smss syn_lost = initial_window_6928 smss
 first_window Unbounded smss syn_lost = greatest_window
 first_window NoControl smss syn_lost = greatest_window
+
+-- how much slow start adds: what is permitted, if no window is bounded (RFC 5681, 3.1)
+abbrev pub slow_start_of : Profile → SlowStart
+slow_start_of (Rfc5681 slow) = slow
+slow_start_of (Rfc6928 slow) = slow
+slow_start_of Unbounded = Permitted
+slow_start_of NoControl = Permitted
 
 -- the greatest cwnd and ssthresh that a signal allows if they are bounded (RFC 5681, 3.1 and 3.2); if a segment is
 -- processed, ssthresh stays
 abbrev pub greatest_bounded : Control → Signal → At → ℕ × ℕ
 greatest_bounded c (Syn smss) at = (c.values.cwnd, c.values.ssthresh)
 greatest_bounded c (SynAcked smss syn_lost) at = (first_window c.profile smss syn_lost, c.values.ssthresh)
-greatest_bounded c (NewAck acked) at = (may_grow c.values acked, c.values.ssthresh)
+greatest_bounded c (NewAck acked) at = (may_grow (slow_start_of c.profile) c.values acked, c.values.ssthresh)
 greatest_bounded c Duplicate at = (on_duplicate c.values, c.values.ssthresh)
 greatest_bounded c Other at = (c.values.cwnd, c.values.ssthresh)
 greatest_bounded c (Timeout flight syn_pending again) at = on_timeout c.values flight syn_pending again

@@ -11,13 +11,13 @@ use Rattle.window_rules.specs.declared.control.Control.{Control}
 use Rattle.window_rules.specs.Windows.{greatest_window, offered_edge}
 use Rattle.window_rules.specs.Allowed.{MayFly, MayBegin, MayBegin6928, MayGrow, MayInflate, MayHalve, MayHold}
 use Rattle.window_rules.specs.Laws.{IsGreatest}
-use Rattle.window_rules.specs.Control.{bounds_windows, greatest, after, control_edge}
+use Rattle.window_rules.specs.Control.{bounds_windows, slow_start_of, greatest, after, control_edge}
 use Rattle.window_rules.specs.Counts.{IsCounted, IsAcked}
 
 -- the first window
 abbrev pub MayFirst : Profile → (smss : ℕ) (syn_lost : Bool) → ℕ → Type 0
-MayFirst Rfc5681 smss syn_lost cwnd = MayBegin smss syn_lost cwnd
-MayFirst Rfc6928 smss syn_lost cwnd = MayBegin6928 smss cwnd
+MayFirst (Rfc5681 slow) smss syn_lost cwnd = MayBegin smss syn_lost cwnd
+MayFirst (Rfc6928 slow) smss syn_lost cwnd = MayBegin6928 smss cwnd
 MayFirst Unbounded smss syn_lost cwnd = ⊤
 MayFirst NoControl smss syn_lost cwnd = ⊤
 
@@ -25,7 +25,7 @@ MayFirst NoControl smss syn_lost cwnd = ⊤
 abbrev pub MayChooseBounded : Control → Signal → ℕ → Type 0
 MayChooseBounded c (Syn smss) cwnd = cwnd ≤ c.values.cwnd
 MayChooseBounded c (SynAcked smss syn_lost) cwnd = MayFirst c.profile smss syn_lost cwnd
-MayChooseBounded c (NewAck acked) cwnd = MayGrow c.values acked cwnd
+MayChooseBounded c (NewAck acked) cwnd = MayGrow (slow_start_of c.profile) c.values acked cwnd
 MayChooseBounded c Duplicate cwnd = MayInflate c.values cwnd
 MayChooseBounded c Other cwnd = cwnd ≤ c.values.cwnd
 MayChooseBounded c (Timeout flight syn_pending again) cwnd = cwnd ≤ c.values.smss

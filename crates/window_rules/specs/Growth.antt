@@ -2,11 +2,14 @@
 -- counting the SYN.
 use Rattle.std.specs.Prelude.{ℕ, ◌+◌, ◌-◌, ◌*◌, ◌/◌, Bool, not, ◌&&◌, nat_lt, nat_le, min, max, if◌then◌else◌}
 use Rattle.window_rules.specs.declared.congestion.Congestion.{Congestion}
+use Rattle.window_rules.specs.declared.growth.SlowStart.{SlowStart}
+use Rattle.window_rules.specs.declared.growth.SlowStart.TheVariants.{Recommended, Permitted}
 use Rattle.window_rules.specs.Windows.{capped}
 
--- slow start: what is acknowledged, at most SMSS (RFC 5681, 3.1, equation 2)
-abbrev pub slow_start : Congestion → ℕ → ℕ
-slow_start c acked = c.cwnd + min acked c.smss
+-- slow start: SMSS is permitted; what is acknowledged, at most SMSS, is recommended (RFC 5681, 3.1, equation 2)
+abbrev pub slow_start : SlowStart → Congestion → ℕ → ℕ
+slow_start Recommended c acked = c.cwnd + min acked c.smss
+slow_start Permitted c acked = c.cwnd + c.smss
 
 -- what was counted and what is acknowledged now fill a whole window (RFC 5681, 3.1)
 abbrev pub fills_window : Congestion → ℕ → Bool
@@ -22,14 +25,14 @@ avoidance c acked = c.cwnd + (if fills_window c acked then c.smss else increment
 
 -- outside fast recovery: slow start below ssthresh, congestion avoidance above, at equality the greater of both (RFC
 -- 5681, 3.1)
-abbrev pub growth : Congestion → ℕ → ℕ
-growth c acked =
-    if nat_lt c.cwnd c.ssthresh then slow_start c acked
-    else (if nat_lt c.ssthresh c.cwnd then avoidance c acked else max (slow_start c acked) (avoidance c acked))
+abbrev pub growth : SlowStart → Congestion → ℕ → ℕ
+growth slow c acked =
+    if nat_lt c.cwnd c.ssthresh then slow_start slow c acked
+    else (if nat_lt c.ssthresh c.cwnd then avoidance c acked else max (slow_start slow c acked) (avoidance c acked))
 
 -- the greatest cwnd after a new acknowledgment; ssthresh if it ends fast recovery (RFC 5681, 3.1 and 3.2, step 6)
-abbrev pub may_grow : Congestion → ℕ → ℕ
-may_grow c acked = capped (if c.fast then c.ssthresh else growth c acked)
+abbrev pub may_grow : SlowStart → Congestion → ℕ → ℕ
+may_grow slow c acked = capped (if c.fast then c.ssthresh else growth slow c acked)
 
 -- in congestion avoidance: from ssthresh on, outside fast recovery
 abbrev pub is_avoiding : Congestion → Bool

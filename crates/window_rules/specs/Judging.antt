@@ -1,9 +1,11 @@
 -- If less of congestion control is judged, more is allowed, and nothing else differs.
-use Rattle.std.specs.Prelude.{◌≡◌, ℕ, ◌≤◌, true}
+use Rattle.std.specs.Prelude.{◌≡◌, ℕ, ◌≤◌, ◌⊎◌, true}
 use Rattle.window_rules.specs.declared.control.Profile.{Profile}
+use Rattle.window_rules.specs.declared.control.Profile.TheVariants.{Rfc5681, Rfc6928, Unbounded, NoControl}
 use Rattle.window_rules.specs.declared.control.Signal.{Signal}
 use Rattle.window_rules.specs.declared.control.At.{At}
 use Rattle.window_rules.specs.declared.control.Control.{Control}
+use Rattle.window_rules.specs.declared.growth.SlowStart.TheVariants.{Permitted}
 use Rattle.window_rules.specs.Windows.{greatest_window}
 use Rattle.window_rules.specs.Control.{bounds_windows, counts_duplicates, greatest, after, control_edge, may_recover}
 
@@ -11,10 +13,17 @@ use Rattle.window_rules.specs.Control.{bounds_windows, counts_duplicates, greate
 abbrev pub with_profile : Profile → Control → Control
 with_profile p c = record c { profile = p }
 
--- a profile judges at most what another does: it bounds windows only if it is the other, and needs duplicates only if
--- the other does
+-- the same profile, but slow start may add SMSS for each new acknowledgment
+abbrev pub permitting : Profile → Profile
+permitting (Rfc5681 slow) = Rfc5681 Permitted
+permitting (Rfc6928 slow) = Rfc6928 Permitted
+permitting Unbounded = Unbounded
+permitting NoControl = NoControl
+
+-- a profile judges at most what another does: it bounds windows only if it is the other, perhaps with more in slow
+-- start, and needs duplicates only if the other does
 pub record JudgesAtMost (p q : Profile) : Type 0 where
-  pub windows : bounds_windows p ≡ true → p ≡ q
+  pub windows : bounds_windows p ≡ true → (p ≡ q) ⊎ (p ≡ permitting q)
   pub duplicates : counts_duplicates p ≡ true → counts_duplicates q ≡ true
 
 -- if less is judged, all is allowed that was, and the values after a signal are the same

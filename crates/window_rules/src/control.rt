@@ -4,11 +4,11 @@
 ghost use Rattle.std.specs.Prelude.{◌≡◌, ◌≤◌, ◌<◌, ◌+◌, ◌^◌};
 ghost use Rattle.std.specs.Prelude.{if◌then◌else◌};
 ghost use Rattle.window_rules.specs.Control.{after, began, bounds_windows, control_edge, counts_duplicates};
-ghost use Rattle.window_rules.specs.Control.{first_window, greatest, greatest_bounded, may_recover};
+ghost use Rattle.window_rules.specs.Control.{first_window, greatest, greatest_bounded, may_recover, slow_start_of};
 ghost use Rattle.window_rules.specs.Counts.{HasCounts, IsFit};
 
 use crate::congestion::Congestion;
-use crate::growth::{counted_after, may_grow, on_duplicate};
+use crate::growth::{SlowStart, counted_after, may_grow, on_duplicate};
 use crate::losses::{on_fast, on_timeout, recovery_window};
 use crate::windows::{GREATEST_WINDOW, congestion_edge, initial_window, initial_window_6928};
 
@@ -16,9 +16,15 @@ use crate::windows::{GREATEST_WINDOW, congestion_edge, initial_window, initial_w
 #[derive(Clone, Copy, Debug, PartialEq, Eq)]
 pub enum Profile {
     /// RFC 5681.
-    Rfc5681,
+    Rfc5681 {
+        /// How much slow start adds.
+        slow: SlowStart,
+    },
     /// The same, with the first window of RFC 6928.
-    Rfc6928,
+    Rfc6928 {
+        /// How much slow start adds.
+        slow: SlowStart,
+    },
     /// No window and no threshold is bounded. Fast recovery begins as in RFC 5681, 3.2.
     Unbounded,
     /// No window and no threshold is bounded, and fast recovery may begin at any time.
@@ -31,7 +37,7 @@ impl Profile {
         ensures { result ≡ bounds_windows self }
     {
         match self {
-            Profile::Rfc5681 | Profile::Rfc6928 => true,
+            Profile::Rfc5681 { .. } | Profile::Rfc6928 { .. } => true,
             Profile::Unbounded | Profile::NoControl => false,
         }
     }
@@ -41,8 +47,18 @@ impl Profile {
         ensures { result ≡ counts_duplicates self }
     {
         match self {
-            Profile::Rfc5681 | Profile::Rfc6928 | Profile::Unbounded => true,
+            Profile::Rfc5681 { .. } | Profile::Rfc6928 { .. } | Profile::Unbounded => true,
             Profile::NoControl => false,
+        }
+    }
+
+    /// How much slow start adds: what is permitted, if no window is bounded.
+    pub fn slow_start(self) -> SlowStart
+        ensures { result ≡ slow_start_of self }
+    {
+        match self {
+            Profile::Rfc5681 { slow } | Profile::Rfc6928 { slow } => slow,
+            Profile::Unbounded | Profile::NoControl => SlowStart::Permitted,
         }
     }
 }
@@ -141,7 +157,10 @@ impl Control {
                 first_window(self.profile, smss, syn_lost),
                 same,
             ),
-            Signal::NewAck { acked } => (may_grow(&self.values, acked), same),
+            Signal::NewAck { acked } => (
+                may_grow(self.profile.slow_start(), &self.values, acked),
+                same,
+            ),
             Signal::Duplicate => (on_duplicate(&self.values), same),
             Signal::Other => (self.values.cwnd as u64, same),
             Signal::Timeout {
@@ -224,8 +243,8 @@ fn first_window(profile: Profile, smss: u32, syn_lost: bool) -> u64
     ensures { result ≡ first_window profile smss syn_lost }
 {
     match profile {
-        Profile::Rfc5681 => initial_window(smss, syn_lost),
-        Profile::Rfc6928 => initial_window_6928(smss),
+        Profile::Rfc5681 { .. } => initial_window(smss, syn_lost),
+        Profile::Rfc6928 { .. } => initial_window_6928(smss),
         Profile::Unbounded | Profile::NoControl => GREATEST_WINDOW,
     }
 }

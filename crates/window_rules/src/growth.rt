@@ -8,16 +8,25 @@ ghost use Rattle.window_rules.specs.Growth.{is_avoiding, counted_after, on_dupli
 use crate::congestion::Congestion;
 use crate::windows::capped;
 
+/// How many bytes slow start may add to cwnd for each new acknowledgment (RFC 5681, 3.1).
+#[derive(Clone, Copy, Debug, PartialEq, Eq)]
+pub enum SlowStart {
+    /// What the RFC recommends: as many as are newly acknowledged, at most SMSS (equation 2).
+    Recommended,
+    /// What it permits: SMSS, however few are acknowledged.
+    Permitted,
+}
+
 /// The greatest cwnd in bytes after an acknowledgment of `acked` new positions, not counting the SYN; ssthresh if it
 /// ends fast recovery.
-pub fn may_grow(congestion: &Congestion, acked: u64) -> u64
-    ensures greatest { result ≡ may_grow congestion.now acked }
+pub fn may_grow(slow: SlowStart, congestion: &Congestion, acked: u64) -> u64
+    ensures greatest { result ≡ may_grow slow congestion.now acked }
     ensures limit { result ≤ greatest_window }
 {
     if congestion.fast {
         return capped(congestion.ssthresh as u64);
     }
-    capped(growth(congestion, acked))
+    capped(growth(slow, congestion, acked))
 }
 
 /// How many bytes are counted after an acknowledgment of `acked` new positions, not counting the SYN. Both counts are
@@ -52,24 +61,29 @@ pub fn on_duplicate(congestion: &Congestion) -> u64
     })
 }
 
-fn growth(congestion: &Congestion, acked: u64) -> u64
-    ensures { result ≡ growth congestion.now acked }
+fn growth(slow: SlowStart, congestion: &Congestion, acked: u64) -> u64
+    ensures { result ≡ growth slow congestion.now acked }
 {
-    let slow = slow_start(congestion, acked);
+    let starting = slow_start(slow, congestion, acked);
     let avoiding = avoidance(congestion, acked);
     if congestion.cwnd < congestion.ssthresh {
-        slow
+        starting
     } else if congestion.ssthresh < congestion.cwnd {
         avoiding
     } else {
-        slow.max(avoiding)
+        starting.max(avoiding)
     }
 }
 
-fn slow_start(congestion: &Congestion, acked: u64) -> u64
-    ensures { result ≡ slow_start congestion.now acked }
+fn slow_start(slow: SlowStart, congestion: &Congestion, acked: u64) -> u64
+    ensures { result ≡ slow_start slow congestion.now acked }
 {
-    congestion.cwnd as u64 + acked.min(congestion.smss as u64)
+    let segment = congestion.smss as u64;
+    let added = match slow {
+        SlowStart::Recommended => acked.min(segment),
+        SlowStart::Permitted => segment,
+    };
+    congestion.cwnd as u64 + added
 }
 
 fn avoidance(congestion: &Congestion, acked: u64) -> u64

@@ -23,7 +23,7 @@ mod windows;
 
 pub use congestion::Congestion;
 pub use control::{At, Control, Profile, Signal};
-pub use growth::{counted_after, may_grow, on_duplicate};
+pub use growth::{SlowStart, counted_after, may_grow, on_duplicate};
 pub use laws::{
     control_counts, control_is_greatest, control_takes_choice, counts_once, edges_are_exact,
     growth_is_gentle, growth_is_greatest, less_judged_is_more_allowed, loss_halves,

@@ -69,7 +69,7 @@ pub fn admits_connected(
     if greatest_taking(endpoint, m, moment) < how.cwnd as u64 {
         return Err(Rule::Growth);
     }
-    if how.sample && !may_sample(endpoint, m) {
+    if how.sample && !may_sample(header.version, endpoint, m) {
         return Err(Rule::Sample);
     }
     if is_unread(endpoint, m) {

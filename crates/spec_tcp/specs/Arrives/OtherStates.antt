@@ -44,7 +44,7 @@ rules_with_queue h full me e how m moment =
     ∷ (rules.Unacceptable, not (is_acceptable e m))
     ∷ (rules.AckRange, is_bad_ack_range e m) ∷ (rules.QueueFull, full)
     ∷ (rules.Growth, nat_lt ((greatest e.control (signal_of e m) (at_moment e moment)).0) how.cwnd)
-    ∷ (rules.Sample, how.sample && not (may_sample e m))
+    ∷ (rules.Sample, how.sample && not (may_sample h.version e m))
     ∷ (rules.ScaleUnread, is_unread e m) ∷ []
 
 abbrev pub connected_rules : Header → HostTcp → EndpointId → Endpoint → TakeChoice → Emission → (moment : ℕ)

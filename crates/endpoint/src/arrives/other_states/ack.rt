@@ -3,14 +3,14 @@
 ghost use Rattle.case_forms.specs.declared.calls.State.TheVariants as states;
 ghost use Rattle.spec_tcp.specs.Arrives.OtherStates.Ack.{acknowledged, snd_una_after_segment, fin_acknowledged};
 ghost use Rattle.spec_tcp.specs.Arrives.OtherStates.Ack.{is_bad_ack_range, is_new_ack, acknowledges_syn, acked};
-ghost use Rattle.spec_tcp.specs.Arrives.OtherStates.Ack.{is_duplicate, may_sample};
+ghost use Rattle.spec_tcp.specs.Arrives.OtherStates.Ack.{is_duplicate, first_sampled, may_sample};
 ghost use Rattle.spec_tcp.specs.Arrives.OtherStates.Window.{opens_window};
 ghost use Rattle.spec_tcp.specs.Endpoints.{snd_max};
 ghost use Rattle.std.specs.Prelude.{◌≡◌, ◌||◌, not, ◌<◌, ◌+◌, ◌^◌, if◌then◌else◌, ◌&&◌, is_some};
 ghost use Rattle.streams.specs.Transmissions.{retransmitted};
 
 use crate::arrives::other_states::window::takes_window;
-use case_forms::State;
+use case_forms::{State, Version};
 use spec_tcp::{Arrived, Endpoint};
 
 /// Whether the segment acknowledges nothing, or what was not sent. In SYN-RECEIVED it must acknowledge the SYN.
@@ -57,14 +57,25 @@ pub(crate) fn is_duplicate(endpoint: &Endpoint, m: &Arrived<'_>) -> bool
 }
 
 /// Whether it may be used to measure a round trip: it acknowledges what was not acknowledged before, all of which was
-/// sent once (RFC 6298, 3).
-pub(crate) fn may_sample(endpoint: &Endpoint, m: &Arrived<'_>) -> bool
-    ensures { result ≡ may_sample endpoint.now m.now }
+/// sent once, or the last position of which was from version 5 on (RFC 6298, 3).
+pub(crate) fn may_sample(version: Version, endpoint: &Endpoint, m: &Arrived<'_>) -> bool
+    ensures { result ≡ may_sample version endpoint.now m.now }
 {
     is_new_ack(endpoint, m)
         && !endpoint
             .transmissions
-            .is_retransmitted(endpoint.stream.snd_una, m.ack())
+            .is_retransmitted(first_sampled(version, endpoint, m), m.ack())
+}
+
+// The first position that must have been sent once.
+fn first_sampled(version: Version, endpoint: &Endpoint, m: &Arrived<'_>) -> u64
+    ensures { result ≡ first_sampled version endpoint.now m.now }
+{
+    if version.says_slack() {
+        m.ack().saturating_sub(1)
+    } else {
+        endpoint.stream.snd_una
+    }
 }
 
 // In SYN-SENT only an acknowledgment of the SYN measures it.

@@ -1,8 +1,10 @@
 -- Fifth, the ACK field (RFC 9293, 3.10.7.4).
 use Rattle.std.specs.Prelude.{ℕ, ◌-◌, ◌==◌, nat_le, nat_lt, max, Bool, not, ◌&&◌, ◌||◌, if◌then◌else◌}
 use Rattle.case_forms.specs.States.{is_syn_received}
+use Rattle.case_forms.specs.Versions.{says_slack}
 use Rattle.case_forms.specs.declared.calls.State.{State}
 use Rattle.case_forms.specs.declared.calls.State.TheVariants as states
+use Rattle.case_forms.specs.declared.version.Version.{Version}
 use Rattle.streams.specs.Transmissions.{retransmitted}
 use Rattle.streams.specs.Sent.{end_of}
 use Rattle.spec_tcp.specs.Endpoints.{Endpoint, Emission, snd_max, peer_window, segment_length}
@@ -31,9 +33,15 @@ is_duplicate e m =
     nat_lt e.stream.snd_una (snd_max e) && segment_length m == 0 && not m.flags.rst && m.ack == e.stream.snd_una
     && peer_window e m == e.window.snd_wnd
 
+-- the first position that must have been sent once for a sample: all that is newly acknowledged, but from version 5 on
+-- the last of it alone, whose round trip is measured (RFC 6298, 3)
+abbrev pub first_sampled : Version → Endpoint → Emission → ℕ
+first_sampled version e m = if says_slack version then m.ack - 1 else e.stream.snd_una
+
 -- a round trip is measured by a new acknowledgment of positions that were sent once (RFC 6298, 3)
-abbrev pub may_sample : Endpoint → Emission → Bool
-may_sample e m = is_new_ack e m && not (retransmitted e.transmissions e.stream.snd_una m.ack)
+abbrev pub may_sample : Version → Endpoint → Emission → Bool
+may_sample version e m =
+    is_new_ack e m && not (retransmitted e.transmissions (first_sampled version e m) m.ack)
 
 -- the oldest unacknowledged position afterwards
 abbrev pub snd_una_after_segment : Endpoint → Emission → ℕ
