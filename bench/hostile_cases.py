@@ -11,7 +11,9 @@ last step. `verdict_of` returns the expected line.
 `find_kind` marks the kinds for `tcpwit_lab find`, which reads such a case up to the line `witness 2`. The case that `find` prints must
 have the same verdict.
 
-The texts have format version 2: both hosts send a shift of 14 and an MSS of 65495, so that a million bytes may be outstanding.
+The texts have format version 2: both hosts send a shift of 14 and an MSS of 65495, so that a million bytes may be outstanding. The kinds
+whose names begin with `watched` have format version 5, with a slack: duties are judged, also at the end. The slack is so long that none
+is late.
 """
 
 import random
@@ -22,6 +24,7 @@ from colliding_threads import colliding
 
 HEADER = ["trace 2", "skew 0", "msl 3600000000", "grain 1000", "minrto 1000000", "extra 65535", "initial 6928"]
 FIRST_EVENT_LINE = 1 + len(HEADER)
+WATCHED_HEADER = ["trace 5", *HEADER[1:], "hosts 2", "congestion full", "slack 1000000000000"]
 MSS = 65_495
 SHIFT = 14
 WINDOW = 65_535
@@ -80,8 +83,8 @@ class Connection:
 class Case:
     """The event lines and steps so far, the moment of the last one, and the numbers of segments made and sockets assigned."""
 
-    def __init__(self, skew=0):
-        self.header = [f"skew {skew}" if line.startswith("skew") else line for line in HEADER]
+    def __init__(self, skew=0, header=HEADER):
+        self.header = [f"skew {skew}" if line.startswith("skew") else line for line in header]
         self.moment = 0
         self.events = []
         self.steps = []
@@ -92,7 +95,7 @@ class Case:
         """Adds an event line without its step. Returns its number."""
         self.moment += 1
         self.events.append(f"{self.moment} {thread} {what}")
-        return FIRST_EVENT_LINE + len(self.events) - 1
+        return len(self.header) + len(self.events)
 
     def step(self, what):
         self.steps.append(f"{self.moment} {what}")
@@ -158,7 +161,7 @@ class Case:
         self.event(TIMERS[host], f"T {host} {ports[0]} {ports[1]} {timer}", extra)
 
     def write(self, output):
-        for lines in (self.header, self.events, ["witness 2"], self.steps):
+        for lines in (self.header, self.events, ["witness" + self.header[0].removeprefix("trace")], self.steps):
             for line in lines:
                 output.write(line + "\n")
 
@@ -826,11 +829,57 @@ def calls_that_wait_at_places_that_collide(count):
     return case
 
 
+@kind(7_500, 15_000, 30_000)
+def watched_endpoints_that_are_idle(count):
+    """Each has sent and received a byte. The end looks at all of them."""
+    case = Case(header=WATCHED_HEADER)
+    listener = case.given(CALLERS[1], "listen 1 80 65535")
+    for connection in callers(count):
+        opener = handshake(case, connection, listener)
+        case.call(CALLERS[0], f"send {opener} 00", "ok 1")
+        case.take(1, case.carry(connection, 0, 1, "A", 1, b"\0"), INITIAL_WINDOW, keep=1)
+        case.take(0, case.carry(connection, 1, 1, "A", 2), INITIAL_WINDOW + 1)
+    return case
+
+
+@kind(75_000, 150_000, 300_000)
+def watched_copies_that_wait(count):
+    """Half of them are processed in any order. The others still wait at the end."""
+    case = Case(header=WATCHED_HEADER)
+    lines = copied(case, count)
+    random.Random(1).shuffle(lines)
+    for line in lines[::2]:
+        case.take(1, line, INITIAL_WINDOW)
+    return case
+
+
+@kind(75_000, 150_000, 300_000)
+def watched_segments_never_sent(count):
+    """Host 0 builds acknowledgments, and then sends the one that it built first."""
+    case, connection = Case(header=WATCHED_HEADER), Connection()
+    connected(case, connection)
+    made = [case.make(connection, 0, 1, 0, "A") for _ in range(count)]
+    case.goes(0, connection.text(0, 1, "A", 1), made[0])
+    return case
+
+
+@kind(7_500, 15_000, 30_000)
+def watched_children_half_open(count):
+    """Each counts for its listener until that is closed."""
+    case = Case(header=WATCHED_HEADER)
+    listener = case.given(CALLERS[1], "listen 1 80 0")
+    for connection in callers(count):
+        case.given(CALLERS[0], f"open 0 {connection.ports[0]} 80")
+        case.take(1, case.carry(connection, 0, 0, "S", None), 0)
+    case.call(CALLERS[1], f"abort {listener}", "ok")
+    return case
+
+
 def verdict_of(case):
     """The expected line: yes with its counts, or no if a line is never placed."""
     taken = sum(1 for step in case.steps if step.split(" ", 2)[1] == "L")
     if taken < len(case.events):
-        return f"no 0 {FIRST_EVENT_LINE} unplaced"
+        return f"no 0 {1 + len(case.header)} unplaced"
     return f"yes {taken} {len(case.steps) - taken}"
 
 

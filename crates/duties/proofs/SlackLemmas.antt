@@ -1,5 +1,5 @@
 -- The slack: without one nothing is owed, and with a greater one more is accepted.
-use Rattle.std.proofs.Common.{◌≡◌, ℕ, suc, ◌≤◌, ◌+◌, Bool, true, false, List, [], ◌∷◌, ◌++◌, Option, None, Some, nat_lt, refl, ap, sym, ◌∙◌, arith}
+use Rattle.std.proofs.Common.{◌≡◌, ℕ, suc, ◌≤◌, Bool, true, false, List, [], ◌∷◌, Option, None, Some, refl, ap, arith}
 use Rattle.std.specs.Prelude.{◌||◌, if◌then◌else◌, is_some}
 use Rattle.std.specs.Option.{option_map}
 use Rattle.case_forms.specs.States.{is_closed}
@@ -8,25 +8,24 @@ use Rattle.case_forms.specs.declared.calls.Host.TheVariants.{Zero, One}
 use Rattle.case_forms.specs.declared.trace.Header.{Header}
 use Rattle.verdict.specs.Rules.{first_broken}
 use Rattle.verdict.specs.declared.rule.Rule.{Rule}
-use Rattle.verdict.specs.declared.rule.Rule.TheVariants as rules
 use Rattle.spec_network.specs.Hosts.{Stamped, World}
-use Rattle.spec_network.specs.Tables.{on, pick, waiting}
+use Rattle.spec_network.specs.Tables.{on, waiting}
 use Rattle.spec_tcp.specs.Machine.{tcp_shape}
 use Rattle.spec_tcp.specs.declared.endpoint.Endpoint.{Endpoint}
 use Rattle.spec_duties.specs.Acknowledge.{acknowledge_due}
-use Rattle.spec_duties.specs.Cases.{Known, Dutiful, judged_rules, known_after, late_at_end, noted_by}
+use Rattle.spec_duties.specs.Cases.{Known, Dutiful, judged_rules, known_after, late_at_end}
 use Rattle.spec_duties.specs.Deadlines.{is_late}
 use Rattle.spec_duties.specs.End as end
 use Rattle.spec_duties.specs.End.{either, end_rules, first_waiting, lates_at, lates_from, lates_of_all, lates_of_host}
 use Rattle.spec_duties.specs.Expire.{expiry_due}
-use Rattle.spec_duties.specs.Owed.{late_rules, lates_of, lates_of_open, none_late}
+use Rattle.spec_duties.specs.Owed.{lates_of, lates_of_open, none_late}
 use Rattle.spec_duties.specs.Probe.{probing_due}
 use Rattle.spec_duties.specs.Reset.{reset_since}
 use Rattle.spec_duties.specs.Sights.{sight}
 use Rattle.spec_duties.specs.Slack.{AtMost, LessLateIsMoreAccepted, NothingIsJudged, SlackIsNotNoted, with_slack}
 use Rattle.spec_duties.specs.Start.{start_due}
 use Rattle.spec_duties.specs.Views.{view_of}
-use Rattle.spec_duties.specs.Watching.{Duties, built_by, counts_now, duty_rules, leaves_late, limit_rules, listener_closed, owed_by, sent_late, touched_rules}
+use Rattle.spec_duties.specs.Watching.{Duties, built_by, counts_now, duty_rules, leaves_late, listener_closed, owed_by, sent_late, touched_rules}
 use Rattle.spec_duties.specs.declared.owed.Lates.{Lates}
 use Rattle.spec_duties.specs.declared.owed.Owed.{Owed}
 use Rattle.spec_duties.specs.declared.sights.Mail.{Mail}

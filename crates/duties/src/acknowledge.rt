@@ -12,6 +12,7 @@ use spec_duties::Event;
 /// The longest delay of an acknowledgment, in microseconds (RFC 9293, 3.8.6.3).
 pub(crate) const LONGEST_DELAY: u64 = 500_000;
 
+#[inline(always)]
 fn receives(state: State) -> bool
     ensures { result ≡ receives state }
 {
@@ -27,6 +28,7 @@ fn receives(state: State) -> bool
     }
 }
 
+#[inline(always)]
 fn answered_lately(moment: u64, acknowledged: Option<u64>) -> bool
     ensures { result ≡ answered_lately moment acknowledged }
 {
@@ -36,6 +38,7 @@ fn answered_lately(moment: u64, acknowledged: Option<u64>) -> bool
     }
 }
 
+#[inline(always)]
 fn asks_ack(event: &Event, state: State, moment: u64, acknowledged: Option<u64>) -> bool
     ensures { result ≡ asks_ack event.now state moment acknowledged }
 {
@@ -53,6 +56,7 @@ fn asks_ack(event: &Event, state: State, moment: u64, acknowledged: Option<u64>)
     }
 }
 
+#[inline(always)]
 fn is_answer(event: &Event) -> bool
     ensures { result ≡ is_answer event.now }
 {
@@ -69,6 +73,7 @@ fn is_answer(event: &Event) -> bool
 }
 
 /// Since when an acknowledgment is owed after a step at an endpoint that was in this state.
+#[inline(always)]
 pub(crate) fn acknowledge_after(
     event: &Event,
     state: State,
@@ -88,6 +93,7 @@ pub(crate) fn acknowledge_after(
 }
 
 /// By when an acknowledgment is due that is owed since this moment, in microseconds. None: none is owed.
+#[inline(always)]
 pub fn acknowledge_due(since: Option<u64>) -> Option<u128>
     ensures { result ≡ acknowledge_due since }
 {
@@ -95,6 +101,7 @@ pub fn acknowledge_due(since: Option<u64>) -> Option<u128>
 }
 
 /// When the endpoint last sent a segment with ACK, after a step.
+#[inline(always)]
 pub(crate) fn acknowledged_after(
     event: &Event,
     moment: u64,

@@ -5,6 +5,7 @@ ghost use Rattle.std.specs.Option.{option_map};
 ghost use Rattle.spec_duties.specs.Deadlines.{due_within, is_late, is_past};
 
 /// Whether a moment is after a deadline by more than the slack.
+#[inline(always)]
 pub(crate) fn is_past(slack: u64, moment: u64, deadline: u128) -> bool
     ensures { result ≡ is_past slack moment deadline }
 {
@@ -12,6 +13,7 @@ pub(crate) fn is_past(slack: u64, moment: u64, deadline: u128) -> bool
 }
 
 /// Whether a duty with this deadline is late.
+#[inline(always)]
 pub(crate) fn is_late(slack: u64, moment: u64, due: Option<u128>) -> bool
     ensures { result ≡ is_late slack moment due }
 {
@@ -22,6 +24,7 @@ pub(crate) fn is_late(slack: u64, moment: u64, due: Option<u128>) -> bool
 }
 
 /// Whether a duty that is due at once is late.
+#[inline(always)]
 pub fn is_late_at_once(slack: u64, moment: u64, since: Option<u64>) -> bool
     ensures { result ≡ is_late slack moment since }
 {
@@ -32,6 +35,7 @@ pub fn is_late_at_once(slack: u64, moment: u64, since: Option<u64>) -> bool
 }
 
 /// The deadline of a duty that arose at a moment and has this much time.
+#[inline(always)]
 pub(crate) fn due_within(time: u64, since: Option<u64>) -> Option<u128>
     ensures { result ≡ due_within time since }
 {

@@ -10,12 +10,14 @@ use spec_duties::{Event, View};
 const MOST_STEPS: u32 = 40_000_000;
 
 /// One more, up to the greatest number of steps of a case.
+#[inline(always)]
 pub(crate) fn one_more(count: u32) -> u32
     ensures { result ≡ one_more count }
 {
     count.saturating_add(1).min(MOST_STEPS)
 }
 
+#[inline(always)]
 fn is_listen(state: State) -> bool
     ensures { result ≡ is_listen state }
 {
@@ -23,6 +25,7 @@ fn is_listen(state: State) -> bool
 }
 
 /// Whether a segment acknowledges and does nothing else.
+#[inline(always)]
 pub(crate) fn is_mere_ack(plan: &SegmentPlan, before: &View, after: &View) -> bool
     ensures { result ≡ is_mere_ack plan.now before.now after.now }
 {
@@ -35,6 +38,7 @@ pub(crate) fn is_mere_ack(plan: &SegmentPlan, before: &View, after: &View) -> bo
         && after.rcv_adv == before.rcv_adv
 }
 
+#[inline(always)]
 fn is_arrival(event: &Event, before: &View) -> bool
     ensures { result ≡ is_arrival event.now before.now }
 {
@@ -51,6 +55,7 @@ fn is_arrival(event: &Event, before: &View) -> bool
 }
 
 /// The segments that came, less the mere acknowledgments that were sent, after a step; `counts`: it sends one.
+#[inline(always)]
 pub(crate) fn answers_after(event: &Event, before: &View, counts: bool, answers: u32) -> u32
     ensures { result ≡ answers_after event.now before.now counts answers }
 {
@@ -64,6 +69,7 @@ pub(crate) fn answers_after(event: &Event, before: &View, counts: bool, answers:
 }
 
 /// Whether more acknowledgments are sent than segments came.
+#[inline(always)]
 pub(crate) fn is_excess(counts: bool, answers: u32) -> bool
     ensures { result ≡ is_excess counts answers }
 {

@@ -6,12 +6,14 @@ ghost use Rattle.spec_duties.specs.Expire.{expiry_due, has_expiry_due, longest_r
 use spec_duties::View;
 use timer_rules::LONGEST_RTO;
 
+#[inline(always)]
 fn has_expiry_due(v: &View) -> bool
     ensures { result ≡ has_expiry_due v.now }
 {
     v.timers.rto < LONGEST_RTO && (0 < v.snd_wnd || v.snd_una == 0)
 }
 
+#[inline(always)]
 fn longest_run(v: &View) -> u128
     ensures { result ≡ longest_run v.now }
 {
@@ -24,6 +26,7 @@ fn longest_run(v: &View) -> u128
 
 /// By when the retransmission timer has to expire, in microseconds, if the window was last opened at this moment. None:
 /// there is no such deadline.
+#[inline(always)]
 pub fn expiry_due(v: &View, opened: u64) -> Option<u128>
     ensures { result ≡ expiry_due v.now opened }
 {
@@ -37,6 +40,7 @@ pub fn expiry_due(v: &View, opened: u64) -> Option<u128>
 }
 
 /// When the offered window was last opened, after a step.
+#[inline(always)]
 pub(crate) fn opened_after(before: &View, after: &View, moment: u64, opened: u64) -> u64
     ensures { result ≡ opened_after before.now after.now moment opened }
 {

@@ -10,6 +10,9 @@
 //! - `resent`, `excess`: the limits
 //! - `views`, `deadlines`: what duties read of an endpoint; when one is late
 //! - `laws`: what a greater slack accepts
+//!
+//! Each function of a step is inlined. Otherwise what a step shows (`Sight`, some 300 bytes) is copied from one to the
+//! next, which takes as long as all that they compute.
 #![tactic(auto)]
 
 mod acknowledge;

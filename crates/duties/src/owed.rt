@@ -21,6 +21,7 @@ use spec_duties::{Lates, Owed, Touched, View};
 use verdict::Rule;
 
 /// Before any step touches an endpoint.
+#[inline(always)]
 pub(crate) fn nothing() -> Owed
     ensures { result ≡ nothing }
 {
@@ -52,6 +53,7 @@ pub fn none_late(reset: bool) -> Lates
     }
 }
 
+#[inline(always)]
 fn lates_of_open(slack: u64, moment: u64, v: &View, owed: &Owed, reset: bool) -> Lates
     ensures { result ≡ lates_of_open slack moment v.now owed.now reset }
 {
@@ -67,6 +69,7 @@ fn lates_of_open(slack: u64, moment: u64, v: &View, owed: &Owed, reset: bool) ->
 }
 
 /// Those of an endpoint whose listener was closed at this moment, if it was.
+#[inline(always)]
 pub fn lates_of(
     slack: u64,
     moment: u64,
@@ -100,6 +103,7 @@ pub fn either(a: Lates, b: Lates) -> Lates
 }
 
 /// Whether none is late. The error is the first rule that one breaks.
+#[inline(always)]
 pub fn admits_lates(lates: Lates) -> Result<(), Rule>
     ensures { result_err result ≡ first_broken (late_rules lates) }
 {
@@ -124,6 +128,7 @@ pub fn admits_lates(lates: Lates) -> Result<(), Rule>
     Ok(())
 }
 
+#[inline(always)]
 fn owed_open(
     touched: &Touched,
     after: &View,
@@ -155,6 +160,7 @@ fn owed_open(
     }
 }
 
+#[inline(always)]
 fn once_closed(owed: Owed) -> Owed
     ensures { result ≡ once_closed owed }
 {
@@ -170,6 +176,7 @@ fn once_closed(owed: Owed) -> Owed
 
 /// What an endpoint owes after a step that touched it, if it is then seen like this. `counts`: it sends a mere
 /// acknowledgment.
+#[inline(always)]
 pub(crate) fn owed_after(
     touched: &Touched,
     after: &View,

@@ -14,18 +14,21 @@ use timer_rules::LONGEST_RTO;
 /// No factor is greater.
 const GREATEST_FACTOR: u32 = 67_108_864;
 
+#[inline(always)]
 fn is_closed_with_work(v: &View) -> bool
     ensures { result ≡ is_closed_with_work v.now }
 {
     is_up(v) && v.snd_wnd == 0 && v.snd_una < v.end
 }
 
+#[inline(always)]
 fn is_probing_segment(sending: &Sending, v: &View) -> bool
     ensures { result ≡ is_probing_segment sending.now v.now }
 {
     sending.length == 0 && sending.pos as u128 + 1 == v.snd_una as u128 || holds(sending, v.snd_una)
 }
 
+#[inline(always)]
 fn is_probe(event: &Event, v: &View) -> bool
     ensures { result ≡ is_probe event.now v.now }
 {
@@ -42,6 +45,7 @@ fn is_probe(event: &Event, v: &View) -> bool
     }
 }
 
+#[inline(always)]
 fn probed_again(moment: u64, probing: Probing) -> Probing
     ensures { result ≡ probed_again moment probing }
 {
@@ -51,6 +55,7 @@ fn probed_again(moment: u64, probing: Probing) -> Probing
     }
 }
 
+#[inline(always)]
 fn still_probing(event: &Event, before: &View, moment: u64, probing: Probing) -> Probing
     ensures { result ≡ still_probing event.now before.now moment probing }
 {
@@ -62,6 +67,7 @@ fn still_probing(event: &Event, before: &View, moment: u64, probing: Probing) ->
 }
 
 /// The probes of a closed window, after a step.
+#[inline(always)]
 pub(crate) fn probing_after(
     event: &Event,
     before: &View,
@@ -83,6 +89,7 @@ pub(crate) fn probing_after(
     }
 }
 
+#[inline(always)]
 fn next_probe_due(rto: u64, probing: Probing) -> Option<u128>
     ensures { result ≡ next_probe_due rto probing }
 {
@@ -95,6 +102,7 @@ fn next_probe_due(rto: u64, probing: Probing) -> Option<u128>
 }
 
 /// By when the next probe is due, in microseconds. None: none is.
+#[inline(always)]
 pub fn probing_due(v: &View, probing: Option<Probing>) -> Option<u128>
     ensures { result ≡ probing_due v.now probing }
 {

@@ -8,12 +8,14 @@ ghost use Rattle.spec_duties.specs.Resent.{judges_repeats, judges_windows, passe
 use case_forms::{Judged, SegmentPlan, Timer};
 use spec_duties::{Event, View};
 
+#[inline(always)]
 fn making_length(plan: &SegmentPlan) -> u64
     ensures { result ≡ making_length plan.now }
 {
     plan.len as u64 + plan.flags.syn as u64 + plan.flags.fin as u64
 }
 
+#[inline(always)]
 fn is_repeating(v: &View, plan: &SegmentPlan) -> bool
     ensures { result ≡ is_repeating v.now plan.now }
 {
@@ -23,12 +25,14 @@ fn is_repeating(v: &View, plan: &SegmentPlan) -> bool
         && !plan.flags.rst
 }
 
+#[inline(always)]
 fn repeated_end(v: &View, plan: &SegmentPlan) -> u64
     ensures { result ≡ repeated_end v.now plan.now }
 {
     plan.pos.saturating_add(making_length(plan)).min(v.snd_max)
 }
 
+#[inline(always)]
 fn begins_again(event: &Event, before: &View, after: &View) -> bool
     ensures { result ≡ begins_again event.now before.now after.now }
 {
@@ -44,6 +48,7 @@ fn begins_again(event: &Event, before: &View, after: &View) -> bool
     }
 }
 
+#[inline(always)]
 fn passed_by(event: &Event, before: &View, again: u64) -> u64
     ensures { result ≡ passed_by event.now before.now again }
 {
@@ -66,6 +71,7 @@ fn passed_by(event: &Event, before: &View, again: u64) -> u64
 }
 
 /// The position below which nothing may be sent again, after a step.
+#[inline(always)]
 pub(crate) fn again_after(event: &Event, before: &View, after: &View, again: u64) -> u64
     ensures { result ≡ again_after event.now before.now after.now again }
 {
@@ -76,6 +82,7 @@ pub(crate) fn again_after(event: &Event, before: &View, after: &View, again: u64
     }
 }
 
+#[inline(always)]
 fn judges_repeats(judged: Judged) -> bool
     ensures { result ≡ judges_repeats judged }
 {
@@ -85,6 +92,7 @@ fn judges_repeats(judged: Judged) -> bool
     }
 }
 
+#[inline(always)]
 fn judges_windows(judged: Judged) -> bool
     ensures { result ≡ judges_windows judged }
 {
@@ -95,6 +103,7 @@ fn judges_windows(judged: Judged) -> bool
 }
 
 /// Whether a step builds a position again that was sent again already.
+#[inline(always)]
 pub(crate) fn is_resent(judged: Judged, event: &Event, before: &View, again: u64) -> bool
     ensures { result ≡ is_resent judged event.now before.now again }
 {
@@ -113,6 +122,7 @@ pub(crate) fn is_resent(judged: Judged, event: &Event, before: &View, again: u64
 }
 
 /// Whether bytes that were all sent before end beyond the congestion window.
+#[inline(always)]
 pub(crate) fn is_resent_beyond(judged: Judged, event: &Event, before: &View) -> bool
     ensures { result ≡ is_resent_beyond judged event.now before.now }
 {

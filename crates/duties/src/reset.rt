@@ -5,6 +5,7 @@ ghost use Rattle.spec_duties.specs.Reset.{aborts, reset_after, reset_since, send
 
 use spec_duties::{Event, View};
 
+#[inline(always)]
 fn sends_reset(event: &Event) -> bool
     ensures { result ≡ sends_reset event.now }
 {
@@ -20,6 +21,7 @@ fn sends_reset(event: &Event) -> bool
     }
 }
 
+#[inline(always)]
 fn aborts(event: &Event, after: &View) -> bool
     ensures { result ≡ aborts event.now after.now }
 {
@@ -37,6 +39,7 @@ fn aborts(event: &Event, after: &View) -> bool
 
 /// Since when an endpoint owes a reset: because of `abort`, or because the listener that created it was closed. Moments
 /// are in microseconds. None: it owes none.
+#[inline(always)]
 pub fn reset_since(v: &View, listener_closed: Option<u64>, since: Option<u64>) -> Option<u64>
     ensures { result ≡ reset_since v.now listener_closed since }
 {
@@ -44,6 +47,7 @@ pub fn reset_since(v: &View, listener_closed: Option<u64>, since: Option<u64>) -
 }
 
 /// Since when a reset is owed because of `abort`, after a step.
+#[inline(always)]
 pub(crate) fn reset_after(
     event: &Event,
     before: &View,

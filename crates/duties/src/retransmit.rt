@@ -9,36 +9,42 @@ use case_forms::Timer;
 use spec_duties::{Event, Sending, View};
 
 /// Whether a segment holds a position.
+#[inline(always)]
 pub(crate) fn holds(sending: &Sending, position: u64) -> bool
     ensures { result ≡ holds sending.now position }
 {
     sending.pos <= position && ((position - sending.pos) as u128) < sending.length
 }
 
+#[inline(always)]
 fn acknowledges_more(before: &View, after: &View) -> bool
     ensures { result ≡ acknowledges_more before.now after.now }
 {
     before.snd_una < after.snd_una
 }
 
+#[inline(always)]
 fn is_sending(event: &Event) -> bool
     ensures { result ≡ is_sending event.now }
 {
     matches!(event, Event::Sends(_))
 }
 
+#[inline(always)]
 fn is_timeout(event: &Event) -> bool
     ensures { result ≡ is_timeout event.now }
 {
     matches!(event, Event::Expires(Timer::Rto))
 }
 
+#[inline(always)]
 fn is_probe_timeout(event: &Event) -> bool
     ensures { result ≡ is_probe_timeout event.now }
 {
     matches!(event, Event::Expires(Timer::Persist))
 }
 
+#[inline(always)]
 fn sends_oldest(event: &Event, v: &View) -> bool
     ensures { result ≡ sends_oldest event.now v.now }
 {
@@ -55,6 +61,7 @@ fn sends_oldest(event: &Event, v: &View) -> bool
 }
 
 /// Since when the oldest position is to be sent again, after a step.
+#[inline(always)]
 pub(crate) fn retransmit_after(
     event: &Event,
     before: &View,
@@ -74,6 +81,7 @@ pub(crate) fn retransmit_after(
 }
 
 /// Since when any segment is to be sent because the persist timer expired, after a step.
+#[inline(always)]
 pub(crate) fn probe_after(
     event: &Event,
     before: &View,

@@ -11,6 +11,7 @@ use spec_duties::View;
 /// The longest time that a sender may hold data back, in microseconds (RFC 9293, 3.8.6.2.1).
 const LONGEST_WAIT: u64 = 1_000_000;
 
+#[inline(always)]
 fn work_end(v: &View) -> u128
     ensures { result ≡ work_end v.now }
 {
@@ -21,12 +22,14 @@ fn work_end(v: &View) -> u128
     }
 }
 
+#[inline(always)]
 fn is_free_to_send(v: &View) -> bool
     ensures { result ≡ is_free_to_send v.now }
 {
     0 < v.snd_wnd || v.snd_max == 0 || v.snd_max == v.end
 }
 
+#[inline(always)]
 fn is_idle_with_work(v: &View) -> bool
     ensures { result ≡ is_idle_with_work v.now }
 {
@@ -38,6 +41,7 @@ fn is_idle_with_work(v: &View) -> bool
 }
 
 /// Since when something waits to be sent and nothing is outstanding, after a step.
+#[inline(always)]
 pub(crate) fn start_after(after: &View, moment: u64, since: Option<u64>) -> Option<u64>
     ensures { result ≡ start_after after.now moment since }
 {
@@ -49,6 +53,7 @@ pub(crate) fn start_after(after: &View, moment: u64, since: Option<u64>) -> Opti
 }
 
 /// By when it has to be sent, in microseconds. None: nothing waits so.
+#[inline(always)]
 pub fn start_due(since: Option<u64>) -> Option<u128>
     ensures { result ≡ start_due since }
 {

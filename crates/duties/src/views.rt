@@ -10,6 +10,7 @@ use timer_rules::Timers;
 
 /// What duties read of this endpoint.
 #[tactic(auto, using(crate::proofs::EdgeLemmas::edge_from_0))]
+#[inline(always)]
 pub fn view_of(endpoint: &Endpoint) -> View
     ensures { result ≡ view_of endpoint.now }
 {
@@ -32,6 +33,7 @@ pub fn view_of(endpoint: &Endpoint) -> View
 }
 
 /// Before `open` or a listener creates it.
+#[inline(always)]
 pub fn unborn() -> View
     ensures { result ≡ unborn }
 {
@@ -53,6 +55,7 @@ pub fn unborn() -> View
 }
 
 /// Whether its own SYN was acknowledged and the peer's SYN received.
+#[inline(always)]
 pub(crate) fn is_up(v: &View) -> bool
     ensures { result ≡ is_up v.now }
 {

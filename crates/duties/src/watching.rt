@@ -66,6 +66,7 @@ impl Duties {
     }
 
     /// What the endpoint at a place owes.
+    #[inline(always)]
     pub fn owed_by(&self, host: Host, place: u32) -> Owed
         ensures { result ≡ owed_by self.now host place }
     {
@@ -79,6 +80,7 @@ impl Duties {
         }
     }
 
+    #[inline(always)]
     fn listening_at(&self, host: Host, place: u32) -> Listening
         ensures { result ≡ listening_at (pick self.now.listening host) place }
     {
@@ -89,6 +91,7 @@ impl Duties {
     }
 
     /// When the listener was closed that created an endpoint, in microseconds. None: it wasn't, or there is none.
+    #[inline(always)]
     pub fn listener_closed(&self, host: Host, v: &View) -> Option<u64>
         ensures { result ≡ listener_closed self.now host v.now }
     {
@@ -106,6 +109,7 @@ impl Duties {
         self.inbox.entries()
     }
 
+    #[inline(always)]
     fn is_spared(&self, host: Host, spared: Spared) -> bool
         ensures { result ≡ is_spared self.now host spared }
     {
@@ -118,12 +122,14 @@ impl Duties {
         }
     }
 
+    #[inline(always)]
     fn is_needed(&self, dropping: &Dropping) -> bool
         ensures { result ≡ is_needed self.now dropping.now }
     {
         dropping.takeable && !self.is_spared(dropping.host, dropping.spared) || dropping.answerable
     }
 
+    #[inline(always)]
     fn drops_needed(&self, dropping: &Option<Dropping>) -> bool
         ensures { result ≡ drops_needed self.now dropping.now }
     {
@@ -133,6 +139,7 @@ impl Duties {
         }
     }
 
+    #[inline(always)]
     fn leaves_late(&self, slack: u64, moment: u64, mail: Mail) -> bool
         ensures { result ≡ leaves_late slack moment self.now mail }
     {
@@ -145,6 +152,7 @@ impl Duties {
         }
     }
 
+    #[inline(always)]
     fn built_by(&self, post: Post) -> Option<Built>
         ensures { result ≡ built_by self.now post }
     {
@@ -157,6 +165,7 @@ impl Duties {
         }
     }
 
+    #[inline(always)]
     fn admits_touched(
         &self,
         header: &Header,
@@ -174,6 +183,7 @@ impl Duties {
     }
 
     /// Whether no duty refuses a step, with this slack in microseconds. The error is the first broken rule.
+    #[inline(always)]
     pub fn admits(
         &self,
         header: &Header,
@@ -205,6 +215,7 @@ impl Duties {
     }
 }
 
+#[inline(always)]
 fn listening_at(table: &Table<Listening>, place: u32) -> Listening
     ensures { result ≡ listening_at table.now.entries place }
 {
@@ -217,6 +228,7 @@ fn listening_at(table: &Table<Listening>, place: u32) -> Listening
     }
 }
 
+#[inline(always)]
 fn is_sent_late(slack: u64, moment: u64, built: Option<Built>) -> bool
     ensures { result ≡ sent_late slack moment built }
 {
@@ -226,6 +238,7 @@ fn is_sent_late(slack: u64, moment: u64, built: Option<Built>) -> bool
     }
 }
 
+#[inline(always)]
 fn counts_now(built: Option<Built>) -> bool
     ensures { result ≡ counts_now built }
 {
@@ -235,6 +248,7 @@ fn counts_now(built: Option<Built>) -> bool
     }
 }
 
+#[inline(always)]
 fn admits_limits(header: &Header, touched: &Touched, counts: bool, owed: &Owed) -> Result<(), Rule>
     ensures { result_err result ≡ first_broken (limit_rules header.now touched.now counts owed.now) }
 {
@@ -256,6 +270,7 @@ fn admits_limits(header: &Header, touched: &Touched, counts: bool, owed: &Owed) 
 }
 
 // The listener for which an endpoint counts.
+#[inline(always)]
 fn counts_for(v: &View) -> Option<u32>
     ensures { result ≡ counts_for v.now }
 {
@@ -266,6 +281,7 @@ fn counts_for(v: &View) -> Option<u32>
     }
 }
 
+#[inline(always)]
 fn join(table: &mut Table<Listening>, place: u32) -> Result<(), OutOfMemory>
     ensures { OnOk result (table.new.entries ≡ joined table.old.entries place) }
 {
@@ -274,6 +290,7 @@ fn join(table: &mut Table<Listening>, place: u32) -> Result<(), OutOfMemory>
     table.insert(u64::from(place), listening)
 }
 
+#[inline(always)]
 fn leave(table: &mut Table<Listening>, place: u32) -> Result<(), OutOfMemory>
     ensures { OnOk result (table.new.entries ≡ left table.old.entries place) }
 {
@@ -282,6 +299,7 @@ fn leave(table: &mut Table<Listening>, place: u32) -> Result<(), OutOfMemory>
     table.insert(u64::from(place), listening)
 }
 
+#[inline(always)]
 fn close(table: &mut Table<Listening>, moment: u64, place: u32) -> Result<(), OutOfMemory>
     ensures { OnOk result (table.new.entries ≡ closed_at moment table.old.entries place) }
 {
@@ -290,6 +308,7 @@ fn close(table: &mut Table<Listening>, moment: u64, place: u32) -> Result<(), Ou
     table.insert(u64::from(place), listening)
 }
 
+#[inline(always)]
 fn move_child(
     table: &mut Table<Listening>,
     before: Option<u32>,
@@ -305,6 +324,7 @@ fn move_child(
 }
 
 // Whether a segment that is built now is a mere acknowledgment.
+#[inline(always)]
 fn builds_mere_ack(after: &View, touched: &Option<Touched>) -> bool
     ensures { result ≡ option_map_or (builds_mere_ack after.now) touched.now false }
 {
@@ -323,6 +343,7 @@ fn builds_mere_ack(after: &View, touched: &Option<Touched>) -> bool
     }
 }
 
+#[inline(always)]
 fn note_mail(inbox: &mut Table<Option<u64>>, moment: u64, mail: Mail) -> Result<(), OutOfMemory>
     ensures { OnOk result (inbox.new.entries ≡ inbox_after moment mail inbox.old.entries) }
 {
@@ -333,6 +354,7 @@ fn note_mail(inbox: &mut Table<Option<u64>>, moment: u64, mail: Mail) -> Result<
     }
 }
 
+#[inline(always)]
 fn note_post(
     built: &mut Table<Option<Built>>,
     moment: u64,
@@ -358,6 +380,7 @@ fn note_post(
 
 impl Duties {
     // What the endpoint owes that the step touches.
+    #[inline(always)]
     fn note_owed(
         &mut self,
         moment: u64,
@@ -378,6 +401,7 @@ impl Duties {
     }
 
     // The listener of that endpoint.
+    #[inline(always)]
     fn note_child(&mut self, touched: &Touched, after: &View) -> Result<(), OutOfMemory>
         ensures { OnOk result (self.new
             ≡ record self.old { listening = moved_by after.now self.old.listening touched.now }) }
@@ -389,6 +413,7 @@ impl Duties {
         }
     }
 
+    #[inline(always)]
     fn note_queueing(&mut self, moment: u64, queueing: Queueing) -> Result<(), OutOfMemory>
         ensures { OnOk result (self.new
             ≡ record self.old { listening = queued moment queueing self.old.listening }) }
@@ -408,6 +433,7 @@ impl Duties {
 
     /// Notes a step, if the endpoint that it touched is then seen like this. If memory runs out, the duties are of no
     /// use any more.
+    #[inline(always)]
     pub fn note(&mut self, moment: u64, sight: &Sight, after: &View) -> Result<(), OutOfMemory>
         ensures { OnOk result (self.new ≡ duties_after after.now moment sight.now self.old) }
     {

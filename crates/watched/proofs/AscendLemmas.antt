@@ -1,18 +1,14 @@
 -- The rules of a step stand in the order of their numbers.
-use Rattle.std.proofs.Common.{◌≡◌, ℕ, ◌≤◌, Bool, true, false, List, [], ◌∷◌, ◌++◌, Option, Some, None, refl, subst, nat_eq, arith}
+use Rattle.std.proofs.Common.{◌≡◌, ℕ, ◌≤◌, Bool, true, false, List, [], ◌∷◌, ◌++◌, Option, Some, None, refl, nat_eq, arith}
 use Rattle.std.specs.Prelude.{if◌then◌else◌, not, nat_le, ◌&&◌}
-use Rattle.std.specs.List.{AllByRecursion}
 use Rattle.std.specs.Option.{option_map_or}
 use Rattle.std.specs.Map.{lookup}
-use Rattle.std.proofs.lemmas.List.Elements.{All-from_recursion}
-use Rattle.std.proofs.lemmas.Option.{same_Some}
 use Rattle.case_forms.specs.declared.trace.Header.{Header}
 use Rattle.case_forms.specs.declared.calls.Host.{Host}
 use Rattle.case_forms.specs.declared.calls.Call.{Call}
 use Rattle.case_forms.specs.declared.calls.Answer.{Answer}
 use Rattle.verdict.specs.declared.rule.Rule.{Rule}
 use Rattle.verdict.specs.declared.rule.Rule.TheVariants as rules
-use Rattle.verdict.specs.Rules.{first_broken}
 use Rattle.spec_network.specs.Tables.{Both, pick, other, on, waiting}
 use Rattle.spec_network.specs.Hosts.{World, Step, HostState, Turn, Idle, Called, Answered, Deed, Does, Expires, Makes, Sends, Gets}
 use Rattle.spec_network.specs.Hosts.{Hears, Takes, Drops, Answers, Begin, Finish, Effect, At, turn_of}
@@ -30,7 +26,7 @@ use Rattle.spec_tcp.specs.Makes.{making_rules}
 use Rattle.spec_tcp.specs.Timeouts.{expiry_rules}
 use Rattle.spec_tcp.specs.Recovery.{recovery_rules}
 use Rattle.spec_tcp.specs.Machine.{tcp, tcp_shape, aim, gives, act_rules, Calls}
-use Rattle.spec_tcp_laws.specs.Ascending.{rule_number, ascend, IsLeastBroken, RulesAscend}
+use Rattle.spec_tcp_laws.specs.Ascending.{rule_number, ascend}
 use Rattle.spec_tcp_laws.proofs.Rules.{both_true, at_most_to}
 use Rattle.spec_tcp_laws.proofs.Ascending.{rules_ascend}
 use Rattle.std.proofs.lemmas.Bool.Decides.{nat_tests}

@@ -1,9 +1,11 @@
 -- What the effect of a call shows.
-use Rattle.std.proofs.Common.{◌≡◌, ℕ, refl}
+use Rattle.std.proofs.Common.{◌≡◌, Option, None, Some, refl}
 use Rattle.std.specs.Option.{option_map_or}
 use Rattle.case_forms.specs.declared.calls.Answer.{Answer}
+use Rattle.case_forms.specs.declared.calls.Host.{Host}
 use Rattle.case_forms.specs.declared.trace.Header.{Header}
 use Rattle.spec_network.specs.Hosts.{World, Turn, Idle, Called, Answered}
+use Rattle.spec_network.specs.Tables.{on}
 use Rattle.spec_tcp.specs.Machine.{tcp_shape}
 use Rattle.endpoint_state.specs.Turns.{pending_call}
 use Rattle.spec_duties.specs.Sights.{effect_sight, pending_sight, unseen}
@@ -13,3 +15,8 @@ pub effect_is : (h : Header) (w : World tcp_shape) (answer : Answer) (u : Turn t
 effect_is h w answer Idle = refl
 effect_is h w answer (Called call) = refl
 effect_is h w answer (Answered given) = refl
+
+-- nothing, whoever the call applies to
+pub no_sight : (o : Option Host) → on o unseen (λ (host : Host). unseen) ≡ unseen
+no_sight None = refl
+no_sight (Some host) = refl

@@ -105,6 +105,42 @@ asked_list : (h : Header) (moment : ℕ) (k : Known) (steps : ℕ) (asked : Opti
 asked_list h moment k steps None = sym (unseen_rules h moment k.duties)
 asked_list h moment k steps (Some step) = refl
 
+-- ---- of a step that shows nothing
+
+pub unseen_admits : {A : Type 0} (r : Result A StepFault) (p : Progress) (d : Duties) (moment : ℕ) (step : Step tcp_shape)
+    → sight p.header moment p.world step ≡ unseen
+    → OnOk r (first_broken (plain.asked_rules p moment (Some step)) ≡ None) → OnOk r (first_broken (asked_rules (case_of p d) moment (Some step)) ≡ None)
+unseen_admits (Ok x) p d moment step sees e =
+    first_broken-append_none (step_rules (tcp p.header) moment p.world step) (judged_rules p.header moment d (sight p.header moment p.world step)) e
+    ∙ (ap (λ (s : Sight). first_broken (judged_rules p.header moment d s)) sees ∙ unseen_rules p.header moment d)
+unseen_admits (Err fault) p d moment step sees e = tt
+
+pub unseen_breaks : {A : Type 0} (r : Result A StepFault) (p : Progress) (d : Duties) (moment : ℕ) (step : Step tcp_shape)
+    → IfErr r (λ fault. IfBroken fault (λ rule. first_broken (plain.asked_rules p moment (Some step)) ≡ Some rule))
+    → IfErr r (λ fault. IfBroken fault (λ rule. first_broken (asked_rules (case_of p d) moment (Some step)) ≡ Some rule))
+unseen_breaks (Ok x) p d moment step e = tt
+unseen_breaks (Err fault) p d moment step e =
+    model_breaks_asked p.header moment (record { model = p.world; duties = d }) p.steps fault (Some step) e
+
+nothing_noted : (o : Option ℕ) (moment : ℕ) (w : World tcp_shape) (d : Duties)
+    → on o d (λ slack. duties_after (view_in w unseen.touched) moment unseen d) ≡ d
+nothing_noted None moment w d = refl
+nothing_noted (Some slack) moment w d = refl
+
+pub unseen_is : {A : Type 0} (r : Result A StepFault) (p u : Progress) (d : Duties) (moment : ℕ) (step : Step tcp_shape)
+    → sight p.header moment p.world step ≡ unseen
+    → OnOk r (u ≡ plain.asked_after p moment (Some step)) → OnOk r (case_of u d ≡ asked_after (case_of p d) moment (Some step))
+unseen_is (Err e) p u d moment step sees is = tt
+unseen_is (Ok x) p u d moment step sees is =
+    ap (λ (u : Progress). case_of u d) is
+    ∙ ap wrap (sym (ap (λ (s : Sight). noted_by p.header moment now s d) sees ∙ nothing_noted p.header.slack moment now d))
+  where
+    now : World tcp_shape
+    now = network.after (tcp p.header) moment p.world step
+
+    wrap : Duties → Watched
+    wrap d = record { header = p.header; world = record { model = forgetting.forget now; duties = d }; steps = suc p.steps }
+
 -- what was judged: the rules of duties at what they watch of that step
 abbrev pub IsJudged : Header → (moment : ℕ) → Known → Option (Step tcp_shape) → Option Rule → Type 0
 IsJudged h moment k asked o =
@@ -137,14 +173,10 @@ note_is (Err e) n p u d moment asked s is sees said = tt
 note_is (Ok x) n p u d moment None s is sees said =
     said ∙ ap (λ (s : Sight). noted moment s (case_of u d)) sees
     ∙ ap (λ (u : Progress). noted moment unseen (case_of u d)) is
-    ∙ nothing_noted p.header.slack
+    ∙ ap wrap (nothing_noted p.header.slack moment p.world d)
   where
     wrap : Duties → Watched
     wrap d = record { header = p.header; world = record { model = p.world; duties = d }; steps = p.steps }
-
-    nothing_noted : (o : Option ℕ) → wrap (on o d (λ slack. duties_after (view_in p.world unseen.touched) moment unseen d)) ≡ wrap d
-    nothing_noted None = refl
-    nothing_noted (Some slack) = refl
 note_is (Ok x) n p u d moment (Some step) s is sees said =
     said ∙ ap (λ (s : Sight). noted moment s (case_of u d)) sees
     ∙ ap (λ (u : Progress). noted moment (sight p.header moment p.world step) (case_of u d)) is

@@ -42,7 +42,7 @@ use Rattle.spec_duties.specs.Watching.{Duties, listener_closed, owed_by}
 use Rattle.spec_duties.specs.declared.events.Event.{Event}
 use Rattle.spec_duties.specs.declared.owed.Lates.{Lates}
 use Rattle.spec_duties.specs.declared.views.View.{View}
-use Rattle.spec_duties.specs.Dropped.{bare, spared_by, discards_at, taking_breaks, answering_breaks, dropping_of}
+use Rattle.spec_duties.specs.Dropped.{bare, spared_by, discards_at, taking_breaks, answering_breaks}
 use Rattle.spec_duties.specs.Sights.{sight, deed_sight, at_place, at_ports, at_next, at_sender, at_target, at_drop, unseen}
 use Rattle.spec_duties.specs.Sights.{processing_of, sending_of, accepting, accept_sight, close_sight, other_sight, opened_sight, on_thing}
 use Rattle.spec_duties.specs.Sights.{call_sight, pending_sight, effect_sight, taking_sight, dropping_sight, view_in}

@@ -1,16 +1,18 @@
 //! What duties read of the world at the effect of a call.
 
-ghost use Rattle.std.specs.Prelude.{◌≡◌, ◌<◌, ◌^◌, if◌then◌else◌, length, None, Some};
+ghost use Rattle.std.specs.Prelude.{◌≡◌, ◌<◌, ◌^◌, if◌then◌else◌, length, IsTrue, None, Some};
+ghost use Rattle.case_forms.specs.declared.calls.Answer.{Answer};
 ghost use Rattle.case_forms.specs.declared.calls.Host.TheVariants.{Zero, One};
 ghost use Rattle.case_forms.specs.declared.trace.Header.{Header};
 ghost use Rattle.spec_network.specs.HostRules.{aim_of};
+ghost use Rattle.spec_network.specs.Hosts as network;
 ghost use Rattle.spec_network.specs.Hosts.{Effect};
 ghost use Rattle.spec_network.specs.Tables.{on, pick};
 ghost use Rattle.spec_tcp.specs.Bounds.{most_steps};
 ghost use Rattle.spec_tcp.specs.HostTcp.{given, queue_of};
-ghost use Rattle.spec_tcp.specs.Machine.{aim, tcp};
+ghost use Rattle.spec_tcp.specs.Machine.{aim, tcp, tcp_shape};
 ghost use Rattle.spec_duties.specs.Sights.{accept_sight, accepting, call_sight, close_sight, is_done, on_thing};
-ghost use Rattle.spec_duties.specs.Sights.{opened_sight, other_sight, pending_sight, sight};
+ghost use Rattle.spec_duties.specs.Sights.{opened_sight, other_sight, pending_sight, sight, unseen};
 
 use crate::sights::{at_next, at_place, touching, unseen};
 use case_forms::{Answer, Call, Host};
@@ -25,6 +27,7 @@ fn is_done(answer: &Answer) -> bool
 }
 
 // A listener loses the first child of its queue, unless that is CLOSED.
+#[inline(always)]
 fn accepting(host: Host, b: &HostTcp, place: u32) -> Queueing
     ensures { result ≡ accepting host b.now place (queue_of b.now place) }
 {
@@ -43,6 +46,7 @@ fn accepting(host: Host, b: &HostTcp, place: u32) -> Queueing
     }
 }
 
+#[inline(always)]
 fn accept_sight(host: Host, b: &HostTcp, answer: &Answer, thing: SocketTarget) -> Sight
     ensures { result ≡ accept_sight host b.now answer.now thing }
 {
@@ -55,6 +59,7 @@ fn accept_sight(host: Host, b: &HostTcp, answer: &Answer, thing: SocketTarget) -
     }
 }
 
+#[inline(always)]
 fn close_sight(host: Host, b: &HostTcp, aborts: bool, answer: &Answer, thing: SocketTarget) -> Sight
     ensures { result ≡ close_sight host b.now aborts answer.now thing }
 {
@@ -75,6 +80,7 @@ fn close_sight(host: Host, b: &HostTcp, aborts: bool, answer: &Answer, thing: So
     }
 }
 
+#[inline(always)]
 fn other_sight(host: Host, b: &HostTcp, thing: SocketTarget) -> Sight
     ensures { result ≡ other_sight host b.now thing }
 {
@@ -86,6 +92,7 @@ fn other_sight(host: Host, b: &HostTcp, thing: SocketTarget) -> Sight
     }
 }
 
+#[inline(always)]
 fn opened_sight(host: Host, b: &HostTcp, answer: &Answer) -> Sight
     requires { length b.now.endpoints < 2 ^ 32 }
     ensures { result ≡ opened_sight host b.now answer.now }
@@ -108,6 +115,7 @@ fn opened_sight(host: Host, b: &HostTcp, answer: &Answer) -> Sight
 }
 
 // A call with this answer, at the host that it applies to.
+#[inline(always)]
 fn call_sight(host: Host, b: &HostTcp, call: &Call, answer: &Answer) -> Sight
     requires { length b.now.endpoints < 2 ^ 32 }
     ensures { result ≡ call_sight host b.now call.now answer.now }
@@ -148,6 +156,23 @@ fn giver(world: &World, number: u32) -> Option<Host>
     }
 }
 
+// Whether duties see nothing of the effect of a call, whatever its answer is.
+#[tactic(auto, using(crate::proofs::CallLemmas::no_sight))]
+fn is_unwatched(call: &Call) -> bool
+    ensures { IsTrue result → (h : Header) (w : network.World tcp_shape) (answer : Answer)
+        → pending_sight h w answer call.now ≡ unseen }
+{
+    match call {
+        Call::Listen(_, _, _) | Call::Await(_) | Call::Recv(_, _) | Call::Status(_) => true,
+        Call::Connect(_, _, _)
+        | Call::Accept(_)
+        | Call::Send(_, _)
+        | Call::Shut(_)
+        | Call::Close(_)
+        | Call::Abort(_) => false,
+    }
+}
+
 // The host that a call applies to. None: neither gave its socket number.
 fn meant(world: &World, call: &Call) -> Option<Host>
     ensures { (h : Header) → result ≡ aim_of (tcp h) world.now.world.hosts (aim call.now) }
@@ -168,10 +193,14 @@ fn meant(world: &World, call: &Call) -> Option<Host>
 
 // An open call with this answer, at the host that it applies to.
 #[tactic(auto, using(crate::proofs::PlaceLemmas::places_fit))]
+#[inline(always)]
 fn pending_sight(world: &World, call: &Call, answer: &Answer) -> Sight
     requires { world.now.steps < most_steps }
     ensures { (h : Header) → result ≡ pending_sight h world.now.world answer.now call.now }
 {
+    if is_unwatched(call) {
+        return unseen();
+    }
     let Some(host) = meant(world, call) else {
         return unseen();
     };
@@ -181,6 +210,7 @@ fn pending_sight(world: &World, call: &Call, answer: &Answer) -> Sight
 
 /// What duties read of the world at the effect of a thread's open call, with this answer.
 #[tactic(auto, using(crate::proofs::CallLemmas::effect_is))]
+#[inline(always)]
 pub(crate) fn sight_of_effect(world: &World, moment: u64, thread: u32, answer: &Answer) -> Sight
     requires { world.now.steps < most_steps }
     ensures { result ≡ sight world.now.header moment world.now.world (Effect thread answer.now) }

@@ -1,6 +1,7 @@
 //! The model of a case with its duties.
 
 ghost use Rattle.std.specs.Prelude.{◌≡◌, ◌<◌, ◌≤◌, Some, None, OnOk, IfErr};
+ghost use Rattle.std.specs.Option.{option_map_or};
 ghost use Rattle.std.specs.Result.{result_err};
 ghost use Rattle.case_forms.specs.Witnesses.{IsWithinLimits};
 ghost use Rattle.verdict.specs.Rules.{first_broken};
@@ -10,10 +11,14 @@ ghost use Rattle.spec_tcp.specs.Steps.{line_step, hidden_step};
 ghost use Rattle.spec_duties.specs.Cases.{after, asked_after, asked_rules, broken_by, judged_rules, late_at_end};
 ghost use Rattle.spec_duties.specs.Cases.{noted_by};
 ghost use Rattle.spec_duties.specs.Cases.{start};
+ghost use Rattle.spec_duties.specs.Sights.{sight, unseen};
 ghost use Rattle.watched.specs.Watched.{case_of, noted};
 
+use crate::calls::sight_of_effect;
 use crate::ending;
-use crate::sights::{sight_of_hidden, sight_of_line, view_in};
+use crate::sights::{
+    sight_of_hidden, sight_of_line, sight_of_making, sight_of_sending, sight_of_taking, view_in,
+};
 use case_forms::{Header, Label, TakenLine};
 use duties::Duties;
 use endpoint_state::{StepFault, World};
@@ -96,6 +101,7 @@ impl Case {
 }
 
 // Whether no duty refuses a step. The error is the first broken rule.
+#[inline(always)]
 fn judged(world: &World, duties: &Duties, moment: u64, sight: &Sight) -> Result<(), Rule>
     ensures { result_err result ≡ first_broken (judged_rules world.now.header moment duties.now sight.now) }
 {
@@ -106,6 +112,7 @@ fn judged(world: &World, duties: &Duties, moment: u64, sight: &Sight) -> Result<
 }
 
 // Notes a step that the model permits, if no duty refuses it.
+#[inline(always)]
 fn note(
     world: &World,
     duties: &mut Duties,
@@ -127,8 +134,53 @@ fn note(
     Ok(())
 }
 
-// Does a step that takes a line, in the world and for the duties.
+// Does a step that takes a line, in the world and for the duties, which see this of it. It is inlined for each kind of
+// step, so that only what this kind shows is compared.
+#[inline(always)]
 fn watch_line(
+    world: &mut World,
+    duties: &mut Duties,
+    moment: u64,
+    line: TakenLine,
+    seen: &Sight,
+) -> Result<(), StepFault>
+    requires steps { world.old.steps < most_steps }
+    requires seen { seen.now ≡ sight world.old.header moment world.old.world (line_step line) }
+    ensures ok { OnOk result
+        (case_of world.new duties.new ≡ after (case_of world.old duties.old) moment (line_step line)) }
+    ensures admitted { OnOk result (broken_by (case_of world.old duties.old) moment (line_step line) ≡ None) }
+    ensures broken { IfErr result (λ fault. IfBroken fault
+        (λ rule. broken_by (case_of world.old duties.old) moment (line_step line) ≡ Some rule)) }
+{
+    let judged = judged(world, duties, moment, seen);
+    match spec_step::apply_line_owned(world, moment, line) {
+        Ok(()) => note(world, duties, moment, seen, judged),
+        Err(fault) => Err(fault),
+    }
+}
+
+// Does one of which they see nothing.
+#[tactic(auto, using(crate::proofs::CaseLemmas::unseen_is, crate::proofs::CaseLemmas::unseen_admits))]
+fn pass_line(
+    world: &mut World,
+    duties: &mut Duties,
+    moment: u64,
+    line: TakenLine,
+) -> Result<(), StepFault>
+    requires steps { world.old.steps < most_steps }
+    requires unseen { sight world.old.header moment world.old.world (line_step line) ≡ unseen }
+    ensures ok { OnOk result
+        (case_of world.new duties.new ≡ after (case_of world.old duties.old) moment (line_step line)) }
+    ensures admitted { OnOk result (broken_by (case_of world.old duties.old) moment (line_step line) ≡ None) }
+    ensures broken { IfErr result (λ fault. IfBroken fault
+        (λ rule. broken_by (case_of world.old duties.old) moment (line_step line) ≡ Some rule)) }
+{
+    spec_step::apply_line_owned(world, moment, line)
+}
+
+// Does one, if duties are judged. They see nothing of the beginning and the end of a call.
+#[inline(never)]
+fn judge_line(
     world: &mut World,
     duties: &mut Duties,
     moment: u64,
@@ -141,39 +193,22 @@ fn watch_line(
     ensures broken { IfErr result (λ fault. IfBroken fault
         (λ rule. broken_by (case_of world.old duties.old) moment (line_step line) ≡ Some rule)) }
 {
-    let sight = sight_of_line(world, moment, &line);
-    let judged = judged(world, duties, moment, &sight);
-    match spec_step::apply_line_owned(world, moment, line) {
-        Ok(()) => note(world, duties, moment, &sight, judged),
-        Err(fault) => Err(fault),
+    match line {
+        TakenLine::CallBegin { .. } | TakenLine::CallEnd { .. } => {
+            pass_line(world, duties, moment, line)
+        }
+        TakenLine::Sent { host, made, .. } => {
+            let sight = sight_of_sending(world, host, made);
+            watch_line(world, duties, moment, line, &sight)
+        }
+        TakenLine::Came { .. } | TakenLine::Heard { .. } | TakenLine::Expired { .. } => {
+            let sight = sight_of_line(world, moment, &line);
+            watch_line(world, duties, moment, line, &sight)
+        }
     }
 }
 
-// Does a step that takes none, in the same way.
-fn watch_hidden<Taken>(
-    world: &mut World,
-    duties: &mut Duties,
-    moment: u64,
-    label: &Label<Taken>,
-) -> Result<(), StepFault>
-    requires steps { world.old.steps < most_steps }
-    requires label { IsWithinLimits label.now }
-    ensures ok { OnOk result
-        (case_of world.new duties.new ≡ asked_after (case_of world.old duties.old) moment (hidden_step label.now)) }
-    ensures admitted { OnOk result
-        (first_broken (asked_rules (case_of world.old duties.old) moment (hidden_step label.now)) ≡ None) }
-    ensures broken { IfErr result (λ fault. IfBroken fault (λ rule.
-        first_broken (asked_rules (case_of world.old duties.old) moment (hidden_step label.now)) ≡ Some rule)) }
-{
-    let sight = sight_of_hidden(world, moment, label);
-    let judged = judged(world, duties, moment, &sight);
-    match spec_step::apply_hidden(world, moment, label) {
-        Ok(()) => note(world, duties, moment, &sight, judged),
-        Err(fault) => Err(fault),
-    }
-}
-
-// The same for a step that takes a line, if duties are judged; else the model alone does it.
+// Does one; the model alone does it if no duty is judged.
 #[tactic(auto, using(crate::proofs::CaseLemmas::plain_is, crate::proofs::CaseLemmas::plain_admits, crate::proofs::CaseLemmas::plain_breaks))]
 fn do_line(
     world: &mut World,
@@ -189,12 +224,76 @@ fn do_line(
         (λ rule. broken_by (case_of world.old duties.old) moment (line_step line) ≡ Some rule)) }
 {
     match world.header().slack {
-        Some(_) => watch_line(world, duties, moment, line),
+        Some(_) => judge_line(world, duties, moment, line),
         None => spec_step::apply_line_owned(world, moment, line),
     }
 }
 
-// The same for a step that takes none.
+// Does a step that takes no line, which duties see like this. It is inlined for each kind of step.
+#[inline(always)]
+fn watch_hidden<Taken>(
+    world: &mut World,
+    duties: &mut Duties,
+    moment: u64,
+    label: &Label<Taken>,
+    seen: &Sight,
+) -> Result<(), StepFault>
+    requires steps { world.old.steps < most_steps }
+    requires label { IsWithinLimits label.now }
+    requires seen { seen.now
+        ≡ option_map_or (sight world.old.header moment world.old.world) (hidden_step label.now) unseen }
+    ensures ok { OnOk result
+        (case_of world.new duties.new ≡ asked_after (case_of world.old duties.old) moment (hidden_step label.now)) }
+    ensures admitted { OnOk result
+        (first_broken (asked_rules (case_of world.old duties.old) moment (hidden_step label.now)) ≡ None) }
+    ensures broken { IfErr result (λ fault. IfBroken fault (λ rule.
+        first_broken (asked_rules (case_of world.old duties.old) moment (hidden_step label.now)) ≡ Some rule)) }
+{
+    let judged = judged(world, duties, moment, seen);
+    match spec_step::apply_hidden(world, moment, label) {
+        Ok(()) => note(world, duties, moment, seen, judged),
+        Err(fault) => Err(fault),
+    }
+}
+
+// Does one, if duties are judged.
+#[inline(never)]
+fn judge_hidden<Taken>(
+    world: &mut World,
+    duties: &mut Duties,
+    moment: u64,
+    label: &Label<Taken>,
+) -> Result<(), StepFault>
+    requires steps { world.old.steps < most_steps }
+    requires label { IsWithinLimits label.now }
+    ensures ok { OnOk result
+        (case_of world.new duties.new ≡ asked_after (case_of world.old duties.old) moment (hidden_step label.now)) }
+    ensures admitted { OnOk result
+        (first_broken (asked_rules (case_of world.old duties.old) moment (hidden_step label.now)) ≡ None) }
+    ensures broken { IfErr result (λ fault. IfBroken fault (λ rule.
+        first_broken (asked_rules (case_of world.old duties.old) moment (hidden_step label.now)) ≡ Some rule)) }
+{
+    match label {
+        Label::D { thread, answer } => {
+            let sight = sight_of_effect(world, moment, *thread, answer);
+            watch_hidden(world, duties, moment, label, &sight)
+        }
+        Label::M { host, plan } => {
+            let sight = sight_of_making(world, *host, plan, moment);
+            watch_hidden(world, duties, moment, label, &sight)
+        }
+        Label::T { host, line, choice } => {
+            let sight = sight_of_taking(world, *host, *line, *choice, moment);
+            watch_hidden(world, duties, moment, label, &sight)
+        }
+        Label::L(_) | Label::K { .. } | Label::R { .. } | Label::F { .. } => {
+            let sight = sight_of_hidden(world, moment, label);
+            watch_hidden(world, duties, moment, label, &sight)
+        }
+    }
+}
+
+// Does one; the model alone does it if no duty is judged.
 #[tactic(auto, using(crate::proofs::CaseLemmas::plain_is, crate::proofs::CaseLemmas::plain_admits, crate::proofs::CaseLemmas::plain_breaks))]
 fn do_hidden<Taken>(
     world: &mut World,
@@ -212,7 +311,7 @@ fn do_hidden<Taken>(
         first_broken (asked_rules (case_of world.old duties.old) moment (hidden_step label.now)) ≡ Some rule)) }
 {
     match world.header().slack {
-        Some(_) => watch_hidden(world, duties, moment, label),
+        Some(_) => judge_hidden(world, duties, moment, label),
         None => spec_step::apply_hidden(world, moment, label),
     }
 }

@@ -143,6 +143,7 @@ pub(crate) fn spared_by(b: &HostTcp, m: &Emission, target: Target) -> Spared
 }
 
 /// What a step that drops a segment shows of it.
+#[inline(always)]
 pub(crate) fn dropping_of(
     host: Host,
     taking: Option<Rule>,
@@ -194,12 +195,14 @@ fn keeps_order(state: State) -> bool
     }
 }
 
+#[inline(always)]
 fn holds_next(e: &Endpoint, m: &Arrived<'_>) -> bool
     ensures { result ≡ holds_next e.now m.now }
 {
     m.pos() <= e.rcv_nxt() && ((e.rcv_nxt() - m.pos()) as u128) < m.length()
 }
 
+#[inline(always)]
 fn discards(how: TakeChoice, e: &Endpoint, m: &Arrived<'_>) -> bool
     ensures { result ≡ discards how e.now m.now }
 {
@@ -213,6 +216,7 @@ fn discards(how: TakeChoice, e: &Endpoint, m: &Arrived<'_>) -> bool
 
 /// Whether processing a segment discards what is next in order.
 #[tactic(auto, using(endpoint_state::proofs::Readable::una_at))]
+#[inline(always)]
 pub(crate) fn discards_at(
     version: Version,
     b: &HostTcp,

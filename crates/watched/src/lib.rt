@@ -2,7 +2,7 @@
 //!
 //! `spec_duties` has the definitions; `Cases` there joins duties with the model. Nothing is kept and nothing refused if
 //! the header says `slack any`. A step looks up a bounded number of entries; only the end walks endpoints and inboxes,
-//! once.
+//! once. As in `duties`, functions that pass a sight on are inlined.
 //!
 //! - `cases`: a case with its duties: each step, and the comparison at the end
 //! - `sights`: what a step shows of the world; `calls`: the same for the effect of a call; `dropped`: for a segment

@@ -28,6 +28,7 @@ use spec_tcp::Emission;
 use verdict::Rule;
 
 /// Nothing that duties watch.
+#[inline(always)]
 pub(crate) fn unseen() -> Sight
     ensures { result ≡ unseen }
 {
@@ -41,6 +42,7 @@ pub(crate) fn unseen() -> Sight
     }
 }
 
+#[inline(always)]
 pub(crate) fn touching(touched: Option<Touched>) -> Sight
     ensures { result ≡ touching touched }
 {
@@ -51,6 +53,7 @@ pub(crate) fn touching(touched: Option<Touched>) -> Sight
 }
 
 /// A step touches the endpoint at a place.
+#[inline(always)]
 pub(crate) fn at_place(host: Host, b: &HostTcp, event: Event, place: u32) -> Option<Touched>
     ensures { result ≡ at_place host b.now event place }
 {
@@ -65,6 +68,7 @@ pub(crate) fn at_place(host: Host, b: &HostTcp, event: Event, place: u32) -> Opt
     }
 }
 
+#[inline(always)]
 fn at_ports(host: Host, b: &HostTcp, event: Event, lport: u16, rport: u16) -> Option<Touched>
     ensures { result ≡ at_ports host b.now event lport rport }
 {
@@ -75,6 +79,7 @@ fn at_ports(host: Host, b: &HostTcp, event: Event, lport: u16, rport: u16) -> Op
 }
 
 /// A new endpoint, in the next place.
+#[inline(always)]
 pub(crate) fn at_next(host: Host, b: &HostTcp, event: Event) -> Option<Touched>
     requires { length b.now.endpoints < 2 ^ 32 }
     ensures { result ≡ at_next host b.now event }
@@ -87,6 +92,7 @@ pub(crate) fn at_next(host: Host, b: &HostTcp, event: Event) -> Option<Touched>
     })
 }
 
+#[inline(always)]
 fn sending_of(m: &Emission) -> Event
     ensures { result ≡ sending_of m.now }
 {
@@ -97,6 +103,7 @@ fn sending_of(m: &Emission) -> Event
     })
 }
 
+#[inline(always)]
 fn at_sender(host: Host, b: &HostTcp, m: &Emission) -> Option<Touched>
     ensures { result ≡ at_sender host b.now m.now }
 {
@@ -107,6 +114,7 @@ fn at_sender(host: Host, b: &HostTcp, m: &Emission) -> Option<Touched>
     }
 }
 
+#[inline(always)]
 fn processing_of(m: &Emission) -> Event
     ensures { result ≡ processing_of m.now }
 {
@@ -116,6 +124,7 @@ fn processing_of(m: &Emission) -> Event
     }
 }
 
+#[inline(always)]
 fn at_target(host: Host, b: &HostTcp, m: &Emission, target: Target) -> Option<Touched>
     requires { length b.now.endpoints < 2 ^ 32 }
     ensures { result ≡ at_target host b.now m.now (taker_at b.now target) }
@@ -127,6 +136,7 @@ fn at_target(host: Host, b: &HostTcp, m: &Emission, target: Target) -> Option<To
     }
 }
 
+#[inline(always)]
 fn at_drop(
     host: Host,
     b: &HostTcp,
@@ -150,6 +160,7 @@ fn at_drop(
 }
 
 // A host drops what waits under this line.
+#[inline(always)]
 fn sight_of_drop(world: &World, host: Host, line: u64, moment: u64) -> Sight
     ensures { result ≡ sight world.now.header moment world.now.world (network.At host (network.Drops line)) }
 {
@@ -168,9 +179,16 @@ fn sight_of_drop(world: &World, host: Host, line: u64, moment: u64) -> Sight
     }
 }
 
-// A host processes what waits under this line.
+/// A host processes what waits under this line.
 #[tactic(auto, using(crate::proofs::PlaceLemmas::places_fit, endpoint_state::proofs::Readable::kept_reads))]
-fn sight_of_taking(world: &World, host: Host, line: u64, how: TakeChoice, moment: u64) -> Sight
+#[inline(always)]
+pub(crate) fn sight_of_taking(
+    world: &World,
+    host: Host,
+    line: u64,
+    how: TakeChoice,
+    moment: u64,
+) -> Sight
     requires { world.now.steps < most_steps }
     ensures { result ≡ sight world.now.header moment world.now.world (network.At host (network.Takes line how)) }
 {
@@ -188,8 +206,9 @@ fn sight_of_taking(world: &World, host: Host, line: u64, how: TakeChoice, moment
     }
 }
 
-// A host builds a segment.
-fn sight_of_making(world: &World, host: Host, plan: &SegmentPlan, moment: u64) -> Sight
+/// A host builds a segment.
+#[inline(always)]
+pub(crate) fn sight_of_making(world: &World, host: Host, plan: &SegmentPlan, moment: u64) -> Sight
     requires { world.now.steps < most_steps }
     ensures { result ≡ sight world.now.header moment world.now.world (network.At host (network.Makes plan.now)) }
 {
@@ -202,6 +221,7 @@ fn sight_of_making(world: &World, host: Host, plan: &SegmentPlan, moment: u64) -
 }
 
 // A host answers by a reset what waits under this line.
+#[inline(always)]
 fn sight_of_reset(world: &World, host: Host, line: u64, moment: u64) -> Sight
     requires { world.now.steps < most_steps }
     ensures { result ≡ sight world.now.header moment world.now.world (network.At host (network.Answers line)) }
@@ -215,6 +235,7 @@ fn sight_of_reset(world: &World, host: Host, line: u64, moment: u64) -> Sight
 
 // The number of the next segment to be built.
 #[tactic(auto, using(crate::proofs::PlaceLemmas::count_fits))]
+#[inline(always)]
 fn fresh(world: &World) -> u32
     requires { world.now.steps < most_steps }
     ensures { result ≡ suc world.now.world.count }
@@ -223,7 +244,9 @@ fn fresh(world: &World) -> u32
     world.count() + 1
 }
 
-fn sight_of_sending(world: &World, host: Host, number: u32) -> Sight
+/// A host sends the segment that it built under this number.
+#[inline(always)]
+pub(crate) fn sight_of_sending(world: &World, host: Host, number: u32) -> Sight
     ensures { result ≡ on (lookup (nat_eq number) (pick world.now.world.hosts host).made) unseen
         (λ m. record unseen {
           touched = at_sender host (pick world.now.world.hosts host).body m.emission;
@@ -240,6 +263,7 @@ fn sight_of_sending(world: &World, host: Host, number: u32) -> Sight
     }
 }
 
+#[inline(always)]
 fn sight_of_arrival(line: u64) -> Sight
     ensures { result ≡ record unseen { mail = mail.Enters line } }
 {
@@ -249,6 +273,7 @@ fn sight_of_arrival(line: u64) -> Sight
     }
 }
 
+#[inline(always)]
 fn sight_at_ports(world: &World, host: Host, event: Event, ports: Ports) -> Sight
     ensures { result ≡ touching (at_ports host (pick world.now.world.hosts host).body event ports.lport ports.rport) }
 {
@@ -295,6 +320,7 @@ pub(crate) fn sight_of_hidden<Taken>(world: &World, moment: u64, label: &Label<T
 }
 
 /// The endpoint that a step touched, as it is in this world.
+#[inline(always)]
 pub(crate) fn view_in(world: &World, touched: &Option<Touched>) -> View
     ensures { result ≡ view_in world.now.world touched.now }
 {

@@ -10,20 +10,20 @@ use Rattle.watched.proofs.cases.watch_hidden.Goals as goal
 pub returns-in-Ok-clause-ok : goal.returns-in-Ok-clause-ok
 returns-in-Ok-clause-ok g c =
     note_is c.note.result (case_of c.apply_hidden.new.world c.note.new.duties) c.args.world.now c.apply_hidden.new.world c.args.duties.now c.args.moment
-    (hidden_step c.args.label.now) c.sight_of_hidden-sight.result c.in-Ok.ensures.ok c.sight_of_hidden-sight.ensures c.note.ensures.ok
+    (hidden_step c.args.label.now) c.args.seen.now c.in-Ok.ensures.ok c.requires.seen c.note.ensures.ok
 
 pub returns-in-Ok-clause-admitted : goal.returns-in-Ok-clause-admitted
 returns-in-Ok-clause-admitted g c =
     asked_admits c.note.result c.args.world.now.header c.args.moment (record { model = c.args.world.now.world; duties = c.args.duties.now })
     c.args.world.now.steps (hidden_step c.args.label.now) (result_err c.judged-judged.result) c.in-Ok.ensures.admitted
-    (c.judged-judged.ensures ∙ ap (λ s. first_broken (judged_rules c.args.world.now.header c.args.moment c.args.duties.now s)) c.sight_of_hidden-sight.ensures)
+    (c.judged-judged.ensures ∙ ap (λ s. first_broken (judged_rules c.args.world.now.header c.args.moment c.args.duties.now s)) c.requires.seen)
     c.note.ensures.none
 
 pub returns-in-Ok-clause-broken : goal.returns-in-Ok-clause-broken
 returns-in-Ok-clause-broken g c =
     asked_breaks c.note.result c.args.world.now.header c.args.moment (record { model = c.args.world.now.world; duties = c.args.duties.now })
     c.args.world.now.steps (hidden_step c.args.label.now) (result_err c.judged-judged.result) c.in-Ok.ensures.admitted
-    (c.judged-judged.ensures ∙ ap (λ s. first_broken (judged_rules c.args.world.now.header c.args.moment c.args.duties.now s)) c.sight_of_hidden-sight.ensures)
+    (c.judged-judged.ensures ∙ ap (λ s. first_broken (judged_rules c.args.world.now.header c.args.moment c.args.duties.now s)) c.requires.seen)
     c.note.ensures.broken
 
 pub returns-in-Err-clause-broken : goal.returns-in-Err-clause-broken
