@@ -1,0 +1,6 @@
+pub mod Seen
+pub mod Places
+pub mod Segments
+pub mod Happens
+pub mod Repeats
+pub mod Soon

@@ -1,0 +1,62 @@
+-- What a yes with a slack says of acknowledgments and of retransmissions: by when they are sent (RFC 9293, 3.8.6.3 and
+-- 3.10.7.4; RFC 5681, 4.2; RFC 6298, 5.4). Moments and slacks are in microseconds.
+use Rattle.std.specs.Prelude.{◌≡◌, ◌⊎◌, ◌+◌, ◌<◌, ◌≤◌, ℕ, suc, true, false, ◌||◌}
+use Rattle.case_forms.specs.States.{is_closed}
+use Rattle.case_forms.specs.declared.steps.Witness.{Witness}
+use Rattle.case_forms.specs.declared.timer.Timer.TheVariants.{Rto}
+use Rattle.case_forms.specs.declared.trace.Trace.{Trace}
+use Rattle.spec_tcp.specs.declared.endpoint.EndpointId.{EndpointId}
+use Rattle.spec_duties.specs.Acknowledge.{is_answer, longest_delay, receives}
+use Rattle.spec_duties.specs.Events.{acknowledges_more}
+use Rattle.spec_duties.specs.Retransmit.{sends_oldest}
+use Rattle.spec_duties.specs.declared.events.Event.{Event}
+use Rattle.spec_duties.specs.declared.events.Event.TheVariants.{Expires, Processes}
+use Rattle.spec_duties.specs.declared.views.View.{View}
+use Rattle.kept_duties.specs.Happens.{Happens, seen_before}
+use Rattle.kept_duties.specs.Segments.{EndsBy}
+
+-- after this place and by this moment, something of this kind happens at the endpoint
+pub record HappensBy (t : Trace) (w : Witness) (place by : ℕ) (me : EndpointId)
+    (Kind : Event → (before after : View) → Type 0) : Type 0 where
+  pub later : ℕ
+  pub moment : ℕ
+  pub event : Event
+  pub before : View
+  pub behind : place < later
+  pub happens : Happens t w later moment me event before
+  pub kind : Kind event before (seen_before t w (suc later) me)
+  pub soon : moment ≤ by
+
+-- the endpoint is CLOSED after a step from this place on. If something happens at the endpoint by that step, it is by
+-- this moment; otherwise its listener was closed, which may be later
+pub record ClosesBy (t : Trace) (w : Witness) (place by : ℕ) (me : EndpointId) : Type 0 where
+  pub later : ℕ
+  pub behind : place ≤ later
+  pub closed : is_closed (seen_before t w (suc later) me).state ≡ true
+  pub soon : (moment : ℕ) (event : Event) (before : View) → Happens t w later moment me event before → moment ≤ by
+
+-- one of these: it happens, the endpoint is CLOSED, or the witness ends
+abbrev pub IsDoneBy : Trace → Witness → (place by : ℕ) → EndpointId → (Event → (before after : View) → Type 0) → Type 0
+IsDoneBy t w place by me Kind =
+    HappensBy t w place by me Kind ⊎ ClosesBy t w place by me ⊎ EndsBy w by
+
+-- a segment with ACK or RST is sent
+abbrev pub Answers : Event → (before after : View) → Type 0
+Answers event before after = is_answer event ≡ true
+
+-- when an endpoint receives bytes, a SYN or a FIN, it sends a segment with ACK or RST within half a second and the
+-- slack
+abbrev pub ReceiptsAreAnswered : Trace → Witness → (slack : ℕ) → Type 0
+ReceiptsAreAnswered t w slack =
+    (place moment length : ℕ) (me : EndpointId) (before : View) → Happens t w place moment me (Processes length false) before
+    → receives before.state ≡ true → 0 < length → IsDoneBy t w place (moment + longest_delay + slack) me Answers
+
+-- the oldest unacknowledged position is sent again, or is acknowledged; into a closed window any segment will do
+abbrev pub SendsOldest : Event → (before after : View) → Type 0
+SendsOldest event before after = (sends_oldest event before || acknowledges_more before after) ≡ true
+
+-- after an expiry of the retransmission timer this happens within the slack
+abbrev pub ExpiriesAreFollowed : Trace → Witness → (slack : ℕ) → Type 0
+ExpiriesAreFollowed t w slack =
+    (place moment : ℕ) (me : EndpointId) (before : View) → Happens t w place moment me (Expires Rto) before
+    → IsDoneBy t w place (moment + slack) me SendsOldest

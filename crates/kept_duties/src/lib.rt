@@ -1,0 +1,2 @@
+//! What a yes with a slack says.
+#![tactic(auto)]
