@@ -5,3 +5,4 @@ pub mod Inbox
 pub mod Built
 pub mod Labels
 pub mod Segments
+pub mod Touched

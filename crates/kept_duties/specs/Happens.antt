@@ -11,7 +11,6 @@ use Rattle.spec_tcp_laws.specs.Runs.{world_at_end}
 use Rattle.spec_duties.specs.Sights.{sight}
 use Rattle.spec_duties.specs.Views.{unborn, view_of}
 use Rattle.spec_duties.specs.declared.events.Event.{Event}
-use Rattle.spec_duties.specs.declared.sights.Touched.{Touched}
 use Rattle.spec_duties.specs.declared.views.View.{View}
 use Rattle.kept_duties.specs.Seen.{act_of, stamped}
 
@@ -27,14 +26,10 @@ world_before t w place = world_at_end t.header (stamped t.header t.lines (take p
 abbrev pub seen_before : Trace → Witness → (place : ℕ) → EndpointId → View
 seen_before t w place me = option_map_or view_of (find (world_before t w place).hosts me) unborn
 
--- the endpoint that a step touches, with what happens there and how it was before
-abbrev pub touched : EndpointId → Event → (before : View) → Touched
-touched me event before = record { host = me.host; place = me.number; event = event; before = before }
-
--- the step at this place does this at an endpoint, which was like this before
-pub record Happens (t : Trace) (w : Witness) (place moment : ℕ) (me : EndpointId) (event : Event)
-    (before : View) : Type 0 where
+-- the step at this place does this at an endpoint
+pub record Happens (t : Trace) (w : Witness) (place moment : ℕ) (me : EndpointId) (event : Event) : Type 0 where
   pub act : Stamped tcp_shape
   pub is : act_at t w place ≡ Some act
   pub time : act.moment ≡ moment
-  pub touches : (sight t.header act.moment (world_before t w place) act.step).touched ≡ Some (touched me event before)
+  pub touches : (sight t.header act.moment (world_before t w place) act.step).touched
+      ≡ Some (record { host = me.host; place = me.number; event = event; before = seen_before t w place me })

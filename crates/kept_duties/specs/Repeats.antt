@@ -8,21 +8,25 @@ use Rattle.spec_tcp.specs.declared.endpoint.EndpointId.{EndpointId}
 use Rattle.spec_duties.specs.Resent.{begins_again, is_repeating, repeated_end}
 use Rattle.spec_duties.specs.declared.events.Event.{Event}
 use Rattle.spec_duties.specs.declared.events.Event.TheVariants.{Builds}
-use Rattle.spec_duties.specs.declared.views.View.{View}
 use Rattle.kept_duties.specs.Happens.{Happens, seen_before}
 
 -- between these places no timer of the endpoint expires, no fast recovery of it begins, and no segment opens a window
 -- that it probed
 abbrev pub NothingBegins : Trace → Witness → EndpointId → (from to : ℕ) → Type 0
 NothingBegins t w me from to =
-    (place moment : ℕ) (event : Event) (before : View) → from < place → place < to
-    → Happens t w place moment me event before → begins_again event before (seen_before t w (suc place) me) ≡ false
+    (place moment : ℕ) (event : Event) → from < place → place < to → Happens t w place moment me event
+    → begins_again event (seen_before t w place me) (seen_before t w (suc place) me) ≡ false
 
--- of two segments with positions that were built before, the second begins where the first one's such positions end, or
--- later; unless an expiry or the like lies between
+-- a segment is built with positions that were built before
+pub record BuildsAgain (t : Trace) (w : Witness) (place : ℕ) (me : EndpointId) (m : SegmentPlan) : Type 0 where
+  pub moment : ℕ
+  pub happens : Happens t w place moment me (Builds m)
+  pub again : is_repeating (seen_before t w place me) m ≡ true
+
+-- of two such segments the second begins where the first one's such positions end, or later; unless an expiry or the
+-- like lies between
 abbrev pub NothingIsResentTwice : Trace → Witness → Type 0
 NothingIsResentTwice t w =
-    (first second m n : ℕ) (me : EndpointId) (p q : SegmentPlan) (u v : View) → first < second
-    → Happens t w first m me (Builds p) u → Happens t w second n me (Builds q) v
-    → is_repeating u p ≡ true → is_repeating v q ≡ true → NothingBegins t w me first second
-    → repeated_end u p ≤ q.pos
+    (first second : ℕ) (me : EndpointId) (p q : SegmentPlan) → first < second
+    → BuildsAgain t w first me p → BuildsAgain t w second me q → NothingBegins t w me first second
+    → repeated_end (seen_before t w first me) p ≤ q.pos

@@ -21,10 +21,9 @@ pub record HappensBy (t : Trace) (w : Witness) (place by : ℕ) (me : EndpointId
   pub later : ℕ
   pub moment : ℕ
   pub event : Event
-  pub before : View
   pub behind : place < later
-  pub happens : Happens t w later moment me event before
-  pub kind : Kind event before (seen_before t w (suc later) me)
+  pub happens : Happens t w later moment me event
+  pub kind : Kind event (seen_before t w later me) (seen_before t w (suc later) me)
   pub soon : moment ≤ by
 
 -- the endpoint is CLOSED after a step from this place on. If something happens at the endpoint by that step, it is by
@@ -33,7 +32,7 @@ pub record ClosesBy (t : Trace) (w : Witness) (place by : ℕ) (me : EndpointId)
   pub later : ℕ
   pub behind : place ≤ later
   pub closed : is_closed (seen_before t w (suc later) me).state ≡ true
-  pub soon : (moment : ℕ) (event : Event) (before : View) → Happens t w later moment me event before → moment ≤ by
+  pub soon : (moment : ℕ) (event : Event) → Happens t w later moment me event → moment ≤ by
 
 -- one of these: it happens, the endpoint is CLOSED, or the witness ends
 abbrev pub IsDoneBy : Trace → Witness → (place by : ℕ) → EndpointId → (Event → (before after : View) → Type 0) → Type 0
@@ -48,8 +47,8 @@ Answers event before after = is_answer event ≡ true
 -- slack
 abbrev pub ReceiptsAreAnswered : Trace → Witness → (slack : ℕ) → Type 0
 ReceiptsAreAnswered t w slack =
-    (place moment length : ℕ) (me : EndpointId) (before : View) → Happens t w place moment me (Processes length false) before
-    → receives before.state ≡ true → 0 < length → IsDoneBy t w place (moment + longest_delay + slack) me Answers
+    (place moment length : ℕ) (me : EndpointId) → Happens t w place moment me (Processes length false) → 0 < length
+    → receives (seen_before t w place me).state ≡ true → IsDoneBy t w place (moment + longest_delay + slack) me Answers
 
 -- the oldest unacknowledged position is sent again, or is acknowledged; into a closed window any segment will do
 abbrev pub SendsOldest : Event → (before after : View) → Type 0
@@ -58,5 +57,5 @@ SendsOldest event before after = (sends_oldest event before || acknowledges_more
 -- after an expiry of the retransmission timer this happens within the slack
 abbrev pub ExpiriesAreFollowed : Trace → Witness → (slack : ℕ) → Type 0
 ExpiriesAreFollowed t w slack =
-    (place moment : ℕ) (me : EndpointId) (before : View) → Happens t w place moment me (Expires Rto) before
+    (place moment : ℕ) (me : EndpointId) → Happens t w place moment me (Expires Rto)
     → IsDoneBy t w place (moment + slack) me SendsOldest

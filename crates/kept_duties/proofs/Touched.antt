@@ -1,0 +1,320 @@
+-- What a step does at one endpoint, and what the endpoint owes then.
+use Rattle.std.proofs.Common.{◌≡◌, ℕ, zero, suc, ◌≤◌, ◌⊎◌, inl, inr, Bool, true, false, List, [], ◌∷◌, ◌++◌, length, Option, Some, None, refl, ap, sym, subst, ◌∙◌, cond, nat_eq, arith}
+use Rattle.std.specs.Prelude.{if◌then◌else◌, slice_get, unwrap_or}
+use Rattle.std.specs.Map.{lookup}
+use Rattle.std.specs.List.{AllByRecursion}
+use Rattle.std.specs.Option.{option_map, option_map_or}
+use Rattle.std.proofs.lemmas.Bool.Decides.{nat_tests}
+use Rattle.std.proofs.lemmas.Option.{none-some, same_Some, slice_get_past}
+use Rattle.indexmap.specs.IndexMap.{insert_entry}
+use Rattle.case_forms.specs.States.{is_closed}
+use Rattle.case_forms.specs.declared.calls.Answer.{Answer}
+use Rattle.case_forms.specs.declared.calls.Answer.TheVariants as answers
+use Rattle.case_forms.specs.declared.calls.Call.{Call}
+use Rattle.case_forms.specs.declared.calls.Call.TheVariants as calls
+use Rattle.case_forms.specs.declared.calls.Host.{Host}
+use Rattle.case_forms.specs.declared.calls.Host.TheVariants.{Zero, One}
+use Rattle.case_forms.specs.declared.trace.Header.{Header}
+use Rattle.verdict.specs.declared.rule.Rule.{Rule}
+use Rattle.verdict.proofs.RuleLemmas.{none_all}
+use Rattle.spec_network.specs.HostRules.{Permitted, aim_of}
+use Rattle.spec_network.specs.HostSteps.{after}
+use Rattle.spec_network.specs.Hosts.{Stamped, World, Does, Expires, Makes, Sends, Gets, Hears, Takes, Drops, Answers, Step, Begin, Finish, Effect, At}
+use Rattle.spec_network.specs.Hosts.{Turn, Idle, Called, Answered, turn_of}
+use Rattle.spec_network.specs.Tables.{Both, Made, on, pick, waiting, with_host}
+use Rattle.spec_network.proofs.Entries.{lookup_insert}
+use Rattle.spec_tcp.specs.Arrives.{AtEndpoint, AtListener, Nobody, Taker, taker}
+use Rattle.spec_tcp.specs.HostTcp.{HostTcp, place_of, thing_of}
+use Rattle.spec_tcp.specs.Machine.{aim, tcp, tcp_shape}
+use Rattle.spec_tcp.specs.declared.endpoint.Emission.{Emission}
+use Rattle.spec_tcp.specs.declared.endpoint.Endpoint.{Endpoint}
+use Rattle.spec_tcp.specs.declared.endpoint.EndpointId.{EndpointId}
+use Rattle.spec_tcp.specs.declared.endpoint.SocketTarget.{SocketTarget}
+use Rattle.spec_tcp.specs.declared.endpoint.SocketTarget.TheVariants.{ListenerAt, EndpointAt}
+use Rattle.spec_tcp_laws.specs.Consequences.{find}
+use Rattle.spec_tcp_laws.proofs.Rules.{on_cases}
+use Rattle.spec_duties.specs.Cases.{Known}
+use Rattle.spec_duties.specs.Dropped.{answering_breaks, taking_breaks}
+use Rattle.spec_duties.specs.Excess.{is_excess}
+use Rattle.spec_duties.specs.Owed.{late_rules, lates_of, nothing, owed_after}
+use Rattle.spec_duties.specs.Resent.{is_resent}
+use Rattle.spec_duties.specs.Sights.{accept_sight, at_drop, at_next, at_place, at_ports, at_sender, at_target, call_sight, close_sight, effect_sight}
+use Rattle.spec_duties.specs.Sights.{dropping_sight, is_done, opened_sight, other_sight, processing_of, sending_of, sight, taking_sight, unseen, view_in}
+use Rattle.spec_duties.specs.Views.{unborn, view_of}
+use Rattle.spec_duties.specs.Watching.{Duties, built_by, counts_now, duties_after, duty_rules, listener_closed, owed_by, owed_table_after, touched_rules}
+use Rattle.spec_duties.specs.declared.events.Event.{Event}
+use Rattle.spec_duties.specs.declared.events.Event.TheVariants as events
+use Rattle.spec_duties.specs.declared.owed.Lates.{Lates}
+use Rattle.spec_duties.specs.declared.owed.Owed.{Owed}
+use Rattle.spec_duties.specs.declared.sights.Queueing.TheVariants as queueing
+use Rattle.spec_duties.specs.declared.sights.Sight.{Sight}
+use Rattle.spec_duties.specs.declared.sights.Touched.{Touched}
+use Rattle.spec_duties.specs.declared.views.View.{View}
+use Rattle.kept_duties.proofs.Runs.{Goes}
+
+-- an endpoint as duties see it
+abbrev pub seen : World tcp_shape → EndpointId → View
+seen w me = option_map_or view_of (find w.hosts me) unborn
+
+-- ---- what a step shows of an endpoint is how it was before
+
+abbrev AsBefore : World tcp_shape → Option Touched → Type 0
+AsBefore w None = Unit {0}
+AsBefore w (Some t) = t.before ≡ seen w (record { host = t.host; number = t.place })
+
+place_before : (w : World tcp_shape) (host : Host) (event : Event) (i : ℕ) → AsBefore w (at_place host (pick w.hosts host).body event i)
+place_before w host event i = by (slice_get (pick w.hosts host).body.endpoints i) refl
+  where
+    by : (o : Option Endpoint) → slice_get (pick w.hosts host).body.endpoints i ≡ o
+        → AsBefore w (option_map (λ e. record { host = host; place = i; event = event; before = view_of e }) o)
+    by None is = tt
+    by (Some e) is = sym (ap (λ (o : Option Endpoint). option_map_or view_of o unborn) is)
+
+ports_before : (w : World tcp_shape) (host : Host) (event : Event) (lport rport : ℕ) → AsBefore w (at_ports host (pick w.hosts host).body event lport rport)
+ports_before w host event lport rport = by (place_of (pick w.hosts host).body lport rport)
+  where
+    by : (o : Option ℕ) → AsBefore w (option_map_or (at_place host (pick w.hosts host).body event) o None)
+    by None = tt
+    by (Some i) = place_before w host event i
+
+next_before : (w : World tcp_shape) (host : Host) (event : Event) → AsBefore w (at_next host (pick w.hosts host).body event)
+next_before w host event =
+    sym (ap (λ (o : Option Endpoint). option_map_or view_of o unborn)
+    (slice_get_past (pick w.hosts host).body.endpoints (length (pick w.hosts host).body.endpoints) (omega arith)))
+
+sender_before : (w : World tcp_shape) (host : Host) (m : Emission) → AsBefore w (at_sender host (pick w.hosts host).body m)
+sender_before w host m = by m.is_reset_reply
+  where
+    by : (b : Bool) → AsBefore w (if b then None else at_place host (pick w.hosts host).body (sending_of m) m.sender.number)
+    by true = tt
+    by false = place_before w host (sending_of m) m.sender.number
+
+target_before : (w : World tcp_shape) (host : Host) (m : Emission) (t : Taker) → AsBefore w (at_target host (pick w.hosts host).body m t)
+target_before w host m Nobody = tt
+target_before w host m (AtListener l) = next_before w host (processing_of m)
+target_before w host m (AtEndpoint i e) = place_before w host (processing_of m) i
+
+drop_before : (w : World tcp_shape) (host : Host) (m : Emission) (taking : Option Rule) (t : Taker) → AsBefore w (at_drop host (pick w.hosts host).body m taking t)
+drop_before w host m taking Nobody = tt
+drop_before w host m taking (AtListener l) = tt
+drop_before w host m taking (AtEndpoint i e) = place_before w host _ i
+
+thing_before : (w : World tcp_shape) (o : Option SocketTarget) (f : SocketTarget → Sight) → ((thing : SocketTarget) → AsBefore w (f thing).touched)
+    → AsBefore w (on o unseen f).touched
+thing_before w None f each = tt
+thing_before w (Some thing) f each = each thing
+
+close_before : (w : World tcp_shape) (host : Host) (aborts : Bool) (answer : Answer) (thing : SocketTarget)
+    → AsBefore w (close_sight host (pick w.hosts host).body aborts answer thing).touched
+close_before w host aborts answer (EndpointAt i) = place_before w host _ i
+close_before w host aborts answer (ListenerAt l) = by (is_done answer)
+  where
+    by : (d : Bool) → AsBefore w (if d then record unseen { queueing = queueing.Closes host l } else unseen).touched
+    by true = tt
+    by false = tt
+
+other_before : (w : World tcp_shape) (host : Host) (thing : SocketTarget) → AsBefore w (other_sight host (pick w.hosts host).body thing).touched
+other_before w host (ListenerAt l) = tt
+other_before w host (EndpointAt i) = place_before w host _ i
+
+accept_before : (w : World tcp_shape) (host : Host) (answer : Answer) (thing : SocketTarget)
+    → AsBefore w (accept_sight host (pick w.hosts host).body answer thing).touched
+accept_before w host (answers.Given n) (ListenerAt l) = tt
+accept_before w host answer thing = tt
+
+call_before : (w : World tcp_shape) (host : Host) (call : Call) (answer : Answer) → AsBefore w (call_sight host (pick w.hosts host).body call answer).touched
+call_before w host (calls.Connect x lport rport) (answers.Given n) = next_before w host events.Opens
+call_before w host (calls.Connect x lport rport) answer = tt
+call_before w host (calls.Accept n) answer =
+    thing_before w (thing_of (pick w.hosts host).body n) (accept_sight host (pick w.hosts host).body answer) (accept_before w host answer)
+call_before w host (calls.Send n bytes) answer =
+    thing_before w (thing_of (pick w.hosts host).body n) (other_sight host (pick w.hosts host).body) (other_before w host)
+call_before w host (calls.Shut n) answer =
+    thing_before w (thing_of (pick w.hosts host).body n) (other_sight host (pick w.hosts host).body) (other_before w host)
+call_before w host (calls.Close n) answer =
+    thing_before w (thing_of (pick w.hosts host).body n) (close_sight host (pick w.hosts host).body false answer) (close_before w host false answer)
+call_before w host (calls.Abort n) answer =
+    thing_before w (thing_of (pick w.hosts host).body n) (close_sight host (pick w.hosts host).body (is_done answer) answer) (close_before w host (is_done answer) answer)
+call_before w host call answer = tt
+
+effect_before : (h : Header) (w : World tcp_shape) (answer : Answer) (u : Turn tcp_shape) → AsBefore w (effect_sight h w answer u).touched
+effect_before h w answer Idle = tt
+effect_before h w answer (Called call) =
+    on_cases (λ (s : Sight). AsBefore w s.touched) (aim_of (tcp h) w.hosts (aim call)) unseen
+    (λ host. call_sight host (pick w.hosts host).body call answer) tt (λ host is. call_before w host call answer)
+effect_before h w answer (Answered given) = tt
+
+as_before : (h : Header) (moment : ℕ) (w : World tcp_shape) (step : Step tcp_shape) → AsBefore w (sight h moment w step).touched
+as_before h moment w (Begin line thread call) = tt
+as_before h moment w (Finish line thread answer) = tt
+as_before h moment w (Effect thread answer) = effect_before h w answer (turn_of thread w.threads)
+as_before h moment w (At host (Does x)) = ports_before w host events.Recovers x.lport x.rport
+as_before h moment w (At host (Expires line x)) = ports_before w host _ x.lport x.rport
+as_before h moment w (At host (Makes m)) = ports_before w host (events.Builds m) m.lport m.rport
+as_before h moment w (At host (Sends line number wire)) =
+    on_cases (λ (s : Sight). AsBefore w s.touched) (lookup (nat_eq number) (pick w.hosts host).made) unseen _ tt (λ m is. sender_before w host m.emission)
+as_before h moment w (At host (Gets line copied wire)) = tt
+as_before h moment w (At host (Hears line wire)) = tt
+as_before h moment w (At host (Takes line how)) =
+    on_cases (λ (s : Sight). AsBefore w s.touched) (waiting line (pick w.hosts host).inbox) unseen _ tt
+    (λ m is. target_before w host m (taker (pick w.hosts host).body m))
+as_before h moment w (At host (Drops line)) =
+    on_cases (λ (s : Sight). AsBefore w s.touched) (waiting line (pick w.hosts host).inbox) unseen _ tt
+    (λ m is. drop_before w host m (taking_breaks h moment w host line) (taker (pick w.hosts host).body m))
+as_before h moment w (At host (Answers line)) = tt
+
+-- ---- whether a step touches an endpoint
+
+abbrev pub touched : World tcp_shape → EndpointId → Event → Touched
+touched w me event = record { host = me.host; place = me.number; event = event; before = seen w me }
+
+-- what an endpoint owes in a table
+abbrev owed_in : Both (List (ℕ × Owed)) → EndpointId → Owed
+owed_in both me = unwrap_or (lookup (nat_eq me.number) (pick both me.host)) nothing
+
+-- another value for one endpoint
+abbrev with_owed : Both (List (ℕ × Owed)) → Touched → Owed → Both (List (ℕ × Owed))
+with_owed both t v = with_host both t.host (insert_entry nat_eq (pick both t.host) t.place v)
+
+pick_here : {X : Type 0} (both : Both X) (host : Host) (x : X) → pick (with_host both host x) host ≡ x
+pick_here both Zero x = refl
+pick_here both One x = refl
+
+owed_here : (both : Both (List (ℕ × Owed))) (w : World tcp_shape) (me : EndpointId) (event : Event) (v : Owed)
+    → owed_in (with_owed both (touched w me event) v) me ≡ v
+owed_here both w me event v =
+    let self : nat_eq me.number me.number ≡ true = grind (arith, nat_tests) in
+    ap (λ es. unwrap_or (lookup (nat_eq me.number) es) nothing) (pick_here both me.host (insert_entry nat_eq (pick both me.host) me.number v))
+    ∙ ap (λ o. unwrap_or o nothing) (lookup_insert me.number me.number v (pick both me.host)
+    ∙ ap (λ b. cond b (Some v) (lookup (nat_eq me.number) (pick both me.host))) self)
+
+-- the endpoint is the one that is touched, or what it owes stays
+same_or_not : (t : Touched) (me : EndpointId)
+    → ((t.host ≡ me.host) × (t.place ≡ me.number)) ⊎ ((both : Both (List (ℕ × Owed))) (v : Owed) → owed_in (with_owed both t v) me ≡ owed_in both me)
+same_or_not t me = by t.host me.host refl refl
+  where
+    entry : (es : List (ℕ × Owed)) (v : Owed) → nat_eq me.number t.place ≡ false
+        → unwrap_or (lookup (nat_eq me.number) (insert_entry nat_eq es t.place v)) nothing ≡ unwrap_or (lookup (nat_eq me.number) es) nothing
+    entry es v other =
+        ap (λ o. unwrap_or o nothing) (lookup_insert me.number t.place v es ∙ ap (λ b. cond b (Some v) (lookup (nat_eq me.number) es)) other)
+
+    by : (g host : Host) → t.host ≡ g → me.host ≡ host
+        → ((g ≡ host) × (t.place ≡ me.number))
+        ⊎ ((both : Both (List (ℕ × Owed))) (v : Owed)
+        → unwrap_or (lookup (nat_eq me.number) (pick (with_host both g (insert_entry nat_eq (pick both g) t.place v)) host)) nothing
+        ≡ unwrap_or (lookup (nat_eq me.number) (pick both host)) nothing)
+    by Zero Zero a b = test (nat_eq me.number t.place) refl
+      where
+        test : (c : Bool) → nat_eq me.number t.place ≡ c
+            → ((Zero ≡ Zero) × (t.place ≡ me.number))
+            ⊎ ((both : Both (List (ℕ × Owed))) (v : Owed)
+            → unwrap_or (lookup (nat_eq me.number) (insert_entry nat_eq both.zero t.place v)) nothing ≡ unwrap_or (lookup (nat_eq me.number) both.zero) nothing)
+        test true same = inl (refl, grind (arith, nat_tests, same))
+        test false other = inr (λ both v. entry both.zero v other)
+    by One One a b = test (nat_eq me.number t.place) refl
+      where
+        test : (c : Bool) → nat_eq me.number t.place ≡ c
+            → ((One ≡ One) × (t.place ≡ me.number))
+            ⊎ ((both : Both (List (ℕ × Owed))) (v : Owed)
+            → unwrap_or (lookup (nat_eq me.number) (insert_entry nat_eq both.one t.place v)) nothing ≡ unwrap_or (lookup (nat_eq me.number) both.one) nothing)
+        test true same = inl (refl, grind (arith, nat_tests, same))
+        test false other = inr (λ both v. entry both.one v other)
+    by Zero One a b = inr (λ both v. refl)
+    by One Zero a b = inr (λ both v. refl)
+
+-- ---- what an endpoint owes after a step
+
+-- a step touches the endpoint
+pub record Touches (h : Header) (k : Known) (x : Stamped tcp_shape) (me : EndpointId) : Type 0 where
+  pub event : Event
+  pub shows : (sight h x.moment k.model x.step).touched ≡ Some (touched k.model me event)
+
+-- so its duties were compared, and are changed
+pub record Owes (h : Header) (slack : ℕ) (k next : Known) (x : Stamped tcp_shape) (me : EndpointId) (event : Event) : Type 0 where
+  pub counts : Bool
+  pub listener : Option ℕ
+  pub counted : counts ≡ counts_now (built_by k.duties (sight h x.moment k.model x.step).post)
+  pub lates : AllByRecursion (λ r. r.1 ≡ false) (late_rules (lates_of slack x.moment (seen k.model me) listener (owed_by k.duties me.host me.number)))
+  pub resent : is_resent h.congestion event (seen k.model me) (owed_by k.duties me.host me.number).again ≡ false
+  pub excess : is_excess counts (owed_by k.duties me.host me.number).answers ≡ false
+  pub after : owed_by next.duties me.host me.number
+      ≡ owed_after event (seen k.model me) (seen next.model me) x.moment listener counts (owed_by k.duties me.host me.number)
+
+module _ (h : Header) (slack : ℕ) (k next : Known) (x : Stamped tcp_shape) (me : EndpointId) (goes : Goes h slack k next x) where
+  abbrev shown : Sight
+  shown = sight h x.moment k.model x.step
+
+  -- by the step's event at it
+  pub owes_after : (event : Event) → shown.touched ≡ Some (touched k.model me event) → Owes h slack k next x me event
+  owes_after event shows =
+      let rules = (none_all (duty_rules h slack x.moment k.duties shown) goes.dutiful).1.1.1.1 in
+      let here = subst (λ (o : Option Touched). AllByRecursion (λ r. r.1 ≡ false) (on o [] (touched_rules h slack x.moment k.duties counts))) shows rules in
+      record {
+        counts = counts;
+        listener = listener_closed k.duties me.host (seen k.model me);
+        counted = refl;
+        lates = (here.0, (here.1.0, (here.1.1.0, (here.1.1.1.0, (here.1.1.1.1.0, (here.1.1.1.1.1.0, tt))))));
+        resent = here.1.1.1.1.1.1.0;
+        excess = here.1.1.1.1.1.1.1.1.0;
+        after =
+            ap (λ (d : Duties). owed_by d me.host me.number) goes.duties
+            ∙ ap (λ (o : Option Touched). owed_in (on o k.duties.owed (owed_table_after (view_in (after (tcp h) x.moment k.model x.step) o) x.moment counts k.duties)) me) shows
+            ∙ owed_here k.duties.owed k.model me event _
+            ∙ ap (λ (w : World tcp_shape). owed_after event (seen k.model me) (seen w me) x.moment
+            (listener_closed k.duties me.host (seen k.model me)) counts (owed_by k.duties me.host me.number)) (sym goes.model);
+      }
+    where
+      counts : Bool
+      counts = counts_now (built_by k.duties shown.post)
+
+  -- another step leaves what it owes
+  pub touches_or_not : Touches h k x me
+      ⊎ ((owed_by next.duties me.host me.number ≡ owed_by k.duties me.host me.number)
+      × ((event : Event) → shown.touched ≡ Some (touched k.model me event) → ⊥))
+  touches_or_not = by shown.touched refl (as_before h x.moment k.model x.step)
+    where
+      keeps : (o : Option Touched) → shown.touched ≡ o → owed_in (on o k.duties.owed (owed_table_after (view_in (after (tcp h) x.moment k.model x.step) o) x.moment
+          (counts_now (built_by k.duties shown.post)) k.duties)) me ≡ owed_in k.duties.owed me → owed_by next.duties me.host me.number ≡ owed_by k.duties me.host me.number
+      keeps o shows same =
+          ap (λ (d : Duties). owed_by d me.host me.number) goes.duties
+          ∙ ap (λ (o : Option Touched). owed_in (on o k.duties.owed (owed_table_after (view_in (after (tcp h) x.moment k.model x.step) o) x.moment
+          (counts_now (built_by k.duties shown.post)) k.duties)) me) shows
+          ∙ same
+
+      -- two values tell that what is written is found
+      apart : (t : Touched) (event : Event) → t ≡ touched k.model me event
+          → ((both : Both (List (ℕ × Owed))) (v : Owed) → owed_in (with_owed both t v) me ≡ owed_in both me) → ⊥
+      apart t event one other =
+          let changed : owed_in (with_owed k.duties.owed t (record nothing { opened = suc (owed_in k.duties.owed me).opened })) me
+          ≡ record nothing { opened = suc (owed_in k.duties.owed me).opened } =
+          ap (λ (t : Touched). owed_in (with_owed k.duties.owed t (record nothing { opened = suc (owed_in k.duties.owed me).opened })) me) one
+          ∙ owed_here k.duties.owed k.model me event (record nothing { opened = suc (owed_in k.duties.owed me).opened }) in
+          let more : suc (owed_in k.duties.owed me).opened ≡ (owed_in k.duties.owed me).opened =
+          ap (λ (o : Owed). o.opened) (sym changed ∙ other k.duties.owed (record nothing { opened = suc (owed_in k.duties.owed me).opened })) in
+          omega (arith, more)
+
+      by : (o : Option Touched) → shown.touched ≡ o → AsBefore k.model o
+          → Touches h k x me
+          ⊎ ((owed_by next.duties me.host me.number ≡ owed_by k.duties me.host me.number)
+          × ((event : Event) → shown.touched ≡ Some (touched k.model me event) → ⊥))
+      by None shows before = inr (keeps None shows refl, λ event is. none-some (touched k.model me event) (sym shows ∙ is))
+      by (Some t) shows before = which (same_or_not t me)
+        where
+          which : ((t.host ≡ me.host) × (t.place ≡ me.number))
+              ⊎ ((both : Both (List (ℕ × Owed))) (v : Owed) → owed_in (with_owed both t v) me ≡ owed_in both me)
+              → Touches h k x me
+              ⊎ ((owed_by next.duties me.host me.number ≡ owed_by k.duties me.host me.number)
+              × ((event : Event) → shown.touched ≡ Some (touched k.model me event) → ⊥))
+          which (inl same) = inl (record {
+            event = t.event;
+            shows =
+                shows ∙ (λ i. Some (record {
+                  host = same.0 i;
+                  place = same.1 i;
+                  event = t.event;
+                  before = (before ∙ (λ i. seen k.model (record { host = same.0 i; number = same.1 i }))) i;
+                }));
+          })
+          which (inr other) = inr (keeps (Some t) shows (other k.duties.owed _), λ event is.
+              let one : t ≡ touched k.model me event = same_Some t (touched k.model me event) (sym shows ∙ is) in
+              apart t event one other)
