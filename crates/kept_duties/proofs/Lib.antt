@@ -6,3 +6,4 @@ pub mod Built
 pub mod Labels
 pub mod Segments
 pub mod Touched
+pub mod Repeats

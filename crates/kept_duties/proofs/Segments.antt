@@ -56,6 +56,19 @@ none_mapped : {X Y : Type 0} (f : X → Y) (o : Option X) → option_map f o ≡
 none_mapped f None e = refl
 none_mapped f (Some x) e = absurd (none-some (f x) (sym e))
 
+-- the step of an act
+pub step_of_act : (t : Trace) (w : Witness) (place : ℕ) (x : Stamped tcp_shape) → act_at t.header t.lines w.steps place ≡ Some x
+    → (s : Step) × (slice_get w.steps place ≡ Some s) × (act_of t.header t.lines s ≡ Some x)
+step_of_act t w place x is = by (slice_get w.steps place) refl is
+  where
+    by : (o : Option Step) → slice_get w.steps place ≡ o → option_map_or (act_of t.header t.lines) o None ≡ Some x
+        → (s : Step) × (slice_get w.steps place ≡ Some s) × (act_of t.header t.lines s ≡ Some x)
+    by None at is = absurd (none-some x is)
+    by (Some s) at is = (s, at, is)
+
+pub within : (t : Trace) (w : Witness) (place : ℕ) (x : Stamped tcp_shape) → act_at t.header t.lines w.steps place ≡ Some x → place < length w.steps
+within t w place x is = let s = step_of_act t w place x is in slice_get_within w.steps place s.0 s.1
+
 module _ (t : Trace) (w : Witness) (slack : ℕ) (given : t.header.slack ≡ Some slack) (lawful : Lawful (tcp t.header) (first_known t.header).model (stamped t.header t.lines w.steps))
     (dutiful : Dutiful t.header (first_known t.header) (stamped t.header t.lines w.steps)) where
   abbrev pub acts : ℕ → Option (Stamped tcp_shape)
@@ -66,19 +79,6 @@ module _ (t : Trace) (w : Witness) (slack : ℕ) (given : t.header.slack ≡ Som
 
   pub run : Run t.header slack (length w.steps) acts known
   run = run_of t.header t.lines slack given w.steps lawful dutiful
-
-  -- the step of an act
-  pub step_of_act : (place : ℕ) (x : Stamped tcp_shape) → acts place ≡ Some x
-      → (s : Step) × (slice_get w.steps place ≡ Some s) × (act_of t.header t.lines s ≡ Some x)
-  step_of_act place x is = by (slice_get w.steps place) refl is
-    where
-      by : (o : Option Step) → slice_get w.steps place ≡ o → option_map_or (act_of t.header t.lines) o None ≡ Some x
-          → (s : Step) × (slice_get w.steps place ≡ Some s) × (act_of t.header t.lines s ≡ Some x)
-      by None at is = absurd (none-some x is)
-      by (Some s) at is = (s, at, is)
-
-  pub within : (place : ℕ) (x : Stamped tcp_shape) → acts place ≡ Some x → place < length w.steps
-  within place x is = let s = step_of_act place x is in slice_get_within w.steps place s.0 s.1
 
   -- as many segments were built as the steps before build
   count_is : (place : ℕ) → place ≤ length w.steps → (known place).model.count ≡ built_before w place
@@ -110,10 +110,10 @@ module _ (t : Trace) (w : Witness) (slack : ℕ) (given : t.header.slack ≡ Som
   pub sendings_are_fresh : SendingsAreFresh t w slack
   sendings_are_fresh place moment number host a =
       let x = sending_act t w place moment host number a in
-      let b = sent_in_time t.header slack (length w.steps) acts known run place x.0 host number (within place x.0 x.1) x.1 x.3 in
-      let s = step_of_act b.0.place b.0.act b.0.is in
+      let b = sent_in_time t.header slack (length w.steps) acts known run place x.0 host number (within t w place x.0 x.1) x.1 x.3 in
+      let s = step_of_act t w b.0.place b.0.act b.0.is in
       let is = builder_is t.header t.lines s.0 b.0.act s.2 in
-      let count = count_is b.0.place (omega (arith, within b.0.place b.0.act b.0.is)) in
+      let count = count_is b.0.place (omega (arith, within t w b.0.place b.0.act b.0.is)) in
       record {
         earlier = b.0.place;
         since = b.0.act.moment;
@@ -143,11 +143,11 @@ module _ (t : Trace) (w : Witness) (slack : ℕ) (given : t.header.slack ≡ Som
     pub arrivals_are_handled : ArrivalsAreHandled t w slack
     arrivals_are_handled place moment line host a =
         let x = arrival_act t w trace placed place moment host line a in
-        by x.0 x.2 (left_or_waits t.header slack (length w.steps) acts known run place x.0 host line (within place x.0 x.1) x.1 x.3 once)
+        by x.0 x.2 (left_or_waits t.header slack (length w.steps) acts known run place x.0 host line (within t w place x.0 x.1) x.1 x.3 once)
       where
         once : (j : ℕ) (y : Stamped tcp_shape) (g : Host) → acts j ≡ Some y → enters y.step ≡ Some (g, line) → j ≡ place
         once j y g is comes =
-            let s = step_of_act j y is in
+            let s = step_of_act t w j y is in
             let b = arrives_at t w j trace s.0 s.1 y s.2 g line comes in
             placed.once line j place (arrival_takes t w j y.moment g line b) (arrival_takes t w place moment host line a)
 
@@ -156,7 +156,7 @@ module _ (t : Trace) (w : Witness) (slack : ℕ) (given : t.header.slack ≡ Som
             ⊎ (waiting line (known (length w.steps)).duties.inbox ≡ Some x.moment)
             → LeavesBy w place (moment + slack) host line ⊎ EndsBy w (moment + slack)
         by x time (inl left) =
-            let s = step_of_act left.place left.act left.is in
+            let s = step_of_act t w left.place left.act left.is in
             inl (record {
               later = left.place;
               moment = left.act.moment;
