@@ -7,3 +7,5 @@ pub mod Labels
 pub mod Segments
 pub mod Touched
 pub mod Repeats
+pub mod Since
+pub mod Soon

@@ -14,18 +14,21 @@ use Rattle.case_forms.specs.declared.calls.Call.{Call}
 use Rattle.case_forms.specs.declared.calls.Call.TheVariants as calls
 use Rattle.case_forms.specs.declared.calls.Host.{Host}
 use Rattle.case_forms.specs.declared.calls.Host.TheVariants.{Zero, One}
+use Rattle.case_forms.specs.declared.steps.TakeChoice.{TakeChoice}
 use Rattle.case_forms.specs.declared.trace.Header.{Header}
 use Rattle.verdict.specs.declared.rule.Rule.{Rule}
 use Rattle.verdict.proofs.RuleLemmas.{none_all}
 use Rattle.spec_network.specs.HostRules.{Permitted, aim_of}
-use Rattle.spec_network.specs.HostSteps.{after}
-use Rattle.spec_network.specs.Hosts.{Stamped, World, Does, Expires, Makes, Sends, Gets, Hears, Takes, Drops, Answers, Step, Begin, Finish, Effect, At}
+use Rattle.spec_network.specs.HostSteps.{after, deed_after}
+use Rattle.spec_network.specs.Hosts.{HostState, Stamped, World, Does, Expires, Makes, Sends, Gets, Hears, Takes, Drops, Answers, Step, Begin, Finish, Effect, At}
 use Rattle.spec_network.specs.Hosts.{Turn, Idle, Called, Answered, turn_of}
-use Rattle.spec_network.specs.Tables.{Both, Made, on, pick, waiting, with_host}
+use Rattle.spec_network.specs.Tables.{Both, Made, on, other, pick, waiting, with_host}
 use Rattle.spec_network.proofs.Entries.{lookup_insert}
-use Rattle.spec_tcp.specs.Arrives.{AtEndpoint, AtListener, Nobody, Taker, taker}
+use Rattle.spec_tcp.specs.Arrives.{AtEndpoint, AtListener, Nobody, Taker, after_taking, taker}
+use Rattle.spec_tcp.specs.Arrives.Listen.{child}
 use Rattle.spec_tcp.specs.HostTcp.{HostTcp, place_of, thing_of}
-use Rattle.spec_tcp.specs.Machine.{aim, tcp, tcp_shape}
+use Rattle.spec_tcp.specs.Machine.{act_after, aim, tcp, tcp_shape}
+use Rattle.spec_tcp.specs.Signals.{profile_of}
 use Rattle.spec_tcp.specs.declared.endpoint.Emission.{Emission}
 use Rattle.spec_tcp.specs.declared.endpoint.Endpoint.{Endpoint}
 use Rattle.spec_tcp.specs.declared.endpoint.EndpointId.{EndpointId}
@@ -33,6 +36,7 @@ use Rattle.spec_tcp.specs.declared.endpoint.SocketTarget.{SocketTarget}
 use Rattle.spec_tcp.specs.declared.endpoint.SocketTarget.TheVariants.{ListenerAt, EndpointAt}
 use Rattle.spec_tcp_laws.specs.Consequences.{find}
 use Rattle.spec_tcp_laws.proofs.Rules.{on_cases}
+use Rattle.spec_tcp_laws.proofs.Runs.{Steady, later_step}
 use Rattle.spec_duties.specs.Cases.{Known}
 use Rattle.spec_duties.specs.Dropped.{answering_breaks, taking_breaks}
 use Rattle.spec_duties.specs.Excess.{is_excess}
@@ -56,111 +60,134 @@ use Rattle.kept_duties.proofs.Runs.{Goes}
 abbrev pub seen : World tcp_shape → EndpointId → View
 seen w me = option_map_or view_of (find w.hosts me) unborn
 
--- ---- what a step shows of an endpoint is how it was before
+-- ---- what a step shows of an endpoint is how it was before, and the endpoint is there or is new
 
-abbrev AsBefore : World tcp_shape → Option Touched → Type 0
-AsBefore w None = Unit {0}
-AsBefore w (Some t) = t.before ≡ seen w (record { host = t.host; number = t.place })
+-- a listener's child, which a step creates
+pub record Child (w : World tcp_shape) (step : Step tcp_shape) (t : Touched) : Type 0 where
+  pub line : ℕ
+  pub how : TakeChoice
+  pub segment : Emission
+  pub listener : ℕ
+  pub is : step ≡ At t.host (Takes line how)
+  pub waits : waiting line (pick w.hosts t.host).inbox ≡ Some segment
+  pub takes : taker (pick w.hosts t.host).body segment ≡ AtListener listener
+  pub next : t.place ≡ length (pick w.hosts t.host).body.endpoints
 
-place_before : (w : World tcp_shape) (host : Host) (event : Event) (i : ℕ) → AsBefore w (at_place host (pick w.hosts host).body event i)
-place_before w host event i = by (slice_get (pick w.hosts host).body.endpoints i) refl
+abbrev pub name_of : Touched → EndpointId
+name_of t = record { host = t.host; number = t.place }
+
+pub record AsShown (w : World tcp_shape) (step : Step tcp_shape) (t : Touched) : Type 0 where
+  pub before : t.before ≡ seen w (name_of t)
+  pub there : ((e : Endpoint) × (find w.hosts (name_of t) ≡ Some e)) ⊎ (t.event ≡ events.Opens) ⊎ Child w step t
+
+abbrev AsBefore : World tcp_shape → Step tcp_shape → Option Touched → Type 0
+AsBefore w step None = Unit {0}
+AsBefore w step (Some t) = AsShown w step t
+
+place_before : (w : World tcp_shape) (step : Step tcp_shape) (host : Host) (event : Event) (i : ℕ) → AsBefore w step (at_place host (pick w.hosts host).body event i)
+place_before w step host event i = by (slice_get (pick w.hosts host).body.endpoints i) refl
   where
     by : (o : Option Endpoint) → slice_get (pick w.hosts host).body.endpoints i ≡ o
-        → AsBefore w (option_map (λ e. record { host = host; place = i; event = event; before = view_of e }) o)
+        → AsBefore w step (option_map (λ e. record { host = host; place = i; event = event; before = view_of e }) o)
     by None is = tt
-    by (Some e) is = sym (ap (λ (o : Option Endpoint). option_map_or view_of o unborn) is)
+    by (Some e) is = record { before = sym (ap (λ (o : Option Endpoint). option_map_or view_of o unborn) is); there = inl (e, is) }
 
-ports_before : (w : World tcp_shape) (host : Host) (event : Event) (lport rport : ℕ) → AsBefore w (at_ports host (pick w.hosts host).body event lport rport)
-ports_before w host event lport rport = by (place_of (pick w.hosts host).body lport rport)
+ports_before : (w : World tcp_shape) (step : Step tcp_shape) (host : Host) (event : Event) (lport rport : ℕ) → AsBefore w step (at_ports host (pick w.hosts host).body event lport rport)
+ports_before w step host event lport rport = by (place_of (pick w.hosts host).body lport rport)
   where
-    by : (o : Option ℕ) → AsBefore w (option_map_or (at_place host (pick w.hosts host).body event) o None)
+    by : (o : Option ℕ) → AsBefore w step (option_map_or (at_place host (pick w.hosts host).body event) o None)
     by None = tt
-    by (Some i) = place_before w host event i
+    by (Some i) = place_before w step host event i
 
-next_before : (w : World tcp_shape) (host : Host) (event : Event) → AsBefore w (at_next host (pick w.hosts host).body event)
-next_before w host event =
+next_before : (w : World tcp_shape) (host : Host) → unborn ≡ seen w (record { host = host; number = length (pick w.hosts host).body.endpoints })
+next_before w host =
     sym (ap (λ (o : Option Endpoint). option_map_or view_of o unborn)
     (slice_get_past (pick w.hosts host).body.endpoints (length (pick w.hosts host).body.endpoints) (omega arith)))
 
-sender_before : (w : World tcp_shape) (host : Host) (m : Emission) → AsBefore w (at_sender host (pick w.hosts host).body m)
-sender_before w host m = by m.is_reset_reply
+sender_before : (w : World tcp_shape) (step : Step tcp_shape) (host : Host) (m : Emission) → AsBefore w step (at_sender host (pick w.hosts host).body m)
+sender_before w step host m = by m.is_reset_reply
   where
-    by : (b : Bool) → AsBefore w (if b then None else at_place host (pick w.hosts host).body (sending_of m) m.sender.number)
+    by : (b : Bool) → AsBefore w step (if b then None else at_place host (pick w.hosts host).body (sending_of m) m.sender.number)
     by true = tt
-    by false = place_before w host (sending_of m) m.sender.number
+    by false = place_before w step host (sending_of m) m.sender.number
 
-target_before : (w : World tcp_shape) (host : Host) (m : Emission) (t : Taker) → AsBefore w (at_target host (pick w.hosts host).body m t)
-target_before w host m Nobody = tt
-target_before w host m (AtListener l) = next_before w host (processing_of m)
-target_before w host m (AtEndpoint i e) = place_before w host (processing_of m) i
+target_before : (w : World tcp_shape) (host : Host) (line : ℕ) (how : TakeChoice) (m : Emission) → waiting line (pick w.hosts host).inbox ≡ Some m
+    → (t : Taker) → taker (pick w.hosts host).body m ≡ t → AsBefore w (At host (Takes line how)) (at_target host (pick w.hosts host).body m t)
+target_before w host line how m waits Nobody is = tt
+target_before w host line how m waits (AtListener l) is = record {
+  before = next_before w host;
+  there = inr (inr (record { line = line; how = how; segment = m; listener = l; is = refl; waits = waits; takes = is; next = refl }));
+}
+target_before w host line how m waits (AtEndpoint i e) is = place_before w (At host (Takes line how)) host (processing_of m) i
 
-drop_before : (w : World tcp_shape) (host : Host) (m : Emission) (taking : Option Rule) (t : Taker) → AsBefore w (at_drop host (pick w.hosts host).body m taking t)
-drop_before w host m taking Nobody = tt
-drop_before w host m taking (AtListener l) = tt
-drop_before w host m taking (AtEndpoint i e) = place_before w host _ i
+drop_before : (w : World tcp_shape) (step : Step tcp_shape) (host : Host) (m : Emission) (taking : Option Rule) (t : Taker) → AsBefore w step (at_drop host (pick w.hosts host).body m taking t)
+drop_before w step host m taking Nobody = tt
+drop_before w step host m taking (AtListener l) = tt
+drop_before w step host m taking (AtEndpoint i e) = place_before w step host _ i
 
-thing_before : (w : World tcp_shape) (o : Option SocketTarget) (f : SocketTarget → Sight) → ((thing : SocketTarget) → AsBefore w (f thing).touched)
-    → AsBefore w (on o unseen f).touched
-thing_before w None f each = tt
-thing_before w (Some thing) f each = each thing
+thing_before : (w : World tcp_shape) (step : Step tcp_shape) (o : Option SocketTarget) (f : SocketTarget → Sight) → ((thing : SocketTarget) → AsBefore w step (f thing).touched)
+    → AsBefore w step (on o unseen f).touched
+thing_before w step None f each = tt
+thing_before w step (Some thing) f each = each thing
 
-close_before : (w : World tcp_shape) (host : Host) (aborts : Bool) (answer : Answer) (thing : SocketTarget)
-    → AsBefore w (close_sight host (pick w.hosts host).body aborts answer thing).touched
-close_before w host aborts answer (EndpointAt i) = place_before w host _ i
-close_before w host aborts answer (ListenerAt l) = by (is_done answer)
+close_before : (w : World tcp_shape) (step : Step tcp_shape) (host : Host) (aborts : Bool) (answer : Answer) (thing : SocketTarget)
+    → AsBefore w step (close_sight host (pick w.hosts host).body aborts answer thing).touched
+close_before w step host aborts answer (EndpointAt i) = place_before w step host _ i
+close_before w step host aborts answer (ListenerAt l) = by (is_done answer)
   where
-    by : (d : Bool) → AsBefore w (if d then record unseen { queueing = queueing.Closes host l } else unseen).touched
+    by : (d : Bool) → AsBefore w step (if d then record unseen { queueing = queueing.Closes host l } else unseen).touched
     by true = tt
     by false = tt
 
-other_before : (w : World tcp_shape) (host : Host) (thing : SocketTarget) → AsBefore w (other_sight host (pick w.hosts host).body thing).touched
-other_before w host (ListenerAt l) = tt
-other_before w host (EndpointAt i) = place_before w host _ i
+other_before : (w : World tcp_shape) (step : Step tcp_shape) (host : Host) (thing : SocketTarget) → AsBefore w step (other_sight host (pick w.hosts host).body thing).touched
+other_before w step host (ListenerAt l) = tt
+other_before w step host (EndpointAt i) = place_before w step host _ i
 
-accept_before : (w : World tcp_shape) (host : Host) (answer : Answer) (thing : SocketTarget)
-    → AsBefore w (accept_sight host (pick w.hosts host).body answer thing).touched
-accept_before w host (answers.Given n) (ListenerAt l) = tt
-accept_before w host answer thing = tt
+accept_before : (w : World tcp_shape) (step : Step tcp_shape) (host : Host) (answer : Answer) (thing : SocketTarget)
+    → AsBefore w step (accept_sight host (pick w.hosts host).body answer thing).touched
+accept_before w step host (answers.Given n) (ListenerAt l) = tt
+accept_before w step host answer thing = tt
 
-call_before : (w : World tcp_shape) (host : Host) (call : Call) (answer : Answer) → AsBefore w (call_sight host (pick w.hosts host).body call answer).touched
-call_before w host (calls.Connect x lport rport) (answers.Given n) = next_before w host events.Opens
-call_before w host (calls.Connect x lport rport) answer = tt
-call_before w host (calls.Accept n) answer =
-    thing_before w (thing_of (pick w.hosts host).body n) (accept_sight host (pick w.hosts host).body answer) (accept_before w host answer)
-call_before w host (calls.Send n bytes) answer =
-    thing_before w (thing_of (pick w.hosts host).body n) (other_sight host (pick w.hosts host).body) (other_before w host)
-call_before w host (calls.Shut n) answer =
-    thing_before w (thing_of (pick w.hosts host).body n) (other_sight host (pick w.hosts host).body) (other_before w host)
-call_before w host (calls.Close n) answer =
-    thing_before w (thing_of (pick w.hosts host).body n) (close_sight host (pick w.hosts host).body false answer) (close_before w host false answer)
-call_before w host (calls.Abort n) answer =
-    thing_before w (thing_of (pick w.hosts host).body n) (close_sight host (pick w.hosts host).body (is_done answer) answer) (close_before w host (is_done answer) answer)
-call_before w host call answer = tt
+call_before : (w : World tcp_shape) (step : Step tcp_shape) (host : Host) (call : Call) (answer : Answer) → AsBefore w step (call_sight host (pick w.hosts host).body call answer).touched
+call_before w step host (calls.Connect x lport rport) (answers.Given n) = record { before = next_before w host; there = inr (inl refl) }
+call_before w step host (calls.Connect x lport rport) answer = tt
+call_before w step host (calls.Accept n) answer =
+    thing_before w step (thing_of (pick w.hosts host).body n) (accept_sight host (pick w.hosts host).body answer) (accept_before w step host answer)
+call_before w step host (calls.Send n bytes) answer =
+    thing_before w step (thing_of (pick w.hosts host).body n) (other_sight host (pick w.hosts host).body) (other_before w step host)
+call_before w step host (calls.Shut n) answer =
+    thing_before w step (thing_of (pick w.hosts host).body n) (other_sight host (pick w.hosts host).body) (other_before w step host)
+call_before w step host (calls.Close n) answer =
+    thing_before w step (thing_of (pick w.hosts host).body n) (close_sight host (pick w.hosts host).body false answer) (close_before w step host false answer)
+call_before w step host (calls.Abort n) answer =
+    thing_before w step (thing_of (pick w.hosts host).body n) (close_sight host (pick w.hosts host).body (is_done answer) answer) (close_before w step host (is_done answer) answer)
+call_before w step host call answer = tt
 
-effect_before : (h : Header) (w : World tcp_shape) (answer : Answer) (u : Turn tcp_shape) → AsBefore w (effect_sight h w answer u).touched
-effect_before h w answer Idle = tt
-effect_before h w answer (Called call) =
-    on_cases (λ (s : Sight). AsBefore w s.touched) (aim_of (tcp h) w.hosts (aim call)) unseen
-    (λ host. call_sight host (pick w.hosts host).body call answer) tt (λ host is. call_before w host call answer)
-effect_before h w answer (Answered given) = tt
+effect_before : (h : Header) (w : World tcp_shape) (step : Step tcp_shape) (answer : Answer) (u : Turn tcp_shape) → AsBefore w step (effect_sight h w answer u).touched
+effect_before h w step answer Idle = tt
+effect_before h w step answer (Called call) =
+    on_cases (λ (s : Sight). AsBefore w step s.touched) (aim_of (tcp h) w.hosts (aim call)) unseen
+    (λ host. call_sight host (pick w.hosts host).body call answer) tt (λ host is. call_before w step host call answer)
+effect_before h w step answer (Answered given) = tt
 
-as_before : (h : Header) (moment : ℕ) (w : World tcp_shape) (step : Step tcp_shape) → AsBefore w (sight h moment w step).touched
+pub as_before : (h : Header) (moment : ℕ) (w : World tcp_shape) (step : Step tcp_shape) → AsBefore w step (sight h moment w step).touched
 as_before h moment w (Begin line thread call) = tt
 as_before h moment w (Finish line thread answer) = tt
-as_before h moment w (Effect thread answer) = effect_before h w answer (turn_of thread w.threads)
-as_before h moment w (At host (Does x)) = ports_before w host events.Recovers x.lport x.rport
-as_before h moment w (At host (Expires line x)) = ports_before w host _ x.lport x.rport
-as_before h moment w (At host (Makes m)) = ports_before w host (events.Builds m) m.lport m.rport
+as_before h moment w (Effect thread answer) = effect_before h w (Effect thread answer) answer (turn_of thread w.threads)
+as_before h moment w (At host (Does x)) = ports_before w (At host (Does x)) host events.Recovers x.lport x.rport
+as_before h moment w (At host (Expires line x)) = ports_before w (At host (Expires line x)) host _ x.lport x.rport
+as_before h moment w (At host (Makes m)) = ports_before w (At host (Makes m)) host (events.Builds m) m.lport m.rport
 as_before h moment w (At host (Sends line number wire)) =
-    on_cases (λ (s : Sight). AsBefore w s.touched) (lookup (nat_eq number) (pick w.hosts host).made) unseen _ tt (λ m is. sender_before w host m.emission)
+    on_cases (λ (s : Sight). AsBefore w (At host (Sends line number wire)) s.touched) (lookup (nat_eq number) (pick w.hosts host).made) unseen _ tt
+    (λ m is. sender_before w (At host (Sends line number wire)) host m.emission)
 as_before h moment w (At host (Gets line copied wire)) = tt
 as_before h moment w (At host (Hears line wire)) = tt
 as_before h moment w (At host (Takes line how)) =
-    on_cases (λ (s : Sight). AsBefore w s.touched) (waiting line (pick w.hosts host).inbox) unseen _ tt
-    (λ m is. target_before w host m (taker (pick w.hosts host).body m))
+    on_cases (λ (s : Sight). AsBefore w (At host (Takes line how)) s.touched) (waiting line (pick w.hosts host).inbox) unseen _ tt
+    (λ m is. target_before w host line how m is (taker (pick w.hosts host).body m) refl)
 as_before h moment w (At host (Drops line)) =
-    on_cases (λ (s : Sight). AsBefore w s.touched) (waiting line (pick w.hosts host).inbox) unseen _ tt
-    (λ m is. drop_before w host m (taking_breaks h moment w host line) (taker (pick w.hosts host).body m))
+    on_cases (λ (s : Sight). AsBefore w (At host (Drops line)) s.touched) (waiting line (pick w.hosts host).inbox) unseen _ tt
+    (λ m is. drop_before w (At host (Drops line)) host m (taking_breaks h moment w host line) (taker (pick w.hosts host).body m))
 as_before h moment w (At host (Answers line)) = tt
 
 -- ---- whether a step touches an endpoint
@@ -195,8 +222,8 @@ same_or_not t me = by t.host me.host refl refl
   where
     entry : (es : List (ℕ × Owed)) (v : Owed) → nat_eq me.number t.place ≡ false
         → unwrap_or (lookup (nat_eq me.number) (insert_entry nat_eq es t.place v)) nothing ≡ unwrap_or (lookup (nat_eq me.number) es) nothing
-    entry es v other =
-        ap (λ o. unwrap_or o nothing) (lookup_insert me.number t.place v es ∙ ap (λ b. cond b (Some v) (lookup (nat_eq me.number) es)) other)
+    entry es v differs =
+        ap (λ o. unwrap_or o nothing) (lookup_insert me.number t.place v es ∙ ap (λ b. cond b (Some v) (lookup (nat_eq me.number) es)) differs)
 
     by : (g host : Host) → t.host ≡ g → me.host ≡ host
         → ((g ≡ host) × (t.place ≡ me.number))
@@ -210,7 +237,7 @@ same_or_not t me = by t.host me.host refl refl
             ⊎ ((both : Both (List (ℕ × Owed))) (v : Owed)
             → unwrap_or (lookup (nat_eq me.number) (insert_entry nat_eq both.zero t.place v)) nothing ≡ unwrap_or (lookup (nat_eq me.number) both.zero) nothing)
         test true same = inl (refl, grind (arith, nat_tests, same))
-        test false other = inr (λ both v. entry both.zero v other)
+        test false differs = inr (λ both v. entry both.zero v differs)
     by One One a b = test (nat_eq me.number t.place) refl
       where
         test : (c : Bool) → nat_eq me.number t.place ≡ c
@@ -218,7 +245,7 @@ same_or_not t me = by t.host me.host refl refl
             ⊎ ((both : Both (List (ℕ × Owed))) (v : Owed)
             → unwrap_or (lookup (nat_eq me.number) (insert_entry nat_eq both.one t.place v)) nothing ≡ unwrap_or (lookup (nat_eq me.number) both.one) nothing)
         test true same = inl (refl, grind (arith, nat_tests, same))
-        test false other = inr (λ both v. entry both.one v other)
+        test false differs = inr (λ both v. entry both.one v differs)
     by Zero One a b = inr (λ both v. refl)
     by One Zero a b = inr (λ both v. refl)
 
@@ -284,16 +311,16 @@ module _ (h : Header) (slack : ℕ) (k next : Known) (x : Stamped tcp_shape) (me
       -- two values tell that what is written is found
       apart : (t : Touched) (event : Event) → t ≡ touched k.model me event
           → ((both : Both (List (ℕ × Owed))) (v : Owed) → owed_in (with_owed both t v) me ≡ owed_in both me) → ⊥
-      apart t event one other =
+      apart t event one stays =
           let changed : owed_in (with_owed k.duties.owed t (record nothing { opened = suc (owed_in k.duties.owed me).opened })) me
           ≡ record nothing { opened = suc (owed_in k.duties.owed me).opened } =
           ap (λ (t : Touched). owed_in (with_owed k.duties.owed t (record nothing { opened = suc (owed_in k.duties.owed me).opened })) me) one
           ∙ owed_here k.duties.owed k.model me event (record nothing { opened = suc (owed_in k.duties.owed me).opened }) in
           let more : suc (owed_in k.duties.owed me).opened ≡ (owed_in k.duties.owed me).opened =
-          ap (λ (o : Owed). o.opened) (sym changed ∙ other k.duties.owed (record nothing { opened = suc (owed_in k.duties.owed me).opened })) in
+          ap (λ (o : Owed). o.opened) (sym changed ∙ stays k.duties.owed (record nothing { opened = suc (owed_in k.duties.owed me).opened })) in
           omega (arith, more)
 
-      by : (o : Option Touched) → shown.touched ≡ o → AsBefore k.model o
+      by : (o : Option Touched) → shown.touched ≡ o → AsBefore k.model x.step o
           → Touches h k x me
           ⊎ ((owed_by next.duties me.host me.number ≡ owed_by k.duties me.host me.number)
           × ((event : Event) → shown.touched ≡ Some (touched k.model me event) → ⊥))
@@ -312,9 +339,46 @@ module _ (h : Header) (slack : ℕ) (k next : Known) (x : Stamped tcp_shape) (me
                   host = same.0 i;
                   place = same.1 i;
                   event = t.event;
-                  before = (before ∙ (λ i. seen k.model (record { host = same.0 i; number = same.1 i }))) i;
+                  before = (before.before ∙ (λ i. seen k.model (record { host = same.0 i; number = same.1 i }))) i;
                 }));
           })
-          which (inr other) = inr (keeps (Some t) shows (other k.duties.owed _), λ event is.
+          which (inr stays) = inr (keeps (Some t) shows (stays k.duties.owed _), λ event is.
               let one : t ≡ touched k.model me event = same_Some t (touched k.model me event) (sym shows ∙ is) in
-              apart t event one other)
+              apart t event one stays)
+
+-- ---- an endpoint that a step touches is there after it
+
+last_there : (es : List Endpoint) (e : Endpoint) → slice_get (es ++ e ∷ []) (length es) ≡ Some e
+last_there [] e = refl
+last_there (x ∷ es) e = last_there es e
+
+child_there : (h : Header) (moment : ℕ) (w : World tcp_shape) (g : Host) (line : ℕ) (how : TakeChoice) (m : Emission) (l : ℕ)
+    → waiting line (pick w.hosts g).inbox ≡ Some m → taker (pick w.hosts g).body m ≡ AtListener l
+    → (e : Endpoint) × (slice_get (pick (after (tcp h) moment w (At g (Takes line how))).hosts g).body.endpoints (length (pick w.hosts g).body.endpoints) ≡ Some e)
+child_there h moment w g line how m l waits is =
+    let b = (pick w.hosts g).body in (
+      child (profile_of h) l how m moment,
+      ap (λ (k : HostState tcp_shape). slice_get k.body.endpoints (length b.endpoints))
+          (pick_here w.hosts g (deed_after (tcp h) g moment (suc w.count) (pick w.hosts (other g)).wire (pick w.hosts g) (Takes line how)))
+          ∙ ap (λ (o : Option Emission). slice_get (on o b (λ e. act_after h g moment b ((tcp h).takes how e))).endpoints (length b.endpoints)) waits
+          ∙ ap (λ (t : Taker). slice_get (after_taking h b how m moment t).endpoints (length b.endpoints)) is
+          ∙ last_there b.endpoints (child (profile_of h) l how m moment),
+    )
+
+pub there_after : (h : Header) (moment : ℕ) (w : World tcp_shape) (step : Step tcp_shape) (me : EndpointId) (event : Event) → Steady w.hosts
+    → Permitted (tcp h) moment w step → (event ≡ events.Opens → ⊥) → (sight h moment w step).touched ≡ Some (touched w me event)
+    → (e : Endpoint) × (find (after (tcp h) moment w step).hosts me ≡ Some e)
+there_after h moment w step me event steady may not_opens shows =
+    by (subst (AsBefore w step) shows (as_before h moment w step)).there
+  where
+    by : ((e : Endpoint) × (find w.hosts me ≡ Some e)) ⊎ (event ≡ events.Opens) ⊎ Child w step (touched w me event)
+        → (e : Endpoint) × (find (after (tcp h) moment w step).hosts me ≡ Some e)
+    by (inl old) = let f = later_step h moment w step steady may me old.0 old.1 in (f.0, f.1)
+    by (inr (inl opens)) = absurd (not_opens opens)
+    by (inr (inr c)) =
+        let e = child_there h moment w me.host c.line c.how c.segment c.listener c.waits c.takes in (
+          e.0,
+          ap (λ (s : Step tcp_shape). find (after (tcp h) moment w s).hosts me) c.is
+              ∙ ap (λ (n : ℕ). slice_get (pick (after (tcp h) moment w (At me.host (Takes c.line c.how))).hosts me.host).body.endpoints n) c.next
+              ∙ e.1,
+        )
