@@ -19,7 +19,7 @@ use Rattle.spec_tcp.specs.declared.endpoint.Emission.{Emission}
 use Rattle.spec_duties.specs.Cases.{Known, first_known}
 use Rattle.spec_duties.specs.Deadlines.{is_late}
 use Rattle.spec_duties.specs.Sights.{sight, view_in}
-use Rattle.spec_duties.specs.Watching.{Duties, builds_mere_ack, built_after, built_by, duty_rules, sent_late}
+use Rattle.spec_duties.specs.Watching.{Duties, builds_mere_ack, built_after, built_by, counts_now, duty_rules, sent_late}
 use Rattle.spec_duties.specs.declared.sights.Post.{Post}
 use Rattle.spec_duties.specs.declared.sights.Post.TheVariants as post
 use Rattle.spec_duties.specs.declared.sights.Touched.{Touched}
@@ -27,10 +27,16 @@ use Rattle.spec_duties.specs.declared.tables.Built.{Built}
 use Rattle.spec_duties.specs.declared.views.View.{View}
 use Rattle.kept_duties.proofs.Inbox.{not_late}
 use Rattle.kept_duties.proofs.Runs.{Goes, Run, run_goes, run_keeps}
-use Rattle.kept_duties.proofs.Sights.{IsMade, IsNew, PostOf, Unsent, WasMade, builds, count_after, made_from, post_builds, post_of, post_sends, sends}
+use Rattle.kept_duties.proofs.Sights.{IsMade, IsNew, PostOf, Unsent, WasMade, builds, count_after, made_by, made_from, post_builds, post_of, post_sends, sends}
 use Rattle.kept_duties.proofs.Sights.{waiting_insert}
 
 module _ (h : Header) (slack n : ℕ) (acts : ℕ → Option (Stamped tcp_shape)) (known : ℕ → Known) (r : Run h slack n acts known) where
+  -- whether an act builds a mere acknowledgment
+  abbrev pub counts_by : Known → Stamped tcp_shape → Bool
+  counts_by k x =
+      option_map_or (builds_mere_ack (view_in (after (tcp h) x.moment k.model x.step) (sight h x.moment k.model x.step).touched))
+      (sight h x.moment k.model x.step).touched false
+
   -- before this place a host built the segment of that number
   pub record WasBuilt (to : ℕ) (host : Host) (number : ℕ) : Type 0 where
     pub place : ℕ
@@ -87,21 +93,25 @@ module _ (h : Header) (slack n : ℕ) (acts : ℕ → Option (Stamped tcp_shape)
       let first = b.count in
       let second = c.count in omega arith
 
-  same_builder : (to : ℕ) (g host : Host) (number : ℕ) → to ≤ n → WasBuilt to g number → WasBuilt to host number → g ≡ host
-  same_builder to g host number high b c = by (cases_lt b.place c.place) (cases_lt c.place b.place)
+  pub same_place : (to : ℕ) (g host : Host) (number : ℕ) → to ≤ n → (b : WasBuilt to g number) (c : WasBuilt to host number) → b.place ≡ c.place
+  same_place to g host number high b c = by (cases_lt b.place c.place) (cases_lt c.place b.place)
     where
-      by : (b.place < c.place) ⊎ (c.place ≤ b.place) → (c.place < b.place) ⊎ (b.place ≤ c.place) → g ≡ host
+      by : (b.place < c.place) ⊎ (c.place ≤ b.place) → (c.place < b.place) ⊎ (b.place ≤ c.place) → b.place ≡ c.place
       by (inl less) q = absurd (before_not to g host number high b c less)
       by (inr p) (inl less) = absurd (before_not to host g number high c b less)
-      by (inr p) (inr q) =
-          let one : b.place ≡ c.place = omega arith in
-          let act : b.act ≡ c.act = same_Some b.act c.act (sym b.is ∙ ap acts one ∙ c.is) in
-          same_Some g host (sym b.builds ∙ ap (λ (y : Stamped tcp_shape). builds y.step) act ∙ c.builds)
+      by (inr p) (inr q) = omega (arith, p, q)
+
+  pub same_builder : (to : ℕ) (g host : Host) (number : ℕ) → to ≤ n → WasBuilt to g number → WasBuilt to host number → g ≡ host
+  same_builder to g host number high b c =
+      let act : b.act ≡ c.act = same_Some b.act c.act (sym b.is ∙ ap acts (same_place to g host number high b c) ∙ c.is) in
+      same_Some g host (sym b.builds ∙ ap (λ (y : Stamped tcp_shape). builds y.step) act ∙ c.builds)
 
   -- a segment in the model's table was built, and if it isn't sent, duties know when
   pub record InTime (to : ℕ) (k : Known) (host : Host) (number : ℕ) (m : Made Emission) : Type 0 where
     pub was : WasBuilt to host number
+    pub content : made_by (known was.place).model was.act.step ≡ Some m.emission
     pub waits : m.sent ≡ false → (b : Built) × (waiting number k.duties.built ≡ Some b) × (b.since ≡ was.act.moment)
+        × (b.counts ≡ counts_by (known was.place) was.act)
 
   abbrev AllInTime : ℕ → Known → Type 0
   AllInTime to k = (host : Host) (number : ℕ) (m : Made Emission) → lookup (nat_eq number) (pick k.model.hosts host).made ≡ Some m
@@ -132,9 +142,10 @@ module _ (h : Header) (slack n : ℕ) (acts : ℕ → Option (Stamped tcp_shape)
         ap (λ (d : Duties). waiting q d.built) goes.duties
         ∙ ap (λ p. waiting q (built_after shown_view x.moment (sight h x.moment (known j).model x.step).touched p table)) shows
 
-    new : (host : Host) (number : ℕ) (m : Made Emission) → IsNew (known j).model x.step host number → InTime (suc j) (known (suc j)) host number m
+    new : (host : Host) (number : ℕ) (m : Made Emission) → IsNew (known j).model x.step host number m → InTime (suc j) (known (suc j)) host number m
     new host number m now = record {
       was = record { place = j; act = x; low = omega arith; is = is; builds = now.built; count = now.number };
+      content = now.content;
       waits = λ no.
           let made = post_builds h x.moment (known j).model x.step host now.built in
           let self : nat_eq number number ≡ true = grind (arith, nat_tests) in
@@ -142,6 +153,7 @@ module _ (h : Header) (slack n : ℕ) (acts : ℕ → Option (Stamped tcp_shape)
             just_built,
             go_on number (post.Builds number) (made ∙ ap post.Builds (sym now.number))
                 ∙ waiting_insert number number (Some just_built) table ∙ ap (λ b. cond b (Some just_built) (waiting number table)) self,
+            refl,
             refl,
           );
     }
@@ -180,10 +192,11 @@ module _ (h : Header) (slack n : ℕ) (acts : ℕ → Option (Stamped tcp_shape)
             let old = all host number was.before was.there in
             record {
               was = built_earlier j host number old.was;
+              content = old.content ∙ ap (λ (e : Emission). Some e) (sym was.same);
               waits = λ no.
                   let unsent = was.unsent no in
                   let b = old.waits unsent.0 in
-                  (b.0, still host number old.was unsent.1 b.0 b.1, b.2);
+                  (b.0, still host number old.was unsent.1 b.0 b.1, b.2, b.3);
             }
 
   all_in_time : (to : ℕ) → to ≤ n → AllInTime to (known to)
@@ -191,12 +204,39 @@ module _ (h : Header) (slack n : ℕ) (acts : ℕ → Option (Stamped tcp_shape)
       run_keeps h slack n acts known r AllInTime
       (λ j k all host number m there.
       let old = all host number m there in
-      record { was = built_earlier j host number old.was; waits = old.waits })
+      record { was = built_earlier j host number old.was; content = old.content; waits = old.waits })
       0 to (omega arith) high (subst (AllInTime 0) (sym r.start) nothing) (λ j x low less is goes all. step j x (omega (arith, less, high)) is goes all)
     where
       nothing : AllInTime 0 (first_known h)
       nothing Zero number m there = absurd (none-some m there)
       nothing One number m there = absurd (none-some m there)
+
+  -- a segment that is sent is one that was built, by the host that sends it, and duties know whether it is a mere
+  -- acknowledgment
+  pub record Sent (j : ℕ) (y : Stamped tcp_shape) (host : Host) (number : ℕ) : Type 0 where
+    pub was : WasBuilt j host number
+    pub made : Made Emission
+    pub there : lookup (nat_eq number) (pick (known j).model.hosts host).made ≡ Some made
+    pub content : made_by (known was.place).model was.act.step ≡ Some made.emission
+    pub counts : counts_now (built_by (known j).duties (sight h y.moment (known j).model y.step).post) ≡ counts_by (known was.place) was.act
+
+  pub sent_was_built : (j : ℕ) (y : Stamped tcp_shape) (host : Host) (number : ℕ) → j < n → acts j ≡ Some y → sends y.step ≡ Some (host, number)
+      → Sent j y host number
+  sent_was_built j y host number low is sending =
+      let goes = run_goes h slack n acts known r j y low is in
+      let sent = post_sends h y.moment (known j).model y.step host number goes.permitted sending in
+      let old = all_in_time j (omega (arith, low)) host number sent.1.made sent.1.there in
+      let b = old.waits sent.1.unsent in
+      record {
+        was = old.was;
+        made = sent.1.made;
+        there = sent.1.there;
+        content = old.content;
+        counts =
+            ap (λ p. counts_now (built_by (known j).duties p)) sent.0
+            ∙ ap counts_now b.1
+            ∙ b.3;
+      }
 
   -- a segment that is sent was built by the host that sends it, at most the slack before
   pub sent_in_time : (j : ℕ) (y : Stamped tcp_shape) (host : Host) (number : ℕ) → j < n → acts j ≡ Some y → sends y.step ≡ Some (host, number)

@@ -9,3 +9,4 @@ pub mod Touched
 pub mod Repeats
 pub mod Since
 pub mod Soon
+pub mod Counts

@@ -81,7 +81,7 @@ module _ (t : Trace) (w : Witness) (slack : ℕ) (given : t.header.slack ≡ Som
   run = run_of t.header t.lines slack given w.steps lawful dutiful
 
   -- as many segments were built as the steps before build
-  count_is : (place : ℕ) → place ≤ length w.steps → (known place).model.count ≡ built_before w place
+  pub count_is : (place : ℕ) → place ≤ length w.steps → (known place).model.count ≡ built_before w place
   count_is place high = onward (λ j. (known j).model.count ≡ built_before w j) 0 place (omega arith) refl (λ j low less was. next j (omega (arith, less, high)) was)
     where
       one : (j : ℕ) (s : Step) → j < length w.steps → slice_get w.steps j ≡ Some s → (o : Option (Stamped tcp_shape)) → act_of t.header t.lines s ≡ o

@@ -24,6 +24,7 @@ use Rattle.spec_network.specs.Tables.{Made, gone_out, on, other, pick, settled, 
 use Rattle.spec_network.proofs.Entries.{lookup_insert}
 use Rattle.spec_tcp.specs.Arrives.{taker}
 use Rattle.spec_tcp.specs.HostTcp.{HostTcp, thing_of}
+use Rattle.spec_tcp.specs.Machine as acts
 use Rattle.spec_tcp.specs.Machine.{Act, Calls, act_after, act_makes, tcp, tcp_shape, aim}
 use Rattle.spec_tcp.specs.declared.endpoint.Emission.{Emission}
 use Rattle.spec_tcp.specs.declared.endpoint.SocketTarget.{SocketTarget}
@@ -299,11 +300,18 @@ inbox_from h moment w (At g d) host q m is =
     deed (Drops line) at = waits_settled w (At g (Drops line)) g line q s.inbox m (λ at. inr (m, at)) at
     deed (Answers line) at = waits_settled w (At g (Answers line)) g line q s.inbox m (λ at. inr (m, at)) at
 
+-- the segment that a step builds
+abbrev pub made_by : World tcp_shape → Step tcp_shape → Option Emission
+made_by w (At g (Makes m)) = act_makes g (pick w.hosts g).body (acts.Makes m)
+made_by w (At g (Answers line)) = on (waiting line (pick w.hosts g).inbox) None (λ e. act_makes g (pick w.hosts g).body (acts.Resets e))
+made_by w step = None
+
 -- a built segment after a step: it was built then, or it was there before; and it isn't sent if it wasn't before, and
 -- isn't sent then
-pub record IsNew (w : World tcp_shape) (step : Step tcp_shape) (host : Host) (n : ℕ) : Type 0 where
+pub record IsNew (w : World tcp_shape) (step : Step tcp_shape) (host : Host) (n : ℕ) (m : Made Emission) : Type 0 where
   pub built : builds step ≡ Some host
   pub number : n ≡ suc w.count
+  pub content : made_by w step ≡ Some m.emission
 
 pub record WasMade (w : World tcp_shape) (step : Step tcp_shape) (host : Host) (n : ℕ) (m : Made Emission) : Type 0 where
   pub before : Made Emission
@@ -312,19 +320,25 @@ pub record WasMade (w : World tcp_shape) (step : Step tcp_shape) (host : Host) (
   pub unsent : m.sent ≡ false → (before.sent ≡ false) × (sends step ≡ Some (host, n) → ⊥)
 
 abbrev pub IsMade : World tcp_shape → Step tcp_shape → Host → (n : ℕ) → Made Emission → Type 0
-IsMade w step host n m = IsNew w step host n ⊎ WasMade w step host n m
+IsMade w step host n m = IsNew w step host n m ⊎ WasMade w step host n m
 
 made_new : (h : Header) (moment : ℕ) (w : World tcp_shape) (step : Step tcp_shape) (g : Host) (act : Act) (n : ℕ) (m : Made Emission)
-    → builds step ≡ Some g → (lookup (nat_eq n) (pick w.hosts g).made ≡ Some m → IsMade w step g n m)
+    → builds step ≡ Some g → made_by w step ≡ act_makes g (pick w.hosts g).body act
+    → (lookup (nat_eq n) (pick w.hosts g).made ≡ Some m → IsMade w step g n m)
     → lookup (nat_eq n) (act_made (tcp h) g moment (suc w.count) (pick w.hosts g) act) ≡ Some m → IsMade w step g n m
-made_new h moment w step g act n m built old is =
+made_new h moment w step g act n m built makes old is =
     on_cases (λ es. lookup (nat_eq n) es ≡ Some m → IsMade w step g n m) ((tcp h).act_makes g moment (pick w.hosts g).body act) (pick w.hosts g).made
     (λ e. insert_entry nat_eq (pick w.hosts g).made (suc w.count) (unsent e)) old
-    (λ e there at. by e (nat_eq n (suc w.count)) refl (sym (lookup_insert n (suc w.count) (unsent e) (pick w.hosts g).made) ∙ at)) is
+    (λ e there at. by e there (nat_eq n (suc w.count)) refl (sym (lookup_insert n (suc w.count) (unsent e) (pick w.hosts g).made) ∙ at)) is
   where
-    by : (e : Emission) (b : Bool) → nat_eq n (suc w.count) ≡ b → cond b (Some (unsent e)) (lookup (nat_eq n) (pick w.hosts g).made) ≡ Some m → IsMade w step g n m
-    by e true same at = inl (record { built = built; number = grind (arith, nat_tests, same) })
-    by e false differs at = old at
+    by : (e : Emission) → act_makes g (pick w.hosts g).body act ≡ Some e → (b : Bool) → nat_eq n (suc w.count) ≡ b
+        → cond b (Some (unsent e)) (lookup (nat_eq n) (pick w.hosts g).made) ≡ Some m → IsMade w step g n m
+    by e there true same at = inl (record {
+      built = built;
+      number = grind (arith, nat_tests, same);
+      content = makes ∙ there ∙ ap (λ (y : Made Emission). Some y.emission) (same_Some (unsent e) m at);
+    })
+    by e there false differs at = old at
 
 made_sent : (w : World tcp_shape) (g : Host) (line number : ℕ) (wire : Wire) (n : ℕ) (m : Made Emission)
     → lookup (nat_eq n) (made_gone_out number (pick w.hosts g).made) ≡ Some m → IsMade w (At g (Sends line number wire)) g n m
@@ -393,7 +407,7 @@ made_from h moment w (At g d) host n m is =
     deed : (d : Deed tcp_shape) → lookup (nat_eq n) (deed_after (tcp h) g moment (suc w.count) (pick w.hosts (other g)).wire (pick w.hosts g) d).made ≡ Some m → IsMade w (At g d) g n m
     deed (Does x) at = still (Does x) (λ e. none-some _ e) at
     deed (Expires line x) at = still (Expires line x) (λ e. none-some _ e) at
-    deed (Makes x) at = made_new h moment w (At g (Makes x)) g ((tcp h).making x) n m refl (still (Makes x) (λ e. none-some _ e)) at
+    deed (Makes x) at = made_new h moment w (At g (Makes x)) g ((tcp h).making x) n m refl refl (still (Makes x) (λ e. none-some _ e)) at
     deed (Sends line number wire) at = made_sent w g line number wire n m at
     deed (Gets line copied wire) at = still (Gets line copied wire) (λ e. none-some _ e) at
     deed (Hears line wire) at = still (Hears line wire) (λ e. none-some _ e) at
@@ -402,7 +416,8 @@ made_from h moment w (At g d) host n m is =
     deed (Answers line) at =
         on_cases (λ es. lookup (nat_eq n) es ≡ Some m → IsMade w (At g (Answers line)) g n m) (waiting line (pick w.hosts g).inbox) (pick w.hosts g).made
         (λ e. act_made (tcp h) g moment (suc w.count) (pick w.hosts g) ((tcp h).answers e)) (still (Answers line) (λ e. none-some _ e))
-        (λ e there. made_new h moment w (At g (Answers line)) g ((tcp h).answers e) n m refl (still (Answers line) (λ e. none-some _ e))) at
+        (λ e there. made_new h moment w (At g (Answers line)) g ((tcp h).answers e) n m refl
+        (ap (λ o. on o None (λ e. act_makes g (pick w.hosts g).body (acts.Resets e))) there) (still (Answers line) (λ e. none-some _ e))) at
 
 -- how many segments were built
 pub count_after : (h : Header) (moment : ℕ) (w : World tcp_shape) (step : Step tcp_shape)

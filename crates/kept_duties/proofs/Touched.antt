@@ -14,6 +14,7 @@ use Rattle.case_forms.specs.declared.calls.Call.{Call}
 use Rattle.case_forms.specs.declared.calls.Call.TheVariants as calls
 use Rattle.case_forms.specs.declared.calls.Host.{Host}
 use Rattle.case_forms.specs.declared.calls.Host.TheVariants.{Zero, One}
+use Rattle.case_forms.specs.declared.steps.SegmentPlan.{SegmentPlan}
 use Rattle.case_forms.specs.declared.steps.TakeChoice.{TakeChoice}
 use Rattle.case_forms.specs.declared.trace.Header.{Header}
 use Rattle.verdict.specs.declared.rule.Rule.{Rule}
@@ -73,31 +74,41 @@ pub record Child (w : World tcp_shape) (step : Step tcp_shape) (t : Touched) : T
   pub takes : taker (pick w.hosts t.host).body segment ≡ AtListener listener
   pub next : t.place ≡ length (pick w.hosts t.host).body.endpoints
 
+-- a step that builds a segment, of the endpoint at a place
+pub record BuildsAs (w : World tcp_shape) (step : Step tcp_shape) (host : Host) (place : ℕ) (m : SegmentPlan) : Type 0 where
+  pub is : step ≡ At host (Makes m)
+  pub ports : place_of (pick w.hosts host).body m.lport m.rport ≡ Some place
+
 abbrev pub name_of : Touched → EndpointId
 name_of t = record { host = t.host; number = t.place }
 
 pub record AsShown (w : World tcp_shape) (step : Step tcp_shape) (t : Touched) : Type 0 where
   pub before : t.before ≡ seen w (name_of t)
   pub there : ((e : Endpoint) × (find w.hosts (name_of t) ≡ Some e)) ⊎ (t.event ≡ events.Opens) ⊎ Child w step t
+  pub built : (m : SegmentPlan) → t.event ≡ events.Builds m → BuildsAs w step t.host t.place m
 
-abbrev AsBefore : World tcp_shape → Step tcp_shape → Option Touched → Type 0
+abbrev pub AsBefore : World tcp_shape → Step tcp_shape → Option Touched → Type 0
 AsBefore w step None = Unit {0}
 AsBefore w step (Some t) = AsShown w step t
 
-place_before : (w : World tcp_shape) (step : Step tcp_shape) (host : Host) (event : Event) (i : ℕ) → AsBefore w step (at_place host (pick w.hosts host).body event i)
-place_before w step host event i = by (slice_get (pick w.hosts host).body.endpoints i) refl
+place_before : (w : World tcp_shape) (step : Step tcp_shape) (host : Host) (event : Event) (i : ℕ)
+    → ((m : SegmentPlan) → event ≡ events.Builds m → BuildsAs w step host i m) → AsBefore w step (at_place host (pick w.hosts host).body event i)
+place_before w step host event i built = by (slice_get (pick w.hosts host).body.endpoints i) refl
   where
     by : (o : Option Endpoint) → slice_get (pick w.hosts host).body.endpoints i ≡ o
         → AsBefore w step (option_map (λ e. record { host = host; place = i; event = event; before = view_of e }) o)
     by None is = tt
-    by (Some e) is = record { before = sym (ap (λ (o : Option Endpoint). option_map_or view_of o unborn) is); there = inl (e, is) }
+    by (Some e) is = record { before = sym (ap (λ (o : Option Endpoint). option_map_or view_of o unborn) is); there = inl (e, is); built = built }
 
-ports_before : (w : World tcp_shape) (step : Step tcp_shape) (host : Host) (event : Event) (lport rport : ℕ) → AsBefore w step (at_ports host (pick w.hosts host).body event lport rport)
-ports_before w step host event lport rport = by (place_of (pick w.hosts host).body lport rport)
+ports_before : (w : World tcp_shape) (step : Step tcp_shape) (host : Host) (event : Event) (lport rport : ℕ)
+    → ((i : ℕ) → place_of (pick w.hosts host).body lport rport ≡ Some i → (m : SegmentPlan) → event ≡ events.Builds m → BuildsAs w step host i m)
+    → AsBefore w step (at_ports host (pick w.hosts host).body event lport rport)
+ports_before w step host event lport rport built = by (place_of (pick w.hosts host).body lport rport) refl
   where
-    by : (o : Option ℕ) → AsBefore w step (option_map_or (at_place host (pick w.hosts host).body event) o None)
-    by None = tt
-    by (Some i) = place_before w step host event i
+    by : (o : Option ℕ) → place_of (pick w.hosts host).body lport rport ≡ o
+        → AsBefore w step (option_map_or (at_place host (pick w.hosts host).body event) o None)
+    by None is = tt
+    by (Some i) is = place_before w step host event i (built i is)
 
 next_before : (w : World tcp_shape) (host : Host) → unborn ≡ seen w (record { host = host; number = length (pick w.hosts host).body.endpoints })
 next_before w host =
@@ -109,7 +120,7 @@ sender_before w step host m = by m.is_reset_reply
   where
     by : (b : Bool) → AsBefore w step (if b then None else at_place host (pick w.hosts host).body (sending_of m) m.sender.number)
     by true = tt
-    by false = place_before w step host (sending_of m) m.sender.number
+    by false = place_before w step host (sending_of m) m.sender.number (λ p e. absurd cc)
 
 target_before : (w : World tcp_shape) (host : Host) (line : ℕ) (how : TakeChoice) (m : Emission) → waiting line (pick w.hosts host).inbox ≡ Some m
     → (t : Taker) → taker (pick w.hosts host).body m ≡ t → AsBefore w (At host (Takes line how)) (at_target host (pick w.hosts host).body m t)
@@ -117,13 +128,14 @@ target_before w host line how m waits Nobody is = tt
 target_before w host line how m waits (AtListener l) is = record {
   before = next_before w host;
   there = inr (inr (record { line = line; how = how; segment = m; listener = l; is = refl; waits = waits; takes = is; next = refl }));
+  built = λ p e. absurd cc;
 }
-target_before w host line how m waits (AtEndpoint i e) is = place_before w (At host (Takes line how)) host (processing_of m) i
+target_before w host line how m waits (AtEndpoint i e) is = place_before w (At host (Takes line how)) host (processing_of m) i (λ p e. absurd cc)
 
 drop_before : (w : World tcp_shape) (step : Step tcp_shape) (host : Host) (m : Emission) (taking : Option Rule) (t : Taker) → AsBefore w step (at_drop host (pick w.hosts host).body m taking t)
 drop_before w step host m taking Nobody = tt
 drop_before w step host m taking (AtListener l) = tt
-drop_before w step host m taking (AtEndpoint i e) = place_before w step host _ i
+drop_before w step host m taking (AtEndpoint i e) = place_before w step host _ i (λ p e. absurd cc)
 
 thing_before : (w : World tcp_shape) (step : Step tcp_shape) (o : Option SocketTarget) (f : SocketTarget → Sight) → ((thing : SocketTarget) → AsBefore w step (f thing).touched)
     → AsBefore w step (on o unseen f).touched
@@ -132,7 +144,7 @@ thing_before w step (Some thing) f each = each thing
 
 close_before : (w : World tcp_shape) (step : Step tcp_shape) (host : Host) (aborts : Bool) (answer : Answer) (thing : SocketTarget)
     → AsBefore w step (close_sight host (pick w.hosts host).body aborts answer thing).touched
-close_before w step host aborts answer (EndpointAt i) = place_before w step host _ i
+close_before w step host aborts answer (EndpointAt i) = place_before w step host _ i (λ p e. absurd cc)
 close_before w step host aborts answer (ListenerAt l) = by (is_done answer)
   where
     by : (d : Bool) → AsBefore w step (if d then record unseen { queueing = queueing.Closes host l } else unseen).touched
@@ -141,7 +153,7 @@ close_before w step host aborts answer (ListenerAt l) = by (is_done answer)
 
 other_before : (w : World tcp_shape) (step : Step tcp_shape) (host : Host) (thing : SocketTarget) → AsBefore w step (other_sight host (pick w.hosts host).body thing).touched
 other_before w step host (ListenerAt l) = tt
-other_before w step host (EndpointAt i) = place_before w step host _ i
+other_before w step host (EndpointAt i) = place_before w step host _ i (λ p e. absurd cc)
 
 accept_before : (w : World tcp_shape) (step : Step tcp_shape) (host : Host) (answer : Answer) (thing : SocketTarget)
     → AsBefore w step (accept_sight host (pick w.hosts host).body answer thing).touched
@@ -149,7 +161,7 @@ accept_before w step host (answers.Given n) (ListenerAt l) = tt
 accept_before w step host answer thing = tt
 
 call_before : (w : World tcp_shape) (step : Step tcp_shape) (host : Host) (call : Call) (answer : Answer) → AsBefore w step (call_sight host (pick w.hosts host).body call answer).touched
-call_before w step host (calls.Connect x lport rport) (answers.Given n) = record { before = next_before w host; there = inr (inl refl) }
+call_before w step host (calls.Connect x lport rport) (answers.Given n) = record { before = next_before w host; there = inr (inl refl); built = λ p e. absurd cc }
 call_before w step host (calls.Connect x lport rport) answer = tt
 call_before w step host (calls.Accept n) answer =
     thing_before w step (thing_of (pick w.hosts host).body n) (accept_sight host (pick w.hosts host).body answer) (accept_before w step host answer)
@@ -174,9 +186,14 @@ pub as_before : (h : Header) (moment : ℕ) (w : World tcp_shape) (step : Step t
 as_before h moment w (Begin line thread call) = tt
 as_before h moment w (Finish line thread answer) = tt
 as_before h moment w (Effect thread answer) = effect_before h w (Effect thread answer) answer (turn_of thread w.threads)
-as_before h moment w (At host (Does x)) = ports_before w (At host (Does x)) host events.Recovers x.lport x.rport
-as_before h moment w (At host (Expires line x)) = ports_before w (At host (Expires line x)) host _ x.lport x.rport
-as_before h moment w (At host (Makes m)) = ports_before w (At host (Makes m)) host (events.Builds m) m.lport m.rport
+as_before h moment w (At host (Does x)) = ports_before w (At host (Does x)) host events.Recovers x.lport x.rport (λ i is p e. absurd cc)
+as_before h moment w (At host (Expires line x)) = ports_before w (At host (Expires line x)) host _ x.lport x.rport (λ i is p e. absurd cc)
+as_before h moment w (At host (Makes m)) =
+    ports_before w (At host (Makes m)) host (events.Builds m) m.lport m.rport
+    (λ i at p e. let same : m ≡ p = cc in record {
+      is = ap (λ (q : SegmentPlan). At host (Makes q)) same;
+      ports = ap (λ (q : SegmentPlan). place_of (pick w.hosts host).body q.lport q.rport) (sym same) ∙ at;
+    })
 as_before h moment w (At host (Sends line number wire)) =
     on_cases (λ (s : Sight). AsBefore w (At host (Sends line number wire)) s.touched) (lookup (nat_eq number) (pick w.hosts host).made) unseen _ tt
     (λ m is. sender_before w (At host (Sends line number wire)) host m.emission)

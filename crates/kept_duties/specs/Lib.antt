@@ -4,3 +4,4 @@ pub mod Segments
 pub mod Happens
 pub mod Repeats
 pub mod Soon
+pub mod Counts
