@@ -31,10 +31,10 @@ use Rattle.spec_network.specs.Hosts.{Stamped}
 use Rattle.spec_network.specs.Hosts as model
 use Rattle.spec_tcp.specs.Machine.{tcp_shape}
 use Rattle.spec_tcp.specs.Steps.{line_step, step_of}
+use Rattle.kept_duties.specs.Happens.{act_at}
 use Rattle.kept_duties.specs.Places.{ArrivesAt, IsAnswered, IsDropped, IsProcessed, LeavesAt, SendsAt, builder}
-use Rattle.kept_duties.specs.Seen.{act_of, move_of, moves}
+use Rattle.checker.specs.Seen.{act_of, move_of, moves}
 use Rattle.kept_duties.proofs.Dev.{number_is}
-use Rattle.kept_duties.proofs.Runs.{act_at}
 use Rattle.kept_duties.proofs.Sights.{enters, leaves, builds, sends}
 
 -- ---- from the line that is taken to the trace's event
@@ -247,7 +247,7 @@ builder_none h lines s is = at s.moment s.label s.span is
 
 -- an `O` line that a step takes with a number is the act of sending the segment of that number
 pub sending_act : (t : Trace) (w : Witness) (place moment : ℕ) (host : Host) (number : ℕ) → SendsAt t w place moment host number
-    → (x : Stamped tcp_shape) × (act_at t.header t.lines w.steps place ≡ Some x) × (x.moment ≡ moment) × (sends x.step ≡ Some (host, number))
+    → (x : Stamped tcp_shape) × (act_at t w place ≡ Some x) × (x.moment ≡ moment) × (sends x.step ≡ Some (host, number))
 sending_act t w place moment host number a = (
   stamp moment (model.At host (model.Sends a.shown.number number a.wire)),
   ap (λ (o : Option Step). option_map_or (act_of t.header t.lines) o None) a.step.here
@@ -269,14 +269,14 @@ arrival_takes t w place moment host line a = record {
 -- an `I` line that a step takes is the act by which its segment enters the inbox
 pub arrival_act : (t : Trace) (w : Witness) → IsTrace t → Placed t.header t.lines (moves w.steps)
     → (place moment : ℕ) (host : Host) (line : ℕ) → ArrivesAt t w place moment host line
-    → (x : Stamped tcp_shape) × (act_at t.header t.lines w.steps place ≡ Some x) × (x.moment ≡ moment) × (enters x.step ≡ Some (host, line))
+    → (x : Stamped tcp_shape) × (act_at t w place ≡ Some x) × (x.moment ≡ moment) × (enters x.step ≡ Some (host, line))
 arrival_act t w trace placed place moment host line a = by a.extras refl
   where
     number : a.shown.number ≡ line
     number = number_is (first_event_line t.header) 0 line t.lines a.shown trace a.is
 
     act : (x : Extras) → a.extras ≡ x
-        → act_at t.header t.lines w.steps place ≡ act_taken moment (event_taken a.shown.number a.shown.thread (events.Came host a.wire) x)
+        → act_at t w place ≡ act_taken moment (event_taken a.shown.number a.shown.thread (events.Came host a.wire) x)
     act x is =
         ap (λ (o : Option Step). option_map_or (act_of t.header t.lines) o None) a.step.here
         ∙ ap (λ (o : Option Line). act_taken moment (option_map_or (taken_of a.extras) o None)) a.is
@@ -288,7 +288,7 @@ arrival_act t w trace placed place moment host line a = by a.extras refl
     few false e = omega arith
 
     by : (x : Extras) → a.extras ≡ x
-        → (x : Stamped tcp_shape) × (act_at t.header t.lines w.steps place ≡ Some x) × (x.moment ≡ moment) × (enters x.step ≡ Some (host, line))
+        → (x : Stamped tcp_shape) × (act_at t w place ≡ Some x) × (x.moment ≡ moment) × (enters x.step ≡ Some (host, line))
     by Bare is = (stamp moment (model.At host (model.Hears a.shown.number a.wire)), act Bare is, refl, ap (λ (n : ℕ). Some (host, n)) number)
     by (One c) is = (stamp moment (model.At host (model.Gets a.shown.number c a.wire)), act (One c) is, refl, ap (λ (n : ℕ). Some (host, n)) number)
     by (Two c d) is =

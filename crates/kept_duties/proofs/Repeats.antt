@@ -22,7 +22,7 @@ use Rattle.spec_duties.specs.declared.owed.Owed.{Owed}
 use Rattle.spec_duties.specs.declared.views.View.{View}
 use Rattle.kept_duties.specs.Happens.{Happens, act_at, seen_before, world_before}
 use Rattle.kept_duties.specs.Repeats.{BuildsAgain, NothingBegins, NothingIsResentTwice}
-use Rattle.kept_duties.proofs.Runs.{Goes, Run, known_from, model_is, run_goes, run_keeps}
+use Rattle.kept_duties.proofs.Runs.{Goes, Run, known_before, run_goes, run_keeps, world_is}
 use Rattle.kept_duties.proofs.Segments.{within}
 use Rattle.kept_duties.proofs.Touched.{Owes, Touches, owes_after, seen, touched, touches_or_not}
 
@@ -43,13 +43,6 @@ passed_grows (Builds m) before again = by (is_repeating before m)
     by true = omega arith
     by false = omega arith
 passed_grows event before again = omega arith
-
--- what is known before a step, by its place
-abbrev pub known_before : Trace → Witness → ℕ → Known
-known_before t w = known_from t.header t.lines (first_known t.header) w.steps
-
-pub world_is : (t : Trace) (w : Witness) (place : ℕ) → (known_before t w place).model ≡ world_before t w place
-world_is t w place = model_is t.header t.lines w.steps place
 
 -- an act by what is known
 pub happens_to : (t : Trace) (w : Witness) (place moment : ℕ) (me : EndpointId) (event : Event) → (a : Happens t w place moment me event)
@@ -144,5 +137,5 @@ module _ (t : Trace) (w : Witness) (slack : ℕ) (r : Run t.header slack (length
         at_most : (pos n : ℕ) → ends ≤ n → nat_lt pos n ≡ false → ends ≤ pos
         at_most pos n le e = grind (arith, nat_tests, e, le)
 
-  pub nothing_is_resent_twice : judges_repeats t.header.congestion ≡ true → NothingIsResentTwice t w
-  nothing_is_resent_twice judged first second me p q less a b nothing = comes_behind judged first second me p q less a b nothing
+  pub nothing_resent_twice : judges_repeats t.header.congestion ≡ true → NothingIsResentTwice t w
+  nothing_resent_twice judged first second me p q less a b nothing = comes_behind judged first second me p q less a b nothing

@@ -7,7 +7,9 @@ use Rattle.std.proofs.Math.Nat.{eq-or-lt_of_le}
 use Rattle.std.proofs.lemmas.Option.{none-some, same_Some, slice_get_cases}
 use Rattle.case_forms.specs.declared.trace.Header.{Header}
 use Rattle.case_forms.specs.declared.trace.Line.{Line}
+use Rattle.case_forms.specs.declared.trace.Trace.{Trace}
 use Rattle.case_forms.specs.declared.steps.Step.{Step}
+use Rattle.case_forms.specs.declared.steps.Witness.{Witness}
 use Rattle.verdict.specs.declared.rule.Rule.{Rule}
 use Rattle.verdict.specs.Rules.{first_broken}
 use Rattle.spec_network.specs.Hosts.{Stamped}
@@ -18,7 +20,8 @@ use Rattle.spec_tcp.specs.Machine.{tcp, tcp_shape}
 use Rattle.spec_duties.specs.Cases.{Known, Dutiful, first_known, known_after, known_after_all, watch_rules}
 use Rattle.spec_duties.specs.Sights.{sight, view_in}
 use Rattle.spec_duties.specs.Watching.{duty_rules, duties_after}
-use Rattle.kept_duties.specs.Seen.{act_of, stamped}
+use Rattle.checker.specs.Seen.{act_of, stamped}
+use Rattle.kept_duties.specs.Happens.{act_at, world_before}
 
 -- an induction from one place up to another
 pub onward : (P : ℕ → Type 0) (from n : ℕ) → from ≤ n → P from → ((j : ℕ) → from ≤ j → j < n → P j → P (suc j)) → P n
@@ -117,10 +120,6 @@ module _ (h : Header) (lines : List Line) where
       subst (λ (m : Known). Breaks_none m x) (sym (cons_known k (act_of h lines y) (stamped h lines (take place steps))))
       (keeps_at (next_known k (act_of h lines y)) steps (keeps_rest k (act_of h lines y) (stamped h lines steps) may) place s at x is)
 
-  -- the act at a place
-  abbrev pub act_at : List Step → ℕ → Option (Stamped tcp_shape)
-  act_at steps place = option_map_or (act_of h lines) (slice_get steps place) None
-
   goes_at : (slack : ℕ) → h.slack ≡ Some slack → (k next : Known) (x : Stamped tcp_shape) → Breaks_none k x
       → next ≡ known_after h x.moment k x.step → Goes h slack k next x
   goes_at slack given k next x may is = record {
@@ -135,35 +134,39 @@ module _ (h : Header) (lines : List Line) where
         (sight h x.moment k.model x.step).touched) x.moment (sight h x.moment k.model x.step) k.duties)) given;
   }
 
-  -- steps that are a run of the model, and that no duty refuses
-  pub run_of : (slack : ℕ) → h.slack ≡ Some slack → (steps : List Step) → Lawful (tcp h) (first_known h).model (stamped h lines steps)
-      → Dutiful h (first_known h) (stamped h lines steps) → Run h slack (length steps) (act_at steps) (known_from (first_known h) steps)
-  run_of slack given steps lawful dutiful = record { start = refl; each = λ j low. by j low (slice_get steps j) refl }
-    where
-      first : Known
-      first = first_known h
-
-      at : (j : ℕ) (s : Step) → slice_get steps j ≡ Some s → (o : Option (Stamped tcp_shape)) → act_of h lines s ≡ o
-          → Steps h slack (known_from first steps j) (known_from first steps (suc j)) o
-      at j s there None is = known_next first steps j s there ∙ ap (next_known (known_from first steps j)) is
-      at j s there (Some x) is =
-          goes_at slack given (known_from first steps j) (known_from first steps (suc j)) x (keeps_at first steps (lawful, dutiful) j s there x is)
-          (known_next first steps j s there ∙ ap (next_known (known_from first steps j)) is)
-
-      by : (j : ℕ) → j < length steps → (o : Option Step) → slice_get steps j ≡ o
-          → Steps h slack (known_from first steps j) (known_from first steps (suc j)) (option_map_or (act_of h lines) o None)
-      by j low (Some s) there = at j s there (act_of h lines s) refl
-      by j low None there = absurd (here (slice_get_cases steps j).1)
-        where
-          here : ((x : Step) × (j < length steps) × (slice_get steps j ≡ Some x) × (get_or steps j x ≡ x)) ⊎ ((length steps ≤ j) × (slice_get steps j ≡ None)) → ⊥
-          here (inl p) = none-some p.0 (sym there ∙ p.2)
-          here (inr p) = omega (arith, low, p.0)
-
   model_after : (k : Known) (xs : List (Stamped tcp_shape)) → (known_after_all h k xs).model ≡ after_all (tcp h) k.model xs
   model_after k [] = refl
   model_after k (x ∷ xs) = model_after (known_after h x.moment k x.step) xs
 
-  -- the model's part of what is known is its world
-  pub model_is : (steps : List Step) (place : ℕ)
-      → (known_from (first_known h) steps place).model ≡ after_all (tcp h) (first_known h).model (stamped h lines (take place steps))
-  model_is steps place = model_after (first_known h) (stamped h lines (take place steps))
+-- what is known before a step of a witness, by its place
+abbrev pub known_before : Trace → Witness → ℕ → Known
+known_before t w = known_from t.header t.lines (first_known t.header) w.steps
+
+-- the model's part of it is its world
+pub world_is : (t : Trace) (w : Witness) (place : ℕ) → (known_before t w place).model ≡ world_before t w place
+world_is t w place = model_after t.header t.lines (first_known t.header) (stamped t.header t.lines (take place w.steps))
+
+-- steps that are a run of the model, and that no duty refuses
+pub run_of : (t : Trace) (w : Witness) (slack : ℕ) → t.header.slack ≡ Some slack
+    → Lawful (tcp t.header) (first_known t.header).model (stamped t.header t.lines w.steps)
+    → Dutiful t.header (first_known t.header) (stamped t.header t.lines w.steps) → Run t.header slack (length w.steps) (act_at t w) (known_before t w)
+run_of t w slack given lawful dutiful = record { start = refl; each = λ j low. by j low (slice_get w.steps j) refl }
+  where
+    at : (j : ℕ) (s : Step) → slice_get w.steps j ≡ Some s → (o : Option (Stamped tcp_shape)) → act_of t.header t.lines s ≡ o
+        → Steps t.header slack (known_before t w j) (known_before t w (suc j)) o
+    at j s there None is =
+        known_next t.header t.lines (first_known t.header) w.steps j s there ∙ ap (next_known t.header t.lines (known_before t w j)) is
+    at j s there (Some x) is =
+        goes_at t.header t.lines slack given (known_before t w j) (known_before t w (suc j)) x
+        (keeps_at t.header t.lines (first_known t.header) w.steps (lawful, dutiful) j s there x is)
+        (known_next t.header t.lines (first_known t.header) w.steps j s there ∙ ap (next_known t.header t.lines (known_before t w j)) is)
+
+    by : (j : ℕ) → j < length w.steps → (o : Option Step) → slice_get w.steps j ≡ o
+        → Steps t.header slack (known_before t w j) (known_before t w (suc j)) (option_map_or (act_of t.header t.lines) o None)
+    by j low (Some s) there = at j s there (act_of t.header t.lines s) refl
+    by j low None there = absurd (here (slice_get_cases w.steps j).1)
+      where
+        here : ((x : Step) × (j < length w.steps) × (slice_get w.steps j ≡ Some x) × (get_or w.steps j x ≡ x))
+            ⊎ ((length w.steps ≤ j) × (slice_get w.steps j ≡ None)) → ⊥
+        here (inl p) = none-some p.0 (sym there ∙ p.2)
+        here (inr p) = omega (arith, low, p.0)

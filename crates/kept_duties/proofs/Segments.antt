@@ -22,13 +22,14 @@ use Rattle.spec_duties.specs.Cases.{Dutiful, Known, first_known, known_after_all
 use Rattle.spec_duties.specs.Deadlines.{is_late}
 use Rattle.spec_duties.specs.End as end
 use Rattle.spec_duties.specs.End.{end_rules, first_waiting}
+use Rattle.kept_duties.specs.Happens.{act_at}
 use Rattle.kept_duties.specs.Places.{ArrivesAt, BuildsAt, LeavesAt, SendsAt, built_before, builder}
-use Rattle.kept_duties.specs.Seen.{act_of, moves, stamped}
+use Rattle.checker.specs.Seen.{act_of, moves, stamped}
 use Rattle.kept_duties.specs.Segments.{ArrivalsAreHandled, EndsBy, IsBuiltBefore, LeavesBy, SendingsAreFresh}
 use Rattle.kept_duties.proofs.Built.{WasBuilt, count_next, sent_in_time}
 use Rattle.kept_duties.proofs.Inbox.{Left, late_waiting, left_or_waits, not_late}
 use Rattle.kept_duties.proofs.Labels.{arrival_act, arrival_takes, arrives_at, builder_is, builder_none, leaves_at, sending_act}
-use Rattle.kept_duties.proofs.Runs.{Run, Steps, act_at, known_from, onward, run_of}
+use Rattle.kept_duties.proofs.Runs.{Run, Steps, known_before, onward, run_of}
 use Rattle.kept_duties.proofs.Sights.{builds, enters}
 
 take_all : {X : Type 0} (xs : List X) → take (length xs) xs ≡ xs
@@ -57,7 +58,7 @@ none_mapped f None e = refl
 none_mapped f (Some x) e = absurd (none-some (f x) (sym e))
 
 -- the step of an act
-pub step_of_act : (t : Trace) (w : Witness) (place : ℕ) (x : Stamped tcp_shape) → act_at t.header t.lines w.steps place ≡ Some x
+pub step_of_act : (t : Trace) (w : Witness) (place : ℕ) (x : Stamped tcp_shape) → act_at t w place ≡ Some x
     → (s : Step) × (slice_get w.steps place ≡ Some s) × (act_of t.header t.lines s ≡ Some x)
 step_of_act t w place x is = by (slice_get w.steps place) refl is
   where
@@ -66,22 +67,35 @@ step_of_act t w place x is = by (slice_get w.steps place) refl is
     by None at is = absurd (none-some x is)
     by (Some s) at is = (s, at, is)
 
-pub within : (t : Trace) (w : Witness) (place : ℕ) (x : Stamped tcp_shape) → act_at t.header t.lines w.steps place ≡ Some x → place < length w.steps
+pub within : (t : Trace) (w : Witness) (place : ℕ) (x : Stamped tcp_shape) → act_at t w place ≡ Some x → place < length w.steps
 within t w place x is = let s = step_of_act t w place x is in slice_get_within w.steps place s.0 s.1
+
+-- no duty is late at the end
+pub end_fine : (t : Trace) (w : Witness) (slack : ℕ) → t.header.slack ≡ Some slack
+    → late_at_end t.header (last_moment (moves w.steps)) (known_after_all t.header (first_known t.header) (stamped t.header t.lines w.steps)) ≡ None
+    → first_broken (end_rules slack (last_moment (moves w.steps)) (known_before t w (length w.steps)).duties (known_before t w (length w.steps)).model) ≡ None
+end_fine t w slack given late =
+    let all : known_after_all t.header (first_known t.header) (stamped t.header t.lines w.steps) ≡ known_before t w (length w.steps) =
+    ap (λ (ss : List Step). known_after_all t.header (first_known t.header) (stamped t.header t.lines ss)) (sym (take_all w.steps)) in
+    let k = known_before t w (length w.steps) in
+    let moment = last_moment (moves w.steps) in
+    none_mapped (λ (rule : Rule). (end.line_of (first_waiting slack moment k.duties.inbox) rule, rule)) (first_broken (end_rules slack moment k.duties k.model))
+    (sym (ap (λ o. on o None (λ slack. end.late_at_end slack moment k.duties k.model)) given)
+    ∙ sym (ap (λ (k : Known). late_at_end t.header moment k) all) ∙ late)
 
 module _ (t : Trace) (w : Witness) (slack : ℕ) (given : t.header.slack ≡ Some slack) (lawful : Lawful (tcp t.header) (first_known t.header).model (stamped t.header t.lines w.steps))
     (dutiful : Dutiful t.header (first_known t.header) (stamped t.header t.lines w.steps)) where
-  abbrev pub acts : ℕ → Option (Stamped tcp_shape)
-  acts = act_at t.header t.lines w.steps
+  abbrev acts : ℕ → Option (Stamped tcp_shape)
+  acts = act_at t w
 
-  abbrev pub known : ℕ → Known
-  known = known_from t.header t.lines (first_known t.header) w.steps
+  abbrev known : ℕ → Known
+  known = known_before t w
 
-  pub run : Run t.header slack (length w.steps) acts known
-  run = run_of t.header t.lines slack given w.steps lawful dutiful
+  pub run : Run t.header slack (length w.steps) (act_at t w) (known_before t w)
+  run = run_of t w slack given lawful dutiful
 
   -- as many segments were built as the steps before build
-  pub count_is : (place : ℕ) → place ≤ length w.steps → (known place).model.count ≡ built_before w place
+  pub count_is : (place : ℕ) → place ≤ length w.steps → (known_before t w place).model.count ≡ built_before w place
   count_is place high = onward (λ j. (known j).model.count ≡ built_before w j) 0 place (omega arith) refl (λ j low less was. next j (omega (arith, less, high)) was)
     where
       one : (j : ℕ) (s : Step) → j < length w.steps → slice_get w.steps j ≡ Some s → (o : Option (Stamped tcp_shape)) → act_of t.header t.lines s ≡ o
@@ -107,8 +121,8 @@ module _ (t : Trace) (w : Witness) (slack : ℕ) (given : t.header.slack ≡ Som
           by (inr p) = absurd (omega (arith, low, p.0))
 
   -- what is sent had just been built
-  pub sendings_are_fresh : SendingsAreFresh t w slack
-  sendings_are_fresh place moment number host a =
+  pub sendings_fresh : SendingsAreFresh t w slack
+  sendings_fresh place moment number host a =
       let x = sending_act t w place moment host number a in
       let b = sent_in_time t.header slack (length w.steps) acts known run place x.0 host number (within t w place x.0 x.1) x.1 x.3 in
       let s = step_of_act t w b.0.place b.0.act b.0.is in
@@ -129,19 +143,8 @@ module _ (t : Trace) (w : Witness) (slack : ℕ) (given : t.header.slack ≡ Som
 
   module _ (trace : IsTrace t) (placed : Placed t.header t.lines (moves w.steps))
       (late : late_at_end t.header (last_moment (moves w.steps)) (known_after_all t.header (first_known t.header) (stamped t.header t.lines w.steps)) ≡ None) where
-    -- no duty is late at the end
-    pub end_is_fine : first_broken (end_rules slack (last_moment (moves w.steps)) (known (length w.steps)).duties (known (length w.steps)).model) ≡ None
-    end_is_fine =
-        let all : known_after_all t.header (first_known t.header) (stamped t.header t.lines w.steps) ≡ known (length w.steps) =
-        ap (λ (ss : List Step). known_after_all t.header (first_known t.header) (stamped t.header t.lines ss)) (sym (take_all w.steps)) in
-        let k = known (length w.steps) in
-        let moment = last_moment (moves w.steps) in
-        none_mapped (λ (rule : Rule). (end.line_of (first_waiting slack moment k.duties.inbox) rule, rule)) (first_broken (end_rules slack moment k.duties k.model))
-        (sym (ap (λ o. on o None (λ slack. end.late_at_end slack moment k.duties k.model)) given)
-        ∙ sym (ap (λ (k : Known). late_at_end t.header moment k) all) ∙ late)
-
-    pub arrivals_are_handled : ArrivalsAreHandled t w slack
-    arrivals_are_handled place moment line host a =
+    pub arrivals_handled : ArrivalsAreHandled t w slack
+    arrivals_handled place moment line host a =
         let x = arrival_act t w trace placed place moment host line a in
         by x.0 x.2 (left_or_waits t.header slack (length w.steps) acts known run place x.0 host line (within t w place x.0 x.1) x.1 x.3 once)
       where
@@ -167,6 +170,6 @@ module _ (t : Trace) (w : Witness) (slack : ℕ) (given : t.header.slack ≡ Som
         by x time (inr waits) =
             let k = known (length w.steps) in
             let last = last_moment (moves w.steps) in
-            let fine = (none_all (end_rules slack last k.duties k.model) end_is_fine).0 in
+            let fine = (none_all (end_rules slack last k.duties k.model) (end_fine t w slack given late)).0 in
             inr (subst (λ (m : ℕ). last ≤ m + slack) time
             (not_late slack x.moment last (waiting line k.duties.inbox) waits (late_waiting slack last line k.duties.inbox fine)))

@@ -32,11 +32,11 @@ use Rattle.spec_duties.specs.declared.owed.Lates.{Lates}
 use Rattle.spec_duties.specs.declared.owed.Owed.{Owed}
 use Rattle.spec_duties.specs.declared.views.View.{View}
 use Rattle.kept_duties.specs.Happens.{Happens, act_at, seen_before}
-use Rattle.kept_duties.specs.Seen.{moves}
+use Rattle.checker.specs.Seen.{moves}
 use Rattle.kept_duties.specs.Soon.{Answers, ExpiriesAreFollowed, IsDoneBy, ReceiptsAreAnswered, SendsOldest}
 use Rattle.kept_duties.proofs.Inbox.{not_late}
-use Rattle.kept_duties.proofs.Repeats.{goes_of, happens_to, known_before, owes_of, world_is}
-use Rattle.kept_duties.proofs.Runs.{Goes, Run}
+use Rattle.kept_duties.proofs.Repeats.{goes_of, happens_to, owes_of}
+use Rattle.kept_duties.proofs.Runs.{Goes, Run, known_before, world_is}
 use Rattle.kept_duties.proofs.Segments.{within}
 use Rattle.kept_duties.proofs.Since.{Duty, Still, closes, done_by, not_after, steady_at}
 use Rattle.kept_duties.proofs.Touched.{Owes, seen, there_after}
@@ -217,15 +217,15 @@ module _ (t : Trace) (w : Witness) (slack : ℕ) (r : Run t.header slack (length
       by (inr p) = since_then p.0 (ap get owes.after ∙ p.1) (is_closed (seen (known_before t w (suc place)).model me).state) refl
 
   -- what is received is answered
-  pub receipts_are_answered : ReceiptsAreAnswered t w slack
-  receipts_are_answered place moment length me a some receives' =
+  pub receipts_answered : ReceiptsAreAnswered t w slack
+  receipts_answered place moment length me a some receives' =
       arises me (λ o. o.acknowledge) longest_delay Answers (λ l. l.acknowledge) acknowledge_duty place moment (Processes length false) (λ e. cc) a
       (λ before after moment listener counts o is. acknowledge_begins length before after moment listener counts o some
       (ap (λ (v : View). receives v.state) is ∙ receives'))
 
   -- an expiry is followed by a retransmission
-  pub expiries_are_followed : ExpiriesAreFollowed t w slack
-  expiries_are_followed place moment me a =
+  pub expiries_followed : ExpiriesAreFollowed t w slack
+  expiries_followed place moment me a =
       subst (λ (m : ℕ). IsDoneBy t w place m me SendsOldest) (let e : moment + 0 + slack ≡ moment + slack = omega arith in e)
       (arises me (λ o. o.retransmit) 0 SendsOldest (λ l. l.retransmit) retransmit_duty place moment (Expires Rto) (λ e. cc) a
       (λ before after moment listener counts o is. retransmit_begins before after moment listener counts o))

@@ -12,7 +12,7 @@ use Rattle.spec_duties.specs.Sights.{sight}
 use Rattle.spec_duties.specs.Views.{unborn, view_of}
 use Rattle.spec_duties.specs.declared.events.Event.{Event}
 use Rattle.spec_duties.specs.declared.views.View.{View}
-use Rattle.kept_duties.specs.Seen.{act_of, stamped}
+use Rattle.checker.specs.Seen.{act_of, stamped}
 
 -- what the step at a place does in the model
 abbrev pub act_at : Trace → Witness → (place : ℕ) → Option (Stamped tcp_shape)

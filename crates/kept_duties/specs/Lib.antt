@@ -1,4 +1,3 @@
-pub mod Seen
 pub mod Places
 pub mod Segments
 pub mod Happens

@@ -5,7 +5,7 @@ use Rattle.case_forms.specs.declared.calls.Host.{Host}
 use Rattle.case_forms.specs.declared.steps.Witness.{Witness}
 use Rattle.case_forms.specs.declared.trace.Trace.{Trace}
 use Rattle.interval_order.specs.Orders.{last_moment}
-use Rattle.kept_duties.specs.Seen.{moves}
+use Rattle.checker.specs.Seen.{moves}
 use Rattle.kept_duties.specs.Places.{ArrivesAt, LeavesAt, BuildsAt, SendsAt}
 
 -- no step of the witness is later than this moment

@@ -1,0 +1,54 @@
+//! What a yes with a slack means for every trace and every witness.
+
+ghost use Rattle.std.specs.Prelude.{◌≡◌, ℕ, true, Some};
+ghost use Rattle.case_forms.specs.Traces.{IsTrace};
+ghost use Rattle.case_forms.specs.declared.trace.Trace.{Trace};
+ghost use Rattle.case_forms.specs.declared.steps.Witness.{Witness};
+ghost use Rattle.spec_duties.specs.Resent.{judges_repeats};
+ghost use Rattle.checker.specs.Explains.{Explains};
+ghost use Rattle.kept_duties.specs.Segments.{ArrivalsAreHandled, SendingsAreFresh};
+ghost use Rattle.kept_duties.specs.Repeats.{NothingIsResentTwice};
+ghost use Rattle.kept_duties.specs.Counts.{AcknowledgmentsAreFew};
+ghost use Rattle.kept_duties.specs.Soon.{ReceiptsAreAnswered, ExpiriesAreFollowed};
+
+/// If a witness explains a trace, each segment that arrived was processed, dropped or answered with a reset, by the
+/// host at which it arrived, at most the slack later; unless the last step is at most the slack later (RFC 9293,
+/// 3.10.7). A trace that has a text meets `IsTrace`.
+pub fn arrivals_are_handled()
+    ensures { (t : Trace) (w : Witness) (slack : ℕ) → IsTrace t → Explains t w → t.header.slack ≡ Some slack
+        → ArrivalsAreHandled t w slack }
+{}
+
+/// Each segment that was sent had been built by its host at most the slack before (RFC 9293, 3.10.2 and 3.10.7).
+pub fn sendings_are_fresh()
+    ensures { (t : Trace) (w : Witness) (slack : ℕ) → Explains t w → t.header.slack ≡ Some slack
+        → SendingsAreFresh t w slack }
+{}
+
+/// Between two expiries or the like, an endpoint built no position twice again, if the header says that retransmissions
+/// are judged (RFC 6298, 5.4 and 5.5; RFC 5681, 3.2).
+pub fn nothing_is_resent_twice()
+    ensures { (t : Trace) (w : Witness) (slack : ℕ) → Explains t w → t.header.slack ≡ Some slack
+        → judges_repeats t.header.congestion ≡ true → NothingIsResentTwice t w }
+{}
+
+/// At each moment, an endpoint had sent at most as many empty acknowledgments as segments had come to it; those that
+/// announced more window aren't counted (RFC 5681, 4.2).
+pub fn acknowledgments_are_few()
+    ensures { (t : Trace) (w : Witness) (slack : ℕ) → Explains t w → t.header.slack ≡ Some slack
+        → AcknowledgmentsAreFew t w }
+{}
+
+/// Once an endpoint received something, it sent a segment with ACK or RST at most half a second and the slack later;
+/// unless it was CLOSED, or the last step is at most that much later (RFC 9293, 3.8.6.3; RFC 5681, 4.2).
+pub fn receipts_are_answered()
+    ensures { (t : Trace) (w : Witness) (slack : ℕ) → Explains t w → t.header.slack ≡ Some slack
+        → ReceiptsAreAnswered t w slack }
+{}
+
+/// After each expiry of a retransmission timer, the oldest unacknowledged position was sent again or acknowledged at
+/// most the slack later; unless the endpoint was CLOSED, or the last step is at most that much later (RFC 6298, 5.4).
+pub fn expiries_are_followed()
+    ensures { (t : Trace) (w : Witness) (slack : ℕ) → Explains t w → t.header.slack ≡ Some slack
+        → ExpiriesAreFollowed t w slack }
+{}
