@@ -1,19 +1,18 @@
 -- What is sent had just been built.
-use Rattle.std.proofs.Common.{◌≡◌, ℕ, suc, ◌+◌, ◌<◌, ◌≤◌, ◌⊎◌, inl, inr, Bool, true, false, List, [], ◌∷◌, Option, Some, None, refl, ap, sym, subst, ◌∙◌, cond, nat_eq, arith}
+use Rattle.std.proofs.Common.{◌≡◌, ℕ, suc, ◌+◌, ◌<◌, ◌≤◌, ◌⊎◌, inl, inr, Bool, true, false, List, Option, Some, None, refl, ap, sym, subst, ◌∙◌, cond, nat_eq, arith}
 use Rattle.std.specs.Prelude.{if◌then◌else◌, is_some}
 use Rattle.std.specs.Map.{lookup}
 use Rattle.std.specs.Option.{option_map, option_map_or}
-use Rattle.std.proofs.Math.Nat.{eq-or-lt_of_le}
 use Rattle.std.proofs.lemmas.Bool.{cases_lt}
 use Rattle.std.proofs.lemmas.Bool.Decides.{nat_tests}
-use Rattle.std.proofs.lemmas.Option.{none-some, same_Some, some_pair_parts}
+use Rattle.std.proofs.lemmas.Option.{none-some, same_Some}
 use Rattle.case_forms.specs.declared.calls.Host.{Host}
 use Rattle.case_forms.specs.declared.calls.Host.TheVariants.{Zero, One}
 use Rattle.case_forms.specs.declared.trace.Header.{Header}
 use Rattle.verdict.proofs.RuleLemmas.{none_all}
 use Rattle.spec_network.specs.HostSteps.{after}
 use Rattle.spec_network.specs.Hosts.{Stamped, World}
-use Rattle.spec_network.specs.Tables.{Made, on, pick, waiting}
+use Rattle.spec_network.specs.Tables.{Made, pick, waiting}
 use Rattle.spec_tcp.specs.Machine.{tcp, tcp_shape}
 use Rattle.spec_tcp.specs.declared.endpoint.Emission.{Emission}
 use Rattle.spec_duties.specs.Cases.{Known, first_known}
@@ -22,12 +21,11 @@ use Rattle.spec_duties.specs.Sights.{sight, view_in}
 use Rattle.spec_duties.specs.Watching.{Duties, builds_mere_ack, built_after, built_by, counts_now, duty_rules, sent_late}
 use Rattle.spec_duties.specs.declared.sights.Post.{Post}
 use Rattle.spec_duties.specs.declared.sights.Post.TheVariants as post
-use Rattle.spec_duties.specs.declared.sights.Touched.{Touched}
 use Rattle.spec_duties.specs.declared.tables.Built.{Built}
 use Rattle.spec_duties.specs.declared.views.View.{View}
 use Rattle.kept_duties.proofs.Inbox.{not_late}
 use Rattle.kept_duties.proofs.Runs.{Goes, Run, run_goes, run_keeps}
-use Rattle.kept_duties.proofs.Sights.{IsMade, IsNew, PostOf, Unsent, WasMade, builds, count_after, made_by, made_from, post_builds, post_of, post_sends, sends}
+use Rattle.kept_duties.proofs.Sights.{IsMade, IsNew, PostOf, builds, count_after, made_by, made_from, post_builds, post_of, post_sends, sends}
 use Rattle.kept_duties.proofs.Sights.{waiting_insert}
 
 module _ (h : Header) (slack n : ℕ) (acts : ℕ → Option (Stamped tcp_shape)) (known : ℕ → Known) (r : Run h slack n acts known) where
@@ -148,8 +146,7 @@ module _ (h : Header) (slack n : ℕ) (acts : ℕ → Option (Stamped tcp_shape)
       content = now.content;
       waits = λ no.
           let made = post_builds h x.moment (known j).model x.step host now.built in
-          let self : nat_eq number number ≡ true = grind (arith, nat_tests) in
-          (
+          let self : nat_eq number number ≡ true = grind (arith, nat_tests) in (
             just_built,
             go_on number (post.Builds number) (made ∙ ap post.Builds (sym now.number))
                 ∙ waiting_insert number number (Some just_built) table ∙ ap (λ b. cond b (Some just_built) (waiting number table)) self,
@@ -249,6 +246,8 @@ module _ (h : Header) (slack n : ℕ) (acts : ℕ → Option (Stamped tcp_shape)
       let d = (known j).duties in
       let fine = (none_all (duty_rules h slack y.moment d (sight h y.moment (known j).model y.step)) goes.dutiful).1.1.1.0 in
       let due : is_late slack y.moment (option_map (λ (b : Built). b.since) (waiting number d.built)) ≡ false =
-      sym (ap (λ p. sent_late slack y.moment (built_by d p)) sent.0) ∙ fine in
-      (old.was, not_late slack old.was.act.moment y.moment (option_map (λ (b : Built). b.since) (waiting number d.built))
-      (ap (option_map (λ (b : Built). b.since)) b.1 ∙ ap (λ (m : ℕ). Some m) b.2) due)
+      sym (ap (λ p. sent_late slack y.moment (built_by d p)) sent.0) ∙ fine in (
+        old.was,
+        not_late slack old.was.act.moment y.moment (option_map (λ (b : Built). b.since) (waiting number d.built))
+            (ap (option_map (λ (b : Built). b.since)) b.1 ∙ ap (λ (m : ℕ). Some m) b.2) due,
+      )

@@ -1,12 +1,11 @@
 -- An endpoint sends at most as many mere acknowledgments as segments come to it.
-use Rattle.std.proofs.Common.{◌≡◌, ℕ, zero, suc, ◌+◌, ◌-◌, ◌<◌, ◌≤◌, ◌⊎◌, inl, inr, Bool, true, false, List, [], ◌∷◌, length, Option, Some, None, refl, ap, sym, subst, ◌∙◌, nat_eq, arith}
-use Rattle.std.proofs.lemmas.Bool.{cases_lt}
+use Rattle.std.proofs.Common.{◌≡◌, ℕ, zero, suc, ◌+◌, ◌-◌, ◌<◌, ◌≤◌, ◌⊎◌, inl, inr, Bool, true, false, ◌∷◌, length, Option, Some, None, refl, ap, sym, subst, ◌∙◌, nat_eq, arith}
 use Rattle.std.proofs.lemmas.Bool.Decides.{nat_tests}
 use Rattle.std.specs.List.{list_any}
 use Rattle.std.specs.Map.{lookup}
-use Rattle.std.specs.Prelude.{◌==◌, ◌&&◌, ◌||◌, if◌then◌else◌, min, slice_get}
+use Rattle.std.specs.Prelude.{◌==◌, ◌&&◌, ◌||◌, if◌then◌else◌, slice_get}
 use Rattle.std.specs.Option.{option_map, option_map_or}
-use Rattle.std.proofs.lemmas.Option.{none-some, same_Some, slice_get_cases, some_pair_parts}
+use Rattle.std.proofs.lemmas.Option.{none-some, same_Some, some_pair_parts}
 use Rattle.case_forms.specs.States.{is_closed}
 use Rattle.case_forms.specs.Traces.{line_at}
 use Rattle.case_forms.specs.declared.calls.Host.{Host}
@@ -30,7 +29,6 @@ use Rattle.interval_order.specs.Placed.{Placed}
 use Rattle.spec_network.specs.HostSteps.{Lawful, after}
 use Rattle.spec_network.specs.Hosts.{Stamped, World, Step, At, Makes, Sends, Takes}
 use Rattle.spec_network.specs.Tables.{Made, host_is, on, pick}
-use Rattle.spec_tcp.specs.HostTcp.{place_of}
 use Rattle.spec_tcp.specs.Machine.{made_at, tcp, tcp_shape}
 use Rattle.spec_tcp.specs.Makes.{emission_of}
 use Rattle.spec_tcp.specs.declared.endpoint.Emission.{Emission}
@@ -51,18 +49,18 @@ use Rattle.spec_duties.specs.declared.sights.Post.TheVariants as post
 use Rattle.spec_duties.specs.declared.owed.Owed.{Owed}
 use Rattle.spec_duties.specs.declared.sights.Touched.{Touched}
 use Rattle.spec_duties.specs.declared.views.View.{View}
-use Rattle.kept_duties.specs.Counts.{AcknowledgmentsAreFew, builds_mere, builds_mere_at, comes_at, count_before, event_at, event_for, mere_before, number_sent, sends_mere_at, sent_by}
-use Rattle.kept_duties.specs.Happens.{Happens, act_at, seen_before, world_before}
+use Rattle.kept_duties.specs.Counts.{builds_mere, builds_mere_at, comes_at, count_before, event_at, event_for, mere_before, number_sent, sends_mere_at, sent_by}
+use Rattle.kept_duties.specs.Happens.{act_at, seen_before, world_before}
 use Rattle.kept_duties.specs.Places.{SendsAt, built_before}
 use Rattle.checker.specs.Seen.{moves, stamped}
 use Rattle.kept_duties.proofs.Repeats.{goes_of, owes_of}
-use Rattle.kept_duties.proofs.Runs.{Goes, Run, Steps, onward, run_keeps, known_before, world_is}
+use Rattle.kept_duties.proofs.Runs.{Run, Steps, onward, run_keeps, known_before, world_is}
 use Rattle.kept_duties.proofs.Segments.{count_is, run, within}
 use Rattle.kept_duties.proofs.Since.{steady_at}
 use Rattle.kept_duties.proofs.Built.{Sent, WasBuilt, counts_by, same_builder, same_place, sent_was_built}
 use Rattle.kept_duties.proofs.Labels.{sending_act}
 use Rattle.kept_duties.proofs.Sights.{builds, made_by, sends}
-use Rattle.kept_duties.proofs.Touched.{AsBefore, AsShown, BuildsAs, Child, Owes, Touches, as_before, seen, touched, touches_or_not}
+use Rattle.kept_duties.proofs.Touched.{AsBefore, AsShown, BuildsAs, Child, Touches, as_before, seen, touched, touches_or_not}
 
 -- ---- what happens at an endpoint
 

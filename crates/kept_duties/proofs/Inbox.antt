@@ -1,25 +1,20 @@
 -- What came to an inbox leaves it in time.
 use Rattle.std.proofs.Common.{◌≡◌, ℕ, suc, ◌+◌, ◌<◌, ◌≤◌, ◌⊎◌, inl, inr, Bool, true, false, List, [], ◌∷◌, Option, Some, None, refl, ap, sym, subst, ◌∙◌, cond, nat_eq, arith}
 use Rattle.std.specs.Prelude.{if◌then◌else◌, is_some, nat_lt}
-use Rattle.std.specs.Map.{lookup}
-use Rattle.std.specs.Option.{option_map}
 use Rattle.std.proofs.lemmas.Bool.Decides.{nat_tests}
 use Rattle.std.proofs.lemmas.Option.{none-some, same_Some, some_pair_parts}
 use Rattle.case_forms.specs.declared.calls.Host.{Host}
 use Rattle.case_forms.specs.declared.calls.Host.TheVariants.{Zero, One}
 use Rattle.case_forms.specs.declared.trace.Header.{Header}
-use Rattle.verdict.specs.declared.rule.Rule.{Rule}
-use Rattle.verdict.specs.Rules.{first_broken}
 use Rattle.verdict.proofs.RuleLemmas.{none_all}
-use Rattle.spec_network.specs.HostSteps.{after}
 use Rattle.spec_network.specs.Hosts.{Stamped, World}
-use Rattle.spec_network.specs.Tables.{on, pick, waiting}
-use Rattle.spec_tcp.specs.Machine.{tcp, tcp_shape}
+use Rattle.spec_network.specs.Tables.{pick, waiting}
+use Rattle.spec_tcp.specs.Machine.{tcp_shape}
 use Rattle.spec_tcp.specs.declared.endpoint.Emission.{Emission}
 use Rattle.spec_duties.specs.Cases.{Known, first_known}
 use Rattle.spec_duties.specs.Deadlines.{is_late}
 use Rattle.spec_duties.specs.End.{first_waiting}
-use Rattle.spec_duties.specs.Sights.{sight, view_in}
+use Rattle.spec_duties.specs.Sights.{sight}
 use Rattle.spec_duties.specs.Watching.{Duties, duty_rules, inbox_after, leaves_late}
 use Rattle.spec_duties.specs.declared.sights.Mail.{Mail}
 use Rattle.spec_duties.specs.declared.sights.Mail.TheVariants as mail

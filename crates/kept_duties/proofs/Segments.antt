@@ -1,9 +1,9 @@
 -- What a yes with a slack says of segments.
-use Rattle.std.proofs.Common.{◌≡◌, ℕ, zero, suc, ◌+◌, ◌<◌, ◌≤◌, ◌⊎◌, inl, inr, Bool, true, false, List, [], ◌∷◌, length, take, Option, Some, None, refl, ap, sym, subst, ◌∙◌, add-one, arith}
+use Rattle.std.proofs.Common.{◌≡◌, ℕ, suc, ◌+◌, ◌<◌, ◌≤◌, ◌⊎◌, inl, inr, Bool, true, false, List, [], ◌∷◌, length, take, Option, Some, None, refl, ap, sym, subst, ◌∙◌, add-one, arith}
 use Rattle.std.specs.Prelude.{count_by, get_or, if◌then◌else◌, is_some, slice_get}
 use Rattle.std.specs.Option.{option_map, option_map_or}
 use Rattle.std.proofs.lemmas.List.Sums.{count_by_more_no, count_by_more_yes}
-use Rattle.std.proofs.lemmas.Option.{get_or_from_slice_get, none-some, same_Some, slice_get_cases, slice_get_within}
+use Rattle.std.proofs.lemmas.Option.{get_or_from_slice_get, none-some, slice_get_cases, slice_get_within}
 use Rattle.case_forms.specs.Traces.{IsTrace}
 use Rattle.case_forms.specs.declared.calls.Host.{Host}
 use Rattle.case_forms.specs.declared.steps.Step.{Step}
@@ -19,18 +19,17 @@ use Rattle.spec_network.specs.Hosts.{Stamped}
 use Rattle.spec_network.specs.Tables.{on, waiting}
 use Rattle.spec_tcp.specs.Machine.{tcp, tcp_shape}
 use Rattle.spec_duties.specs.Cases.{Dutiful, Known, first_known, known_after_all, late_at_end}
-use Rattle.spec_duties.specs.Deadlines.{is_late}
 use Rattle.spec_duties.specs.End as end
 use Rattle.spec_duties.specs.End.{end_rules, first_waiting}
 use Rattle.kept_duties.specs.Happens.{act_at}
-use Rattle.kept_duties.specs.Places.{ArrivesAt, BuildsAt, LeavesAt, SendsAt, built_before, builder}
+use Rattle.kept_duties.specs.Places.{built_before, builder}
 use Rattle.checker.specs.Seen.{act_of, moves, stamped}
-use Rattle.kept_duties.specs.Segments.{ArrivalsAreHandled, EndsBy, IsBuiltBefore, LeavesBy, SendingsAreFresh}
-use Rattle.kept_duties.proofs.Built.{WasBuilt, count_next, sent_in_time}
+use Rattle.kept_duties.specs.Segments.{ArrivalsAreHandled, EndsBy, LeavesBy, SendingsAreFresh}
+use Rattle.kept_duties.proofs.Built.{count_next, sent_in_time}
 use Rattle.kept_duties.proofs.Inbox.{Left, late_waiting, left_or_waits, not_late}
 use Rattle.kept_duties.proofs.Labels.{arrival_act, arrival_takes, arrives_at, builder_is, builder_none, leaves_at, sending_act}
 use Rattle.kept_duties.proofs.Runs.{Run, Steps, known_before, onward, run_of}
-use Rattle.kept_duties.proofs.Sights.{builds, enters}
+use Rattle.kept_duties.proofs.Sights.{enters}
 
 take_all : {X : Type 0} (xs : List X) → take (length xs) xs ≡ xs
 take_all [] = refl

@@ -14,7 +14,6 @@ use Rattle.case_forms.specs.declared.calls.Host.TheVariants.{Zero, One}
 use Rattle.case_forms.specs.declared.trace.Header.{Header}
 use Rattle.case_forms.specs.declared.trace.Wire.{Wire}
 use Rattle.verdict.specs.declared.rule.Rule.TheVariants as rules
-use Rattle.verdict.specs.Rules.{first_broken}
 use Rattle.verdict.proofs.RuleLemmas.{none_all, none_both}
 use Rattle.spec_network.specs.HostRules.{Permitted, aim_of, just}
 use Rattle.spec_network.specs.HostSteps.{act_made, after, call_after, deed_after, effect_after, inbox_settled, made_gone_out}
@@ -181,9 +180,11 @@ waits_there : {P : Emission → Type 0} (w : World tcp_shape) (g : Host) (k : �
     → (m : Emission) × (waiting k (pick w.hosts g).inbox ≡ Some m) × P m
     → (m : Emission) × (waiting line (pick w.hosts host).inbox ≡ Some m)
 waits_there w g k host line e p =
-    let same = some_pair_parts g host k line e in
-    (p.0, subst (λ (x : Host). waiting line (pick w.hosts x).inbox ≡ Some p.0) same.0
-    (subst (λ (q : ℕ). waiting q (pick w.hosts g).inbox ≡ Some p.0) same.1 p.1))
+    let same = some_pair_parts g host k line e in (
+      p.0,
+      subst (λ (x : Host). waiting line (pick w.hosts x).inbox ≡ Some p.0) same.0
+          (subst (λ (q : ℕ). waiting q (pick w.hosts g).inbox ≡ Some p.0) same.1 p.1),
+    )
 
 -- and it takes what waits
 pub leaves_waits : (h : Header) (moment : ℕ) (w : World tcp_shape) (step : Step tcp_shape) (host : Host) (line : ℕ)
@@ -217,7 +218,7 @@ post_sends h moment w (At g (Sends line n wire)) host number may e =
         post = post.Sends n;
       })).post) p.1 ∙ ap post.Sends same.1,
       subst (λ (x : Host). Unsent w x number) same.0
-      (subst (λ (x : ℕ). Unsent w g x) same.1 (record { made = p.0; there = p.1; unsent = (none_all (just rules.NotMade p.0.sent) both.1).0 })),
+          (subst (λ (x : ℕ). Unsent w g x) same.1 (record { made = p.0; there = p.1; unsent = (none_all (just rules.NotMade p.0.sent) both.1).0 })),
     )
 post_sends h moment w step host number may e = absurd (none-some (host, number) e)
 

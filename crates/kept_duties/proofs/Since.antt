@@ -1,9 +1,9 @@
 -- What an endpoint owes since a moment is done in time, or it is CLOSED, or the witness ends.
-use Rattle.std.proofs.Common.{◌≡◌, ℕ, zero, suc, ◌+◌, ◌<◌, ◌≤◌, ◌⊎◌, inl, inr, Bool, true, false, List, [], ◌∷◌, length, take, Option, Some, None, refl, ap, sym, subst, ◌∙◌, arith}
+use Rattle.std.proofs.Common.{◌≡◌, ℕ, zero, suc, ◌+◌, ◌<◌, ◌≤◌, ◌⊎◌, inl, inr, Bool, true, false, List, [], ◌∷◌, length, Option, Some, None, refl, ap, sym, subst, ◌∙◌, arith}
 use Rattle.std.proofs.Math.Nat.{eq-or-lt_of_le, zero-add}
 use Rattle.std.specs.List.{AllByRecursion}
-use Rattle.std.specs.Prelude.{◌||◌, if◌then◌else◌, slice_get}
-use Rattle.std.specs.Option.{option_map, option_map_or, option_or}
+use Rattle.std.specs.Prelude.{◌||◌, slice_get}
+use Rattle.std.specs.Option.{option_map, option_map_or}
 use Rattle.std.proofs.lemmas.Option.{none-some, same_Some, slice_get-map}
 use Rattle.case_forms.specs.States.{is_closed}
 use Rattle.case_forms.specs.declared.calls.Host.{Host}
@@ -16,9 +16,8 @@ use Rattle.verdict.proofs.RuleLemmas.{none_all}
 use Rattle.interval_order.specs.Orders.{last_moment}
 use Rattle.interval_order.specs.Placed.{Placed}
 use Rattle.spec_network.specs.Hosts.{Stamped, World}
-use Rattle.spec_network.specs.HostSteps.{after}
 use Rattle.spec_network.specs.Tables.{pick}
-use Rattle.spec_tcp.specs.Machine.{tcp, tcp_shape}
+use Rattle.spec_tcp.specs.Machine.{tcp_shape}
 use Rattle.spec_tcp.specs.declared.endpoint.Endpoint.{Endpoint}
 use Rattle.spec_tcp.specs.declared.endpoint.EndpointId.{EndpointId}
 use Rattle.spec_tcp_laws.specs.Consequences.{find}
@@ -35,14 +34,13 @@ use Rattle.spec_duties.specs.declared.events.Event.{Event}
 use Rattle.spec_duties.specs.declared.owed.Lates.{Lates}
 use Rattle.spec_duties.specs.declared.owed.Owed.{Owed}
 use Rattle.spec_duties.specs.declared.views.View.{View}
-use Rattle.kept_duties.specs.Happens.{Happens, act_at, seen_before}
+use Rattle.kept_duties.specs.Happens.{act_at, seen_before}
 use Rattle.checker.specs.Seen.{move_of, moves}
-use Rattle.kept_duties.specs.Segments.{EndsBy}
 use Rattle.kept_duties.specs.Soon.{ClosesBy, HappensBy, IsDoneBy}
 use Rattle.kept_duties.proofs.Labels.{builder_is}
-use Rattle.kept_duties.proofs.Repeats.{goes_of, happens_from, happens_to, owes_of}
+use Rattle.kept_duties.proofs.Repeats.{happens_from, happens_to, owes_of}
 use Rattle.kept_duties.proofs.Runs.{Goes, Run, run_keeps, known_before, world_is}
-use Rattle.kept_duties.proofs.Segments.{step_of_act, within}
+use Rattle.kept_duties.proofs.Segments.{step_of_act}
 use Rattle.kept_duties.proofs.Touched.{Owes, Touches, seen, touched, touches_or_not}
 
 -- a duty that an endpoint has since a moment: `get`. It has this much time, and this kind of event ends it, or CLOSED

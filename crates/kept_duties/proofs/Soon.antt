@@ -1,5 +1,5 @@
 -- Acknowledgments and retransmissions are sent in time.
-use Rattle.std.proofs.Common.{◌≡◌, ℕ, suc, ◌+◌, ◌<◌, ◌≤◌, ◌⊎◌, inl, inr, Bool, true, false, List, length, Option, Some, None, refl, ap, sym, subst, ◌∙◌, arith}
+use Rattle.std.proofs.Common.{◌≡◌, ℕ, suc, ◌+◌, ◌<◌, ◌⊎◌, inl, inr, Bool, true, false, length, Option, Some, None, refl, ap, sym, subst, ◌∙◌, arith}
 use Rattle.std.proofs.lemmas.Bool.Decides.{nat_tests}
 use Rattle.std.specs.Prelude.{◌&&◌, ◌||◌, if◌then◌else◌, nat_lt, not}
 use Rattle.std.specs.Option.{option_map, option_or}
@@ -11,20 +11,18 @@ use Rattle.case_forms.specs.declared.trace.Trace.{Trace}
 use Rattle.verdict.specs.Rules.{first_broken}
 use Rattle.interval_order.specs.Orders.{last_moment}
 use Rattle.interval_order.specs.Placed.{Placed}
-use Rattle.spec_network.specs.Hosts.{Stamped, World}
+use Rattle.spec_network.specs.Hosts.{World}
 use Rattle.spec_tcp.specs.Machine.{tcp_shape}
-use Rattle.spec_tcp.specs.declared.endpoint.Endpoint.{Endpoint}
 use Rattle.spec_tcp.specs.declared.endpoint.EndpointId.{EndpointId}
 use Rattle.spec_tcp_laws.specs.Consequences.{find}
 use Rattle.spec_tcp_laws.proofs.Rules.{neither}
-use Rattle.spec_duties.specs.Acknowledge.{acknowledge_after, acknowledge_due, asks_ack, is_answer, longest_delay, receives}
-use Rattle.spec_duties.specs.Cases.{Known}
+use Rattle.spec_duties.specs.Acknowledge.{acknowledge_due, asks_ack, is_answer, longest_delay, receives}
 use Rattle.spec_duties.specs.Deadlines.{is_late}
 use Rattle.spec_duties.specs.End.{end_rules}
 use Rattle.spec_duties.specs.Events.{acknowledges_more}
 use Rattle.spec_duties.specs.Owed.{lates_of, lates_of_open, none_late, once_closed, owed_after, owed_open}
 use Rattle.spec_duties.specs.Reset.{reset_since}
-use Rattle.spec_duties.specs.Retransmit.{is_timeout, retransmit_after, sends_oldest}
+use Rattle.spec_duties.specs.Retransmit.{is_timeout, sends_oldest}
 use Rattle.spec_duties.specs.Watching.{owed_by}
 use Rattle.spec_duties.specs.declared.events.Event.{Event}
 use Rattle.spec_duties.specs.declared.events.Event.TheVariants.{Expires, Opens, Processes}
@@ -36,7 +34,7 @@ use Rattle.checker.specs.Seen.{moves}
 use Rattle.kept_duties.specs.Soon.{Answers, ExpiriesAreFollowed, IsDoneBy, ReceiptsAreAnswered, SendsOldest}
 use Rattle.kept_duties.proofs.Inbox.{not_late}
 use Rattle.kept_duties.proofs.Repeats.{goes_of, happens_to, owes_of}
-use Rattle.kept_duties.proofs.Runs.{Goes, Run, known_before, world_is}
+use Rattle.kept_duties.proofs.Runs.{Run, known_before, world_is}
 use Rattle.kept_duties.proofs.Segments.{within}
 use Rattle.kept_duties.proofs.Since.{Duty, Still, closes, done_by, not_after, steady_at}
 use Rattle.kept_duties.proofs.Touched.{Owes, seen, there_after}

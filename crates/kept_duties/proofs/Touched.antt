@@ -1,5 +1,5 @@
 -- What a step does at one endpoint, and what the endpoint owes then.
-use Rattle.std.proofs.Common.{◌≡◌, ℕ, zero, suc, ◌≤◌, ◌⊎◌, inl, inr, Bool, true, false, List, [], ◌∷◌, ◌++◌, length, Option, Some, None, refl, ap, sym, subst, ◌∙◌, cond, nat_eq, arith}
+use Rattle.std.proofs.Common.{◌≡◌, ℕ, suc, ◌⊎◌, inl, inr, Bool, true, false, List, [], ◌∷◌, ◌++◌, length, Option, Some, None, refl, ap, sym, subst, ◌∙◌, cond, nat_eq, arith}
 use Rattle.std.specs.Prelude.{if◌then◌else◌, slice_get, unwrap_or}
 use Rattle.std.specs.Map.{lookup}
 use Rattle.std.specs.List.{AllByRecursion}
@@ -7,7 +7,6 @@ use Rattle.std.specs.Option.{option_map, option_map_or}
 use Rattle.std.proofs.lemmas.Bool.Decides.{nat_tests}
 use Rattle.std.proofs.lemmas.Option.{none-some, same_Some, slice_get_past}
 use Rattle.indexmap.specs.IndexMap.{insert_entry}
-use Rattle.case_forms.specs.States.{is_closed}
 use Rattle.case_forms.specs.declared.calls.Answer.{Answer}
 use Rattle.case_forms.specs.declared.calls.Answer.TheVariants as answers
 use Rattle.case_forms.specs.declared.calls.Call.{Call}
@@ -23,11 +22,11 @@ use Rattle.spec_network.specs.HostRules.{Permitted, aim_of}
 use Rattle.spec_network.specs.HostSteps.{after, deed_after}
 use Rattle.spec_network.specs.Hosts.{HostState, Stamped, World, Does, Expires, Makes, Sends, Gets, Hears, Takes, Drops, Answers, Step, Begin, Finish, Effect, At}
 use Rattle.spec_network.specs.Hosts.{Turn, Idle, Called, Answered, turn_of}
-use Rattle.spec_network.specs.Tables.{Both, Made, on, other, pick, waiting, with_host}
+use Rattle.spec_network.specs.Tables.{Both, on, other, pick, waiting, with_host}
 use Rattle.spec_network.proofs.Entries.{lookup_insert}
 use Rattle.spec_tcp.specs.Arrives.{AtEndpoint, AtListener, Nobody, Taker, after_taking, taker}
 use Rattle.spec_tcp.specs.Arrives.Listen.{child}
-use Rattle.spec_tcp.specs.HostTcp.{HostTcp, place_of, thing_of}
+use Rattle.spec_tcp.specs.HostTcp.{place_of, thing_of}
 use Rattle.spec_tcp.specs.Machine.{act_after, aim, tcp, tcp_shape}
 use Rattle.spec_tcp.specs.Signals.{profile_of}
 use Rattle.spec_tcp.specs.declared.endpoint.Emission.{Emission}
@@ -39,17 +38,16 @@ use Rattle.spec_tcp_laws.specs.Consequences.{find}
 use Rattle.spec_tcp_laws.proofs.Rules.{on_cases}
 use Rattle.spec_tcp_laws.proofs.Runs.{Steady, later_step}
 use Rattle.spec_duties.specs.Cases.{Known}
-use Rattle.spec_duties.specs.Dropped.{answering_breaks, taking_breaks}
+use Rattle.spec_duties.specs.Dropped.{taking_breaks}
 use Rattle.spec_duties.specs.Excess.{is_excess}
 use Rattle.spec_duties.specs.Owed.{late_rules, lates_of, nothing, owed_after}
 use Rattle.spec_duties.specs.Resent.{is_resent}
-use Rattle.spec_duties.specs.Sights.{accept_sight, at_drop, at_next, at_place, at_ports, at_sender, at_target, call_sight, close_sight, effect_sight}
-use Rattle.spec_duties.specs.Sights.{dropping_sight, is_done, opened_sight, other_sight, processing_of, sending_of, sight, taking_sight, unseen, view_in}
+use Rattle.spec_duties.specs.Sights.{accept_sight, at_drop, at_place, at_ports, at_sender, at_target, call_sight, close_sight, effect_sight}
+use Rattle.spec_duties.specs.Sights.{is_done, other_sight, processing_of, sending_of, sight, unseen, view_in}
 use Rattle.spec_duties.specs.Views.{unborn, view_of}
-use Rattle.spec_duties.specs.Watching.{Duties, built_by, counts_now, duties_after, duty_rules, listener_closed, owed_by, owed_table_after, touched_rules}
+use Rattle.spec_duties.specs.Watching.{Duties, built_by, counts_now, duty_rules, listener_closed, owed_by, owed_table_after, touched_rules}
 use Rattle.spec_duties.specs.declared.events.Event.{Event}
 use Rattle.spec_duties.specs.declared.events.Event.TheVariants as events
-use Rattle.spec_duties.specs.declared.owed.Lates.{Lates}
 use Rattle.spec_duties.specs.declared.owed.Owed.{Owed}
 use Rattle.spec_duties.specs.declared.sights.Queueing.TheVariants as queueing
 use Rattle.spec_duties.specs.declared.sights.Sight.{Sight}
@@ -359,9 +357,12 @@ module _ (h : Header) (slack : ℕ) (k next : Known) (x : Stamped tcp_shape) (me
                   before = (before.before ∙ (λ i. seen k.model (record { host = same.0 i; number = same.1 i }))) i;
                 }));
           })
-          which (inr stays) = inr (keeps (Some t) shows (stays k.duties.owed _), λ event is.
-              let one : t ≡ touched k.model me event = same_Some t (touched k.model me event) (sym shows ∙ is) in
-              apart t event one stays)
+          which (inr stays) = inr (
+            keeps (Some t) shows (stays k.duties.owed _),
+            λ event is.
+                let one : t ≡ touched k.model me event = same_Some t (touched k.model me event) (sym shows ∙ is) in
+                apart t event one stays,
+          )
 
 -- ---- an endpoint that a step touches is there after it
 
