@@ -32,7 +32,7 @@ use Rattle.spec_network.specs.Hosts as model
 use Rattle.spec_tcp.specs.Machine.{tcp_shape}
 use Rattle.spec_tcp.specs.Steps.{line_step, step_of}
 use Rattle.kept_duties.specs.Happens.{act_at}
-use Rattle.kept_duties.specs.Places.{ArrivesAt, IsAnswered, IsDropped, IsProcessed, LeavesAt, SendsAt, builder}
+use Rattle.kept_duties.specs.Places.{ArrivesAt, IsAnswered, IsDropped, IsProcessed, IsStep, LeavesAt, SendsAt, builder}
 use Rattle.checker.specs.Seen.{act_of, move_of, moves}
 use Rattle.kept_duties.proofs.Dev.{number_is}
 use Rattle.kept_duties.proofs.Sights.{enters, leaves, builds, sends}
@@ -296,3 +296,142 @@ arrival_act t w trace placed place moment host line a = by a.extras refl
         let shown : p.0 ≡ a.shown = same_Some p.0 a.shown (sym p.1 ∙ a.is) in
         absurd (few (is_half t.header.version) (sym (ap extras_count is) ∙ p.2.count
         ∙ ap (λ (l : Line). extras_of t.header.version l.event) shown ∙ ap (extras_of t.header.version) a.arrives))
+
+-- ---- what happens is done by a step of the witness
+
+-- the label of a hidden step, from what it does in the model
+abbrev hidden_label : model.Step tcp_shape → Option (Label NamedLine)
+hidden_label (model.Effect thread answer) = Some (labels.D thread answer)
+hidden_label (model.At g (model.Makes plan)) = Some (labels.M g plan)
+hidden_label (model.At g (model.Takes line choice)) = Some (labels.T g line choice)
+hidden_label (model.At g (model.Drops line)) = Some (labels.K g line)
+hidden_label (model.At g (model.Answers line)) = Some (labels.R g line)
+hidden_label (model.At g (model.Does recovery)) = Some (labels.F g recovery)
+hidden_label step = None
+
+pub hidden_step : (t : Trace) (w : Witness) (place : ℕ) (x : Stamped tcp_shape) → act_at t w place ≡ Some x
+    → (label : Label NamedLine) → hidden_label x.step ≡ Some label → IsStep w place x.moment label
+hidden_step t w place x is label does = by (slice_get w.steps place) refl is
+  where
+    no_line : (line : TakenLine) → hidden_label (line_step line) ≡ None
+    no_line (taken.CallBegin line thread call) = refl
+    no_line (taken.CallEnd line thread answer) = refl
+    no_line (taken.Sent line g made wire) = refl
+    no_line (taken.Came line g copied wire) = refl
+    no_line (taken.Heard line g wire) = refl
+    no_line (taken.Expired line g ports e) = refl
+
+    make : (moment : ℕ) (found : Label NamedLine) (span : Span) → slice_get w.steps place ≡ Some (record { moment = moment; label = found; span = span })
+        → (step : model.Step tcp_shape) → hidden_label step ≡ Some found → Some (stamp moment step) ≡ Some x → IsStep w place x.moment label
+    make moment found span here step of acts =
+        let same : stamp moment step ≡ x = same_Some (stamp moment step) x acts in
+        let one : found ≡ label = same_Some found label (sym of ∙ ap (λ (y : Stamped tcp_shape). hidden_label y.step) same ∙ does) in
+        record { span = span; here = here ∙ (λ i. Some (record { moment = (same i).moment; label = one i; span = span })) }
+
+    at : (moment : ℕ) (found : Label NamedLine) (span : Span) → slice_get w.steps place ≡ Some (record { moment = moment; label = found; span = span })
+        → act_of t.header t.lines (record { moment = moment; label = found; span = span }) ≡ Some x → IsStep w place x.moment label
+    at moment (labels.L named) span here acts =
+        let a = act_line moment (option_map_or (taken_of named.extras) (line_at t.header t.lines named.number) None) x acts in
+        absurd (none-some label (sym (no_line a.0) ∙ ap (λ (y : Stamped tcp_shape). hidden_label y.step) a.2 ∙ does))
+    at moment (labels.D thread answer) span here acts = make moment (labels.D thread answer) span here (model.Effect thread answer) refl acts
+    at moment (labels.M g plan) span here acts = make moment (labels.M g plan) span here (model.At g (model.Makes plan)) refl acts
+    at moment (labels.T g line choice) span here acts = make moment (labels.T g line choice) span here (model.At g (model.Takes line choice)) refl acts
+    at moment (labels.K g line) span here acts = make moment (labels.K g line) span here (model.At g (model.Drops line)) refl acts
+    at moment (labels.R g line) span here acts = make moment (labels.R g line) span here (model.At g (model.Answers line)) refl acts
+    at moment (labels.F g recovery) span here acts = make moment (labels.F g recovery) span here (model.At g (model.Does recovery)) refl acts
+
+    by : (o : Option Step) → slice_get w.steps place ≡ o → option_map_or (act_of t.header t.lines) o None ≡ Some x → IsStep w place x.moment label
+    by None here acts = absurd (none-some x acts)
+    by (Some s) here acts = at s.moment s.label s.span here acts
+
+-- a step whose act is that of a line takes that line
+pub record TakesLine (t : Trace) (w : Witness) (place moment : ℕ) (step : model.Step tcp_shape) : Type 0 where
+  pub named : NamedLine
+  pub shown : Line
+  pub line : TakenLine
+  pub label : IsStep w place moment (labels.L named)
+  pub there : line_at t.header t.lines named.number ≡ Some shown
+  pub takes : taken_of named.extras shown ≡ Some line
+  pub acts : line_step line ≡ step
+
+pub line_of_act : (t : Trace) (w : Witness) (place : ℕ) (x : Stamped tcp_shape) → act_at t w place ≡ Some x → hidden_label x.step ≡ None
+    → TakesLine t w place x.moment x.step
+line_of_act t w place x is no' = by (slice_get w.steps place) refl is
+  where
+    clash : {A : Type 0} (moment : ℕ) (found : Label NamedLine) (step : model.Step tcp_shape) → hidden_label step ≡ Some found → Some (stamp moment step) ≡ Some x → A
+    clash moment found step of acts =
+        absurd (none-some found (sym no' ∙ sym (ap (λ (y : Stamped tcp_shape). hidden_label y.step) (same_Some (stamp moment step) x acts)) ∙ of))
+
+    at : (moment : ℕ) (found : Label NamedLine) (span : Span) → slice_get w.steps place ≡ Some (record { moment = moment; label = found; span = span })
+        → act_of t.header t.lines (record { moment = moment; label = found; span = span }) ≡ Some x → TakesLine t w place x.moment x.step
+    at moment (labels.L named) span here acts =
+        let a = act_line moment (option_map_or (taken_of named.extras) (line_at t.header t.lines named.number) None) x acts in
+        let l = line_found_at (line_at t.header t.lines named.number) named.extras a.0 a.1 in
+        record {
+          named = named;
+          shown = l.0;
+          line = a.0;
+          label = record { span = span; here = here ∙ (λ i. Some (record { moment = (a.2 i).moment; label = labels.L named; span = span })) };
+          there = l.1;
+          takes = l.2;
+          acts = ap (λ (y : Stamped tcp_shape). y.step) a.2;
+        }
+    at moment (labels.D thread answer) span here acts = clash moment (labels.D thread answer) (model.Effect thread answer) refl acts
+    at moment (labels.M g plan) span here acts = clash moment (labels.M g plan) (model.At g (model.Makes plan)) refl acts
+    at moment (labels.T g line choice) span here acts = clash moment (labels.T g line choice) (model.At g (model.Takes line choice)) refl acts
+    at moment (labels.K g line) span here acts = clash moment (labels.K g line) (model.At g (model.Drops line)) refl acts
+    at moment (labels.R g line) span here acts = clash moment (labels.R g line) (model.At g (model.Answers line)) refl acts
+    at moment (labels.F g recovery) span here acts = clash moment (labels.F g recovery) (model.At g (model.Does recovery)) refl acts
+
+    by : (o : Option Step) → slice_get w.steps place ≡ o → option_map_or (act_of t.header t.lines) o None ≡ Some x → TakesLine t w place x.moment x.step
+    by None here acts = absurd (none-some x acts)
+    by (Some s) here acts = at s.moment s.label s.span here acts
+
+from_sent : (n thread : ℕ) (e : Event) (x : Extras) (line : ℕ) (host : Host) (made : ℕ) (wire : Wire)
+    → event_taken n thread e x ≡ Some (taken.Sent line host made wire) → (e ≡ events.Sent host wire) × (x ≡ One made)
+from_sent n thread (events.Sent g v) (One c) line host made wire is =
+    let same : taken.Sent n g c v ≡ taken.Sent line host made wire = same_Some _ _ is in (cc, cc)
+from_sent n thread (events.Expired g lport rport timer) x line host made wire is = go (expired_by timer x) is
+  where
+    go : (o : Option Expired) → option_map (λ e. taken.Expired n g (record { lport = lport; rport = rport }) e) o ≡ Some (taken.Sent line host made wire)
+        → (events.Expired g lport rport timer ≡ events.Sent host wire) × (x ≡ One made)
+    go None is = absurd cc
+    go (Some e) is = absurd cc
+from_sent n thread e Bare line host made wire is = absurd cc
+from_sent n thread e (One a) line host made wire is = absurd cc
+from_sent n thread e (Two a b) line host made wire is = absurd cc
+
+-- the line by which a segment is sent
+pub sends_at : (t : Trace) (w : Witness) (place : ℕ) (x : Stamped tcp_shape) → act_at t w place ≡ Some x
+    → (host : Host) (line number : ℕ) (wire : Wire) → x.step ≡ model.At host (model.Sends line number wire) → SendsAt t w place x.moment host number
+sends_at t w place x is host line number wire does =
+    let l = line_of_act t w place x is (ap hidden_label does) in
+    by l l.line refl (l.acts ∙ does)
+  where
+    by : (l : TakesLine t w place x.moment x.step) → (taken' : TakenLine) → l.line ≡ taken' → line_step taken' ≡ model.At host (model.Sends line number wire)
+        → SendsAt t w place x.moment host number
+    by l (taken.Sent k g made v) same acts =
+        let same_host : g ≡ host = cc in
+        let same_number : made ≡ number = cc in
+        let e = from_sent l.shown.number l.shown.thread l.shown.event l.named.extras k g made v (l.takes ∙ ap (λ (y : TakenLine). Some y) same) in
+        record {
+          line = l.named.number;
+          shown = l.shown;
+          wire = v;
+          step = record {
+            span = l.label.span;
+            here =
+                l.label.here ∙ (λ i. Some (record {
+                  moment = x.moment;
+                  label = labels.L (record { number = l.named.number; extras = (e.1 ∙ ap (λ (n : ℕ). One n) same_number) i });
+                  span = l.label.span;
+                }));
+          };
+          is = l.there;
+          sends = e.0 ∙ ap (λ (g : Host). events.Sent g v) same_host;
+        }
+    by l (taken.CallBegin k thread call) same acts = absurd cc
+    by l (taken.CallEnd k thread answer) same acts = absurd cc
+    by l (taken.Came k g copied v) same acts = absurd cc
+    by l (taken.Heard k g v) same acts = absurd cc
+    by l (taken.Expired k g ports e) same acts = absurd cc

@@ -15,7 +15,10 @@ use Rattle.case_forms.specs.declared.calls.Host.{Host}
 use Rattle.case_forms.specs.declared.calls.Host.TheVariants.{Zero, One}
 use Rattle.case_forms.specs.declared.steps.SegmentPlan.{SegmentPlan}
 use Rattle.case_forms.specs.declared.steps.TakeChoice.{TakeChoice}
+use Rattle.case_forms.specs.TakenLines.{timer_of}
+use Rattle.case_forms.specs.declared.timer.Recovery.{Recovery}
 use Rattle.case_forms.specs.declared.trace.Header.{Header}
+use Rattle.case_forms.specs.declared.trace.Wire.{Wire}
 use Rattle.verdict.specs.declared.rule.Rule.{Rule}
 use Rattle.verdict.proofs.RuleLemmas.{none_all}
 use Rattle.spec_network.specs.HostRules.{Permitted, aim_of}
@@ -27,7 +30,7 @@ use Rattle.spec_network.proofs.Entries.{lookup_insert}
 use Rattle.spec_tcp.specs.Arrives.{AtEndpoint, AtListener, Nobody, Taker, after_taking, taker}
 use Rattle.spec_tcp.specs.Arrives.Listen.{child}
 use Rattle.spec_tcp.specs.HostTcp.{place_of, thing_of}
-use Rattle.spec_tcp.specs.Machine.{act_after, aim, tcp, tcp_shape}
+use Rattle.spec_tcp.specs.Machine.{Expiring, act_after, aim, tcp, tcp_shape}
 use Rattle.spec_tcp.specs.Signals.{profile_of}
 use Rattle.spec_tcp.specs.declared.endpoint.Emission.{Emission}
 use Rattle.spec_tcp.specs.declared.endpoint.Endpoint.{Endpoint}
@@ -72,6 +75,18 @@ pub record Child (w : World tcp_shape) (step : Step tcp_shape) (t : Touched) : T
   pub takes : taker (pick w.hosts t.host).body segment ≡ AtListener listener
   pub next : t.place ≡ length (pick w.hosts t.host).body.endpoints
 
+-- the model's step by which something happens at an endpoint of a host
+abbrev pub StepDoes : Step tcp_shape → Host → Event → Type 0
+StepDoes step host (events.Processes length rst) = (line : ℕ) × (how : TakeChoice) × (step ≡ At host (Takes line how))
+StepDoes step host (events.Drops asks unlimited) = (line : ℕ) × (step ≡ At host (Drops line))
+StepDoes step host (events.Builds m) = step ≡ At host (Makes m)
+StepDoes step host (events.Sends s) = (line : ℕ) × (number : ℕ) × (wire : Wire) × (step ≡ At host (Sends line number wire))
+StepDoes step host (events.Expires timer) =
+    (line : ℕ) × (x : Expiring) × (step ≡ At host (Expires line x)) × (timer_of x.expired ≡ timer)
+StepDoes step host events.Recovers = (x : Recovery) × (step ≡ At host (Does x))
+StepDoes step host (events.Calls aborts) = (thread : ℕ) × (answer : Answer) × (step ≡ Effect thread answer)
+StepDoes step host events.Opens = (thread : ℕ) × (answer : Answer) × (step ≡ Effect thread answer)
+
 -- a step that builds a segment, of the endpoint at a place
 pub record BuildsAs (w : World tcp_shape) (step : Step tcp_shape) (host : Host) (place : ℕ) (m : SegmentPlan) : Type 0 where
   pub is : step ≡ At host (Makes m)
@@ -83,42 +98,44 @@ name_of t = record { host = t.host; number = t.place }
 pub record AsShown (w : World tcp_shape) (step : Step tcp_shape) (t : Touched) : Type 0 where
   pub before : t.before ≡ seen w (name_of t)
   pub there : ((e : Endpoint) × (find w.hosts (name_of t) ≡ Some e)) ⊎ (t.event ≡ events.Opens) ⊎ Child w step t
+  pub does : StepDoes step t.host t.event
   pub built : (m : SegmentPlan) → t.event ≡ events.Builds m → BuildsAs w step t.host t.place m
 
 abbrev pub AsBefore : World tcp_shape → Step tcp_shape → Option Touched → Type 0
 AsBefore w step None = Unit {0}
 AsBefore w step (Some t) = AsShown w step t
 
-place_before : (w : World tcp_shape) (step : Step tcp_shape) (host : Host) (event : Event) (i : ℕ)
+place_before : (w : World tcp_shape) (step : Step tcp_shape) (host : Host) (event : Event) (i : ℕ) → StepDoes step host event
     → ((m : SegmentPlan) → event ≡ events.Builds m → BuildsAs w step host i m) → AsBefore w step (at_place host (pick w.hosts host).body event i)
-place_before w step host event i built = by (slice_get (pick w.hosts host).body.endpoints i) refl
+place_before w step host event i does built = by (slice_get (pick w.hosts host).body.endpoints i) refl
   where
     by : (o : Option Endpoint) → slice_get (pick w.hosts host).body.endpoints i ≡ o
         → AsBefore w step (option_map (λ e. record { host = host; place = i; event = event; before = view_of e }) o)
     by None is = tt
-    by (Some e) is = record { before = sym (ap (λ (o : Option Endpoint). option_map_or view_of o unborn) is); there = inl (e, is); built = built }
+    by (Some e) is = record { before = sym (ap (λ (o : Option Endpoint). option_map_or view_of o unborn) is); there = inl (e, is); does = does; built = built }
 
-ports_before : (w : World tcp_shape) (step : Step tcp_shape) (host : Host) (event : Event) (lport rport : ℕ)
+ports_before : (w : World tcp_shape) (step : Step tcp_shape) (host : Host) (event : Event) (lport rport : ℕ) → StepDoes step host event
     → ((i : ℕ) → place_of (pick w.hosts host).body lport rport ≡ Some i → (m : SegmentPlan) → event ≡ events.Builds m → BuildsAs w step host i m)
     → AsBefore w step (at_ports host (pick w.hosts host).body event lport rport)
-ports_before w step host event lport rport built = by (place_of (pick w.hosts host).body lport rport) refl
+ports_before w step host event lport rport does built = by (place_of (pick w.hosts host).body lport rport) refl
   where
     by : (o : Option ℕ) → place_of (pick w.hosts host).body lport rport ≡ o
         → AsBefore w step (option_map_or (at_place host (pick w.hosts host).body event) o None)
     by None is = tt
-    by (Some i) is = place_before w step host event i (built i is)
+    by (Some i) is = place_before w step host event i does (built i is)
 
 next_before : (w : World tcp_shape) (host : Host) → unborn ≡ seen w (record { host = host; number = length (pick w.hosts host).body.endpoints })
 next_before w host =
     sym (ap (λ (o : Option Endpoint). option_map_or view_of o unborn)
     (slice_get_past (pick w.hosts host).body.endpoints (length (pick w.hosts host).body.endpoints) (omega arith)))
 
-sender_before : (w : World tcp_shape) (step : Step tcp_shape) (host : Host) (m : Emission) → AsBefore w step (at_sender host (pick w.hosts host).body m)
-sender_before w step host m = by m.is_reset_reply
+sender_before : (w : World tcp_shape) (step : Step tcp_shape) (host : Host) (m : Emission) → StepDoes step host (sending_of m)
+    → AsBefore w step (at_sender host (pick w.hosts host).body m)
+sender_before w step host m does = by m.is_reset_reply
   where
     by : (b : Bool) → AsBefore w step (if b then None else at_place host (pick w.hosts host).body (sending_of m) m.sender.number)
     by true = tt
-    by false = place_before w step host (sending_of m) m.sender.number (λ p e. absurd cc)
+    by false = place_before w step host (sending_of m) m.sender.number does (λ p e. absurd cc)
 
 target_before : (w : World tcp_shape) (host : Host) (line : ℕ) (how : TakeChoice) (m : Emission) → waiting line (pick w.hosts host).inbox ≡ Some m
     → (t : Taker) → taker (pick w.hosts host).body m ≡ t → AsBefore w (At host (Takes line how)) (at_target host (pick w.hosts host).body m t)
@@ -126,75 +143,82 @@ target_before w host line how m waits Nobody is = tt
 target_before w host line how m waits (AtListener l) is = record {
   before = next_before w host;
   there = inr (inr (record { line = line; how = how; segment = m; listener = l; is = refl; waits = waits; takes = is; next = refl }));
+  does = (line, how, refl);
   built = λ p e. absurd cc;
 }
-target_before w host line how m waits (AtEndpoint i e) is = place_before w (At host (Takes line how)) host (processing_of m) i (λ p e. absurd cc)
+target_before w host line how m waits (AtEndpoint i e) is = place_before w (At host (Takes line how)) host (processing_of m) i (line, how, refl) (λ p e. absurd cc)
 
-drop_before : (w : World tcp_shape) (step : Step tcp_shape) (host : Host) (m : Emission) (taking : Option Rule) (t : Taker) → AsBefore w step (at_drop host (pick w.hosts host).body m taking t)
-drop_before w step host m taking Nobody = tt
-drop_before w step host m taking (AtListener l) = tt
-drop_before w step host m taking (AtEndpoint i e) = place_before w step host _ i (λ p e. absurd cc)
+drop_before : (w : World tcp_shape) (step : Step tcp_shape) (host : Host) (m : Emission) (taking : Option Rule)
+    → (line : ℕ) × (step ≡ At host (Drops line)) → (t : Taker) → AsBefore w step (at_drop host (pick w.hosts host).body m taking t)
+drop_before w step host m taking does Nobody = tt
+drop_before w step host m taking does (AtListener l) = tt
+drop_before w step host m taking does (AtEndpoint i e) = place_before w step host _ i does (λ p e. absurd cc)
 
 thing_before : (w : World tcp_shape) (step : Step tcp_shape) (o : Option SocketTarget) (f : SocketTarget → Sight) → ((thing : SocketTarget) → AsBefore w step (f thing).touched)
     → AsBefore w step (on o unseen f).touched
 thing_before w step None f each = tt
 thing_before w step (Some thing) f each = each thing
 
-close_before : (w : World tcp_shape) (step : Step tcp_shape) (host : Host) (aborts : Bool) (answer : Answer) (thing : SocketTarget)
+close_before : (w : World tcp_shape) (step : Step tcp_shape) (host : Host) (aborts : Bool) (answer : Answer)
+    → (thread : ℕ) × (a : Answer) × (step ≡ Effect thread a) → (thing : SocketTarget)
     → AsBefore w step (close_sight host (pick w.hosts host).body aborts answer thing).touched
-close_before w step host aborts answer (EndpointAt i) = place_before w step host _ i (λ p e. absurd cc)
-close_before w step host aborts answer (ListenerAt l) = by (is_done answer)
+close_before w step host aborts answer did (EndpointAt i) = place_before w step host _ i did (λ p e. absurd cc)
+close_before w step host aborts answer did (ListenerAt l) = by (is_done answer)
   where
     by : (d : Bool) → AsBefore w step (if d then record unseen { queueing = queueing.Closes host l } else unseen).touched
     by true = tt
     by false = tt
 
-other_before : (w : World tcp_shape) (step : Step tcp_shape) (host : Host) (thing : SocketTarget) → AsBefore w step (other_sight host (pick w.hosts host).body thing).touched
-other_before w step host (ListenerAt l) = tt
-other_before w step host (EndpointAt i) = place_before w step host _ i (λ p e. absurd cc)
+other_before : (w : World tcp_shape) (step : Step tcp_shape) (host : Host) → (thread : ℕ) × (a : Answer) × (step ≡ Effect thread a) → (thing : SocketTarget)
+    → AsBefore w step (other_sight host (pick w.hosts host).body thing).touched
+other_before w step host did (ListenerAt l) = tt
+other_before w step host did (EndpointAt i) = place_before w step host _ i did (λ p e. absurd cc)
 
 accept_before : (w : World tcp_shape) (step : Step tcp_shape) (host : Host) (answer : Answer) (thing : SocketTarget)
     → AsBefore w step (accept_sight host (pick w.hosts host).body answer thing).touched
 accept_before w step host (answers.Given n) (ListenerAt l) = tt
 accept_before w step host answer thing = tt
 
-call_before : (w : World tcp_shape) (step : Step tcp_shape) (host : Host) (call : Call) (answer : Answer) → AsBefore w step (call_sight host (pick w.hosts host).body call answer).touched
-call_before w step host (calls.Connect x lport rport) (answers.Given n) = record { before = next_before w host; there = inr (inl refl); built = λ p e. absurd cc }
-call_before w step host (calls.Connect x lport rport) answer = tt
-call_before w step host (calls.Accept n) answer =
+call_before : (w : World tcp_shape) (step : Step tcp_shape) (host : Host) (call : Call) (answer : Answer) → (thread : ℕ) × (a : Answer) × (step ≡ Effect thread a)
+    → AsBefore w step (call_sight host (pick w.hosts host).body call answer).touched
+call_before w step host (calls.Connect x lport rport) (answers.Given n) did = record { before = next_before w host; there = inr (inl refl); does = did; built = λ p e. absurd cc }
+call_before w step host (calls.Connect x lport rport) answer did = tt
+call_before w step host (calls.Accept n) answer did =
     thing_before w step (thing_of (pick w.hosts host).body n) (accept_sight host (pick w.hosts host).body answer) (accept_before w step host answer)
-call_before w step host (calls.Send n bytes) answer =
-    thing_before w step (thing_of (pick w.hosts host).body n) (other_sight host (pick w.hosts host).body) (other_before w step host)
-call_before w step host (calls.Shut n) answer =
-    thing_before w step (thing_of (pick w.hosts host).body n) (other_sight host (pick w.hosts host).body) (other_before w step host)
-call_before w step host (calls.Close n) answer =
-    thing_before w step (thing_of (pick w.hosts host).body n) (close_sight host (pick w.hosts host).body false answer) (close_before w step host false answer)
-call_before w step host (calls.Abort n) answer =
-    thing_before w step (thing_of (pick w.hosts host).body n) (close_sight host (pick w.hosts host).body (is_done answer) answer) (close_before w step host (is_done answer) answer)
-call_before w step host call answer = tt
+call_before w step host (calls.Send n bytes) answer did =
+    thing_before w step (thing_of (pick w.hosts host).body n) (other_sight host (pick w.hosts host).body) (other_before w step host did)
+call_before w step host (calls.Shut n) answer did =
+    thing_before w step (thing_of (pick w.hosts host).body n) (other_sight host (pick w.hosts host).body) (other_before w step host did)
+call_before w step host (calls.Close n) answer did =
+    thing_before w step (thing_of (pick w.hosts host).body n) (close_sight host (pick w.hosts host).body false answer) (close_before w step host false answer did)
+call_before w step host (calls.Abort n) answer did =
+    thing_before w step (thing_of (pick w.hosts host).body n) (close_sight host (pick w.hosts host).body (is_done answer) answer) (close_before w step host (is_done answer) answer did)
+call_before w step host call answer did = tt
 
-effect_before : (h : Header) (w : World tcp_shape) (step : Step tcp_shape) (answer : Answer) (u : Turn tcp_shape) → AsBefore w step (effect_sight h w answer u).touched
-effect_before h w step answer Idle = tt
-effect_before h w step answer (Called call) =
+effect_before : (h : Header) (w : World tcp_shape) (step : Step tcp_shape) (answer : Answer)
+    → (thread : ℕ) × (a : Answer) × (step ≡ Effect thread a) → (u : Turn tcp_shape)
+    → AsBefore w step (effect_sight h w answer u).touched
+effect_before h w step answer did Idle = tt
+effect_before h w step answer did (Called call) =
     on_cases (λ (s : Sight). AsBefore w step s.touched) (aim_of (tcp h) w.hosts (aim call)) unseen
-    (λ host. call_sight host (pick w.hosts host).body call answer) tt (λ host is. call_before w step host call answer)
-effect_before h w step answer (Answered given) = tt
+    (λ host. call_sight host (pick w.hosts host).body call answer) tt (λ host is. call_before w step host call answer did)
+effect_before h w step answer did (Answered given) = tt
 
 pub as_before : (h : Header) (moment : ℕ) (w : World tcp_shape) (step : Step tcp_shape) → AsBefore w step (sight h moment w step).touched
 as_before h moment w (Begin line thread call) = tt
 as_before h moment w (Finish line thread answer) = tt
-as_before h moment w (Effect thread answer) = effect_before h w (Effect thread answer) answer (turn_of thread w.threads)
-as_before h moment w (At host (Does x)) = ports_before w (At host (Does x)) host events.Recovers x.lport x.rport (λ i is p e. absurd cc)
-as_before h moment w (At host (Expires line x)) = ports_before w (At host (Expires line x)) host _ x.lport x.rport (λ i is p e. absurd cc)
+as_before h moment w (Effect thread answer) = effect_before h w (Effect thread answer) answer (thread, answer, refl) (turn_of thread w.threads)
+as_before h moment w (At host (Does x)) = ports_before w (At host (Does x)) host events.Recovers x.lport x.rport (x, refl) (λ i is p e. absurd cc)
+as_before h moment w (At host (Expires line x)) = ports_before w (At host (Expires line x)) host _ x.lport x.rport (line, x, refl, refl) (λ i is p e. absurd cc)
 as_before h moment w (At host (Makes m)) =
-    ports_before w (At host (Makes m)) host (events.Builds m) m.lport m.rport
+    ports_before w (At host (Makes m)) host (events.Builds m) m.lport m.rport refl
     (λ i at p e. let same : m ≡ p = cc in record {
       is = ap (λ (q : SegmentPlan). At host (Makes q)) same;
       ports = ap (λ (q : SegmentPlan). place_of (pick w.hosts host).body q.lport q.rport) (sym same) ∙ at;
     })
 as_before h moment w (At host (Sends line number wire)) =
     on_cases (λ (s : Sight). AsBefore w (At host (Sends line number wire)) s.touched) (lookup (nat_eq number) (pick w.hosts host).made) unseen _ tt
-    (λ m is. sender_before w (At host (Sends line number wire)) host m.emission)
+    (λ m is. sender_before w (At host (Sends line number wire)) host m.emission (line, number, wire, refl))
 as_before h moment w (At host (Gets line copied wire)) = tt
 as_before h moment w (At host (Hears line wire)) = tt
 as_before h moment w (At host (Takes line how)) =
@@ -202,7 +226,7 @@ as_before h moment w (At host (Takes line how)) =
     (λ m is. target_before w host line how m is (taker (pick w.hosts host).body m) refl)
 as_before h moment w (At host (Drops line)) =
     on_cases (λ (s : Sight). AsBefore w (At host (Drops line)) s.touched) (waiting line (pick w.hosts host).inbox) unseen _ tt
-    (λ m is. drop_before w (At host (Drops line)) host m (taking_breaks h moment w host line) (taker (pick w.hosts host).body m))
+    (λ m is. drop_before w (At host (Drops line)) host m (taking_breaks h moment w host line) (line, refl) (taker (pick w.hosts host).body m))
 as_before h moment w (At host (Answers line)) = tt
 
 -- ---- whether a step touches an endpoint

@@ -1,7 +1,17 @@
 -- What happens at an endpoint, by the places of a witness's steps.
 use Rattle.std.specs.Prelude.{◌≡◌, ℕ, take, slice_get, Option, None, Some}
 use Rattle.std.specs.Option.{option_map_or}
+use Rattle.case_forms.specs.Traces.{line_at}
+use Rattle.case_forms.specs.declared.calls.Answer.{Answer}
+use Rattle.case_forms.specs.declared.calls.Host.{Host}
+use Rattle.case_forms.specs.declared.named_line.Extras.{Extras}
+use Rattle.case_forms.specs.declared.steps.Label.TheVariants as labels
+use Rattle.case_forms.specs.declared.steps.TakeChoice.{TakeChoice}
 use Rattle.case_forms.specs.declared.steps.Witness.{Witness}
+use Rattle.case_forms.specs.declared.timer.Recovery.{Recovery}
+use Rattle.case_forms.specs.declared.timer.Timer.{Timer}
+use Rattle.case_forms.specs.declared.trace.Event.TheVariants as lines
+use Rattle.case_forms.specs.declared.trace.Line.{Line}
 use Rattle.case_forms.specs.declared.trace.Trace.{Trace}
 use Rattle.spec_network.specs.Hosts.{Stamped, World}
 use Rattle.spec_tcp.specs.Machine.{tcp_shape}
@@ -11,8 +21,11 @@ use Rattle.spec_tcp_laws.specs.Runs.{world_at_end}
 use Rattle.spec_duties.specs.Sights.{sight}
 use Rattle.spec_duties.specs.Views.{unborn, view_of}
 use Rattle.spec_duties.specs.declared.events.Event.{Event}
+use Rattle.spec_duties.specs.declared.events.Event.TheVariants.{Builds, Calls, Drops, Expires, Opens, Processes, Recovers}
+use Rattle.spec_duties.specs.declared.events.Event.TheVariants.{Sends}
 use Rattle.spec_duties.specs.declared.views.View.{View}
 use Rattle.checker.specs.Seen.{act_of, stamped}
+use Rattle.kept_duties.specs.Places.{IsStep, SendsAt}
 
 -- what the step at a place does in the model
 abbrev pub act_at : Trace → Witness → (place : ℕ) → Option (Stamped tcp_shape)
@@ -33,3 +46,34 @@ pub record Happens (t : Trace) (w : Witness) (place moment : ℕ) (me : Endpoint
   pub time : act.moment ≡ moment
   pub touches : (sight t.header act.moment (world_before t w place) act.step).touched
       ≡ Some (record { host = me.host; place = me.number; event = event; before = seen_before t w place me })
+
+-- a timer of the host expires: the step uses this `T` line
+pub record ExpiresAt (t : Trace) (w : Witness) (place moment : ℕ) (host : Host) (timer : Timer) : Type 0 where
+  pub line : ℕ
+  pub extras : Extras
+  pub shown : Line
+  pub lport : ℕ
+  pub rport : ℕ
+  pub step : IsStep w place moment (labels.L (record { number = line; extras = extras }))
+  pub is : line_at t.header t.lines line ≡ Some shown
+  pub expires : shown.event ≡ lines.Expired host lport rport timer
+
+-- the step by which something happens at an endpoint of a host, with its label and its line
+abbrev pub IsBy : Trace → Witness → (place moment : ℕ) → Host → Event → Type 0
+IsBy t w place moment host (Processes length rst) =
+    (line : ℕ) × (choice : TakeChoice) × IsStep w place moment (labels.T host line choice)
+IsBy t w place moment host (Drops asks unlimited) = (line : ℕ) × IsStep w place moment (labels.K host line)
+IsBy t w place moment host (Builds m) = IsStep w place moment (labels.M host m)
+IsBy t w place moment host (Sends s) = (number : ℕ) × SendsAt t w place moment host number
+IsBy t w place moment host (Expires timer) = ExpiresAt t w place moment host timer
+IsBy t w place moment host Recovers = (recovery : Recovery) × IsStep w place moment (labels.F host recovery)
+IsBy t w place moment host (Calls aborts) =
+    (thread : ℕ) × (answer : Answer) × IsStep w place moment (labels.D thread answer)
+IsBy t w place moment host Opens =
+    (thread : ℕ) × (answer : Answer) × IsStep w place moment (labels.D thread answer)
+
+-- what happens is done by such a step
+abbrev pub EventsAreSteps : Trace → Witness → Type 0
+EventsAreSteps t w =
+    (place moment : ℕ) (me : EndpointId) (event : Event) → Happens t w place moment me event
+    → IsBy t w place moment me.host event
