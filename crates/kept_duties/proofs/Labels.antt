@@ -5,7 +5,7 @@ use Rattle.std.specs.Option.{option_map, option_map_or}
 use Rattle.std.proofs.lemmas.Option.{none-some, same_Some, slice_get-map, some_pair_parts}
 use Rattle.case_forms.specs.Steps.{extras_count}
 use Rattle.case_forms.specs.Versions.{is_half}
-use Rattle.case_forms.specs.TakenLines.{event_taken, expired_by, taken_of}
+use Rattle.case_forms.specs.TakenLines.{event_taken, expired_by, taken_of, timer_of}
 use Rattle.case_forms.specs.Traces.{IsTrace, first_event_line, line_at}
 use Rattle.case_forms.specs.declared.calls.Host.{Host}
 use Rattle.case_forms.specs.declared.named_line.Extras.{Extras}
@@ -16,8 +16,12 @@ use Rattle.case_forms.specs.declared.steps.Label.TheVariants as labels
 use Rattle.case_forms.specs.declared.steps.Step.{Step}
 use Rattle.case_forms.specs.declared.steps.Witness.{Witness}
 use Rattle.case_forms.specs.declared.taken_line.Expired.{Expired}
+use Rattle.case_forms.specs.declared.taken_line.Expired.TheVariants as expireds
+use Rattle.case_forms.specs.declared.calls.Ports.{Ports}
 use Rattle.case_forms.specs.declared.taken_line.TakenLine.{TakenLine}
 use Rattle.case_forms.specs.declared.taken_line.TakenLine.TheVariants as taken
+use Rattle.case_forms.specs.declared.timer.Timer.{Timer}
+use Rattle.case_forms.specs.declared.timer.Timer.TheVariants.{Giveup, Msl2, Persist, Rto}
 use Rattle.case_forms.specs.declared.trace.Event.{Event}
 use Rattle.case_forms.specs.declared.trace.Event.TheVariants as events
 use Rattle.case_forms.specs.declared.trace.Header.{Header}
@@ -29,9 +33,9 @@ use Rattle.interval_order.specs.OrderRules.{extras_of}
 use Rattle.interval_order.specs.Placed.{Placed, TakesAt}
 use Rattle.spec_network.specs.Hosts.{Stamped}
 use Rattle.spec_network.specs.Hosts as model
-use Rattle.spec_tcp.specs.Machine.{tcp_shape}
+use Rattle.spec_tcp.specs.Machine.{Expiring, tcp_shape}
 use Rattle.spec_tcp.specs.Steps.{line_step, step_of}
-use Rattle.kept_duties.specs.Happens.{act_at}
+use Rattle.kept_duties.specs.Happens.{ExpiresAt, act_at}
 use Rattle.kept_duties.specs.Places.{ArrivesAt, IsAnswered, IsDropped, IsProcessed, IsStep, LeavesAt, SendsAt, builder}
 use Rattle.checker.specs.Seen.{act_of, move_of, moves}
 use Rattle.kept_duties.proofs.Dev.{number_is}
@@ -300,7 +304,7 @@ arrival_act t w trace placed place moment host line a = by a.extras refl
 -- ---- what happens is done by a step of the witness
 
 -- the label of a hidden step, from what it does in the model
-abbrev hidden_label : model.Step tcp_shape → Option (Label NamedLine)
+abbrev pub hidden_label : model.Step tcp_shape → Option (Label NamedLine)
 hidden_label (model.Effect thread answer) = Some (labels.D thread answer)
 hidden_label (model.At g (model.Makes plan)) = Some (labels.M g plan)
 hidden_label (model.At g (model.Takes line choice)) = Some (labels.T g line choice)
@@ -435,3 +439,65 @@ sends_at t w place x is host line number wire does =
     by l (taken.Came k g copied v) same acts = absurd cc
     by l (taken.Heard k g v) same acts = absurd cc
     by l (taken.Expired k g ports e) same acts = absurd cc
+
+expired_timer : (timer : Timer) (x : Extras) (e : Expired) → expired_by timer x ≡ Some e → timer_of e ≡ timer
+expired_timer Rto (Two c s) e is = ap timer_of (sym (same_Some (expireds.Rto (record { cwnd = c; ssthresh = s })) e is))
+expired_timer Persist Bare e is = ap timer_of (sym (same_Some expireds.Persist e is))
+expired_timer Msl2 Bare e is = ap timer_of (sym (same_Some expireds.Msl2 e is))
+expired_timer Giveup Bare e is = ap timer_of (sym (same_Some expireds.Giveup e is))
+expired_timer timer Bare e is = absurd (none-some e is)
+expired_timer Rto (One a) e is = absurd (none-some e is)
+expired_timer Persist (One a) e is = absurd (none-some e is)
+expired_timer Msl2 (One a) e is = absurd (none-some e is)
+expired_timer Giveup (One a) e is = absurd (none-some e is)
+expired_timer timer (Two a b) e is = absurd (none-some e is)
+
+from_expired : (n thread : ℕ) (e : Event) (x : Extras) (line : ℕ) (host : Host) (ports : Ports) (exp : Expired)
+    → event_taken n thread e x ≡ Some (taken.Expired line host ports exp) → e ≡ events.Expired host ports.lport ports.rport (timer_of exp)
+from_expired n thread (events.Expired g lport rport timer) x line host ports exp is = go (expired_by timer x) refl is
+  where
+    go : (o : Option Expired) → expired_by timer x ≡ o
+        → option_map (λ e. taken.Expired n g (record { lport = lport; rport = rport }) e) o ≡ Some (taken.Expired line host ports exp)
+        → events.Expired g lport rport timer ≡ events.Expired host ports.lport ports.rport (timer_of exp)
+    go None by' is = absurd cc
+    go (Some e) by' is =
+        let same : taken.Expired n g (record { lport = lport; rport = rport }) e ≡ taken.Expired line host ports exp = same_Some _ _ is in
+        let here : g ≡ host = cc in
+        let found : record { lport = lport; rport = rport } ≡ ports = cc in
+        let what : e ≡ exp = cc in
+        let time : timer ≡ timer_of exp = sym (expired_timer timer x e by') ∙ ap timer_of what in
+        λ i. events.Expired (here i) (found i).lport (found i).rport (time i)
+from_expired n thread e Bare line host ports exp is = absurd cc
+from_expired n thread e (One a) line host ports exp is = absurd cc
+from_expired n thread e (Two a b) line host ports exp is = absurd cc
+
+-- the line by which a timer expires
+pub expires_at : (t : Trace) (w : Witness) (place : ℕ) (x : Stamped tcp_shape) → act_at t w place ≡ Some x
+    → (host : Host) (line : ℕ) (expiring : Expiring) (timer : Timer) → x.step ≡ model.At host (model.Expires line expiring)
+    → timer_of expiring.expired ≡ timer → ExpiresAt t w place x.moment host timer
+expires_at t w place x is host line expiring timer does of =
+    let l = line_of_act t w place x is (ap hidden_label does) in
+    by l l.line refl (l.acts ∙ does)
+  where
+    by : (l : TakesLine t w place x.moment x.step) → (taken' : TakenLine) → l.line ≡ taken' → line_step taken' ≡ model.At host (model.Expires line expiring)
+        → ExpiresAt t w place x.moment host timer
+    by l (taken.Expired k g ports exp) same acts =
+        let same_host : g ≡ host = cc in
+        let what : record { lport = ports.lport; rport = ports.rport; expired = exp } ≡ expiring = cc in
+        let e = from_expired l.shown.number l.shown.thread l.shown.event l.named.extras k g ports exp (l.takes ∙ ap (λ (y : TakenLine). Some y) same) in
+        let time : timer_of exp ≡ timer = ap (λ (y : Expiring). timer_of y.expired) what ∙ of in
+        record {
+          line = l.named.number;
+          extras = l.named.extras;
+          shown = l.shown;
+          lport = ports.lport;
+          rport = ports.rport;
+          step = l.label;
+          is = l.there;
+          expires = e ∙ (λ i. events.Expired (same_host i) ports.lport ports.rport (time i));
+        }
+    by l (taken.CallBegin k thread call) same acts = absurd cc
+    by l (taken.CallEnd k thread answer) same acts = absurd cc
+    by l (taken.Came k g copied v) same acts = absurd cc
+    by l (taken.Heard k g v) same acts = absurd cc
+    by l (taken.Sent k g made v) same acts = absurd cc

@@ -10,3 +10,5 @@ pub mod Repeats
 pub mod Since
 pub mod Soon
 pub mod Counts
+pub mod Events
+pub mod Facts

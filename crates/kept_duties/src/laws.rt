@@ -7,6 +7,7 @@ ghost use Rattle.case_forms.specs.declared.steps.Witness.{Witness};
 ghost use Rattle.spec_duties.specs.Resent.{judges_repeats};
 ghost use Rattle.checker.specs.Explains.{Explains};
 ghost use Rattle.kept_duties.specs.Segments.{ArrivalsAreHandled, SendingsAreFresh};
+ghost use Rattle.kept_duties.specs.Happens.{EventsAreSteps};
 ghost use Rattle.kept_duties.specs.Repeats.{NothingIsResentTwice};
 ghost use Rattle.kept_duties.specs.Counts.{AcknowledgmentsAreFew};
 ghost use Rattle.kept_duties.specs.Soon.{ReceiptsAreAnswered, ExpiriesAreFollowed};
@@ -23,6 +24,12 @@ pub fn arrivals_are_handled()
 pub fn sendings_are_fresh()
     ensures { (t : Trace) (w : Witness) (slack : ℕ) → Explains t w → t.header.slack ≡ Some slack
         → SendingsAreFresh t w slack }
+{}
+
+/// What happens at an endpoint is done by a step of the witness with the label or the line that belongs to it, of the
+/// endpoint's host. So the laws below are about steps and lines.
+pub fn events_are_steps()
+    ensures { (t : Trace) (w : Witness) → EventsAreSteps t w }
 {}
 
 /// Between two expiries or the like, an endpoint built no position twice again, if the header says that retransmissions

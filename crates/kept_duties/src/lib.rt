@@ -19,6 +19,6 @@
 mod laws;
 
 pub use laws::{
-    acknowledgments_are_few, arrivals_are_handled, expiries_are_followed, nothing_is_resent_twice,
-    receipts_are_answered, sendings_are_fresh,
+    acknowledgments_are_few, arrivals_are_handled, events_are_steps, expiries_are_followed,
+    nothing_is_resent_twice, receipts_are_answered, sendings_are_fresh,
 };
