@@ -1,5 +1,6 @@
 -- What is sent had just been built.
-use Rattle.std.proofs.Common.{◌≡◌, ℕ, suc, ◌+◌, ◌<◌, ◌≤◌, ◌⊎◌, inl, inr, Bool, true, false, List, Option, Some, None, refl, ap, sym, subst, ◌∙◌, cond, nat_eq, arith}
+use Rattle.std.proofs.Common.{◌≡◌, ℕ, suc, ◌+◌, ◌<◌, ◌≤◌, ◌⊎◌, inl, inr, Bool, true, false, List, Option, Some, None, refl, ap, sym, subst, ◌∙◌, cond, nat_eq}
+use Rattle.std.proofs.Common.{arith}
 use Rattle.std.specs.Prelude.{if◌then◌else◌, is_some}
 use Rattle.std.specs.Map.{lookup}
 use Rattle.std.specs.Option.{option_map, option_map_or}
@@ -26,7 +27,7 @@ use Rattle.spec_duties.specs.declared.views.View.{View}
 use Rattle.kept_duties.proofs.Inbox.{not_late}
 use Rattle.kept_duties.proofs.Runs.{Goes, Run, run_goes, run_keeps}
 use Rattle.kept_duties.proofs.Sights.{IsMade, IsNew, PostOf, builds, count_after, made_by, made_from, post_builds, post_of, post_sends, sends}
-use Rattle.kept_duties.proofs.Sights.{waiting_insert}
+use Rattle.kept_duties.proofs.Sights.{waiting_elsewhere, waiting_here}
 
 module _ (h : Header) (slack n : ℕ) (acts : ℕ → Option (Stamped tcp_shape)) (known : ℕ → Known) (r : Run h slack n acts known) where
   -- whether an act builds a mere acknowledgment
@@ -149,7 +150,7 @@ module _ (h : Header) (slack n : ℕ) (acts : ℕ → Option (Stamped tcp_shape)
           let self : nat_eq number number ≡ true = grind (arith, nat_tests) in (
             just_built,
             go_on number (post.Builds number) (made ∙ ap post.Builds (sym now.number))
-                ∙ waiting_insert number number (Some just_built) table ∙ ap (λ b. cond b (Some just_built) (waiting number table)) self,
+                ∙ waiting_here number (Some just_built) table,
             refl,
             refl,
           );
@@ -166,7 +167,7 @@ module _ (h : Header) (slack n : ℕ) (acts : ℕ → Option (Stamped tcp_shape)
             let low' = low_number j host number (omega (arith, low)) was in
             let next = of.0 in
             let other : nat_eq number q ≡ false = grind (arith, nat_tests, low', next) in
-            go_on number (post.Builds q) shows ∙ waiting_insert number q (Some just_built) table ∙ ap (λ b. cond b (Some just_built) (waiting number table)) other ∙ waits
+            go_on number (post.Builds q) shows ∙ waiting_elsewhere number q (Some just_built) table other ∙ waits
         by (post.Sends q) shows of = test (nat_eq number q) refl
           where
             test : (t : Bool) → nat_eq number q ≡ t → waiting number (known (suc j)).duties.built ≡ Some b
@@ -176,7 +177,7 @@ module _ (h : Header) (slack n : ℕ) (acts : ℕ → Option (Stamped tcp_shape)
                 let other = subst (λ (k : ℕ). WasBuilt j of.0 k) e (all of.0 q sent.1.made sent.1.there).was in
                 let one : of.0 ≡ host = same_builder j of.0 host number (omega (arith, low)) other was in
                 absurd (not (of.1 ∙ ap (λ (g : Host). Some (g, q)) one ∙ ap (λ (k : ℕ). Some (host, k)) e))
-            test false other = go_on number (post.Sends q) shows ∙ waiting_insert number q None table ∙ ap (λ b. cond b None (waiting number table)) other ∙ waits
+            test false other = go_on number (post.Sends q) shows ∙ waiting_elsewhere number q None table other ∙ waits
 
     step : AllInTime (suc j) (known (suc j))
     step host number m there =

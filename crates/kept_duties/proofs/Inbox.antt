@@ -1,5 +1,6 @@
 -- What came to an inbox leaves it in time.
-use Rattle.std.proofs.Common.{◌≡◌, ℕ, suc, ◌+◌, ◌<◌, ◌≤◌, ◌⊎◌, inl, inr, Bool, true, false, List, [], ◌∷◌, Option, Some, None, refl, ap, sym, subst, ◌∙◌, cond, nat_eq, arith}
+use Rattle.std.proofs.Common.{◌≡◌, ℕ, suc, ◌+◌, ◌<◌, ◌≤◌, ◌⊎◌, inl, inr, Bool, true, false, List, [], ◌∷◌, Option, Some, None, refl, ap, sym, subst, ◌∙◌, cond}
+use Rattle.std.proofs.Common.{nat_eq, arith}
 use Rattle.std.specs.Prelude.{if◌then◌else◌, is_some, nat_lt}
 use Rattle.std.proofs.lemmas.Bool.Decides.{nat_tests}
 use Rattle.std.proofs.lemmas.Option.{none-some, same_Some, some_pair_parts}
@@ -19,7 +20,7 @@ use Rattle.spec_duties.specs.Watching.{Duties, duty_rules, inbox_after, leaves_l
 use Rattle.spec_duties.specs.declared.sights.Mail.{Mail}
 use Rattle.spec_duties.specs.declared.sights.Mail.TheVariants as mail
 use Rattle.kept_duties.proofs.Runs.{Goes, Run, run_goes, run_keeps}
-use Rattle.kept_duties.proofs.Sights.{MailOf, enters, leaves, inbox_from, leaves_waits, mail_enters, mail_of, waiting_insert}
+use Rattle.kept_duties.proofs.Sights.{MailOf, enters, leaves, inbox_from, leaves_waits, mail_enters, mail_of, waiting_elsewhere, waiting_here}
 
 -- a moment that isn't late
 pub not_late : (slack since moment : ℕ) (due : Option ℕ) → due ≡ Some since → is_late slack moment due ≡ false → moment ≤ since + slack
@@ -82,11 +83,9 @@ module _ (h : Header) (slack n : ℕ) (acts : ℕ → Option (Stamped tcp_shape)
     begins =
         let goes = run_goes h slack n acts known r i x low is in
         let s = sight h x.moment (known i).model x.step in
-        let self : nat_eq line line ≡ true = grind (arith, nat_tests) in
         inr (ap (λ (d : Duties). waiting line d.inbox) goes.duties
         ∙ ap (λ m. waiting line (inbox_after x.moment m (known i).duties.inbox)) (mail_enters h x.moment (known i).model x.step host line comes)
-        ∙ waiting_insert line line (Some x.moment) (known i).duties.inbox
-        ∙ ap (λ b. cond b (Some x.moment) (waiting line (known i).duties.inbox)) self)
+        ∙ waiting_here line (Some x.moment) (known i).duties.inbox)
 
     -- whoever takes it is the host where it came
     same_host : (j : ℕ) → j ≤ n → (g : Host) (m : Emission) → waiting line (pick (known j).model.hosts g).inbox ≡ Some m → g ≡ host
@@ -107,7 +106,8 @@ module _ (h : Header) (slack n : ℕ) (acts : ℕ → Option (Stamped tcp_shape)
 
         go_on : (m : Mail) → (sight h y.moment (known j).model y.step).mail ≡ m → waiting line (inbox_after y.moment m d.inbox) ≡ Some x.moment
             → IsLeft (suc j) (known (suc j))
-        go_on m shows still = inr (ap (λ (d : Duties). waiting line d.inbox) goes.duties ∙ ap (λ m. waiting line (inbox_after y.moment m d.inbox)) shows ∙ still)
+        go_on m shows still = inr (ap (λ (d : Duties). waiting line d.inbox) goes.duties ∙ ap (λ m. waiting line (inbox_after y.moment m d.inbox)) shows
+            ∙ still)
 
         leaving : (g : Host) → (sight h y.moment (known j).model y.step).mail ≡ mail.Leaves line → leaves y.step ≡ Some (g, line)
             → IsLeft (suc j) (known (suc j))
@@ -136,8 +136,7 @@ module _ (h : Header) (slack n : ℕ) (acts : ℕ → Option (Stamped tcp_shape)
                 let one : j ≡ i = once j y known'.0 at (known'.1 ∙ ap (λ (q : ℕ). Some (known'.0, q)) e) in
                 absurd (omega (arith, one, behind))
             test false differs =
-                go_on (mail.Enters k) shows (waiting_insert line k (Some y.moment) d.inbox
-                ∙ ap (λ b. cond b (Some y.moment) (waiting line d.inbox)) differs ∙ waits)
+                go_on (mail.Enters k) shows (waiting_elsewhere line k (Some y.moment) d.inbox differs ∙ waits)
         by (mail.Leaves k) shows known' = test (nat_eq line k) refl
           where
             test : (b : Bool) → nat_eq line k ≡ b → IsLeft (suc j) (known (suc j))
@@ -145,8 +144,7 @@ module _ (h : Header) (slack n : ℕ) (acts : ℕ → Option (Stamped tcp_shape)
                 let e : k ≡ line = grind (arith, nat_tests, same) in
                 leaving known'.0 (shows ∙ ap mail.Leaves e) (known'.1 ∙ ap (λ (q : ℕ). Some (known'.0, q)) e)
             test false differs =
-                go_on (mail.Leaves k) shows (waiting_insert line k None d.inbox
-                ∙ ap (λ b. cond b None (waiting line d.inbox)) differs ∙ waits)
+                go_on (mail.Leaves k) shows (waiting_elsewhere line k None d.inbox differs ∙ waits)
 
     -- it leaves the inbox in time, or is there at the end
     pub left_or_waits : IsLeft n (known n)

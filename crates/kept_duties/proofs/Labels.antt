@@ -1,12 +1,16 @@
 -- What the model's act of a step says of the step's label and line, and the other way round.
-use Rattle.std.proofs.Common.{◌≡◌, ℕ, ◌⊎◌, inl, inr, Bool, true, false, arith, List, Option, Some, None, refl, ap, sym, ◌∙◌}
+use Rattle.std.proofs.Common.{◌≡◌, ℕ, ◌+◌, ◌⊎◌, inl, inr, Bool, true, false, List, [], ◌∷◌, Option, Some, None, refl, ap, sym, ◌∙◌, nat_eq}
+use Rattle.std.proofs.Common.{arith}
+use Rattle.std.specs.List.{enumerate_from}
+use Rattle.std.specs.Map.{lookup}
+use Rattle.std.proofs.lemmas.Bool.Decides.{nat_tests}
 use Rattle.std.specs.Prelude.{if◌then◌else◌, slice_get}
 use Rattle.std.specs.Option.{option_map, option_map_or}
 use Rattle.std.proofs.lemmas.Option.{none-some, same_Some, slice_get-map, some_pair_parts}
 use Rattle.case_forms.specs.Steps.{extras_count}
 use Rattle.case_forms.specs.Versions.{is_half}
 use Rattle.case_forms.specs.TakenLines.{event_taken, expired_by, taken_of, timer_of}
-use Rattle.case_forms.specs.Traces.{IsTrace, first_event_line, line_at}
+use Rattle.case_forms.specs.Traces.{IsRecorded, IsTrace, first_event_line, line_at}
 use Rattle.case_forms.specs.declared.calls.Host.{Host}
 use Rattle.case_forms.specs.declared.named_line.Extras.{Extras}
 use Rattle.case_forms.specs.declared.named_line.Extras.TheVariants.{Bare, One, Two}
@@ -38,8 +42,20 @@ use Rattle.spec_tcp.specs.Steps.{line_step, step_of}
 use Rattle.kept_duties.specs.Happens.{ExpiresAt, act_at}
 use Rattle.kept_duties.specs.Places.{ArrivesAt, IsAnswered, IsDropped, IsProcessed, IsStep, LeavesAt, SendsAt, builder}
 use Rattle.checker.specs.Seen.{act_of, move_of, moves}
-use Rattle.kept_duties.proofs.Dev.{number_is}
 use Rattle.kept_duties.proofs.Sights.{enters, leaves, builds, sends}
+
+-- ---- lines by their numbers
+
+number_is : (k b n : ℕ) (lines : List Line) (line : Line) → IsRecorded k b lines → lookup (nat_eq n) (enumerate_from k lines) ≡ Some line → line.number ≡ n
+number_is k b n [] line r at = absurd (none-some line at)
+number_is k b n (x ∷ lines) line r at = go (nat_eq n k) refl (λ a. number_is (k + 1) x.moment n lines line r.2 a)
+  where
+    go : (t : Bool) → nat_eq n k ≡ t → (lookup (nat_eq n) (enumerate_from (k + 1) lines) ≡ Some line → line.number ≡ n) → line.number ≡ n
+    go true is rest =
+        let e : x ≡ line = same_Some x line (rw is at at) in
+        let same : n ≡ k = grind (arith, nat_tests, is) in
+        ap (λ (l : Line). l.number) (sym e) ∙ (r.0 ∙ sym same)
+    go false is rest = rest (rw is at at)
 
 -- ---- from the line that is taken to the trace's event
 
@@ -149,7 +165,8 @@ module _ (t : Trace) (w : Witness) (place : ℕ) where
           by : ((copied : ℕ) × (wire : Wire) × (line ≡ taken.Came k host copied wire)) ⊎ ((wire : Wire) × (line ≡ taken.Heard k host wire))
               → ArrivesAt t w place x.moment host k
           by (inl p) =
-              let q = from_came shown.number shown.thread shown.event named.extras k host p.0 p.1 (takes ∙ ap (λ (l : TakenLine). Some l) p.2) in make p.1 q.0 q.1
+              let q = from_came shown.number shown.thread shown.event named.extras k host p.0 p.1
+                  (takes ∙ ap (λ (l : TakenLine). Some l) p.2) in make p.1 q.0 q.1
           by (inr p) =
               let q = from_heard shown.number shown.thread shown.event named.extras k host p.0 (takes ∙ ap (λ (l : TakenLine). Some l) p.1) in make p.0 q.0 q.1
 
@@ -195,7 +212,8 @@ module _ (t : Trace) (w : Witness) (place : ℕ) where
       at moment (labels.M g plan) span here is = absurd (not_so leaves (host, k) moment (model.At g (model.Makes plan)) x refl is takes)
       at moment (labels.T g line choice) span here is =
           let p = parts g line moment (model.At g (model.Takes line choice)) refl is in
-          IsProcessed choice (record { span = span; here = here ∙ (λ i. Some (record { moment = p.2 i; label = labels.T (p.0 i) (p.1 i) choice; span = span })) })
+          IsProcessed choice (record { span = span; here = here ∙ (λ i. Some
+              (record { moment = p.2 i; label = labels.T (p.0 i) (p.1 i) choice; span = span })) })
       at moment (labels.K g line) span here is =
           let p = parts g line moment (model.At g (model.Drops line)) refl is in
           IsDropped (record { span = span; here = here ∙ (λ i. Some (record { moment = p.2 i; label = labels.K (p.0 i) (p.1 i); span = span })) })
@@ -362,7 +380,8 @@ pub line_of_act : (t : Trace) (w : Witness) (place : ℕ) (x : Stamped tcp_shape
     → TakesLine t w place x.moment x.step
 line_of_act t w place x is no' = by (slice_get w.steps place) refl is
   where
-    clash : {A : Type 0} (moment : ℕ) (found : Label NamedLine) (step : model.Step tcp_shape) → hidden_label step ≡ Some found → Some (stamp moment step) ≡ Some x → A
+    clash : {A : Type 0} (moment : ℕ) (found : Label NamedLine) (step : model.Step tcp_shape) → hidden_label step ≡ Some found → Some (stamp moment step)
+        ≡ Some x → A
     clash moment found step of acts =
         absurd (none-some found (sym no' ∙ sym (ap (λ (y : Stamped tcp_shape). hidden_label y.step) (same_Some (stamp moment step) x acts)) ∙ of))
 

@@ -1,4 +1,3 @@
-pub mod Dev
 pub mod Runs
 pub mod Sights
 pub mod Inbox

@@ -1,5 +1,6 @@
 -- What a yes with a slack says of segments.
-use Rattle.std.proofs.Common.{◌≡◌, ℕ, suc, ◌+◌, ◌<◌, ◌≤◌, ◌⊎◌, inl, inr, Bool, true, false, List, [], ◌∷◌, length, take, Option, Some, None, refl, ap, sym, subst, ◌∙◌, add-one, arith}
+use Rattle.std.proofs.Common.{◌≡◌, ℕ, suc, ◌+◌, ◌<◌, ◌≤◌, ◌⊎◌, inl, inr, Bool, true, false, List, [], ◌∷◌, length, take, Option, Some, None, refl, ap, sym}
+use Rattle.std.proofs.Common.{subst, ◌∙◌, add-one, arith}
 use Rattle.std.specs.Prelude.{count_by, get_or, if◌then◌else◌, is_some, slice_get}
 use Rattle.std.specs.Option.{option_map, option_map_or}
 use Rattle.std.proofs.lemmas.List.Sums.{count_by_more_no, count_by_more_yes}
@@ -82,7 +83,8 @@ end_fine t w slack given late =
     (sym (ap (λ o. on o None (λ slack. end.late_at_end slack moment k.duties k.model)) given)
     ∙ sym (ap (λ (k : Known). late_at_end t.header moment k) all) ∙ late)
 
-module _ (t : Trace) (w : Witness) (slack : ℕ) (given : t.header.slack ≡ Some slack) (lawful : Lawful (tcp t.header) (first_known t.header).model (stamped t.header t.lines w.steps))
+module _ (t : Trace) (w : Witness) (slack : ℕ) (given : t.header.slack ≡ Some slack)
+    (lawful : Lawful (tcp t.header) (first_known t.header).model (stamped t.header t.lines w.steps))
     (dutiful : Dutiful t.header (first_known t.header) (stamped t.header t.lines w.steps)) where
   abbrev acts : ℕ → Option (Stamped tcp_shape)
   acts = act_at t w
@@ -95,13 +97,15 @@ module _ (t : Trace) (w : Witness) (slack : ℕ) (given : t.header.slack ≡ Som
 
   -- as many segments were built as the steps before build
   pub count_is : (place : ℕ) → place ≤ length w.steps → (known_before t w place).model.count ≡ built_before w place
-  count_is place high = onward (λ j. (known j).model.count ≡ built_before w j) 0 place (omega arith) refl (λ j low less was. next j (omega (arith, less, high)) was)
+  count_is place high = onward (λ j. (known j).model.count ≡ built_before w j) 0 place (omega arith) refl
+      (λ j low less was. next j (omega (arith, less, high)) was)
     where
       one : (j : ℕ) (s : Step) → j < length w.steps → slice_get w.steps j ≡ Some s → (o : Option (Stamped tcp_shape)) → act_of t.header t.lines s ≡ o
           → (known (suc j)).model.count ≡ (if is_some (builder s.label) then suc (known j).model.count else (known j).model.count)
       one j s low at None is =
           let same : known (suc j) ≡ known j =
-          subst (λ o. Steps t.header slack (known j) (known (suc j)) o) (ap (λ (o : Option Step). option_map_or (act_of t.header t.lines) o None) at ∙ is) (run.each j low) in
+          subst (λ o. Steps t.header slack (known j) (known (suc j)) o) (ap (λ (o : Option Step). option_map_or (act_of t.header t.lines) o None) at ∙ is)
+              (run.each j low) in
           ap (λ (k : Known). k.model.count) same
           ∙ sym (ap (λ (o : Option Host). if is_some o then suc (known j).model.count else (known j).model.count) (builder_none t.header t.lines s is))
       one j s low at (Some x) is =
@@ -141,7 +145,8 @@ module _ (t : Trace) (w : Witness) (slack : ℕ) (given : t.header.slack ≡ Som
       }
 
   module _ (trace : IsTrace t) (placed : Placed t.header t.lines (moves w.steps))
-      (late : late_at_end t.header (last_moment (moves w.steps)) (known_after_all t.header (first_known t.header) (stamped t.header t.lines w.steps)) ≡ None) where
+      (late : late_at_end t.header (last_moment (moves w.steps)) (known_after_all t.header (first_known t.header) (stamped t.header t.lines w.steps))
+          ≡ None) where
     pub arrivals_handled : ArrivalsAreHandled t w slack
     arrivals_handled place moment line host a =
         let x = arrival_act t w trace placed place moment host line a in

@@ -142,7 +142,8 @@ post_of h moment w (At host (Does x)) = tt
 post_of h moment w (At host (Expires line x)) = tt
 post_of h moment w (At host (Makes m)) = (refl, host, refl)
 post_of h moment w (At host (Sends line number wire)) =
-    on_cases (λ (s : Sight). PostOf w.count s.post (At host (Sends line number wire))) (lookup (nat_eq number) (pick w.hosts host).made) unseen _ tt (λ m is. (host, refl))
+    on_cases (λ (s : Sight). PostOf w.count s.post (At host (Sends line number wire))) (lookup (nat_eq number) (pick w.hosts host).made) unseen _ tt
+        (λ m is. (host, refl))
 post_of h moment w (At host (Gets line copied wire)) = tt
 post_of h moment w (At host (Hears line wire)) = tt
 post_of h moment w (At host (Takes line how)) =
@@ -176,7 +177,8 @@ mail_leaves h moment w (At g (Drops k)) host line may e =
 mail_leaves h moment w (At g (Answers k)) host line may e = ap mail.Leaves (pair_right g host k line e)
 mail_leaves h moment w step host line may e = absurd (none-some (host, line) e)
 
-waits_there : {P : Emission → Type 0} (w : World tcp_shape) (g : Host) (k : ℕ) (host : Host) (line : ℕ) → ◌≡◌ {A = Option (Host × ℕ)} (Some (g, k)) (Some (host, line))
+waits_there : {P : Emission → Type 0} (w : World tcp_shape) (g : Host) (k : ℕ) (host : Host) (line : ℕ)
+    → ◌≡◌ {A = Option (Host × ℕ)} (Some (g, k)) (Some (host, line))
     → (m : Emission) × (waiting k (pick w.hosts g).inbox ≡ Some m) × P m
     → (m : Emission) × (waiting line (pick w.hosts host).inbox ≡ Some m)
 waits_there w g k host line e p =
@@ -224,7 +226,7 @@ post_sends h moment w step host number may e = absurd (none-some (host, number) 
 
 -- ---- the model's tables
 
-pub waiting_insert : {E : Type 0} (q n : ℕ) (v : Option E) (es : List (ℕ × Option E))
+waiting_insert : {E : Type 0} (q n : ℕ) (v : Option E) (es : List (ℕ × Option E))
     → waiting q (insert_entry nat_eq es n v) ≡ cond (nat_eq q n) v (waiting q es)
 waiting_insert {E} q n v es = ap (λ (o : Option (Option E)). on o None (λ e. e)) (lookup_insert q n v es) ∙ go (nat_eq q n)
   where
@@ -249,6 +251,16 @@ effect_same f same h moment w thread answer host = by (turn_of thread w.threads)
     by Idle = refl
     by (Called call) = called call (aim_of (tcp h) w.hosts (aim call))
     by (Answered given) = refl
+
+-- under the number that is written, and under another
+pub waiting_here : {E : Type 0} (n : ℕ) (v : Option E) (es : List (ℕ × Option E)) → waiting n (insert_entry nat_eq es n v) ≡ v
+waiting_here n v es =
+    let self : nat_eq n n ≡ true = grind (arith, nat_tests) in
+    waiting_insert n n v es ∙ ap (λ b. cond b v (waiting n es)) self
+
+pub waiting_elsewhere : {E : Type 0} (q n : ℕ) (v : Option E) (es : List (ℕ × Option E)) → nat_eq q n ≡ false
+    → waiting q (insert_entry nat_eq es n v) ≡ waiting q es
+waiting_elsewhere q n v es other = waiting_insert q n v es ∙ ap (λ b. cond b v (waiting q es)) other
 
 -- what waits in an inbox after a step entered it then, or waited before
 abbrev Waits : World tcp_shape → Step tcp_shape → Host → (line : ℕ) → Type 0
@@ -405,7 +417,8 @@ made_from h moment w (At g d) host n m is =
     still : (d : Deed tcp_shape) → (sends (At g d) ≡ Some (g, n) → ⊥) → lookup (nat_eq n) (pick w.hosts g).made ≡ Some m → IsMade w (At g d) g n m
     still d not at = made_still w (At g d) g n m not at
 
-    deed : (d : Deed tcp_shape) → lookup (nat_eq n) (deed_after (tcp h) g moment (suc w.count) (pick w.hosts (other g)).wire (pick w.hosts g) d).made ≡ Some m → IsMade w (At g d) g n m
+    deed : (d : Deed tcp_shape) → lookup (nat_eq n) (deed_after (tcp h) g moment (suc w.count) (pick w.hosts (other g)).wire (pick w.hosts g) d).made ≡ Some m
+        → IsMade w (At g d) g n m
     deed (Does x) at = still (Does x) (λ e. none-some _ e) at
     deed (Expires line x) at = still (Expires line x) (λ e. none-some _ e) at
     deed (Makes x) at = made_new h moment w (At g (Makes x)) g ((tcp h).making x) n m refl refl (still (Makes x) (λ e. none-some _ e)) at

@@ -52,7 +52,8 @@ open_or_closed P event before after moment listener counts o closed open' = by (
 
 -- ---- acknowledge
 
-acknowledge_onward : (event : Event) (before after : View) (moment : ℕ) (listener : Option ℕ) (counts : Bool) (o : Owed) (since : ℕ) → o.acknowledge ≡ Some since
+acknowledge_onward : (event : Event) (before after : View) (moment : ℕ) (listener : Option ℕ) (counts : Bool) (o : Owed) (since : ℕ) → o.acknowledge
+    ≡ Some since
     → Answers event before after ⊎ (is_closed after.state ≡ true) ⊎ ((owed_after event before after moment listener counts o).acknowledge ≡ Some since)
 acknowledge_onward event before after moment listener counts o since is =
     open_or_closed (λ n. Answers event before after ⊎ (is_closed after.state ≡ true) ⊎ (n.acknowledge ≡ Some since)) event before after moment listener counts o
@@ -64,7 +65,8 @@ acknowledge_onward event before after moment listener counts o since is =
 
     by : (b : Bool) → is_answer event ≡ b
         → Answers event before after ⊎ (is_closed after.state ≡ true)
-        ⊎ ((if b then None else if asks_ack event before.state moment o.acknowledged then option_or o.acknowledge (Some moment) else o.acknowledge) ≡ Some since)
+        ⊎ ((if b then None else if asks_ack event before.state moment o.acknowledged then option_or o.acknowledge (Some moment) else o.acknowledge)
+            ≡ Some since)
     by true answers = inl answers
     by false answers = inr (inr (asks (asks_ack event before.state moment o.acknowledged)))
 
@@ -104,10 +106,12 @@ acknowledge_duty = record {
 }
 
 -- what is received is to be acknowledged
-acknowledge_begins : (length : ℕ) (before after : View) (moment : ℕ) (listener : Option ℕ) (counts : Bool) (o : Owed) → 0 < length → receives before.state ≡ true
+acknowledge_begins : (length : ℕ) (before after : View) (moment : ℕ) (listener : Option ℕ) (counts : Bool) (o : Owed) → 0 < length → receives before.state
+    ≡ true
     → (is_closed after.state ≡ true) ⊎ ((since : ℕ) × ((owed_after (Processes length false) before after moment listener counts o).acknowledge ≡ Some since))
 acknowledge_begins length before after moment listener counts o some receives' =
-    open_or_closed (λ n. (is_closed after.state ≡ true) ⊎ ((since : ℕ) × (n.acknowledge ≡ Some since))) (Processes length false) before after moment listener counts o
+    open_or_closed (λ n. (is_closed after.state ≡ true) ⊎ ((since : ℕ) × (n.acknowledge ≡ Some since)))
+        (Processes length false) before after moment listener counts o
     (λ closed. inl closed) (inr (kept o.acknowledge))
   where
     asks : (receives before.state && nat_lt 0 length && not false) ≡ true
@@ -124,7 +128,8 @@ acknowledge_begins length before after moment listener counts o some receives' =
 retransmit_onward : (event : Event) (before after : View) (moment : ℕ) (listener : Option ℕ) (counts : Bool) (o : Owed) (since : ℕ) → o.retransmit ≡ Some since
     → SendsOldest event before after ⊎ (is_closed after.state ≡ true) ⊎ ((owed_after event before after moment listener counts o).retransmit ≡ Some since)
 retransmit_onward event before after moment listener counts o since is =
-    open_or_closed (λ n. SendsOldest event before after ⊎ (is_closed after.state ≡ true) ⊎ (n.retransmit ≡ Some since)) event before after moment listener counts o
+    open_or_closed (λ n. SendsOldest event before after ⊎ (is_closed after.state ≡ true)
+        ⊎ (n.retransmit ≡ Some since)) event before after moment listener counts o
     (λ closed. inr (inl closed)) (by (is_timeout event) (sends_oldest event before || acknowledges_more before after) refl)
   where
     by : (a b : Bool) → (sends_oldest event before || acknowledges_more before after) ≡ b
@@ -154,7 +159,8 @@ retransmit_duty = record {
   rules = λ l all. all.1.1.0;
   either = λ a b. refl;
   fine = λ slack moment v listener o since none open' is.
-      let both = neither (is_late slack moment o.retransmit) (is_late slack moment o.probe) (late_open (λ l. l.retransmit ≡ false) slack moment v listener o open' none) in
+      let both = neither (is_late slack moment o.retransmit) (is_late slack moment o.probe)
+          (late_open (λ l. l.retransmit ≡ false) slack moment v listener o open' none) in
       let le = not_late slack since moment o.retransmit is both.0 in
       omega (arith, le);
 }
@@ -175,7 +181,8 @@ module _ (t : Trace) (w : Witness) (slack : ℕ) (r : Run t.header slack (length
     (placed : Placed t.header t.lines (moves w.steps))
     (late : first_broken (end_rules slack (last_moment (moves w.steps)) (known_before t w (length w.steps)).duties
     (known_before t w (length w.steps)).model) ≡ None) where
-  arises : (me : EndpointId) (get : Owed → Option ℕ) (extra : ℕ) (Kind : Event → (before after : View) → Type 0) (sel : Lates → Bool) (duty : Duty get extra Kind sel)
+  arises : (me : EndpointId) (get : Owed → Option ℕ) (extra : ℕ) (Kind : Event → (before after : View) → Type 0) (sel : Lates → Bool)
+      (duty : Duty get extra Kind sel)
       → (place moment : ℕ) (event : Event) → (event ≡ Opens → ⊥) → Happens t w place moment me event
       → ((before after : View) (moment : ℕ) (listener : Option ℕ) (counts : Bool) (o : Owed) → before ≡ seen_before t w place me
       → (is_closed after.state ≡ true) ⊎ ((since : ℕ) × (get (owed_after event before after moment listener counts o) ≡ Some since)))
@@ -200,7 +207,8 @@ module _ (t : Trace) (w : Witness) (slack : ℕ) (r : Run t.header slack (length
       since_then since now false open' =
           let low = within t w place a.act a.is in
           let goes = goes_of t w slack r place a.act a.is in
-          let e = there_after t.header a.act.moment (known_before t w place).model a.act.step me event (steady_at t w slack r placed place (omega (arith, low))) goes.permitted
+          let e = there_after t.header a.act.moment (known_before t w place).model a.act.step me event
+              (steady_at t w slack r placed place (omega (arith, low))) goes.permitted
           not_opens (happens_to t w place moment me event a) in
           let still : Still t w slack r placed me get extra Kind sel duty place a.act a.is low since (known_before t w (suc place)) =
           record { owes = now; open' = open'; there = (e.0, ap (λ (v : World tcp_shape). find v.hosts me) goes.model ∙ e.1) } in
@@ -208,7 +216,8 @@ module _ (t : Trace) (w : Witness) (slack : ℕ) (r : Run t.header slack (length
           (not_after t w slack r placed me get extra Kind sel duty place a.act a.is low since now) late (inr (inr still))
 
       by : (is_closed (seen (known_before t w (suc place)).model me).state ≡ true)
-          ⊎ ((since : ℕ) × (get (owed_after event (seen (known_before t w place).model me) (seen (known_before t w (suc place)).model me) a.act.moment owes.listener owes.counts
+          ⊎ ((since : ℕ) × (get (owed_after event (seen (known_before t w place).model me)
+              (seen (known_before t w (suc place)).model me) a.act.moment owes.listener owes.counts
           (owed_by (known_before t w place).duties me.host me.number)) ≡ Some since))
           → IsDoneBy t w place (a.act.moment + extra + slack) me Kind
       by (inl closed) = at_once closed

@@ -1,5 +1,6 @@
 -- What a step does at one endpoint, and what the endpoint owes then.
-use Rattle.std.proofs.Common.{◌≡◌, ℕ, suc, ◌⊎◌, inl, inr, Bool, true, false, List, [], ◌∷◌, ◌++◌, length, Option, Some, None, refl, ap, sym, subst, ◌∙◌, cond, nat_eq, arith}
+use Rattle.std.proofs.Common.{◌≡◌, ℕ, suc, ◌⊎◌, inl, inr, Bool, true, false, List, [], ◌∷◌, ◌++◌, length, Option, Some, None, refl, ap, sym, subst, ◌∙◌, cond}
+use Rattle.std.proofs.Common.{nat_eq, arith}
 use Rattle.std.specs.Prelude.{if◌then◌else◌, slice_get, unwrap_or}
 use Rattle.std.specs.Map.{lookup}
 use Rattle.std.specs.List.{AllByRecursion}
@@ -23,7 +24,8 @@ use Rattle.verdict.specs.declared.rule.Rule.{Rule}
 use Rattle.verdict.proofs.RuleLemmas.{none_all}
 use Rattle.spec_network.specs.HostRules.{Permitted, aim_of}
 use Rattle.spec_network.specs.HostSteps.{after, deed_after}
-use Rattle.spec_network.specs.Hosts.{HostState, Stamped, World, Does, Expires, Makes, Sends, Gets, Hears, Takes, Drops, Answers, Step, Begin, Finish, Effect, At}
+use Rattle.spec_network.specs.Hosts.{HostState, Stamped, World, Does, Expires, Makes, Sends, Gets, Hears, Takes, Drops, Answers, Step, Begin, Finish, Effect}
+use Rattle.spec_network.specs.Hosts.{At}
 use Rattle.spec_network.specs.Hosts.{Turn, Idle, Called, Answered, turn_of}
 use Rattle.spec_network.specs.Tables.{Both, on, other, pick, waiting, with_host}
 use Rattle.spec_network.proofs.Entries.{lookup_insert}
@@ -146,7 +148,8 @@ target_before w host line how m waits (AtListener l) is = record {
   does = (line, how, refl);
   built = λ p e. absurd cc;
 }
-target_before w host line how m waits (AtEndpoint i e) is = place_before w (At host (Takes line how)) host (processing_of m) i (line, how, refl) (λ p e. absurd cc)
+target_before w host line how m waits (AtEndpoint i e) is = place_before w (At host (Takes line how)) host (processing_of m) i (line, how, refl)
+    (λ p e. absurd cc)
 
 drop_before : (w : World tcp_shape) (step : Step tcp_shape) (host : Host) (m : Emission) (taking : Option Rule)
     → (line : ℕ) × (step ≡ At host (Drops line)) → (t : Taker) → AsBefore w step (at_drop host (pick w.hosts host).body m taking t)
@@ -154,7 +157,8 @@ drop_before w step host m taking does Nobody = tt
 drop_before w step host m taking does (AtListener l) = tt
 drop_before w step host m taking does (AtEndpoint i e) = place_before w step host _ i does (λ p e. absurd cc)
 
-thing_before : (w : World tcp_shape) (step : Step tcp_shape) (o : Option SocketTarget) (f : SocketTarget → Sight) → ((thing : SocketTarget) → AsBefore w step (f thing).touched)
+thing_before : (w : World tcp_shape) (step : Step tcp_shape) (o : Option SocketTarget) (f : SocketTarget → Sight)
+    → ((thing : SocketTarget) → AsBefore w step (f thing).touched)
     → AsBefore w step (on o unseen f).touched
 thing_before w step None f each = tt
 thing_before w step (Some thing) f each = each thing
@@ -179,9 +183,11 @@ accept_before : (w : World tcp_shape) (step : Step tcp_shape) (host : Host) (ans
 accept_before w step host (answers.Given n) (ListenerAt l) = tt
 accept_before w step host answer thing = tt
 
-call_before : (w : World tcp_shape) (step : Step tcp_shape) (host : Host) (call : Call) (answer : Answer) → (thread : ℕ) × (a : Answer) × (step ≡ Effect thread a)
+call_before : (w : World tcp_shape) (step : Step tcp_shape) (host : Host) (call : Call) (answer : Answer) → (thread : ℕ) × (a : Answer)
+    × (step ≡ Effect thread a)
     → AsBefore w step (call_sight host (pick w.hosts host).body call answer).touched
-call_before w step host (calls.Connect x lport rport) (answers.Given n) did = record { before = next_before w host; there = inr (inl refl); does = did; built = λ p e. absurd cc }
+call_before w step host (calls.Connect x lport rport) (answers.Given n) did = record { before = next_before w host; there = inr
+    (inl refl); does = did; built = λ p e. absurd cc }
 call_before w step host (calls.Connect x lport rport) answer did = tt
 call_before w step host (calls.Accept n) answer did =
     thing_before w step (thing_of (pick w.hosts host).body n) (accept_sight host (pick w.hosts host).body answer) (accept_before w step host answer)
@@ -190,9 +196,11 @@ call_before w step host (calls.Send n bytes) answer did =
 call_before w step host (calls.Shut n) answer did =
     thing_before w step (thing_of (pick w.hosts host).body n) (other_sight host (pick w.hosts host).body) (other_before w step host did)
 call_before w step host (calls.Close n) answer did =
-    thing_before w step (thing_of (pick w.hosts host).body n) (close_sight host (pick w.hosts host).body false answer) (close_before w step host false answer did)
+    thing_before w step (thing_of (pick w.hosts host).body n) (close_sight host (pick w.hosts host).body false answer)
+        (close_before w step host false answer did)
 call_before w step host (calls.Abort n) answer did =
-    thing_before w step (thing_of (pick w.hosts host).body n) (close_sight host (pick w.hosts host).body (is_done answer) answer) (close_before w step host (is_done answer) answer did)
+    thing_before w step (thing_of (pick w.hosts host).body n) (close_sight host (pick w.hosts host).body (is_done answer) answer)
+        (close_before w step host (is_done answer) answer did)
 call_before w step host call answer did = tt
 
 effect_before : (h : Header) (w : World tcp_shape) (step : Step tcp_shape) (answer : Answer)
@@ -324,7 +332,8 @@ module _ (h : Header) (slack : ℕ) (k next : Known) (x : Stamped tcp_shape) (me
         excess = here.1.1.1.1.1.1.1.1.0;
         after =
             ap (λ (d : Duties). owed_by d me.host me.number) goes.duties
-            ∙ ap (λ (o : Option Touched). owed_in (on o k.duties.owed (owed_table_after (view_in (after (tcp h) x.moment k.model x.step) o) x.moment counts k.duties)) me) shows
+            ∙ ap (λ (o : Option Touched). owed_in (on o k.duties.owed (owed_table_after
+                (view_in (after (tcp h) x.moment k.model x.step) o) x.moment counts k.duties)) me) shows
             ∙ owed_here k.duties.owed k.model me event _
             ∙ ap (λ (w : World tcp_shape). owed_after event (seen k.model me) (seen w me) x.moment
             (listener_closed k.duties me.host (seen k.model me)) counts (owed_by k.duties me.host me.number)) (sym goes.model);
@@ -339,8 +348,10 @@ module _ (h : Header) (slack : ℕ) (k next : Known) (x : Stamped tcp_shape) (me
       × ((event : Event) → shown.touched ≡ Some (touched k.model me event) → ⊥))
   touches_or_not = by shown.touched refl (as_before h x.moment k.model x.step)
     where
-      keeps : (o : Option Touched) → shown.touched ≡ o → owed_in (on o k.duties.owed (owed_table_after (view_in (after (tcp h) x.moment k.model x.step) o) x.moment
-          (counts_now (built_by k.duties shown.post)) k.duties)) me ≡ owed_in k.duties.owed me → owed_by next.duties me.host me.number ≡ owed_by k.duties me.host me.number
+      keeps : (o : Option Touched) → shown.touched ≡ o → owed_in (on o k.duties.owed
+          (owed_table_after (view_in (after (tcp h) x.moment k.model x.step) o) x.moment
+          (counts_now (built_by k.duties shown.post)) k.duties)) me ≡ owed_in k.duties.owed me → owed_by next.duties me.host me.number
+              ≡ owed_by k.duties me.host me.number
       keeps o shows same =
           ap (λ (d : Duties). owed_by d me.host me.number) goes.duties
           ∙ ap (λ (o : Option Touched). owed_in (on o k.duties.owed (owed_table_after (view_in (after (tcp h) x.moment k.model x.step) o) x.moment
@@ -396,7 +407,8 @@ last_there (x ∷ es) e = last_there es e
 
 child_there : (h : Header) (moment : ℕ) (w : World tcp_shape) (g : Host) (line : ℕ) (how : TakeChoice) (m : Emission) (l : ℕ)
     → waiting line (pick w.hosts g).inbox ≡ Some m → taker (pick w.hosts g).body m ≡ AtListener l
-    → (e : Endpoint) × (slice_get (pick (after (tcp h) moment w (At g (Takes line how))).hosts g).body.endpoints (length (pick w.hosts g).body.endpoints) ≡ Some e)
+    → (e : Endpoint) × (slice_get (pick (after (tcp h) moment w (At g (Takes line how))).hosts g).body.endpoints (length (pick w.hosts g).body.endpoints)
+        ≡ Some e)
 child_there h moment w g line how m l waits is =
     let b = (pick w.hosts g).body in (
       child (profile_of h) l how m moment,

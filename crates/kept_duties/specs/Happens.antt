@@ -21,7 +21,8 @@ use Rattle.spec_tcp_laws.specs.Runs.{world_at_end}
 use Rattle.spec_duties.specs.Sights.{sight}
 use Rattle.spec_duties.specs.Views.{unborn, view_of}
 use Rattle.spec_duties.specs.declared.events.Event.{Event}
-use Rattle.spec_duties.specs.declared.events.Event.TheVariants.{Builds, Calls, Drops, Expires, Opens, Processes, Recovers}
+use Rattle.spec_duties.specs.declared.events.Event.TheVariants.{Builds, Calls, Drops, Expires, Opens, Processes}
+use Rattle.spec_duties.specs.declared.events.Event.TheVariants.{Recovers}
 use Rattle.spec_duties.specs.declared.events.Event.TheVariants.{Sends}
 use Rattle.spec_duties.specs.declared.views.View.{View}
 use Rattle.checker.specs.Seen.{act_of, stamped}
