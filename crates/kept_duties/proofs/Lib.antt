@@ -11,3 +11,4 @@ pub mod Soon
 pub mod Counts
 pub mod Events
 pub mod Facts
+pub mod Drops

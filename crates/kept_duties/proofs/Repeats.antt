@@ -1,6 +1,6 @@
 -- Each position is sent again once for each expiry.
-use Rattle.std.proofs.Common.{◌≡◌, ℕ, suc, ◌<◌, ◌≤◌, ◌⊎◌, inl, inr, Bool, true, false, length, Option, Some, refl, ap, sym, subst, ◌∙◌, arith}
-use Rattle.std.specs.Prelude.{◌&&◌, if◌then◌else◌, max, nat_lt}
+use Rattle.std.proofs.Common.{◌≡◌, ℕ, suc, ◌+◌, ◌<◌, ◌≤◌, ◌⊎◌, inl, inr, Bool, true, false, length, Option, Some, refl, ap, sym, subst, ◌∙◌, arith}
+use Rattle.std.specs.Prelude.{◌&&◌, if◌then◌else◌, max, nat_le, nat_lt}
 use Rattle.std.proofs.lemmas.Bool.Decides.{nat_tests}
 use Rattle.case_forms.specs.States.{is_closed}
 use Rattle.case_forms.specs.declared.steps.SegmentPlan.{SegmentPlan}
@@ -11,7 +11,7 @@ use Rattle.spec_tcp.specs.Machine.{tcp_shape}
 use Rattle.spec_tcp.specs.declared.endpoint.EndpointId.{EndpointId}
 use Rattle.spec_duties.specs.Cases.{Known}
 use Rattle.spec_duties.specs.Owed.{once_closed, owed_after, owed_open}
-use Rattle.spec_duties.specs.Resent.{again_after, begins_again, is_repeating, judges_repeats, passed_by, repeated_end}
+use Rattle.spec_duties.specs.Resent.{again_after, begins_again, is_repeating, judges_repeats, judges_windows, passed_by, repeated_end}
 use Rattle.spec_duties.specs.Sights.{sight}
 use Rattle.spec_duties.specs.Watching.{owed_by}
 use Rattle.spec_duties.specs.declared.events.Event.{Event}
@@ -19,7 +19,7 @@ use Rattle.spec_duties.specs.declared.events.Event.TheVariants.{Builds}
 use Rattle.spec_duties.specs.declared.owed.Owed.{Owed}
 use Rattle.spec_duties.specs.declared.views.View.{View}
 use Rattle.kept_duties.specs.Happens.{Happens, act_at, seen_before}
-use Rattle.kept_duties.specs.Repeats.{BuildsAgain, NothingBegins, NothingIsResentTwice}
+use Rattle.kept_duties.specs.Repeats.{BuildsAgain, NothingBegins, NothingIsResentTwice, RepeatsStayWithin}
 use Rattle.kept_duties.proofs.Runs.{Goes, Run, known_before, run_goes, run_keeps, world_is}
 use Rattle.kept_duties.proofs.Segments.{within}
 use Rattle.kept_duties.proofs.Touched.{Owes, Touches, owes_after, seen, touched, touches_or_not}
@@ -138,3 +138,23 @@ module _ (t : Trace) (w : Witness) (slack : ℕ) (r : Run t.header slack (length
 
   pub nothing_resent_twice : judges_repeats t.header.congestion ≡ true → NothingIsResentTwice t w
   nothing_resent_twice judged first second me p q less a b nothing = comes_behind judged first second me p q less a b nothing
+
+  pub repeats_within : judges_windows t.header.congestion ≡ true → RepeatsStayWithin t w
+  repeats_within judged place moment me m a some low =
+      let k = known_before t w place in
+      let owes = owes_of place a.act me (Builds m) a.is (happens_to t w place moment me (Builds m) a) in
+      at_most (seen_before t w place me) some low
+      (subst (λ (v : World tcp_shape). (judges_windows t.header.congestion && nat_lt 0 m.len && nat_le (m.pos + m.len) (seen v me).snd_max
+      && nat_lt (seen v me).congestion_edge (m.pos + m.len)) ≡ false) (world_is t w place) owes.beyond)
+    where
+      at_most : (v : View) → 0 < m.len → m.pos + m.len ≤ v.snd_max
+          → (judges_windows t.header.congestion && nat_lt 0 m.len && nat_le (m.pos + m.len) v.snd_max && nat_lt v.congestion_edge (m.pos + m.len)) ≡ false
+          → m.pos + m.len ≤ v.congestion_edge
+      at_most v some low none =
+          let more : nat_lt 0 m.len ≡ true = grind (arith, nat_tests, some) in
+          let old : nat_le (m.pos + m.len) v.snd_max ≡ true = grind (arith, nat_tests, low) in
+          let fits : nat_lt v.congestion_edge (m.pos + m.len) ≡ false =
+          sym (ap (λ (c : Bool). c && nat_lt 0 m.len && nat_le (m.pos + m.len) v.snd_max && nat_lt v.congestion_edge (m.pos + m.len)) judged
+          ∙ ap (λ (c : Bool). true && c && nat_le (m.pos + m.len) v.snd_max && nat_lt v.congestion_edge (m.pos + m.len)) more
+          ∙ ap (λ (c : Bool). true && true && c && nat_lt v.congestion_edge (m.pos + m.len)) old) ∙ none in
+          grind (arith, nat_tests, fits)

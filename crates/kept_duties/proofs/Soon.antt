@@ -6,7 +6,7 @@ use Rattle.std.specs.Option.{option_map, option_or}
 use Rattle.std.proofs.lemmas.Option.{none-some, same_Some}
 use Rattle.case_forms.specs.States.{is_closed}
 use Rattle.case_forms.specs.declared.steps.Witness.{Witness}
-use Rattle.case_forms.specs.declared.timer.Timer.TheVariants.{Rto}
+use Rattle.case_forms.specs.declared.timer.Timer.TheVariants.{Persist, Rto}
 use Rattle.case_forms.specs.declared.trace.Trace.{Trace}
 use Rattle.verdict.specs.Rules.{first_broken}
 use Rattle.interval_order.specs.Orders.{last_moment}
@@ -19,10 +19,10 @@ use Rattle.spec_tcp_laws.proofs.Rules.{neither}
 use Rattle.spec_duties.specs.Acknowledge.{acknowledge_due, asks_ack, is_answer, longest_delay, receives}
 use Rattle.spec_duties.specs.Deadlines.{is_late}
 use Rattle.spec_duties.specs.End.{end_rules}
-use Rattle.spec_duties.specs.Events.{acknowledges_more}
+use Rattle.spec_duties.specs.Events.{acknowledges_more, is_sending}
 use Rattle.spec_duties.specs.Owed.{lates_of, lates_of_open, none_late, once_closed, owed_after, owed_open}
 use Rattle.spec_duties.specs.Reset.{reset_since}
-use Rattle.spec_duties.specs.Retransmit.{is_timeout, sends_oldest}
+use Rattle.spec_duties.specs.Retransmit.{is_probe_timeout, is_timeout, sends_oldest}
 use Rattle.spec_duties.specs.Watching.{owed_by}
 use Rattle.spec_duties.specs.declared.events.Event.{Event}
 use Rattle.spec_duties.specs.declared.events.Event.TheVariants.{Expires, Opens, Processes}
@@ -31,7 +31,7 @@ use Rattle.spec_duties.specs.declared.owed.Owed.{Owed}
 use Rattle.spec_duties.specs.declared.views.View.{View}
 use Rattle.kept_duties.specs.Happens.{Happens, act_at, seen_before}
 use Rattle.checker.specs.Seen.{moves}
-use Rattle.kept_duties.specs.Soon.{Answers, ExpiriesAreFollowed, IsDoneBy, ReceiptsAreAnswered, SendsOldest}
+use Rattle.kept_duties.specs.Soon.{Answers, ExpiriesAreFollowed, IsDoneBy, ProbesAreSent, ReceiptsAreAnswered, SendsAnything, SendsOldest}
 use Rattle.kept_duties.proofs.Inbox.{not_late}
 use Rattle.kept_duties.proofs.Repeats.{goes_of, happens_to, owes_of}
 use Rattle.kept_duties.proofs.Runs.{Run, known_before, world_is}
@@ -123,6 +123,10 @@ acknowledge_begins length before after moment listener counts o some receives' =
     kept None = (moment, ap (λ (b : Bool). if b then Some moment else None) asks)
     kept (Some m) = (m, ap (λ (b : Bool). if b then Some m else Some m) asks)
 
+since_now : (q : Option ℕ) (moment : ℕ) → (since : ℕ) × (option_or q (Some moment) ≡ Some since)
+since_now None moment = (moment, refl)
+since_now (Some m) moment = (m, refl)
+
 -- ---- retransmit
 
 retransmit_onward : (event : Event) (before after : View) (moment : ℕ) (listener : Option ℕ) (counts : Bool) (o : Owed) (since : ℕ) → o.retransmit ≡ Some since
@@ -169,11 +173,53 @@ retransmit_begins : (before after : View) (moment : ℕ) (listener : Option ℕ)
     → (is_closed after.state ≡ true) ⊎ ((since : ℕ) × ((owed_after (Expires Rto) before after moment listener counts o).retransmit ≡ Some since))
 retransmit_begins before after moment listener counts o =
     open_or_closed (λ n. (is_closed after.state ≡ true) ⊎ ((since : ℕ) × (n.retransmit ≡ Some since))) (Expires Rto) before after moment listener counts o
-    (λ closed. inl closed) (inr (kept o.retransmit))
+    (λ closed. inl closed) (inr (since_now o.retransmit moment))
+
+-- ---- probe
+
+probe_onward : (event : Event) (before after : View) (moment : ℕ) (listener : Option ℕ) (counts : Bool) (o : Owed) (since : ℕ) → o.probe ≡ Some since
+    → SendsAnything event before after ⊎ (is_closed after.state ≡ true) ⊎ ((owed_after event before after moment listener counts o).probe ≡ Some since)
+probe_onward event before after moment listener counts o since is =
+    open_or_closed (λ n. SendsAnything event before after ⊎ (is_closed after.state ≡ true) ⊎ (n.probe ≡ Some since)) event before after moment listener counts o
+    (λ closed. inr (inl closed)) (by (is_probe_timeout event) (is_sending event || acknowledges_more before after) refl)
   where
-    kept : (q : Option ℕ) → (since : ℕ) × (option_or q (Some moment) ≡ Some since)
-    kept None = (moment, refl)
-    kept (Some m) = (m, refl)
+    by : (a b : Bool) → (is_sending event || acknowledges_more before after) ≡ b
+        → SendsAnything event before after ⊎ (is_closed after.state ≡ true)
+        ⊎ ((if a then option_or o.probe (Some moment) else if b then None else o.probe) ≡ Some since)
+    by true b sends = inr (inr (ap (λ (q : Option ℕ). option_or q (Some moment)) is))
+    by false true sends = inl sends
+    by false false sends = inr (inr is)
+
+probe_back : (event : Event) (before after : View) (moment : ℕ) (listener : Option ℕ) (counts : Bool) (o : Owed) (since : ℕ)
+    → (owed_after event before after moment listener counts o).probe ≡ Some since → (since ≡ moment) ⊎ (o.probe ≡ Some since)
+probe_back event before after moment listener counts o since =
+    open_or_closed (λ n. n.probe ≡ Some since → (since ≡ moment) ⊎ (o.probe ≡ Some since)) event before after moment listener counts o
+    (λ closed none. absurd (none-some since none)) (by (is_probe_timeout event) (is_sending event || acknowledges_more before after))
+  where
+    by : (a b : Bool) → (if a then option_or o.probe (Some moment) else if b then None else o.probe) ≡ Some since
+        → (since ≡ moment) ⊎ (o.probe ≡ Some since)
+    by true b is = or_now o.probe moment since is
+    by false true is = absurd (none-some since is)
+    by false false is = inr is
+
+probe_duty : Duty (λ o. o.probe) 0 SendsAnything (λ l. l.retransmit)
+probe_duty = record {
+  nothing = refl;
+  onward = probe_onward;
+  back = probe_back;
+  rules = λ l all. all.1.1.0;
+  either = λ a b. refl;
+  fine = λ slack moment v listener o since none open' is.
+      let both = neither (is_late slack moment o.retransmit) (is_late slack moment o.probe) (late_open (λ l. l.retransmit ≡ false) slack moment v listener o open' none) in
+      let le = not_late slack since moment o.probe is both.1 in
+      omega (arith, le);
+}
+
+probe_begins : (before after : View) (moment : ℕ) (listener : Option ℕ) (counts : Bool) (o : Owed)
+    → (is_closed after.state ≡ true) ⊎ ((since : ℕ) × ((owed_after (Expires Persist) before after moment listener counts o).probe ≡ Some since))
+probe_begins before after moment listener counts o =
+    open_or_closed (λ n. (is_closed after.state ≡ true) ⊎ ((since : ℕ) × (n.probe ≡ Some since))) (Expires Persist) before after moment listener counts o
+    (λ closed. inl closed) (inr (since_now o.probe moment))
 
 -- ---- from the step at which a duty arises
 
@@ -236,3 +282,10 @@ module _ (t : Trace) (w : Witness) (slack : ℕ) (r : Run t.header slack (length
       subst (λ (m : ℕ). IsDoneBy t w place m me SendsOldest) (let e : moment + 0 + slack ≡ moment + slack = omega arith in e)
       (arises me (λ o. o.retransmit) 0 SendsOldest (λ l. l.retransmit) retransmit_duty place moment (Expires Rto) (λ e. cc) a
       (λ before after moment listener counts o is. retransmit_begins before after moment listener counts o))
+
+  -- and one of the persist timer by any segment
+  pub probes_sent : ProbesAreSent t w slack
+  probes_sent place moment me a =
+      subst (λ (m : ℕ). IsDoneBy t w place m me SendsAnything) (let e : moment + 0 + slack ≡ moment + slack = omega arith in e)
+      (arises me (λ o. o.probe) 0 SendsAnything (λ l. l.retransmit) probe_duty place moment (Expires Persist) (λ e. cc) a
+      (λ before after moment listener counts o is. probe_begins before after moment listener counts o))

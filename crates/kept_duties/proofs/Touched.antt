@@ -46,7 +46,7 @@ use Rattle.spec_duties.specs.Cases.{Known}
 use Rattle.spec_duties.specs.Dropped.{taking_breaks}
 use Rattle.spec_duties.specs.Excess.{is_excess}
 use Rattle.spec_duties.specs.Owed.{late_rules, lates_of, nothing, owed_after}
-use Rattle.spec_duties.specs.Resent.{is_resent}
+use Rattle.spec_duties.specs.Resent.{is_resent, is_resent_beyond}
 use Rattle.spec_duties.specs.Sights.{accept_sight, at_drop, at_place, at_ports, at_sender, at_target, call_sight, close_sight, effect_sight}
 use Rattle.spec_duties.specs.Sights.{is_done, other_sight, processing_of, sending_of, sight, unseen, view_in}
 use Rattle.spec_duties.specs.Views.{unborn, view_of}
@@ -310,6 +310,7 @@ pub record Owes (h : Header) (slack : ℕ) (k next : Known) (x : Stamped tcp_sha
   pub counted : counts ≡ counts_now (built_by k.duties (sight h x.moment k.model x.step).post)
   pub lates : AllByRecursion (λ r. r.1 ≡ false) (late_rules (lates_of slack x.moment (seen k.model me) listener (owed_by k.duties me.host me.number)))
   pub resent : is_resent h.congestion event (seen k.model me) (owed_by k.duties me.host me.number).again ≡ false
+  pub beyond : is_resent_beyond h.congestion event (seen k.model me) ≡ false
   pub excess : is_excess counts (owed_by k.duties me.host me.number).answers ≡ false
   pub after : owed_by next.duties me.host me.number
       ≡ owed_after event (seen k.model me) (seen next.model me) x.moment listener counts (owed_by k.duties me.host me.number)
@@ -329,6 +330,7 @@ module _ (h : Header) (slack : ℕ) (k next : Known) (x : Stamped tcp_shape) (me
         counted = refl;
         lates = (here.0, (here.1.0, (here.1.1.0, (here.1.1.1.0, (here.1.1.1.1.0, (here.1.1.1.1.1.0, tt))))));
         resent = here.1.1.1.1.1.1.0;
+        beyond = here.1.1.1.1.1.1.1.0;
         excess = here.1.1.1.1.1.1.1.1.0;
         after =
             ap (λ (d : Duties). owed_by d me.host me.number) goes.duties

@@ -4,3 +4,4 @@ pub mod Happens
 pub mod Repeats
 pub mod Soon
 pub mod Counts
+pub mod Drops

@@ -1,6 +1,6 @@
 -- What a yes with a slack says of data that is sent again: each position once for each expiry (RFC 6298, 5.4 and 5.5;
--- RFC 5681, 3.2).
-use Rattle.std.specs.Prelude.{◌≡◌, ◌<◌, ◌≤◌, ℕ, suc, true, false}
+-- RFC 5681, 3.2), and within the congestion window.
+use Rattle.std.specs.Prelude.{◌≡◌, ◌+◌, ◌<◌, ◌≤◌, ℕ, suc, true, false}
 use Rattle.case_forms.specs.declared.steps.SegmentPlan.{SegmentPlan}
 use Rattle.case_forms.specs.declared.steps.Witness.{Witness}
 use Rattle.case_forms.specs.declared.trace.Trace.{Trace}
@@ -30,3 +30,9 @@ NothingIsResentTwice t w =
     (first second : ℕ) (me : EndpointId) (p q : SegmentPlan) → first < second
     → BuildsAgain t w first me p → BuildsAgain t w second me q → NothingBegins t w me first second
     → repeated_end (seen_before t w first me) p ≤ q.pos
+
+-- bytes that were all built before end within the congestion window when they are built again (RFC 5681, 3.1)
+abbrev pub RepeatsStayWithin : Trace → Witness → Type 0
+RepeatsStayWithin t w =
+    (place moment : ℕ) (me : EndpointId) (m : SegmentPlan) → Happens t w place moment me (Builds m) → 0 < m.len
+    → m.pos + m.len ≤ (seen_before t w place me).snd_max → m.pos + m.len ≤ (seen_before t w place me).congestion_edge

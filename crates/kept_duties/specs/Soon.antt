@@ -3,11 +3,11 @@
 use Rattle.std.specs.Prelude.{◌≡◌, ◌⊎◌, ◌+◌, ◌<◌, ◌≤◌, ℕ, suc, true, false, ◌||◌}
 use Rattle.case_forms.specs.States.{is_closed}
 use Rattle.case_forms.specs.declared.steps.Witness.{Witness}
-use Rattle.case_forms.specs.declared.timer.Timer.TheVariants.{Rto}
+use Rattle.case_forms.specs.declared.timer.Timer.TheVariants.{Persist, Rto}
 use Rattle.case_forms.specs.declared.trace.Trace.{Trace}
 use Rattle.spec_tcp.specs.declared.endpoint.EndpointId.{EndpointId}
 use Rattle.spec_duties.specs.Acknowledge.{is_answer, longest_delay, receives}
-use Rattle.spec_duties.specs.Events.{acknowledges_more}
+use Rattle.spec_duties.specs.Events.{acknowledges_more, is_sending}
 use Rattle.spec_duties.specs.Retransmit.{sends_oldest}
 use Rattle.spec_duties.specs.declared.events.Event.{Event}
 use Rattle.spec_duties.specs.declared.events.Event.TheVariants.{Expires, Processes}
@@ -59,3 +59,12 @@ abbrev pub ExpiriesAreFollowed : Trace → Witness → (slack : ℕ) → Type 0
 ExpiriesAreFollowed t w slack =
     (place moment : ℕ) (me : EndpointId) → Happens t w place moment me (Expires Rto)
     → IsDoneBy t w place (moment + slack) me SendsOldest
+
+-- after one of the persist timer, any segment is sent, or more is acknowledged (RFC 9293, 3.8.6.1)
+abbrev pub SendsAnything : Event → (before after : View) → Type 0
+SendsAnything event before after = (is_sending event || acknowledges_more before after) ≡ true
+
+abbrev pub ProbesAreSent : Trace → Witness → (slack : ℕ) → Type 0
+ProbesAreSent t w slack =
+    (place moment : ℕ) (me : EndpointId) → Happens t w place moment me (Expires Persist)
+    → IsDoneBy t w place (moment + slack) me SendsAnything

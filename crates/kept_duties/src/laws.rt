@@ -4,13 +4,14 @@ ghost use Rattle.std.specs.Prelude.{◌≡◌, ℕ, true, Some};
 ghost use Rattle.case_forms.specs.Traces.{IsTrace};
 ghost use Rattle.case_forms.specs.declared.trace.Trace.{Trace};
 ghost use Rattle.case_forms.specs.declared.steps.Witness.{Witness};
-ghost use Rattle.spec_duties.specs.Resent.{judges_repeats};
+ghost use Rattle.spec_duties.specs.Resent.{judges_repeats, judges_windows};
 ghost use Rattle.checker.specs.Explains.{Explains};
 ghost use Rattle.kept_duties.specs.Segments.{ArrivalsAreHandled, SendingsAreFresh};
 ghost use Rattle.kept_duties.specs.Happens.{EventsAreSteps};
-ghost use Rattle.kept_duties.specs.Repeats.{NothingIsResentTwice};
+ghost use Rattle.kept_duties.specs.Repeats.{NothingIsResentTwice, RepeatsStayWithin};
 ghost use Rattle.kept_duties.specs.Counts.{AcknowledgmentsAreFew};
-ghost use Rattle.kept_duties.specs.Soon.{ReceiptsAreAnswered, ExpiriesAreFollowed};
+ghost use Rattle.kept_duties.specs.Soon.{ReceiptsAreAnswered, ExpiriesAreFollowed, ProbesAreSent};
+ghost use Rattle.kept_duties.specs.Drops.{DropsAreLawful};
 
 /// If a witness explains a trace, each segment that arrived was processed, dropped or answered with a reset, by the
 /// host at which it arrived, at most the slack later; unless the last step is at most the slack later (RFC 9293,
@@ -18,6 +19,12 @@ ghost use Rattle.kept_duties.specs.Soon.{ReceiptsAreAnswered, ExpiriesAreFollowe
 pub fn arrivals_are_handled()
     ensures { (t : Trace) (w : Witness) (slack : ℕ) → IsTrace t → Explains t w → t.header.slack ≡ Some slack
         → ArrivalsAreHandled t w slack }
+{}
+
+/// Each segment that was dropped may be: to process it would break a rule of the model, or it is spared; and to answer
+/// it with a reset would break one, or an acknowledgment is as good (RFC 9293, 3.10.7).
+pub fn drops_are_lawful()
+    ensures { (t : Trace) (w : Witness) (slack : ℕ) → Explains t w → t.header.slack ≡ Some slack → DropsAreLawful t w }
 {}
 
 /// Each segment that was sent had been built by its host at most the slack before (RFC 9293, 3.10.2 and 3.10.7).
@@ -39,6 +46,12 @@ pub fn nothing_is_resent_twice()
         → judges_repeats t.header.congestion ≡ true → NothingIsResentTwice t w }
 {}
 
+/// Bytes that are built again end within the congestion window, if the header says that it is judged (RFC 5681, 3.1).
+pub fn repeats_stay_within()
+    ensures { (t : Trace) (w : Witness) (slack : ℕ) → Explains t w → t.header.slack ≡ Some slack
+        → judges_windows t.header.congestion ≡ true → RepeatsStayWithin t w }
+{}
+
 /// At each moment, an endpoint had sent at most as many empty acknowledgments as segments had come to it; those that
 /// announced more window aren't counted (RFC 5681, 4.2).
 pub fn acknowledgments_are_few()
@@ -58,4 +71,11 @@ pub fn receipts_are_answered()
 pub fn expiries_are_followed()
     ensures { (t : Trace) (w : Witness) (slack : ℕ) → Explains t w → t.header.slack ≡ Some slack
         → ExpiriesAreFollowed t w slack }
+{}
+
+/// After each expiry of a persist timer, any segment was sent or more was acknowledged at most the slack later; unless
+/// the endpoint was CLOSED, or the last step is at most that much later (RFC 9293, 3.8.6.1).
+pub fn probes_are_sent()
+    ensures { (t : Trace) (w : Witness) (slack : ℕ) → Explains t w → t.header.slack ≡ Some slack
+        → ProbesAreSent t w slack }
 {}

@@ -11,6 +11,7 @@
 //!
 //! - `specs/Places`: what steps do with segments, by the lines and numbers that they name
 //! - `specs/Segments`: each segment that arrived was handled; each that was sent had just been built
+//! - `specs/Drops`: each segment that was dropped may be
 //! - `specs/Happens`: what happens at an endpoint
 //! - `specs/Soon`: by when acknowledgments and retransmissions are sent
 //! - `specs/Repeats`, `specs/Counts`: how often positions and empty acknowledgments are sent at most
@@ -19,6 +20,7 @@
 mod laws;
 
 pub use laws::{
-    acknowledgments_are_few, arrivals_are_handled, events_are_steps, expiries_are_followed,
-    nothing_is_resent_twice, receipts_are_answered, sendings_are_fresh,
+    acknowledgments_are_few, arrivals_are_handled, drops_are_lawful, events_are_steps,
+    expiries_are_followed, nothing_is_resent_twice, probes_are_sent, receipts_are_answered,
+    repeats_stay_within, sendings_are_fresh,
 };
