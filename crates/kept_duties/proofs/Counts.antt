@@ -51,11 +51,11 @@ use Rattle.spec_duties.specs.declared.owed.Owed.{Owed}
 use Rattle.spec_duties.specs.declared.sights.Touched.{Touched}
 use Rattle.spec_duties.specs.declared.views.View.{View}
 use Rattle.kept_duties.specs.Counts.{builds_mere, builds_mere_at, comes_at, count_before, event_at, event_for, mere_before, number_sent, sends_mere_at, sent_by}
-use Rattle.kept_duties.specs.Happens.{act_at, seen_before, world_before}
+use Rattle.kept_duties.specs.Happens.{act_at, known_before, seen_before, world_before}
 use Rattle.kept_duties.specs.Places.{SendsAt, built_before}
 use Rattle.checker.specs.Seen.{moves, stamped}
 use Rattle.kept_duties.proofs.Repeats.{goes_of, owes_of}
-use Rattle.kept_duties.proofs.Runs.{Run, Steps, onward, run_keeps, known_before, world_is}
+use Rattle.kept_duties.proofs.Runs.{Run, Steps, onward, run_keeps, world_is}
 use Rattle.kept_duties.proofs.Segments.{count_is, run, within}
 use Rattle.kept_duties.proofs.Since.{steady_at}
 use Rattle.kept_duties.proofs.Built.{Sent, WasBuilt, counts_by, same_builder, same_place, sent_was_built}

@@ -25,10 +25,10 @@ use Rattle.spec_duties.specs.Sights.{dropping_sight, sight, unseen}
 use Rattle.spec_duties.specs.Watching.{drops_needed, duty_rules, is_spared}
 use Rattle.spec_duties.specs.declared.sights.Spared.TheVariants as spareds
 use Rattle.kept_duties.specs.Drops.{ByEndpoint, ByListener, DropsAreLawful, MayBeDropped, MayBeSpared, host_before}
-use Rattle.kept_duties.specs.Happens.{act_at, world_before}
+use Rattle.kept_duties.specs.Happens.{act_at, known_before, world_before}
 use Rattle.kept_duties.specs.Places.{IsStep}
 use Rattle.checker.specs.Seen.{act_of}
-use Rattle.kept_duties.proofs.Runs.{Goes, Run, known_before, run_goes, world_is}
+use Rattle.kept_duties.proofs.Runs.{Goes, Run, run_goes, world_is}
 
 -- of three tests, one isn't passed
 needed_not : (takes spares answers : Bool) → ((takes && not spares) || answers) ≡ false → ((takes ≡ false) ⊎ (spares ≡ true)) × (answers ≡ false)
@@ -42,7 +42,8 @@ answers_not false true e = inr refl
 answers_not false false e = absurd cc
 
 module _ (t : Trace) (w : Witness) (slack : ℕ) (r : Run t.header slack (length w.steps) (act_at t w) (known_before t w)) where
-  spared : (place : ℕ) (host : Host) (m : Emission) → is_spared (known_before t w place).duties host (spared_by (host_before t w place host) m (taker (host_before t w place host) m)) ≡ true
+  spared : (place : ℕ) (host : Host) (m : Emission) → is_spared (known_before t w place).duties host
+      (spared_by (host_before t w place host) m (taker (host_before t w place host) m)) ≡ true
       → MayBeSpared t w place host m
   spared place host m = by (taker (host_before t w place host) m) refl
     where
@@ -55,7 +56,8 @@ module _ (t : Trace) (w : Witness) (slack : ℕ) (r : Run t.header slack (length
       full l goes None at e = absurd cc
       full l goes (Some x) at e = ByListener l x goes at (grind (arith, nat_tests, e))
 
-      by : (k : Taker) → taker (host_before t w place host) m ≡ k → is_spared (known_before t w place).duties host (spared_by (host_before t w place host) m k) ≡ true
+      by : (k : Taker) → taker (host_before t w place host) m ≡ k → is_spared (known_before t w place).duties host (spared_by (host_before t w place host) m k)
+          ≡ true
           → MayBeSpared t w place host m
       by Nobody goes e = absurd cc
       by (AtListener l) goes e = full l goes (slice_get (host_before t w place host).listeners l) refl e
@@ -70,14 +72,17 @@ module _ (t : Trace) (w : Witness) (slack : ℕ) (r : Run t.header slack (length
       let p = on_passes (waiting line (pick k.model.hosts host).inbox) rules.Inbox _ goes.permitted in
       let fine = (none_all (duty_rules t.header slack moment k.duties (sight t.header moment k.model (At host (Drops line)))) goes.dutiful).0 in
       by p.0 (subst (λ (v : World tcp_shape). waiting line (pick v.hosts host).inbox ≡ Some p.0) (world_is t w place) p.1)
-      (subst (λ (v : World tcp_shape). drops_needed k.duties (Some (dropping_of host (taking_breaks t.header moment v host line) (answering_breaks t.header v host line)
+      (subst (λ (v : World tcp_shape). drops_needed k.duties (Some (dropping_of host (taking_breaks t.header moment v host line)
+          (answering_breaks t.header v host line)
       (spared_by (pick v.hosts host).body p.0 (taker (pick v.hosts host).body p.0)))) ≡ false) (world_is t w place)
       (sym (ap (λ (o : Option Emission). drops_needed k.duties (on o unseen (λ m. dropping_sight host (pick k.model.hosts host).body line
-      (taking_breaks t.header moment k.model host line) (answering_breaks t.header k.model host line) m (taker (pick k.model.hosts host).body m))).dropping) p.1) ∙ fine))
+      (taking_breaks t.header moment k.model host line) (answering_breaks t.header k.model host line) m
+          (taker (pick k.model.hosts host).body m))).dropping) p.1) ∙ fine))
     where
       by : (m : Emission) → waiting line (pick (world_before t w place).hosts host).inbox ≡ Some m
           → drops_needed (known_before t w place).duties (Some (dropping_of host (taking_breaks t.header moment (world_before t w place) host line)
-          (answering_breaks t.header (world_before t w place) host line) (spared_by (host_before t w place host) m (taker (host_before t w place host) m)))) ≡ false
+          (answering_breaks t.header (world_before t w place) host line) (spared_by (host_before t w place host) m (taker (host_before t w place host) m))))
+              ≡ false
           → MayBeDropped t w place moment host line
       by m waits none =
           let taking = taking_breaks t.header moment (world_before t w place) host line in

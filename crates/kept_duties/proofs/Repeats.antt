@@ -18,9 +18,9 @@ use Rattle.spec_duties.specs.declared.events.Event.{Event}
 use Rattle.spec_duties.specs.declared.events.Event.TheVariants.{Builds}
 use Rattle.spec_duties.specs.declared.owed.Owed.{Owed}
 use Rattle.spec_duties.specs.declared.views.View.{View}
-use Rattle.kept_duties.specs.Happens.{Happens, act_at, seen_before}
+use Rattle.kept_duties.specs.Happens.{Happens, act_at, known_before, seen_before}
 use Rattle.kept_duties.specs.Repeats.{BuildsAgain, NothingBegins, NothingIsResentTwice, RepeatsStayWithin}
-use Rattle.kept_duties.proofs.Runs.{Goes, Run, known_before, run_goes, run_keeps, world_is}
+use Rattle.kept_duties.proofs.Runs.{Goes, Run, run_goes, run_keeps, world_is}
 use Rattle.kept_duties.proofs.Segments.{within}
 use Rattle.kept_duties.proofs.Touched.{Owes, Touches, owes_after, seen, touched, touches_or_not}
 

@@ -20,7 +20,7 @@ use Rattle.spec_duties.specs.Cases.{Known, Dutiful, first_known, known_after, kn
 use Rattle.spec_duties.specs.Sights.{sight, view_in}
 use Rattle.spec_duties.specs.Watching.{duty_rules, duties_after}
 use Rattle.checker.specs.Seen.{act_of, stamped}
-use Rattle.kept_duties.specs.Happens.{act_at, world_before}
+use Rattle.kept_duties.specs.Happens.{act_at, known_before, world_before}
 
 -- an induction from one place up to another
 pub onward : (P : ℕ → Type 0) (from n : ℕ) → from ≤ n → P from → ((j : ℕ) → from ≤ j → j < n → P j → P (suc j)) → P n
@@ -137,11 +137,7 @@ module _ (h : Header) (lines : List Line) where
   model_after k [] = refl
   model_after k (x ∷ xs) = model_after (known_after h x.moment k x.step) xs
 
--- what is known before a step of a witness, by its place
-abbrev pub known_before : Trace → Witness → ℕ → Known
-known_before t w = known_from t.header t.lines (first_known t.header) w.steps
-
--- the model's part of it is its world
+-- the model's part of what is known is its world
 pub world_is : (t : Trace) (w : Witness) (place : ℕ) → (known_before t w place).model ≡ world_before t w place
 world_is t w place = model_after t.header t.lines (first_known t.header) (stamped t.header t.lines (take place w.steps))
 

@@ -22,14 +22,14 @@ use Rattle.spec_tcp.specs.Machine.{tcp, tcp_shape}
 use Rattle.spec_duties.specs.Cases.{Dutiful, Known, first_known, known_after_all, late_at_end}
 use Rattle.spec_duties.specs.End as end
 use Rattle.spec_duties.specs.End.{end_rules, first_waiting}
-use Rattle.kept_duties.specs.Happens.{act_at}
+use Rattle.kept_duties.specs.Happens.{act_at, known_before}
 use Rattle.kept_duties.specs.Places.{built_before, builder}
 use Rattle.checker.specs.Seen.{act_of, moves, stamped}
 use Rattle.kept_duties.specs.Segments.{ArrivalsAreHandled, EndsBy, LeavesBy, SendingsAreFresh}
 use Rattle.kept_duties.proofs.Built.{count_next, sent_in_time}
 use Rattle.kept_duties.proofs.Inbox.{Left, late_waiting, left_or_waits, not_late}
 use Rattle.kept_duties.proofs.Labels.{arrival_act, arrival_takes, arrives_at, builder_is, builder_none, leaves_at, sending_act}
-use Rattle.kept_duties.proofs.Runs.{Run, Steps, known_before, onward, run_of}
+use Rattle.kept_duties.proofs.Runs.{Run, Steps, onward, run_of}
 use Rattle.kept_duties.proofs.Sights.{enters}
 
 take_all : {X : Type 0} (xs : List X) → take (length xs) xs ≡ xs

@@ -35,12 +35,12 @@ use Rattle.spec_duties.specs.declared.events.Event.{Event}
 use Rattle.spec_duties.specs.declared.owed.Lates.{Lates}
 use Rattle.spec_duties.specs.declared.owed.Owed.{Owed}
 use Rattle.spec_duties.specs.declared.views.View.{View}
-use Rattle.kept_duties.specs.Happens.{act_at, seen_before}
+use Rattle.kept_duties.specs.Happens.{act_at, known_before, seen_before}
 use Rattle.checker.specs.Seen.{move_of, moves}
 use Rattle.kept_duties.specs.Soon.{ClosesBy, HappensBy, IsDoneBy}
 use Rattle.kept_duties.proofs.Labels.{builder_is}
 use Rattle.kept_duties.proofs.Repeats.{happens_from, happens_to, owes_of}
-use Rattle.kept_duties.proofs.Runs.{Goes, Run, run_keeps, known_before, world_is}
+use Rattle.kept_duties.proofs.Runs.{Goes, Run, run_keeps, world_is}
 use Rattle.kept_duties.proofs.Segments.{step_of_act}
 use Rattle.kept_duties.proofs.Touched.{Owes, Touches, seen, touched, touches_or_not}
 

@@ -29,12 +29,12 @@ use Rattle.spec_duties.specs.declared.events.Event.TheVariants.{Expires, Opens, 
 use Rattle.spec_duties.specs.declared.owed.Lates.{Lates}
 use Rattle.spec_duties.specs.declared.owed.Owed.{Owed}
 use Rattle.spec_duties.specs.declared.views.View.{View}
-use Rattle.kept_duties.specs.Happens.{Happens, act_at, seen_before}
+use Rattle.kept_duties.specs.Happens.{Happens, act_at, known_before, seen_before}
 use Rattle.checker.specs.Seen.{moves}
 use Rattle.kept_duties.specs.Soon.{Answers, ExpiriesAreFollowed, IsDoneBy, ProbesAreSent, ReceiptsAreAnswered, SendsAnything, SendsOldest}
 use Rattle.kept_duties.proofs.Inbox.{not_late}
 use Rattle.kept_duties.proofs.Repeats.{goes_of, happens_to, owes_of}
-use Rattle.kept_duties.proofs.Runs.{Run, known_before, world_is}
+use Rattle.kept_duties.proofs.Runs.{Run, world_is}
 use Rattle.kept_duties.proofs.Segments.{within}
 use Rattle.kept_duties.proofs.Since.{Duty, Still, closes, done_by, not_after, steady_at}
 use Rattle.kept_duties.proofs.Touched.{Owes, seen, there_after}
@@ -210,7 +210,8 @@ probe_duty = record {
   rules = λ l all. all.1.1.0;
   either = λ a b. refl;
   fine = λ slack moment v listener o since none open' is.
-      let both = neither (is_late slack moment o.retransmit) (is_late slack moment o.probe) (late_open (λ l. l.retransmit ≡ false) slack moment v listener o open' none) in
+      let both = neither (is_late slack moment o.retransmit) (is_late slack moment o.probe)
+          (late_open (λ l. l.retransmit ≡ false) slack moment v listener o open' none) in
       let le = not_late slack since moment o.probe is both.1 in
       omega (arith, le);
 }

@@ -1,6 +1,6 @@
 -- What a yes with a slack says of segments that are dropped: neither to process nor to answer them was required (RFC
 -- 9293, 3.10.7).
-use Rattle.std.specs.Prelude.{◌≡◌, ◌⊎◌, ◌≤◌, ℕ, true, ◌||◌, take, slice_get, Some, is_some}
+use Rattle.std.specs.Prelude.{◌≡◌, ◌⊎◌, ◌≤◌, ℕ, true, ◌||◌, slice_get, Some, is_some}
 use Rattle.case_forms.specs.declared.calls.Host.{Host}
 use Rattle.case_forms.specs.declared.steps.Label.TheVariants as labels
 use Rattle.case_forms.specs.declared.steps.Witness.{Witness}
@@ -11,17 +11,11 @@ use Rattle.spec_tcp.specs.HostTcp.{HostTcp}
 use Rattle.spec_tcp.specs.declared.endpoint.Emission.{Emission}
 use Rattle.spec_tcp.specs.declared.endpoint.Endpoint.{Endpoint}
 use Rattle.spec_tcp.specs.declared.endpoint.Listener.{Listener}
-use Rattle.spec_duties.specs.Cases.{Known, first_known, known_after_all}
-use Rattle.spec_duties.specs.Dropped.{answering_breaks, is_challenged, is_unacceptable, meets_closed_window, taking_breaks}
+use Rattle.spec_duties.specs.Dropped.{answering_breaks, is_challenged, is_unacceptable, meets_closed_window}
+use Rattle.spec_duties.specs.Dropped.{taking_breaks}
 use Rattle.spec_duties.specs.Watching.{listening_at}
-use Rattle.checker.specs.Seen.{stamped}
-use Rattle.kept_duties.specs.Happens.{world_before}
+use Rattle.kept_duties.specs.Happens.{known_before, world_before}
 use Rattle.kept_duties.specs.Places.{IsStep}
-
--- the model and its duties before the step at a place
-abbrev pub known_before : Trace → Witness → (place : ℕ) → Known
-known_before t w place =
-    known_after_all t.header (first_known t.header) (stamped t.header t.lines (take place w.steps))
 
 -- how many children of a listener are neither accepted nor CLOSED, as duties count them
 abbrev pub children_before : Trace → Witness → (place : ℕ) → Host → (listener : ℕ) → ℕ

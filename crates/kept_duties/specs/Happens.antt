@@ -18,6 +18,7 @@ use Rattle.spec_tcp.specs.Machine.{tcp_shape}
 use Rattle.spec_tcp.specs.declared.endpoint.EndpointId.{EndpointId}
 use Rattle.spec_tcp_laws.specs.Consequences.{find}
 use Rattle.spec_tcp_laws.specs.Runs.{world_at_end}
+use Rattle.spec_duties.specs.Cases.{Known, first_known, known_after_all}
 use Rattle.spec_duties.specs.Sights.{sight}
 use Rattle.spec_duties.specs.Views.{unborn, view_of}
 use Rattle.spec_duties.specs.declared.events.Event.{Event}
@@ -35,6 +36,11 @@ act_at t w place = option_map_or (act_of t.header t.lines) (slice_get w.steps pl
 -- the model's world before that step
 abbrev pub world_before : Trace → Witness → (place : ℕ) → World tcp_shape
 world_before t w place = world_at_end t.header (stamped t.header t.lines (take place w.steps))
+
+-- the same with its duties
+abbrev pub known_before : Trace → Witness → (place : ℕ) → Known
+known_before t w place =
+    known_after_all t.header (first_known t.header) (stamped t.header t.lines (take place w.steps))
 
 -- an endpoint before that step
 abbrev pub seen_before : Trace → Witness → (place : ℕ) → EndpointId → View
