@@ -9,6 +9,7 @@ use Rattle.std.specs.Option.{option_map, option_map_or}
 use Rattle.std.proofs.lemmas.Option.{none-some, same_Some, some_pair_parts}
 use Rattle.case_forms.specs.States.{is_closed}
 use Rattle.case_forms.specs.Traces.{line_at}
+use Rattle.case_forms.specs.declared.calls.Answer.TheVariants as answers
 use Rattle.case_forms.specs.declared.calls.Host.{Host}
 use Rattle.case_forms.specs.declared.calls.Host.TheVariants.{Zero, One}
 use Rattle.case_forms.specs.declared.named_line.Extras.{Extras}
@@ -28,7 +29,7 @@ use Rattle.case_forms.specs.declared.trace.Trace.{Trace}
 use Rattle.case_forms.specs.declared.trace.Wire.{Wire}
 use Rattle.interval_order.specs.Placed.{Placed}
 use Rattle.spec_network.specs.HostSteps.{Lawful, after}
-use Rattle.spec_network.specs.Hosts.{Stamped, World, Step, At, Makes, Sends, Takes}
+use Rattle.spec_network.specs.Hosts.{Effect, Stamped, World, Step, At, Makes, Sends, Takes}
 use Rattle.spec_network.specs.Tables.{Made, host_is, on, pick}
 use Rattle.spec_tcp.specs.Machine.{made_at, tcp, tcp_shape}
 use Rattle.spec_tcp.specs.Makes.{emission_of}
@@ -45,7 +46,7 @@ use Rattle.spec_duties.specs.Sights.{at_place, at_sender, sending_of, sight, uns
 use Rattle.spec_duties.specs.Views.{unborn, view_of}
 use Rattle.spec_duties.specs.Watching.{built_by, builds_mere_ack, counts_now, owed_by}
 use Rattle.spec_duties.specs.declared.events.Event.{Event}
-use Rattle.spec_duties.specs.declared.events.Event.TheVariants.{Builds, Opens}
+use Rattle.spec_duties.specs.declared.events.Event.TheVariants.{Builds}
 use Rattle.spec_duties.specs.declared.sights.Post.TheVariants as post
 use Rattle.spec_duties.specs.declared.owed.Owed.{Owed}
 use Rattle.spec_duties.specs.declared.sights.Touched.{Touched}
@@ -61,7 +62,7 @@ use Rattle.kept_duties.proofs.Since.{steady_at}
 use Rattle.kept_duties.proofs.Built.{Sent, WasBuilt, counts_by, same_builder, same_place, sent_was_built}
 use Rattle.kept_duties.proofs.Labels.{sending_act}
 use Rattle.kept_duties.proofs.Sights.{builds, made_by, sends}
-use Rattle.kept_duties.proofs.Touched.{AsBefore, AsShown, BuildsAs, Child, Touches, as_before, seen, touched, touches_or_not}
+use Rattle.kept_duties.proofs.Touched.{AsBefore, AsShown, BuildsAs, Child, Opened, Touches, as_before, seen, touched, touches_or_not}
 
 -- ---- what happens at an endpoint
 
@@ -212,7 +213,8 @@ module _ (t : Trace) (w : Witness) (slack : ℕ) (given : t.header.slack ≡ Som
           → AsShown (known_before t w place).model x.step (touched (known_before t w place).model me (Builds m)) → MereBuilt place
       make x at m mere shows found = there found.there
         where
-          there : ((e : Endpoint) × (find (known_before t w place).model.hosts me ≡ Some e)) ⊎ (Builds m ≡ Opens)
+          there : ((e : Endpoint) × (find (known_before t w place).model.hosts me ≡ Some e))
+              ⊎ Opened (known_before t w place).model x.step (touched (known_before t w place).model me (Builds m))
               ⊎ Child (known_before t w place).model x.step (touched (known_before t w place).model me (Builds m)) → MereBuilt place
           there (inl e) = record {
             act = x;
@@ -224,7 +226,9 @@ module _ (t : Trace) (w : Witness) (slack : ℕ) (given : t.header.slack ≡ Som
             builds = found.built m refl;
             there = e.1;
           }
-          there (inr (inl no')) = absurd cc
+          there (inr (inl o)) =
+              let b = (found.built m refl).is in
+              absurd (let clash : At me.host (Makes m) ≡ Effect o.thread (answers.Given o.socket) = sym b ∙ o.is in cc clash)
           there (inr (inr c)) =
               let b = (found.built m refl).is in
               absurd (let clash : At me.host (Makes m) ≡ At me.host (Takes c.line c.how) = sym b ∙ c.is in cc clash)

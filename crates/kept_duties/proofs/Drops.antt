@@ -12,7 +12,7 @@ use Rattle.case_forms.specs.declared.trace.Trace.{Trace}
 use Rattle.verdict.specs.declared.rule.Rule.{Rule}
 use Rattle.verdict.specs.declared.rule.Rule.TheVariants as rules
 use Rattle.verdict.proofs.RuleLemmas.{none_all}
-use Rattle.spec_network.specs.Hosts.{At, Drops, Stamped, World}
+use Rattle.spec_network.specs.Hosts.{At, Drops, Stamped, Takes, World}
 use Rattle.spec_network.specs.Tables.{on, pick, waiting}
 use Rattle.spec_tcp.specs.Arrives.{AtEndpoint, AtListener, Nobody, Taker, taker}
 use Rattle.spec_tcp.specs.HostTcp.{HostTcp}
@@ -20,11 +20,11 @@ use Rattle.spec_tcp.specs.Machine.{tcp_shape}
 use Rattle.spec_tcp.specs.declared.endpoint.Emission.{Emission}
 use Rattle.spec_tcp.specs.declared.endpoint.Listener.{Listener}
 use Rattle.spec_tcp_laws.proofs.Rules.{neither, not_false, on_passes}
-use Rattle.spec_duties.specs.Dropped.{answering_breaks, dropping_of, is_challenged, is_unacceptable, meets_closed_window, spared_by, taking_breaks}
-use Rattle.spec_duties.specs.Sights.{dropping_sight, sight, unseen}
+use Rattle.spec_duties.specs.Dropped.{answering_breaks, discards_at, dropping_of, is_challenged, is_unacceptable, meets_closed_window, spared_by, taking_breaks}
+use Rattle.spec_duties.specs.Sights.{dropping_sight, sight, taking_sight, unseen}
 use Rattle.spec_duties.specs.Watching.{drops_needed, duty_rules, is_spared}
 use Rattle.spec_duties.specs.declared.sights.Spared.TheVariants as spareds
-use Rattle.kept_duties.specs.Drops.{ByEndpoint, ByListener, DropsAreLawful, MayBeDropped, MayBeSpared, host_before}
+use Rattle.kept_duties.specs.Drops.{ByEndpoint, ByListener, DropsAreLawful, MayBeDropped, MayBeSpared, NextIsKept, host_before}
 use Rattle.kept_duties.specs.Happens.{act_at, known_before, world_before}
 use Rattle.kept_duties.specs.Places.{IsStep}
 use Rattle.checker.specs.Seen.{act_of}
@@ -101,3 +101,17 @@ module _ (t : Trace) (w : Witness) (slack : ℕ) (r : Run t.header slack (length
               → (is_some (taking_breaks t.header moment (world_before t w place) host line) ≡ true) ⊎ MayBeSpared t w place host m
           process (inl breaks) = inl (not_false (is_some (taking_breaks t.header moment (world_before t w place) host line)) breaks)
           process (inr full) = inr (spared place host m full)
+
+  pub next_kept : NextIsKept t w
+  next_kept place moment line i host choice m e is waits goes_to =
+      let low = slice_get_within w.steps place _ is.here in
+      let goes = run_goes t.header slack (length w.steps) (act_at t w) (known_before t w) r place
+          (record { moment = moment; step = At host (Takes line choice) }) low
+      (ap (λ (o : Option WitnessStep). option_map_or (act_of t.header t.lines) o None) is.here) in
+      let k = known_before t w place in
+      let fine = (none_all (duty_rules t.header slack moment k.duties (sight t.header moment k.model (At host (Takes line choice)))) goes.dutiful).1.0 in
+      let here : (sight t.header moment (world_before t w place) (At host (Takes line choice))).discards ≡ false =
+      subst (λ (v : World tcp_shape). (sight t.header moment v (At host (Takes line choice))).discards ≡ false) (world_is t w place) fine in
+      let b = host_before t w place host in
+      sym (ap (λ (o : Option Emission). (on o unseen (λ m. taking_sight t.header host b line choice m (taker b m))).discards) waits
+      ∙ ap (λ (k : Taker). discards_at t.header.version choice m k) goes_to) ∙ here

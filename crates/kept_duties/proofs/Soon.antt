@@ -23,15 +23,17 @@ use Rattle.spec_duties.specs.Events.{acknowledges_more, is_sending}
 use Rattle.spec_duties.specs.Owed.{lates_of, lates_of_open, none_late, once_closed, owed_after, owed_open}
 use Rattle.spec_duties.specs.Reset.{reset_since}
 use Rattle.spec_duties.specs.Retransmit.{is_probe_timeout, is_timeout, sends_oldest}
+use Rattle.spec_duties.specs.Start.{is_idle_with_work, longest_wait, start_due}
 use Rattle.spec_duties.specs.Watching.{owed_by}
 use Rattle.spec_duties.specs.declared.events.Event.{Event}
-use Rattle.spec_duties.specs.declared.events.Event.TheVariants.{Expires, Opens, Processes}
+use Rattle.spec_duties.specs.declared.events.Event.TheVariants.{Expires, Processes}
 use Rattle.spec_duties.specs.declared.owed.Lates.{Lates}
 use Rattle.spec_duties.specs.declared.owed.Owed.{Owed}
 use Rattle.spec_duties.specs.declared.views.View.{View}
 use Rattle.kept_duties.specs.Happens.{Happens, act_at, known_before, seen_before}
 use Rattle.checker.specs.Seen.{moves}
-use Rattle.kept_duties.specs.Soon.{Answers, ExpiriesAreFollowed, IsDoneBy, ProbesAreSent, ReceiptsAreAnswered, SendsAnything, SendsOldest}
+use Rattle.kept_duties.specs.Soon.{Answers, ExpiriesAreFollowed, IsNotIdle, IsDoneBy, ProbesAreSent, ReceiptsAreAnswered, SendsAnything, SendsOldest}
+use Rattle.kept_duties.specs.Soon.{WorkIsBegun}
 use Rattle.kept_duties.proofs.Inbox.{not_late}
 use Rattle.kept_duties.proofs.Repeats.{goes_of, happens_to, owes_of}
 use Rattle.kept_duties.proofs.Runs.{Run, world_is}
@@ -222,6 +224,48 @@ probe_begins before after moment listener counts o =
     open_or_closed (λ n. (is_closed after.state ≡ true) ⊎ ((since : ℕ) × (n.probe ≡ Some since))) (Expires Persist) before after moment listener counts o
     (λ closed. inl closed) (inr (since_now o.probe moment))
 
+-- ---- start
+
+start_onward : (event : Event) (before after : View) (moment : ℕ) (listener : Option ℕ) (counts : Bool) (o : Owed) (since : ℕ) → o.start ≡ Some since
+    → IsNotIdle event before after ⊎ (is_closed after.state ≡ true) ⊎ ((owed_after event before after moment listener counts o).start ≡ Some since)
+start_onward event before after moment listener counts o since is =
+    open_or_closed (λ n. IsNotIdle event before after ⊎ (is_closed after.state ≡ true) ⊎ (n.start ≡ Some since)) event before after moment listener counts o
+    (λ closed. inr (inl closed)) (by (is_idle_with_work after) refl)
+  where
+    by : (b : Bool) → is_idle_with_work after ≡ b
+        → IsNotIdle event before after ⊎ (is_closed after.state ≡ true) ⊎ ((if b then option_or o.start (Some moment) else None) ≡ Some since)
+    by true idle = inr (inr (ap (λ (q : Option ℕ). option_or q (Some moment)) is))
+    by false busy = inl busy
+
+start_back : (event : Event) (before after : View) (moment : ℕ) (listener : Option ℕ) (counts : Bool) (o : Owed) (since : ℕ)
+    → (owed_after event before after moment listener counts o).start ≡ Some since → (since ≡ moment) ⊎ (o.start ≡ Some since)
+start_back event before after moment listener counts o since =
+    open_or_closed (λ n. n.start ≡ Some since → (since ≡ moment) ⊎ (o.start ≡ Some since)) event before after moment listener counts o
+    (λ closed none. absurd (none-some since none)) (by (is_idle_with_work after))
+  where
+    by : (b : Bool) → (if b then option_or o.start (Some moment) else None) ≡ Some since → (since ≡ moment) ⊎ (o.start ≡ Some since)
+    by true is = or_now o.start moment since is
+    by false is = absurd (none-some since is)
+
+start_duty : Duty (λ o. o.start) longest_wait IsNotIdle (λ l. l.start)
+start_duty = record {
+  nothing = refl;
+  onward = start_onward;
+  back = start_back;
+  rules = λ l all. all.1.1.1.1.0;
+  either = λ a b. refl;
+  fine = λ slack moment v listener o since none open' is.
+      not_late slack (since + longest_wait) moment (start_due o.start) (ap (option_map (λ m. m + longest_wait)) is)
+      (late_open (λ l. l.start ≡ false) slack moment v listener o open' none);
+}
+
+start_begins : (event : Event) (before after : View) (moment : ℕ) (listener : Option ℕ) (counts : Bool) (o : Owed) → is_idle_with_work after ≡ true
+    → (is_closed after.state ≡ true) ⊎ ((since : ℕ) × ((owed_after event before after moment listener counts o).start ≡ Some since))
+start_begins event before after moment listener counts o idle =
+    open_or_closed (λ n. (is_closed after.state ≡ true) ⊎ ((since : ℕ) × (n.start ≡ Some since))) event before after moment listener counts o
+    (λ closed. inl closed)
+    (inr (subst (λ (b : Bool). (since : ℕ) × ((if b then option_or o.start (Some moment) else None) ≡ Some since)) (sym idle) (since_now o.start moment)))
+
 -- ---- from the step at which a duty arises
 
 module _ (t : Trace) (w : Witness) (slack : ℕ) (r : Run t.header slack (length w.steps) (act_at t w) (known_before t w))
@@ -230,14 +274,16 @@ module _ (t : Trace) (w : Witness) (slack : ℕ) (r : Run t.header slack (length
     (known_before t w (length w.steps)).model) ≡ None) where
   arises : (me : EndpointId) (get : Owed → Option ℕ) (extra : ℕ) (Kind : Event → (before after : View) → Type 0) (sel : Lates → Bool)
       (duty : Duty get extra Kind sel)
-      → (place moment : ℕ) (event : Event) → (event ≡ Opens → ⊥) → Happens t w place moment me event
+      → (place moment : ℕ) (event : Event) → Happens t w place moment me event
       → ((before after : View) (moment : ℕ) (listener : Option ℕ) (counts : Bool) (o : Owed) → before ≡ seen_before t w place me
+      → after ≡ seen_before t w (suc place) me
       → (is_closed after.state ≡ true) ⊎ ((since : ℕ) × (get (owed_after event before after moment listener counts o) ≡ Some since)))
       → IsDoneBy t w place (moment + extra + slack) me Kind
-  arises me get extra Kind sel duty place moment event not_opens a begins =
+  arises me get extra Kind sel duty place moment event a begins =
       subst (λ (m : ℕ). IsDoneBy t w place (m + extra + slack) me Kind) a.time
       (by (begins (seen (known_before t w place).model me) (seen (known_before t w (suc place)).model me) a.act.moment owes.listener owes.counts
-      (owed_by (known_before t w place).duties me.host me.number) (ap (λ (v : World tcp_shape). seen v me) (world_is t w place))))
+      (owed_by (known_before t w place).duties me.host me.number) (ap (λ (v : World tcp_shape). seen v me) (world_is t w place))
+      (ap (λ (v : World tcp_shape). seen v me) (world_is t w (suc place)))))
     where
       owes : Owes t.header slack (known_before t w place) (known_before t w (suc place)) a.act me event
       owes = owes_of t w slack r place a.act me event a.is (happens_to t w place moment me event a)
@@ -256,7 +302,7 @@ module _ (t : Trace) (w : Witness) (slack : ℕ) (r : Run t.header slack (length
           let goes = goes_of t w slack r place a.act a.is in
           let e = there_after t.header a.act.moment (known_before t w place).model a.act.step me event
               (steady_at t w slack r placed place (omega (arith, low))) goes.permitted
-          not_opens (happens_to t w place moment me event a) in
+          (happens_to t w place moment me event a) in
           let still : Still t w slack r placed me get extra Kind sel duty place a.act a.is low since (known_before t w (suc place)) =
           record { owes = now; open' = open'; there = (e.0, ap (λ (v : World tcp_shape). find v.hosts me) goes.model ∙ e.1) } in
           done_by t w slack r placed me get extra Kind sel duty place a.act a.is low since
@@ -273,20 +319,27 @@ module _ (t : Trace) (w : Witness) (slack : ℕ) (r : Run t.header slack (length
   -- what is received is answered
   pub receipts_answered : ReceiptsAreAnswered t w slack
   receipts_answered place moment length me a some receives' =
-      arises me (λ o. o.acknowledge) longest_delay Answers (λ l. l.acknowledge) acknowledge_duty place moment (Processes length false) (λ e. cc) a
-      (λ before after moment listener counts o is. acknowledge_begins length before after moment listener counts o some
+      arises me (λ o. o.acknowledge) longest_delay Answers (λ l. l.acknowledge) acknowledge_duty place moment (Processes length false) a
+      (λ before after moment listener counts o is now. acknowledge_begins length before after moment listener counts o some
       (ap (λ (v : View). receives v.state) is ∙ receives'))
 
   -- an expiry is followed by a retransmission
   pub expiries_followed : ExpiriesAreFollowed t w slack
   expiries_followed place moment me a =
       subst (λ (m : ℕ). IsDoneBy t w place m me SendsOldest) (let e : moment + 0 + slack ≡ moment + slack = omega arith in e)
-      (arises me (λ o. o.retransmit) 0 SendsOldest (λ l. l.retransmit) retransmit_duty place moment (Expires Rto) (λ e. cc) a
-      (λ before after moment listener counts o is. retransmit_begins before after moment listener counts o))
+      (arises me (λ o. o.retransmit) 0 SendsOldest (λ l. l.retransmit) retransmit_duty place moment (Expires Rto) a
+      (λ before after moment listener counts o is now. retransmit_begins before after moment listener counts o))
 
   -- and one of the persist timer by any segment
   pub probes_sent : ProbesAreSent t w slack
   probes_sent place moment me a =
       subst (λ (m : ℕ). IsDoneBy t w place m me SendsAnything) (let e : moment + 0 + slack ≡ moment + slack = omega arith in e)
-      (arises me (λ o. o.probe) 0 SendsAnything (λ l. l.retransmit) probe_duty place moment (Expires Persist) (λ e. cc) a
-      (λ before after moment listener counts o is. probe_begins before after moment listener counts o))
+      (arises me (λ o. o.probe) 0 SendsAnything (λ l. l.retransmit) probe_duty place moment (Expires Persist) a
+      (λ before after moment listener counts o is now. probe_begins before after moment listener counts o))
+
+  -- work is begun
+  pub work_begun : WorkIsBegun t w slack
+  work_begun place moment me event a idle =
+      arises me (λ o. o.start) longest_wait IsNotIdle (λ l. l.start) start_duty place moment event a
+      (λ before after moment listener counts o is now. start_begins event before after moment listener counts o
+      (ap is_idle_with_work now ∙ idle))

@@ -13,6 +13,7 @@ use Rattle.case_forms.specs.declared.calls.Answer.TheVariants as answers
 use Rattle.case_forms.specs.declared.calls.Call.{Call}
 use Rattle.case_forms.specs.declared.calls.Call.TheVariants as calls
 use Rattle.case_forms.specs.declared.calls.Host.{Host}
+use Rattle.case_forms.specs.declared.calls.State.TheVariants as states
 use Rattle.case_forms.specs.declared.calls.Host.TheVariants.{Zero, One}
 use Rattle.case_forms.specs.declared.steps.SegmentPlan.{SegmentPlan}
 use Rattle.case_forms.specs.declared.steps.TakeChoice.{TakeChoice}
@@ -23,7 +24,7 @@ use Rattle.case_forms.specs.declared.trace.Wire.{Wire}
 use Rattle.verdict.specs.declared.rule.Rule.{Rule}
 use Rattle.verdict.proofs.RuleLemmas.{none_all}
 use Rattle.spec_network.specs.HostRules.{Permitted, aim_of}
-use Rattle.spec_network.specs.HostSteps.{after, deed_after}
+use Rattle.spec_network.specs.HostSteps.{after, deed_after, effect_after}
 use Rattle.spec_network.specs.Hosts.{HostState, Stamped, World, Does, Expires, Makes, Sends, Gets, Hears, Takes, Drops, Answers, Step, Begin, Finish, Effect}
 use Rattle.spec_network.specs.Hosts.{At}
 use Rattle.spec_network.specs.Hosts.{Turn, Idle, Called, Answered, turn_of}
@@ -31,8 +32,9 @@ use Rattle.spec_network.specs.Tables.{Both, on, other, pick, waiting, with_host}
 use Rattle.spec_network.proofs.Entries.{lookup_insert}
 use Rattle.spec_tcp.specs.Arrives.{AtEndpoint, AtListener, Nobody, Taker, after_taking, taker}
 use Rattle.spec_tcp.specs.Arrives.Listen.{child}
+use Rattle.spec_tcp.specs.Endpoints.{new_endpoint}
 use Rattle.spec_tcp.specs.HostTcp.{place_of, thing_of}
-use Rattle.spec_tcp.specs.Machine.{Expiring, act_after, aim, tcp, tcp_shape}
+use Rattle.spec_tcp.specs.Machine.{Calls, Expiring, act_after, aim, tcp, tcp_shape}
 use Rattle.spec_tcp.specs.Signals.{profile_of}
 use Rattle.spec_tcp.specs.declared.endpoint.Emission.{Emission}
 use Rattle.spec_tcp.specs.declared.endpoint.Endpoint.{Endpoint}
@@ -77,6 +79,16 @@ pub record Child (w : World tcp_shape) (step : Step tcp_shape) (t : Touched) : T
   pub takes : taker (pick w.hosts t.host).body segment ≡ AtListener listener
   pub next : t.place ≡ length (pick w.hosts t.host).body.endpoints
 
+-- an endpoint that `open` creates
+pub record Opened (w : World tcp_shape) (step : Step tcp_shape) (t : Touched) : Type 0 where
+  pub thread : ℕ
+  pub socket : ℕ
+  pub lport : ℕ
+  pub rport : ℕ
+  pub is : step ≡ Effect thread (answers.Given socket)
+  pub turn : turn_of thread w.threads ≡ Called (calls.Connect t.host lport rport)
+  pub next : t.place ≡ length (pick w.hosts t.host).body.endpoints
+
 -- the model's step by which something happens at an endpoint of a host
 abbrev pub StepDoes : Step tcp_shape → Host → Event → Type 0
 StepDoes step host (events.Processes length rst) = (line : ℕ) × (how : TakeChoice) × (step ≡ At host (Takes line how))
@@ -99,7 +111,7 @@ name_of t = record { host = t.host; number = t.place }
 
 pub record AsShown (w : World tcp_shape) (step : Step tcp_shape) (t : Touched) : Type 0 where
   pub before : t.before ≡ seen w (name_of t)
-  pub there : ((e : Endpoint) × (find w.hosts (name_of t) ≡ Some e)) ⊎ (t.event ≡ events.Opens) ⊎ Child w step t
+  pub there : ((e : Endpoint) × (find w.hosts (name_of t) ≡ Some e)) ⊎ Opened w step t ⊎ Child w step t
   pub does : StepDoes step t.host t.event
   pub built : (m : SegmentPlan) → t.event ≡ events.Builds m → BuildsAs w step t.host t.place m
 
@@ -183,39 +195,55 @@ accept_before : (w : World tcp_shape) (step : Step tcp_shape) (host : Host) (ans
 accept_before w step host (answers.Given n) (ListenerAt l) = tt
 accept_before w step host answer thing = tt
 
-call_before : (w : World tcp_shape) (step : Step tcp_shape) (host : Host) (call : Call) (answer : Answer) → (thread : ℕ) × (a : Answer)
-    × (step ≡ Effect thread a)
-    → AsBefore w step (call_sight host (pick w.hosts host).body call answer).touched
-call_before w step host (calls.Connect x lport rport) (answers.Given n) did = record { before = next_before w host; there = inr
-    (inl refl); does = did; built = λ p e. absurd cc }
-call_before w step host (calls.Connect x lport rport) answer did = tt
-call_before w step host (calls.Accept n) answer did =
-    thing_before w step (thing_of (pick w.hosts host).body n) (accept_sight host (pick w.hosts host).body answer) (accept_before w step host answer)
-call_before w step host (calls.Send n bytes) answer did =
-    thing_before w step (thing_of (pick w.hosts host).body n) (other_sight host (pick w.hosts host).body) (other_before w step host did)
-call_before w step host (calls.Shut n) answer did =
-    thing_before w step (thing_of (pick w.hosts host).body n) (other_sight host (pick w.hosts host).body) (other_before w step host did)
-call_before w step host (calls.Close n) answer did =
-    thing_before w step (thing_of (pick w.hosts host).body n) (close_sight host (pick w.hosts host).body false answer)
-        (close_before w step host false answer did)
-call_before w step host (calls.Abort n) answer did =
-    thing_before w step (thing_of (pick w.hosts host).body n) (close_sight host (pick w.hosts host).body (is_done answer) answer)
-        (close_before w step host (is_done answer) answer did)
-call_before w step host call answer did = tt
+call_before : (h : Header) (w : World tcp_shape) (thread : ℕ) (host : Host) (call : Call) (answer : Answer) → turn_of thread w.threads ≡ Called call
+    → aim_of (tcp h) w.hosts (aim call) ≡ Some host → AsBefore w (Effect thread answer) (call_sight host (pick w.hosts host).body call answer).touched
+call_before h w thread host (calls.Connect x lport rport) (answers.Given n) turn aims =
+    let same : x ≡ host = same_Some x host aims in
+    record {
+      before = next_before w host;
+      there =
+          inr (inl (record {
+            thread = thread;
+            socket = n;
+            lport = lport;
+            rport = rport;
+            is = refl;
+            turn = turn ∙ ap (λ (x : Host). Called (calls.Connect x lport rport)) same;
+            next = refl;
+          }));
+      does = (thread, answers.Given n, refl);
+      built = λ p e. absurd cc;
+    }
+call_before h w thread host (calls.Connect x lport rport) answer turn aims = tt
+call_before h w thread host (calls.Accept n) answer turn aims =
+    thing_before w (Effect thread answer) (thing_of (pick w.hosts host).body n) (accept_sight host (pick w.hosts host).body answer)
+    (accept_before w (Effect thread answer) host answer)
+call_before h w thread host (calls.Send n bytes) answer turn aims =
+    thing_before w (Effect thread answer) (thing_of (pick w.hosts host).body n) (other_sight host (pick w.hosts host).body)
+    (other_before w (Effect thread answer) host (thread, answer, refl))
+call_before h w thread host (calls.Shut n) answer turn aims =
+    thing_before w (Effect thread answer) (thing_of (pick w.hosts host).body n) (other_sight host (pick w.hosts host).body)
+    (other_before w (Effect thread answer) host (thread, answer, refl))
+call_before h w thread host (calls.Close n) answer turn aims =
+    thing_before w (Effect thread answer) (thing_of (pick w.hosts host).body n) (close_sight host (pick w.hosts host).body false answer)
+    (close_before w (Effect thread answer) host false answer (thread, answer, refl))
+call_before h w thread host (calls.Abort n) answer turn aims =
+    thing_before w (Effect thread answer) (thing_of (pick w.hosts host).body n) (close_sight host (pick w.hosts host).body (is_done answer) answer)
+    (close_before w (Effect thread answer) host (is_done answer) answer (thread, answer, refl))
+call_before h w thread host call answer turn aims = tt
 
-effect_before : (h : Header) (w : World tcp_shape) (step : Step tcp_shape) (answer : Answer)
-    → (thread : ℕ) × (a : Answer) × (step ≡ Effect thread a) → (u : Turn tcp_shape)
-    → AsBefore w step (effect_sight h w answer u).touched
-effect_before h w step answer did Idle = tt
-effect_before h w step answer did (Called call) =
-    on_cases (λ (s : Sight). AsBefore w step s.touched) (aim_of (tcp h) w.hosts (aim call)) unseen
-    (λ host. call_sight host (pick w.hosts host).body call answer) tt (λ host is. call_before w step host call answer did)
-effect_before h w step answer did (Answered given) = tt
+effect_before : (h : Header) (w : World tcp_shape) (thread : ℕ) (answer : Answer) (u : Turn tcp_shape) → turn_of thread w.threads ≡ u
+    → AsBefore w (Effect thread answer) (effect_sight h w answer u).touched
+effect_before h w thread answer Idle turn = tt
+effect_before h w thread answer (Called call) turn =
+    on_cases (λ (s : Sight). AsBefore w (Effect thread answer) s.touched) (aim_of (tcp h) w.hosts (aim call)) unseen
+    (λ host. call_sight host (pick w.hosts host).body call answer) tt (λ host aims. call_before h w thread host call answer turn aims)
+effect_before h w thread answer (Answered given) turn = tt
 
 pub as_before : (h : Header) (moment : ℕ) (w : World tcp_shape) (step : Step tcp_shape) → AsBefore w step (sight h moment w step).touched
 as_before h moment w (Begin line thread call) = tt
 as_before h moment w (Finish line thread answer) = tt
-as_before h moment w (Effect thread answer) = effect_before h w (Effect thread answer) answer (thread, answer, refl) (turn_of thread w.threads)
+as_before h moment w (Effect thread answer) = effect_before h w thread answer (turn_of thread w.threads) refl
 as_before h moment w (At host (Does x)) = ports_before w (At host (Does x)) host events.Recovers x.lport x.rport (x, refl) (λ i is p e. absurd cc)
 as_before h moment w (At host (Expires line x)) = ports_before w (At host (Expires line x)) host _ x.lport x.rport (line, x, refl, refl) (λ i is p e. absurd cc)
 as_before h moment w (At host (Makes m)) =
@@ -421,16 +449,37 @@ child_there h moment w g line how m l waits is =
           ∙ last_there b.endpoints (child (profile_of h) l how m moment),
     )
 
+open_there : (h : Header) (moment : ℕ) (w : World tcp_shape) (thread socket : ℕ) (host : Host) (lport rport : ℕ)
+    → turn_of thread w.threads ≡ Called (calls.Connect host lport rport)
+    → (e : Endpoint) × (slice_get (pick (after (tcp h) moment w (Effect thread (answers.Given socket))).hosts host).body.endpoints
+    (length (pick w.hosts host).body.endpoints) ≡ Some e)
+open_there h moment w thread socket host lport rport turn =
+    let b = (pick w.hosts host).body in
+    let call = calls.Connect host lport rport in (
+      new_endpoint lport rport None states.SynSent (profile_of h),
+      ap (λ (u : Turn tcp_shape). slice_get (pick (effect_after (tcp h) moment w thread (answers.Given socket) u).hosts host).body.endpoints
+          (length b.endpoints)) turn
+          ∙ ap (λ (k : HostState tcp_shape). slice_get k.body.endpoints (length b.endpoints))
+          (pick_here w.hosts host (record (pick w.hosts host) { body = act_after h host moment b (Calls call (answers.Given socket)) }))
+          ∙ last_there b.endpoints (new_endpoint lport rport None states.SynSent (profile_of h)),
+    )
+
 pub there_after : (h : Header) (moment : ℕ) (w : World tcp_shape) (step : Step tcp_shape) (me : EndpointId) (event : Event) → Steady w.hosts
-    → Permitted (tcp h) moment w step → (event ≡ events.Opens → ⊥) → (sight h moment w step).touched ≡ Some (touched w me event)
+    → Permitted (tcp h) moment w step → (sight h moment w step).touched ≡ Some (touched w me event)
     → (e : Endpoint) × (find (after (tcp h) moment w step).hosts me ≡ Some e)
-there_after h moment w step me event steady may not_opens shows =
+there_after h moment w step me event steady may shows =
     by (subst (AsBefore w step) shows (as_before h moment w step)).there
   where
-    by : ((e : Endpoint) × (find w.hosts me ≡ Some e)) ⊎ (event ≡ events.Opens) ⊎ Child w step (touched w me event)
+    by : ((e : Endpoint) × (find w.hosts me ≡ Some e)) ⊎ Opened w step (touched w me event) ⊎ Child w step (touched w me event)
         → (e : Endpoint) × (find (after (tcp h) moment w step).hosts me ≡ Some e)
     by (inl old) = let f = later_step h moment w step steady may me old.0 old.1 in (f.0, f.1)
-    by (inr (inl opens)) = absurd (not_opens opens)
+    by (inr (inl o)) =
+        let e = open_there h moment w o.thread o.socket me.host o.lport o.rport o.turn in (
+          e.0,
+          ap (λ (s : Step tcp_shape). find (after (tcp h) moment w s).hosts me) o.is
+              ∙ ap (λ (n : ℕ). slice_get (pick (after (tcp h) moment w (Effect o.thread (answers.Given o.socket))).hosts me.host).body.endpoints n) o.next
+              ∙ e.1,
+        )
     by (inr (inr c)) =
         let e = child_there h moment w me.host c.line c.how c.segment c.listener c.waits c.takes in (
           e.0,

@@ -1,17 +1,19 @@
--- What a yes with a slack says of segments that are dropped: neither to process nor to answer them was required (RFC
--- 9293, 3.10.7).
-use Rattle.std.specs.Prelude.{◌≡◌, ◌⊎◌, ◌≤◌, ℕ, true, ◌||◌, slice_get, Some, is_some}
+-- What a yes with a slack says of segments that are dropped: neither to process nor to answer them was required; and of
+-- those that are processed: what is next in order was kept (RFC 9293, 3.10.7).
+use Rattle.std.specs.Prelude.{◌≡◌, ◌⊎◌, ◌≤◌, ℕ, true, false, ◌||◌, slice_get, Some, is_some}
 use Rattle.case_forms.specs.declared.calls.Host.{Host}
 use Rattle.case_forms.specs.declared.steps.Label.TheVariants as labels
+use Rattle.case_forms.specs.declared.steps.TakeChoice.{TakeChoice}
 use Rattle.case_forms.specs.declared.steps.Witness.{Witness}
 use Rattle.case_forms.specs.declared.trace.Trace.{Trace}
 use Rattle.spec_network.specs.Tables.{pick, waiting}
 use Rattle.spec_tcp.specs.Arrives.{AtEndpoint, AtListener, taker}
+use Rattle.spec_tcp.specs.Heard.{as_read}
 use Rattle.spec_tcp.specs.HostTcp.{HostTcp}
 use Rattle.spec_tcp.specs.declared.endpoint.Emission.{Emission}
 use Rattle.spec_tcp.specs.declared.endpoint.Endpoint.{Endpoint}
 use Rattle.spec_tcp.specs.declared.endpoint.Listener.{Listener}
-use Rattle.spec_duties.specs.Dropped.{answering_breaks, is_challenged, is_unacceptable, meets_closed_window}
+use Rattle.spec_duties.specs.Dropped.{answering_breaks, discards, is_challenged, is_unacceptable, meets_closed_window}
 use Rattle.spec_duties.specs.Dropped.{taking_breaks}
 use Rattle.spec_duties.specs.Watching.{listening_at}
 use Rattle.kept_duties.specs.Happens.{known_before, world_before}
@@ -50,3 +52,13 @@ abbrev pub DropsAreLawful : Trace → Witness → Type 0
 DropsAreLawful t w =
     (place moment line : ℕ) (host : Host) → IsStep w place moment (labels.K host line)
     → MayBeDropped t w place moment host line
+
+-- a `T` step discards nothing of a segment that holds the next position expected, if the endpoint keeps order, has room
+-- and isn't closed by its program (3.10.7.4, seventh)
+abbrev pub NextIsKept : Trace → Witness → Type 0
+NextIsKept t w =
+    (place moment line i : ℕ) (host : Host) (choice : TakeChoice) (m : Emission) (e : Endpoint)
+    → IsStep w place moment (labels.T host line choice)
+    → waiting line (pick (world_before t w place).hosts host).inbox ≡ Some m
+    → taker (host_before t w place host) m ≡ AtEndpoint i e
+    → discards choice e (as_read t.header.version e m) ≡ false

@@ -9,6 +9,7 @@ use Rattle.spec_tcp.specs.declared.endpoint.EndpointId.{EndpointId}
 use Rattle.spec_duties.specs.Acknowledge.{is_answer, longest_delay, receives}
 use Rattle.spec_duties.specs.Events.{acknowledges_more, is_sending}
 use Rattle.spec_duties.specs.Retransmit.{sends_oldest}
+use Rattle.spec_duties.specs.Start.{is_idle_with_work, longest_wait}
 use Rattle.spec_duties.specs.declared.events.Event.{Event}
 use Rattle.spec_duties.specs.declared.events.Event.TheVariants.{Expires, Processes}
 use Rattle.spec_duties.specs.declared.views.View.{View}
@@ -68,3 +69,15 @@ abbrev pub ProbesAreSent : Trace → Witness → (slack : ℕ) → Type 0
 ProbesAreSent t w slack =
     (place moment : ℕ) (me : EndpointId) → Happens t w place moment me (Expires Persist)
     → IsDoneBy t w place (moment + slack) me SendsAnything
+
+-- nothing waits with nothing outstanding any more: a part of it was built, or the window was closed
+abbrev pub IsNotIdle : Event → (before after : View) → Type 0
+IsNotIdle event before after = is_idle_with_work after ≡ false
+
+-- if something waits to be sent after a step, with nothing outstanding and no window that holds it back, it is begun
+-- within a second and the slack (RFC 9293, 3.8.6.2.1, 3.10.2 and 3.10.4)
+abbrev pub WorkIsBegun : Trace → Witness → (slack : ℕ) → Type 0
+WorkIsBegun t w slack =
+    (place moment : ℕ) (me : EndpointId) (event : Event) → Happens t w place moment me event
+    → is_idle_with_work (seen_before t w (suc place) me) ≡ true
+    → IsDoneBy t w place (moment + longest_wait + slack) me IsNotIdle

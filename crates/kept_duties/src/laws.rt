@@ -10,8 +10,8 @@ ghost use Rattle.kept_duties.specs.Segments.{ArrivalsAreHandled, SendingsAreFres
 ghost use Rattle.kept_duties.specs.Happens.{EventsAreSteps};
 ghost use Rattle.kept_duties.specs.Repeats.{NothingIsResentTwice, RepeatsStayWithin};
 ghost use Rattle.kept_duties.specs.Counts.{AcknowledgmentsAreFew};
-ghost use Rattle.kept_duties.specs.Soon.{ReceiptsAreAnswered, ExpiriesAreFollowed, ProbesAreSent};
-ghost use Rattle.kept_duties.specs.Drops.{DropsAreLawful};
+ghost use Rattle.kept_duties.specs.Soon.{ReceiptsAreAnswered, ExpiriesAreFollowed, ProbesAreSent, WorkIsBegun};
+ghost use Rattle.kept_duties.specs.Drops.{DropsAreLawful, NextIsKept};
 
 /// If a witness explains a trace, each segment that arrived was processed, dropped or answered with a reset, by the
 /// host at which it arrived, at most the slack later; unless the last step is at most the slack later (RFC 9293,
@@ -25,6 +25,12 @@ pub fn arrivals_are_handled()
 /// it with a reset would break one, or an acknowledgment is as good (RFC 9293, 3.10.7).
 pub fn drops_are_lawful()
     ensures { (t : Trace) (w : Witness) (slack : ℕ) → Explains t w → t.header.slack ≡ Some slack → DropsAreLawful t w }
+{}
+
+/// No step that processed a segment discarded what was next in order, as far as the endpoint had room for it (RFC 9293,
+/// 3.10.7.4, seventh).
+pub fn next_is_kept()
+    ensures { (t : Trace) (w : Witness) (slack : ℕ) → Explains t w → t.header.slack ≡ Some slack → NextIsKept t w }
 {}
 
 /// Each segment that was sent had been built by its host at most the slack before (RFC 9293, 3.10.2 and 3.10.7).
@@ -78,4 +84,11 @@ pub fn expiries_are_followed()
 pub fn probes_are_sent()
     ensures { (t : Trace) (w : Witness) (slack : ℕ) → Explains t w → t.header.slack ≡ Some slack
         → ProbesAreSent t w slack }
+{}
+
+/// If something waits to be sent after a step at an endpoint, with nothing outstanding and no window that holds it back,
+/// this ended at most a second and the slack later; unless the endpoint was CLOSED, or the last step is at most that
+/// much later (RFC 9293, 3.8.6.2.1).
+pub fn work_is_begun()
+    ensures { (t : Trace) (w : Witness) (slack : ℕ) → Explains t w → t.header.slack ≡ Some slack → WorkIsBegun t w slack }
 {}

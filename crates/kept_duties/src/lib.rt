@@ -11,9 +11,9 @@
 //!
 //! - `specs/Places`: what steps do with segments, by the lines and numbers that they name
 //! - `specs/Segments`: each segment that arrived was handled; each that was sent had just been built
-//! - `specs/Drops`: each segment that was dropped may be
+//! - `specs/Drops`: each segment that was dropped may be; what was next in order was kept
 //! - `specs/Happens`: what happens at an endpoint
-//! - `specs/Soon`: by when acknowledgments and retransmissions are sent
+//! - `specs/Soon`: by when acknowledgments, retransmissions, probes and waiting data are sent
 //! - `specs/Repeats`, `specs/Counts`: how often positions and empty acknowledgments are sent at most
 #![tactic(auto)]
 
@@ -21,6 +21,6 @@ mod laws;
 
 pub use laws::{
     acknowledgments_are_few, arrivals_are_handled, drops_are_lawful, events_are_steps,
-    expiries_are_followed, nothing_is_resent_twice, probes_are_sent, receipts_are_answered,
-    repeats_stay_within, sendings_are_fresh,
+    expiries_are_followed, next_is_kept, nothing_is_resent_twice, probes_are_sent,
+    receipts_are_answered, repeats_stay_within, sendings_are_fresh, work_is_begun,
 };
