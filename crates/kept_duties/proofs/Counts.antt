@@ -147,7 +147,7 @@ sender_shows v me m e plain number there =
     ∙ ap (at_place me.host (pick v.hosts me.host).body (sending_of m)) number
     ∙ ap (option_map (λ (e : Endpoint). record { host = me.host; place = me.number; event = sending_of m; before = view_of e })) there
     ∙ ap (λ (o : Option Endpoint). Some (record { host = me.host; place = me.number; event = sending_of m; before = option_map_or view_of o unborn }))
-        (sym there)
+    (sym there)
 
 module _ (t : Trace) (w : Witness) (slack : ℕ) (given : t.header.slack ≡ Some slack)
     (lawful : Lawful (tcp t.header) (first_known t.header).model (stamped t.header t.lines w.steps))
@@ -198,7 +198,7 @@ module _ (t : Trace) (w : Witness) (slack : ℕ) (given : t.header.slack ≡ Som
       let e = map_or_true (event_at t w me place) (λ event. builds_mere event (seen_before t w place me) (seen_before t w (suc place) me)) is in
       let b = mere_builds e.0 (seen_before t w place me) (seen_before t w (suc place) me) e.2 in
       by (act_at t w place) refl b.0 (ap (λ (o : Option (Stamped tcp_shape)). on o None
-          (λ x. event_for me (sight t.header x.moment (world_before t w place) x.step).touched)) refl
+      (λ x. event_for me (sight t.header x.moment (world_before t w place) x.step).touched)) refl
       ∙ e.1 ∙ ap (λ (event : Event). Some event) b.1) b.2
     where
       mere_here : (m : SegmentPlan) → is_mere_ack m (seen_before t w place me) (seen_before t w (suc place) me) ≡ true
@@ -266,10 +266,10 @@ module _ (t : Trace) (w : Witness) (slack : ℕ) (given : t.header.slack ≡ Som
       → (f : Endpoint) × (find (known_before t w j).model.hosts me ≡ Some f)
   stays e i j le high there =
       run_keeps t.header slack (length w.steps) (act_at t w) (known_before t w) r (λ j k. (f : Endpoint) × (find k.model.hosts me ≡ Some f))
-          (λ j k p. p) i j le high
+      (λ j k p. p) i j le high
       (e, there) (λ q x low less is goes f.
       let g = later_step t.header x.moment (known_before t w q).model x.step
-          (steady_at t w slack r placed q (omega (arith, less, high))) goes.permitted me f.0 f.1 in
+      (steady_at t w slack r placed q (omega (arith, less, high))) goes.permitted me f.0 f.1 in
       (g.0, ap (λ (v : World tcp_shape). find v.hosts me) goes.model ∙ g.1))
 
   -- it touches the endpoint, and counts
@@ -287,7 +287,7 @@ module _ (t : Trace) (w : Witness) (slack : ℕ) (given : t.header.slack ≡ Som
             sending_shows t.header y.moment (known_before t w j).model y.step host n sent.made sending sent.there
             ∙ ap (λ (x : Host). at_sender x (pick (known_before t w j).model.hosts x).body sent.made.emission) here
             ∙ sender_shows (known_before t w j).model me sent.made.emission f.0 (ap (λ (e : Emission). e.is_reset_reply) built)
-                (ap (λ (e : Emission). e.sender.number) built) f.1;
+            (ap (λ (e : Emission). e.sender.number) built) f.1;
         counts = sent.counts ∙ counted_there;
       }
     where
@@ -438,7 +438,7 @@ module _ (t : Trace) (w : Witness) (slack : ℕ) (given : t.header.slack ≡ Som
           same_left j (ap (λ (o : Owed). o.answers) same.0)
           (none_sends (λ z is k. same.1 k.event
           (subst (λ (v : Stamped tcp_shape). (sight t.header v.moment (known_before t w j).model v.step).touched
-              ≡ Some (touched (known_before t w j).model me k.event))
+          ≡ Some (touched (known_before t w j).model me k.event))
           (same_Some z y (sym is ∙ at)) k.shows))) fits
       touch_or y at (inl touch) =
           let owes = owes_of t w slack r j y me touch.event at touch.shows in
@@ -446,14 +446,14 @@ module _ (t : Trace) (w : Witness) (slack : ℕ) (given : t.header.slack ≡ Som
           let now : left (suc j) ≡ answers_after touch.event before owes.counts (left j) =
           ap (λ (o : Owed). o.answers) owes.after
           ∙ answers_is touch.event before (seen (known_before t w (suc j)).model me) y.moment owes.listener owes.counts
-              (owed_by (known_before t w j).duties me.host me.number) in
+          (owed_by (known_before t w j).duties me.host me.number) in
           subst (λ (n : ℕ). (if sends_mere_at t w me j then suc (count_before (sends_mere_at t w me) j) else count_before (sends_mere_at t w me) j) + n
           ≤ (if comes_at t w me j then suc (count_before (comes_at t w me) j) else count_before (comes_at t w me) j)) (sym now)
           (counted (sends_mere_at t w me j) (comes_at t w me j) owes.counts (is_arrival touch.event before)
           (count_before (sends_mere_at t w me) j) (count_before (comes_at t w me) j) (left j)
           (λ is. let k = key j is in owes.counted
           ∙ subst (λ (v : Stamped tcp_shape). counts_now (built_by (known_before t w j).duties (sight t.header v.moment (known_before t w j).model v.step).post)
-              ≡ true)
+          ≡ true)
           (same_Some k.0 y (sym k.1 ∙ at)) k.2.counts)
           (λ arrives.
           ap (λ (o : Option (Stamped tcp_shape)). option_map_or (λ event. is_arrival event (seen_before t w j me))
@@ -474,5 +474,5 @@ module _ (t : Trace) (w : Witness) (slack : ℕ) (given : t.header.slack ≡ Som
   pub few : (place : ℕ) → place ≤ length w.steps → count_before (sends_mere_at t w me) place ≤ count_before (comes_at t w me) place
   few place high =
       let fits = onward Fits 0 place (omega arith) (let none = nothing_left me.host me.number in omega (arith, none))
-          (λ j low less was. fits_next j (omega (arith, less, high)) was) in
+      (λ j low less was. fits_next j (omega (arith, less, high)) was) in
       omega (arith, fits)

@@ -1,34 +1,30 @@
 -- A dropped segment need neither be processed nor answered.
-use Rattle.std.proofs.Common.{◌≡◌, ℕ, ◌≤◌, ◌⊎◌, inl, inr, Bool, true, false, List, length, Option, Some, None, refl, ap, sym, subst, ◌∙◌, arith}
+use Rattle.std.proofs.Common.{◌≡◌, ℕ, ◌⊎◌, inl, inr, Bool, true, false, length, Option, Some, None, refl, ap, sym, subst, ◌∙◌, arith}
 use Rattle.std.proofs.lemmas.Bool.Decides.{nat_tests}
-use Rattle.std.proofs.lemmas.Option.{none-some, slice_get_within}
-use Rattle.std.specs.Prelude.{◌&&◌, ◌||◌, if◌then◌else◌, is_some, nat_le, not, slice_get}
+use Rattle.std.proofs.lemmas.Option.{slice_get_within}
+use Rattle.std.specs.Prelude.{◌&&◌, ◌||◌, if◌then◌else◌, is_some, not, slice_get}
 use Rattle.std.specs.Option.{option_map_or}
 use Rattle.case_forms.specs.declared.calls.Host.{Host}
-use Rattle.case_forms.specs.declared.steps.Label.TheVariants as labels
 use Rattle.case_forms.specs.declared.steps.Step.{Step as WitnessStep}
 use Rattle.case_forms.specs.declared.steps.Witness.{Witness}
 use Rattle.case_forms.specs.declared.trace.Trace.{Trace}
-use Rattle.verdict.specs.declared.rule.Rule.{Rule}
 use Rattle.verdict.specs.declared.rule.Rule.TheVariants as rules
 use Rattle.verdict.proofs.RuleLemmas.{none_all}
-use Rattle.spec_network.specs.Hosts.{At, Drops, Stamped, Takes, World}
+use Rattle.spec_network.specs.Hosts.{At, Drops, Takes, World}
 use Rattle.spec_network.specs.Tables.{on, pick, waiting}
 use Rattle.spec_tcp.specs.Arrives.{AtEndpoint, AtListener, Nobody, Taker, taker}
-use Rattle.spec_tcp.specs.HostTcp.{HostTcp}
 use Rattle.spec_tcp.specs.Machine.{tcp_shape}
 use Rattle.spec_tcp.specs.declared.endpoint.Emission.{Emission}
 use Rattle.spec_tcp.specs.declared.endpoint.Listener.{Listener}
-use Rattle.spec_tcp_laws.proofs.Rules.{neither, not_false, on_passes}
+use Rattle.spec_tcp_laws.proofs.Rules.{not_false, on_passes}
 use Rattle.spec_duties.specs.Dropped.{answering_breaks, discards_at, dropping_of, is_challenged, is_unacceptable, meets_closed_window, spared_by, taking_breaks}
 use Rattle.spec_duties.specs.Sights.{dropping_sight, sight, taking_sight, unseen}
 use Rattle.spec_duties.specs.Watching.{drops_needed, duty_rules, is_spared}
 use Rattle.spec_duties.specs.declared.sights.Spared.TheVariants as spareds
 use Rattle.kept_duties.specs.Drops.{ByEndpoint, ByListener, DropsAreLawful, MayBeDropped, MayBeSpared, NextIsKept, host_before}
 use Rattle.kept_duties.specs.Happens.{act_at, known_before, world_before}
-use Rattle.kept_duties.specs.Places.{IsStep}
 use Rattle.checker.specs.Seen.{act_of}
-use Rattle.kept_duties.proofs.Runs.{Goes, Run, run_goes, world_is}
+use Rattle.kept_duties.proofs.Runs.{Run, run_goes, world_is}
 
 -- of three tests, one isn't passed
 needed_not : (takes spares answers : Bool) → ((takes && not spares) || answers) ≡ false → ((takes ≡ false) ⊎ (spares ≡ true)) × (answers ≡ false)
@@ -73,16 +69,16 @@ module _ (t : Trace) (w : Witness) (slack : ℕ) (r : Run t.header slack (length
       let fine = (none_all (duty_rules t.header slack moment k.duties (sight t.header moment k.model (At host (Drops line)))) goes.dutiful).0 in
       by p.0 (subst (λ (v : World tcp_shape). waiting line (pick v.hosts host).inbox ≡ Some p.0) (world_is t w place) p.1)
       (subst (λ (v : World tcp_shape). drops_needed k.duties (Some (dropping_of host (taking_breaks t.header moment v host line)
-          (answering_breaks t.header v host line)
+      (answering_breaks t.header v host line)
       (spared_by (pick v.hosts host).body p.0 (taker (pick v.hosts host).body p.0)))) ≡ false) (world_is t w place)
       (sym (ap (λ (o : Option Emission). drops_needed k.duties (on o unseen (λ m. dropping_sight host (pick k.model.hosts host).body line
       (taking_breaks t.header moment k.model host line) (answering_breaks t.header k.model host line) m
-          (taker (pick k.model.hosts host).body m))).dropping) p.1) ∙ fine))
+      (taker (pick k.model.hosts host).body m))).dropping) p.1) ∙ fine))
     where
       by : (m : Emission) → waiting line (pick (world_before t w place).hosts host).inbox ≡ Some m
           → drops_needed (known_before t w place).duties (Some (dropping_of host (taking_breaks t.header moment (world_before t w place) host line)
           (answering_breaks t.header (world_before t w place) host line) (spared_by (host_before t w place host) m (taker (host_before t w place host) m))))
-              ≡ false
+          ≡ false
           → MayBeDropped t w place moment host line
       by m waits none =
           let taking = taking_breaks t.header moment (world_before t w place) host line in
@@ -106,7 +102,7 @@ module _ (t : Trace) (w : Witness) (slack : ℕ) (r : Run t.header slack (length
   next_kept place moment line i host choice m e is waits goes_to =
       let low = slice_get_within w.steps place _ is.here in
       let goes = run_goes t.header slack (length w.steps) (act_at t w) (known_before t w) r place
-          (record { moment = moment; step = At host (Takes line choice) }) low
+      (record { moment = moment; step = At host (Takes line choice) }) low
       (ap (λ (o : Option WitnessStep). option_map_or (act_of t.header t.lines) o None) is.here) in
       let k = known_before t w place in
       let fine = (none_all (duty_rules t.header slack moment k.duties (sight t.header moment k.model (At host (Takes line choice)))) goes.dutiful).1.0 in

@@ -1,15 +1,14 @@
 -- What happens at an endpoint is done by a step with a label or a line.
-use Rattle.std.proofs.Common.{◌≡◌, ℕ, Option, Some, ap, subst}
+use Rattle.std.proofs.Common.{◌≡◌, ℕ, Some, ap, subst}
 use Rattle.case_forms.specs.declared.named_line.NamedLine.{NamedLine}
 use Rattle.case_forms.specs.declared.steps.Label.{Label}
 use Rattle.case_forms.specs.declared.steps.Label.TheVariants as labels
 use Rattle.case_forms.specs.declared.steps.Witness.{Witness}
 use Rattle.case_forms.specs.declared.trace.Trace.{Trace}
-use Rattle.spec_tcp.specs.declared.endpoint.EndpointId.{EndpointId}
 use Rattle.spec_duties.specs.declared.events.Event.{Event}
 use Rattle.spec_duties.specs.declared.events.Event.TheVariants.{Builds, Calls, Drops, Expires, Opens, Processes, Recovers}
 use Rattle.spec_duties.specs.declared.events.Event.TheVariants.{Sends}
-use Rattle.kept_duties.specs.Happens.{EventsAreSteps, ExpiresAt, Happens, IsBy, world_before}
+use Rattle.kept_duties.specs.Happens.{EventsAreSteps, ExpiresAt, IsBy, world_before}
 use Rattle.kept_duties.specs.Places.{IsStep, SendsAt}
 use Rattle.kept_duties.proofs.Labels.{expires_at, hidden_label, hidden_step, sends_at}
 use Rattle.kept_duties.proofs.Touched.{AsBefore, StepDoes, as_before}

@@ -16,7 +16,6 @@ use Rattle.case_forms.specs.declared.trace.Wire.{Wire}
 use Rattle.case_forms.specs.declared.version.Initial.TheVariants.{Rfc5681}
 use Rattle.case_forms.specs.declared.version.Judged.TheVariants.{Full}
 use Rattle.case_forms.specs.declared.version.Version.TheVariants.{Five}
-use Rattle.spec_tcp.specs.declared.endpoint.EndpointId.{EndpointId}
 use Rattle.spec_duties.specs.Resent.{is_repeating, repeated_end}
 use Rattle.spec_duties.specs.Views.{unborn}
 use Rattle.spec_duties.specs.declared.events.Event.TheVariants as happening

@@ -166,7 +166,7 @@ module _ (t : Trace) (w : Witness) (place : ℕ) where
               → ArrivesAt t w place x.moment host k
           by (inl p) =
               let q = from_came shown.number shown.thread shown.event named.extras k host p.0 p.1
-                  (takes ∙ ap (λ (l : TakenLine). Some l) p.2) in make p.1 q.0 q.1
+              (takes ∙ ap (λ (l : TakenLine). Some l) p.2) in make p.1 q.0 q.1
           by (inr p) =
               let q = from_heard shown.number shown.thread shown.event named.extras k host p.0 (takes ∙ ap (λ (l : TakenLine). Some l) p.1) in make p.0 q.0 q.1
 
@@ -212,8 +212,11 @@ module _ (t : Trace) (w : Witness) (place : ℕ) where
       at moment (labels.M g plan) span here is = absurd (not_so leaves (host, k) moment (model.At g (model.Makes plan)) x refl is takes)
       at moment (labels.T g line choice) span here is =
           let p = parts g line moment (model.At g (model.Takes line choice)) refl is in
-          IsProcessed choice (record { span = span; here = here ∙ (λ i. Some
-              (record { moment = p.2 i; label = labels.T (p.0 i) (p.1 i) choice; span = span })) })
+          IsProcessed choice (record {
+            span = span;
+            here = here ∙ (λ i. Some
+                (record { moment = p.2 i; label = labels.T (p.0 i) (p.1 i) choice; span = span }));
+          })
       at moment (labels.K g line) span here is =
           let p = parts g line moment (model.At g (model.Drops line)) refl is in
           IsDropped (record { span = span; here = here ∙ (λ i. Some (record { moment = p.2 i; label = labels.K (p.0 i) (p.1 i); span = span })) })

@@ -87,7 +87,7 @@ module _ (t : Trace) (w : Witness) (slack : ℕ) (r : Run t.header slack (length
         let now : again (known_before t w (suc first)) ≡ max (again k) (repeated_end (seen k.model me) p) =
         ap (λ (o : Owed). o.again) owes.after
         ∙ again_is (Builds p) (seen k.model me) (seen (known_before t w (suc first)).model me) x.moment owes.listener owes.counts
-            (owed_by k.duties me.host me.number)
+        (owed_by k.duties me.host me.number)
         ∙ ap (λ (c : Bool). if c then max (again k) (repeated_end (seen k.model me) p) else again k) repeats in
         let same : repeated_end (seen k.model me) p ≡ ends = ap (λ (v : World tcp_shape). repeated_end (seen v me) p) (world_is t w first) in
         omega (arith, now, same)

@@ -105,7 +105,7 @@ module _ (t : Trace) (w : Witness) (slack : ℕ) (given : t.header.slack ≡ Som
       one j s low at None is =
           let same : known (suc j) ≡ known j =
           subst (λ o. Steps t.header slack (known j) (known (suc j)) o) (ap (λ (o : Option Step). option_map_or (act_of t.header t.lines) o None) at ∙ is)
-              (run.each j low) in
+          (run.each j low) in
           ap (λ (k : Known). k.model.count) same
           ∙ sym (ap (λ (o : Option Host). if is_some o then suc (known j).model.count else (known j).model.count) (builder_none t.header t.lines s is))
       one j s low at (Some x) is =
@@ -146,7 +146,7 @@ module _ (t : Trace) (w : Witness) (slack : ℕ) (given : t.header.slack ≡ Som
 
   module _ (trace : IsTrace t) (placed : Placed t.header t.lines (moves w.steps))
       (late : late_at_end t.header (last_moment (moves w.steps)) (known_after_all t.header (first_known t.header) (stamped t.header t.lines w.steps))
-          ≡ None) where
+      ≡ None) where
     pub arrivals_handled : ArrivalsAreHandled t w slack
     arrivals_handled place moment line host a =
         let x = arrival_act t w trace placed place moment host line a in

@@ -143,7 +143,7 @@ post_of h moment w (At host (Expires line x)) = tt
 post_of h moment w (At host (Makes m)) = (refl, host, refl)
 post_of h moment w (At host (Sends line number wire)) =
     on_cases (λ (s : Sight). PostOf w.count s.post (At host (Sends line number wire))) (lookup (nat_eq number) (pick w.hosts host).made) unseen _ tt
-        (λ m is. (host, refl))
+    (λ m is. (host, refl))
 post_of h moment w (At host (Gets line copied wire)) = tt
 post_of h moment w (At host (Hears line wire)) = tt
 post_of h moment w (At host (Takes line how)) =

@@ -137,7 +137,7 @@ module _ (t : Trace) (w : Witness) (slack : ℕ) (r : Run t.header slack (length
         (λ j k all since is. began_before j since (all since is)) 0 to (omega arith) high
         (λ since is. absurd (none-some since (sym (ap since_at r.start ∙ ap get (nothing_first t.header me.host me.number) ∙ duty.nothing) ∙ is)))
         (λ j x low less is goes all since now. next j x is goes all since now
-            (touches_or_not t.header slack (known_before t w j) (known_before t w (suc j)) x me goes))
+        (touches_or_not t.header slack (known_before t w j) (known_before t w (suc j)) x me goes))
       where
         next : (j : ℕ) (x : Stamped tcp_shape) → act_at t w j ≡ Some x → Goes t.header slack (known_before t w j) (known_before t w (suc j)) x
             → ((since : ℕ) → since_at (known_before t w j) ≡ Some since → Began j since) → (since : ℕ) → since_at (known_before t w (suc j)) ≡ Some since
@@ -184,7 +184,7 @@ module _ (t : Trace) (w : Witness) (slack : ℕ) (r : Run t.header slack (length
       -- the endpoint is CLOSED after an act that is in time, if it is one of the endpoint
       pub closes : (j : ℕ) (y : Stamped tcp_shape) → i ≤ j → act_at t w j ≡ Some y → is_closed (seen (known_before t w (suc j)).model me).state ≡ true
           → ((event : Event) → (sight t.header y.moment (known_before t w j).model y.step).touched ≡ Some (touched (known_before t w j).model me event)
-              → y.moment ≤ by_then)
+          → y.moment ≤ by_then)
           → ClosesBy t w i by_then me
       closes j y behind at closed soon = record {
         later = j;
@@ -195,14 +195,14 @@ module _ (t : Trace) (w : Witness) (slack : ℕ) (r : Run t.header slack (length
             let time : y.moment ≡ moment = sym (ap (λ (z : Stamped tcp_shape). z.moment) one) ∙ a.time in
             subst (λ (m : ℕ). m ≤ by_then) time (soon event
             (subst (λ (z : Stamped tcp_shape). (sight t.header z.moment (known_before t w j).model z.step).touched
-                ≡ Some (touched (known_before t w j).model me event))
+            ≡ Some (touched (known_before t w j).model me event))
             one (happens_to t w j moment me event a)));
       }
 
       module _ (since : ℕ) (old : since ≤ x.moment) where
         next : (j : ℕ) (y : Stamped tcp_shape) → suc i ≤ j → j < length w.steps → act_at t w j ≡ Some y
             → Goes t.header slack (known_before t w j) (known_before t w (suc j)) y → Goes_on since (known_before t w j)
-                → Goes_on since (known_before t w (suc j))
+            → Goes_on since (known_before t w (suc j))
         next j y behind less at goes (inl done) = inl done
         next j y behind less at goes (inr (inl closed)) = inr (inl closed)
         next j y behind less at goes (inr (inr still)) =
@@ -214,12 +214,12 @@ module _ (t : Trace) (w : Witness) (slack : ℕ) (r : Run t.header slack (length
             there : (e : Endpoint) × (find (known_before t w (suc j)).model.hosts me ≡ Some e)
             there =
                 let f = later_step t.header y.moment (known_before t w j).model y.step
-                    (steady_at j (omega (arith, less))) goes.permitted me still.there.0 still.there.1 in
+                (steady_at j (omega (arith, less))) goes.permitted me still.there.0 still.there.1 in
                 (f.0, ap (λ (v : World tcp_shape). find v.hosts me) goes.model ∙ f.1)
 
             stays : since_at (known_before t w (suc j)) ≡ Some since
                 → ((event : Event) → (sight t.header y.moment (known_before t w j).model y.step).touched ≡ Some (touched (known_before t w j).model me event)
-                    → y.moment ≤ by_then)
+                → y.moment ≤ by_then)
                 → Goes_on since (known_before t w (suc j))
             stays now soon = test (is_closed (seen (known_before t w (suc j)).model me).state) refl
               where
@@ -230,7 +230,7 @@ module _ (t : Trace) (w : Witness) (slack : ℕ) (r : Run t.header slack (length
             by_step : Touches t.header (known_before t w j) y me
                 ⊎ ((owed_by (known_before t w (suc j)).duties me.host me.number ≡ owed_by (known_before t w j).duties me.host me.number)
                 × ((event : Event) → (sight t.header y.moment (known_before t w j).model y.step).touched ≡ Some (touched (known_before t w j).model me event)
-                    → ⊥))
+                → ⊥))
                 → Goes_on since (known_before t w (suc j))
             by_step (inr same) = stays (ap get same.0 ∙ still.owes) (λ event shows. absurd (same.1 event shows))
             by_step (inl touch) = ends (duty.onward touch.event before after' y.moment owes.listener owes.counts
@@ -253,7 +253,7 @@ module _ (t : Trace) (w : Witness) (slack : ℕ) (r : Run t.header slack (length
 
                 ends : Kind touch.event before after' ⊎ (is_closed after'.state ≡ true)
                     ⊎ (get (owed_after touch.event before after' y.moment owes.listener owes.counts (owed_by (known_before t w j).duties me.host me.number))
-                        ≡ Some since)
+                    ≡ Some since)
                     → Goes_on since (known_before t w (suc j))
                 ends (inl kind) = inl (record {
                   later = j;
@@ -288,5 +288,5 @@ module _ (t : Trace) (w : Witness) (slack : ℕ) (r : Run t.header slack (length
                 let open' : is_closed (view_of e.0).state ≡ false =
                 sym (ap (λ (o : Option Endpoint). is_closed (option_map_or view_of o unborn).state) e.1) ∙ still.open' in
                 let le = duty.fine slack last (view_of e.0) (listener_closed k.duties me.host (view_of e.0))
-                    (owed_by k.duties me.host me.number) since here open' still.owes in
+                (owed_by k.duties me.host me.number) since here open' still.owes in
                 inr (inr (omega (arith, le, old)))

@@ -68,7 +68,7 @@ acknowledge_onward event before after moment listener counts o since is =
     by : (b : Bool) → is_answer event ≡ b
         → Answers event before after ⊎ (is_closed after.state ≡ true)
         ⊎ ((if b then None else if asks_ack event before.state moment o.acknowledged then option_or o.acknowledge (Some moment) else o.acknowledge)
-            ≡ Some since)
+        ≡ Some since)
     by true answers = inl answers
     by false answers = inr (inr (asks (asks_ack event before.state moment o.acknowledged)))
 
@@ -113,7 +113,7 @@ acknowledge_begins : (length : ℕ) (before after : View) (moment : ℕ) (listen
     → (is_closed after.state ≡ true) ⊎ ((since : ℕ) × ((owed_after (Processes length false) before after moment listener counts o).acknowledge ≡ Some since))
 acknowledge_begins length before after moment listener counts o some receives' =
     open_or_closed (λ n. (is_closed after.state ≡ true) ⊎ ((since : ℕ) × (n.acknowledge ≡ Some since)))
-        (Processes length false) before after moment listener counts o
+    (Processes length false) before after moment listener counts o
     (λ closed. inl closed) (inr (kept o.acknowledge))
   where
     asks : (receives before.state && nat_lt 0 length && not false) ≡ true
@@ -135,7 +135,7 @@ retransmit_onward : (event : Event) (before after : View) (moment : ℕ) (listen
     → SendsOldest event before after ⊎ (is_closed after.state ≡ true) ⊎ ((owed_after event before after moment listener counts o).retransmit ≡ Some since)
 retransmit_onward event before after moment listener counts o since is =
     open_or_closed (λ n. SendsOldest event before after ⊎ (is_closed after.state ≡ true)
-        ⊎ (n.retransmit ≡ Some since)) event before after moment listener counts o
+    ⊎ (n.retransmit ≡ Some since)) event before after moment listener counts o
     (λ closed. inr (inl closed)) (by (is_timeout event) (sends_oldest event before || acknowledges_more before after) refl)
   where
     by : (a b : Bool) → (sends_oldest event before || acknowledges_more before after) ≡ b
@@ -166,7 +166,7 @@ retransmit_duty = record {
   either = λ a b. refl;
   fine = λ slack moment v listener o since none open' is.
       let both = neither (is_late slack moment o.retransmit) (is_late slack moment o.probe)
-          (late_open (λ l. l.retransmit ≡ false) slack moment v listener o open' none) in
+      (late_open (λ l. l.retransmit ≡ false) slack moment v listener o open' none) in
       let le = not_late slack since moment o.retransmit is both.0 in
       omega (arith, le);
 }
@@ -213,7 +213,7 @@ probe_duty = record {
   either = λ a b. refl;
   fine = λ slack moment v listener o since none open' is.
       let both = neither (is_late slack moment o.retransmit) (is_late slack moment o.probe)
-          (late_open (λ l. l.retransmit ≡ false) slack moment v listener o open' none) in
+      (late_open (λ l. l.retransmit ≡ false) slack moment v listener o open' none) in
       let le = not_late slack since moment o.probe is both.1 in
       omega (arith, le);
 }
@@ -301,7 +301,7 @@ module _ (t : Trace) (w : Witness) (slack : ℕ) (r : Run t.header slack (length
           let low = within t w place a.act a.is in
           let goes = goes_of t w slack r place a.act a.is in
           let e = there_after t.header a.act.moment (known_before t w place).model a.act.step me event
-              (steady_at t w slack r placed place (omega (arith, low))) goes.permitted
+          (steady_at t w slack r placed place (omega (arith, low))) goes.permitted
           (happens_to t w place moment me event a) in
           let still : Still t w slack r placed me get extra Kind sel duty place a.act a.is low since (known_before t w (suc place)) =
           record { owes = now; open' = open'; there = (e.0, ap (λ (v : World tcp_shape). find v.hosts me) goes.model ∙ e.1) } in
@@ -310,7 +310,7 @@ module _ (t : Trace) (w : Witness) (slack : ℕ) (r : Run t.header slack (length
 
       by : (is_closed (seen (known_before t w (suc place)).model me).state ≡ true)
           ⊎ ((since : ℕ) × (get (owed_after event (seen (known_before t w place).model me)
-              (seen (known_before t w (suc place)).model me) a.act.moment owes.listener owes.counts
+          (seen (known_before t w (suc place)).model me) a.act.moment owes.listener owes.counts
           (owed_by (known_before t w place).duties me.host me.number)) ≡ Some since))
           → IsDoneBy t w place (a.act.moment + extra + slack) me Kind
       by (inl closed) = at_once closed

@@ -363,7 +363,7 @@ module _ (h : Header) (slack : ℕ) (k next : Known) (x : Stamped tcp_shape) (me
         after =
             ap (λ (d : Duties). owed_by d me.host me.number) goes.duties
             ∙ ap (λ (o : Option Touched). owed_in (on o k.duties.owed (owed_table_after
-                (view_in (after (tcp h) x.moment k.model x.step) o) x.moment counts k.duties)) me) shows
+            (view_in (after (tcp h) x.moment k.model x.step) o) x.moment counts k.duties)) me) shows
             ∙ owed_here k.duties.owed k.model me event _
             ∙ ap (λ (w : World tcp_shape). owed_after event (seen k.model me) (seen w me) x.moment
             (listener_closed k.duties me.host (seen k.model me)) counts (owed_by k.duties me.host me.number)) (sym goes.model);
@@ -381,7 +381,7 @@ module _ (h : Header) (slack : ℕ) (k next : Known) (x : Stamped tcp_shape) (me
       keeps : (o : Option Touched) → shown.touched ≡ o → owed_in (on o k.duties.owed
           (owed_table_after (view_in (after (tcp h) x.moment k.model x.step) o) x.moment
           (counts_now (built_by k.duties shown.post)) k.duties)) me ≡ owed_in k.duties.owed me → owed_by next.duties me.host me.number
-              ≡ owed_by k.duties me.host me.number
+          ≡ owed_by k.duties me.host me.number
       keeps o shows same =
           ap (λ (d : Duties). owed_by d me.host me.number) goes.duties
           ∙ ap (λ (o : Option Touched). owed_in (on o k.duties.owed (owed_table_after (view_in (after (tcp h) x.moment k.model x.step) o) x.moment
@@ -438,7 +438,7 @@ last_there (x ∷ es) e = last_there es e
 child_there : (h : Header) (moment : ℕ) (w : World tcp_shape) (g : Host) (line : ℕ) (how : TakeChoice) (m : Emission) (l : ℕ)
     → waiting line (pick w.hosts g).inbox ≡ Some m → taker (pick w.hosts g).body m ≡ AtListener l
     → (e : Endpoint) × (slice_get (pick (after (tcp h) moment w (At g (Takes line how))).hosts g).body.endpoints (length (pick w.hosts g).body.endpoints)
-        ≡ Some e)
+    ≡ Some e)
 child_there h moment w g line how m l waits is =
     let b = (pick w.hosts g).body in (
       child (profile_of h) l how m moment,
