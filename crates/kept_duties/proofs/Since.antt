@@ -182,14 +182,16 @@ module _ (t : Trace) (w : Witness) (slack : ℕ) (r : Run t.header slack (length
       Goes_on since k = HappensBy t w i by_then me Kind ⊎ ClosesBy t w i by_then me ⊎ Still since k
 
       -- the endpoint is CLOSED after an act that is in time, if it is one of the endpoint
-      pub closes : (j : ℕ) (y : Stamped tcp_shape) → i ≤ j → act_at t w j ≡ Some y → is_closed (seen (known_before t w (suc j)).model me).state ≡ true
+      pub closes : (j : ℕ) (y : Stamped tcp_shape) → i ≤ j → (i < j → is_closed (seen (known_before t w j).model me).state ≡ false) → act_at t w j ≡ Some y
+          → is_closed (seen (known_before t w (suc j)).model me).state ≡ true
           → ((event : Event) → (sight t.header y.moment (known_before t w j).model y.step).touched ≡ Some (touched (known_before t w j).model me event)
           → y.moment ≤ by_then)
           → ClosesBy t w i by_then me
-      closes j y behind at closed soon = record {
+      closes j y behind opened at closed soon = record {
         later = j;
         behind = behind;
-        closed = ap (λ (v : World tcp_shape). is_closed (seen v me).state) (sym (world_is t w (suc j))) ∙ closed;
+        open_before = λ less. ap (λ (v : World tcp_shape). is_closed (seen v me).state) (sym (world_is t w j)) ∙ opened less;
+        closed_after = ap (λ (v : World tcp_shape). is_closed (seen v me).state) (sym (world_is t w (suc j))) ∙ closed;
         soon = λ moment event a.
             let one : a.act ≡ y = same_Some a.act y (sym a.is ∙ at) in
             let time : y.moment ≡ moment = sym (ap (λ (z : Stamped tcp_shape). z.moment) one) ∙ a.time in
@@ -224,7 +226,7 @@ module _ (t : Trace) (w : Witness) (slack : ℕ) (r : Run t.header slack (length
             stays now soon = test (is_closed (seen (known_before t w (suc j)).model me).state) refl
               where
                 test : (c : Bool) → is_closed (seen (known_before t w (suc j)).model me).state ≡ c → Goes_on since (known_before t w (suc j))
-                test true closed = inr (inl (closes j y (omega (arith, behind)) at closed soon))
+                test true closed = inr (inl (closes j y (omega (arith, behind)) (λ less. still.open') at closed soon))
                 test false open' = inr (inr (record { owes = now; open' = open'; there = there }))
 
             by_step : Touches t.header (known_before t w j) y me
@@ -266,7 +268,7 @@ module _ (t : Trace) (w : Witness) (slack : ℕ) (r : Run t.header slack (length
                       (subst (λ (v : World tcp_shape). Kind touch.event (seen v me) after') (world_is t w j) kind);
                   soon = soon;
                 })
-                ends (inr (inl closed)) = inr (inl (closes j y (omega (arith, behind)) at closed (λ event shows. soon)))
+                ends (inr (inl closed)) = inr (inl (closes j y (omega (arith, behind)) (λ less. still.open') at closed (λ event shows. soon)))
                 ends (inr (inr on)) = stays (ap get owes.after ∙ on) (λ event shows. soon)
 
         -- from the act on to the end

@@ -23,8 +23,7 @@ use Rattle.spec_duties.specs.Sights.{sight}
 use Rattle.spec_duties.specs.Views.{unborn, view_of}
 use Rattle.spec_duties.specs.declared.events.Event.{Event}
 use Rattle.spec_duties.specs.declared.events.Event.TheVariants.{Builds, Calls, Drops, Expires, Opens, Processes}
-use Rattle.spec_duties.specs.declared.events.Event.TheVariants.{Recovers}
-use Rattle.spec_duties.specs.declared.events.Event.TheVariants.{Sends}
+use Rattle.spec_duties.specs.declared.events.Event.TheVariants.{Recovers, Sends}
 use Rattle.spec_duties.specs.declared.views.View.{View}
 use Rattle.checker.specs.Seen.{act_of, stamped}
 use Rattle.kept_duties.specs.Places.{IsStep, SendsAt}
@@ -46,7 +45,7 @@ known_before t w place =
 abbrev pub seen_before : Trace → Witness → (place : ℕ) → EndpointId → View
 seen_before t w place me = option_map_or view_of (find (world_before t w place).hosts me) unborn
 
--- the step at this place does this at an endpoint
+-- the step at this place does this at an endpoint, as `sight` shows it of the model
 pub record Happens (t : Trace) (w : Witness) (place moment : ℕ) (me : EndpointId) (event : Event) : Type 0 where
   pub act : Stamped tcp_shape
   pub is : act_at t w place ≡ Some act

@@ -1,6 +1,5 @@
 -- What a yes with a slack says of segments: each that arrived was processed, dropped or answered soon, and each that
--- was
--- sent had just been built (RFC 9293, 3.10.2 and 3.10.7). Moments and slacks are in microseconds.
+-- was sent had just been built (RFC 9293, 3.10.2 and 3.10.7). Moments and slacks are in microseconds.
 use Rattle.std.specs.Prelude.{◌⊎◌, ℕ, ◌+◌, ◌≤◌, ◌<◌}
 use Rattle.case_forms.specs.declared.calls.Host.{Host}
 use Rattle.case_forms.specs.declared.steps.Witness.{Witness}

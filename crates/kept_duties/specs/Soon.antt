@@ -1,5 +1,5 @@
--- What a yes with a slack says of acknowledgments and of retransmissions: by when they are sent (RFC 9293, 3.8.6.3 and
--- 3.10.7.4; RFC 5681, 4.2; RFC 6298, 5.4). Moments and slacks are in microseconds.
+-- What a yes with a slack says of acknowledgments, retransmissions, probes and waiting data: by when they are sent (RFC
+-- 9293, 3.8.6 and 3.10.7.4; RFC 5681, 4.2; RFC 6298, 5.4). Moments and slacks are in microseconds.
 use Rattle.std.specs.Prelude.{◌≡◌, ◌⊎◌, ◌+◌, ◌<◌, ◌≤◌, ℕ, suc, true, false, ◌||◌}
 use Rattle.case_forms.specs.States.{is_closed}
 use Rattle.case_forms.specs.declared.steps.Witness.{Witness}
@@ -27,12 +27,13 @@ pub record HappensBy (t : Trace) (w : Witness) (place by : ℕ) (me : EndpointId
   pub kind : Kind event (seen_before t w later me) (seen_before t w (suc later) me)
   pub soon : moment ≤ by
 
--- the endpoint is CLOSED after a step from this place on. If something happens at the endpoint by that step, it is by
--- this moment; otherwise its listener was closed, which may be later
+-- the endpoint is CLOSED after the step at this place, or becomes CLOSED by a later one. If that step does something at
+-- the endpoint, it is by this moment; otherwise, as when its listener is closed, it may be later
 pub record ClosesBy (t : Trace) (w : Witness) (place by : ℕ) (me : EndpointId) : Type 0 where
   pub later : ℕ
   pub behind : place ≤ later
-  pub closed : is_closed (seen_before t w (suc later) me).state ≡ true
+  pub open_before : place < later → is_closed (seen_before t w later me).state ≡ false
+  pub closed_after : is_closed (seen_before t w (suc later) me).state ≡ true
   pub soon : (moment : ℕ) (event : Event) → Happens t w later moment me event → moment ≤ by
 
 -- one of these: it happens, the endpoint is CLOSED, or the witness ends
@@ -65,6 +66,7 @@ ExpiriesAreFollowed t w slack =
 abbrev pub SendsAnything : Event → (before after : View) → Type 0
 SendsAnything event before after = (is_sending event || acknowledges_more before after) ≡ true
 
+-- that happens within the slack
 abbrev pub ProbesAreSent : Trace → Witness → (slack : ℕ) → Type 0
 ProbesAreSent t w slack =
     (place moment : ℕ) (me : EndpointId) → Happens t w place moment me (Expires Persist)

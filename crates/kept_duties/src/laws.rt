@@ -86,9 +86,10 @@ pub fn probes_are_sent()
         → ProbesAreSent t w slack }
 {}
 
-/// If something waits to be sent after a step at an endpoint, with nothing outstanding and no window that holds it back,
-/// this ended at most a second and the slack later; unless the endpoint was CLOSED, or the last step is at most that
-/// much later (RFC 9293, 3.8.6.2.1).
+/// If something waits to be sent after a step at an endpoint, with nothing outstanding and no window that holds it
+/// back, this ended at most a second and the slack later; unless the endpoint was CLOSED, or the last step is at most
+/// that much later (RFC 9293, 3.8.6.2.1).
 pub fn work_is_begun()
-    ensures { (t : Trace) (w : Witness) (slack : ℕ) → Explains t w → t.header.slack ≡ Some slack → WorkIsBegun t w slack }
+    ensures { (t : Trace) (w : Witness) (slack : ℕ) → Explains t w → t.header.slack ≡ Some slack
+        → WorkIsBegun t w slack }
 {}
