@@ -33,6 +33,7 @@ use Rattle.case_forms.specs.declared.trace.Line.{Line}
 use Rattle.case_forms.specs.declared.trace.Span.{Span}
 use Rattle.case_forms.specs.declared.trace.Trace.{Trace}
 use Rattle.case_forms.specs.declared.trace.Wire.{Wire}
+use Rattle.case_forms.specs.declared.version.Version.{Version}
 use Rattle.interval_order.specs.OrderRules.{extras_of}
 use Rattle.interval_order.specs.Placed.{Placed, TakesAt}
 use Rattle.spec_network.specs.Hosts.{Stamped}
@@ -523,3 +524,44 @@ expires_at t w place x is host line expiring timer does of =
     by l (taken.Came k g copied v) same acts = absurd cc
     by l (taken.Heard k g v) same acts = absurd cc
     by l (taken.Sent k g made v) same acts = absurd cc
+
+-- a timer's line has as many extra numbers as its kind needs
+expired_of : (version : Version) (host : Host) (lport rport : ℕ) (timer : Timer) (x : Extras)
+    → extras_count x ≡ extras_of version (events.Expired host lport rport timer) → (e : Expired) × (expired_by timer x ≡ Some e)
+expired_of version host lport rport Rto (Two c s) count = (expireds.Rto (record { cwnd = c; ssthresh = s }), refl)
+expired_of version host lport rport Rto Bare count = absurd (omega (arith, count))
+expired_of version host lport rport Rto (One a) count = absurd (omega (arith, count))
+expired_of version host lport rport Persist Bare count = (expireds.Persist, refl)
+expired_of version host lport rport Persist (One a) count = absurd (omega (arith, count))
+expired_of version host lport rport Persist (Two a b) count = absurd (omega (arith, count))
+expired_of version host lport rport Msl2 Bare count = (expireds.Msl2, refl)
+expired_of version host lport rport Msl2 (One a) count = absurd (omega (arith, count))
+expired_of version host lport rport Msl2 (Two a b) count = absurd (omega (arith, count))
+expired_of version host lport rport Giveup Bare count = (expireds.Giveup, refl)
+expired_of version host lport rport Giveup (One a) count = absurd (omega (arith, count))
+expired_of version host lport rport Giveup (Two a b) count = absurd (omega (arith, count))
+
+-- a `T` line that a step takes is the act of that timer
+pub expiry_act : (t : Trace) (w : Witness) → Placed t.header t.lines (moves w.steps) → (place moment : ℕ) (host : Host) (timer : Timer)
+    → (a : ExpiresAt t w place moment host timer)
+    → (e : Expired) × (act_at t w place ≡ Some (stamp moment (model.At host
+        (model.Expires a.shown.number (record { lport = a.lport; rport = a.rport; expired = e })))))
+    × (timer_of e ≡ timer)
+expiry_act t w placed place moment host timer a =
+    let p = placed.timely a.line place (record {
+      moment = moment;
+      extras = extras_count a.extras;
+      here = slice_get-map move_of w.steps place ∙ ap (option_map move_of) a.step.here;
+    }) in
+    let shown : p.0 ≡ a.shown = same_Some p.0 a.shown (sym p.1 ∙ a.is) in
+    let count : extras_count a.extras ≡ extras_of t.header.version (events.Expired host a.lport a.rport timer) =
+    p.2.count ∙ ap (λ (l : Line). extras_of t.header.version l.event) shown ∙ ap (extras_of t.header.version) a.expires in
+    let e = expired_of t.header.version host a.lport a.rport timer a.extras count in (
+      e.0,
+      ap (λ (o : Option Step). option_map_or (act_of t.header t.lines) o None) a.step.here
+          ∙ ap (λ (o : Option Line). act_taken moment (option_map_or (taken_of a.extras) o None)) a.is
+          ∙ ap (λ (e : Event). act_taken moment (event_taken a.shown.number a.shown.thread e a.extras)) a.expires
+          ∙ ap (λ (o : Option Expired). act_taken moment (option_map
+          (λ e. taken.Expired a.shown.number host (record { lport = a.lport; rport = a.rport }) e) o)) e.1,
+      expired_timer timer a.extras e.0 e.1,
+    )

@@ -138,7 +138,7 @@ ports_before w step host event lport rport does built = by (place_of (pick w.hos
     by None is = tt
     by (Some i) is = place_before w step host event i does (built i is)
 
-next_before : (w : World tcp_shape) (host : Host) → unborn ≡ seen w (record { host = host; number = length (pick w.hosts host).body.endpoints })
+pub next_before : (w : World tcp_shape) (host : Host) → unborn ≡ seen w (record { host = host; number = length (pick w.hosts host).body.endpoints })
 next_before w host =
     sym (ap (λ (o : Option Endpoint). option_map_or view_of o unborn)
     (slice_get_past (pick w.hosts host).body.endpoints (length (pick w.hosts host).body.endpoints) (omega arith)))

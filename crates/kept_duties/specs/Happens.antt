@@ -6,6 +6,7 @@ use Rattle.case_forms.specs.declared.calls.Answer.{Answer}
 use Rattle.case_forms.specs.declared.calls.Host.{Host}
 use Rattle.case_forms.specs.declared.named_line.Extras.{Extras}
 use Rattle.case_forms.specs.declared.steps.Label.TheVariants as labels
+use Rattle.case_forms.specs.declared.steps.SegmentPlan.{SegmentPlan}
 use Rattle.case_forms.specs.declared.steps.TakeChoice.{TakeChoice}
 use Rattle.case_forms.specs.declared.steps.Witness.{Witness}
 use Rattle.case_forms.specs.declared.timer.Recovery.{Recovery}
@@ -14,7 +15,10 @@ use Rattle.case_forms.specs.declared.trace.Event.TheVariants as lines
 use Rattle.case_forms.specs.declared.trace.Line.{Line}
 use Rattle.case_forms.specs.declared.trace.Trace.{Trace}
 use Rattle.spec_network.specs.Hosts.{Stamped, World}
+use Rattle.spec_network.specs.Tables.{pick, waiting}
+use Rattle.spec_tcp.specs.Endpoints.{segment_length}
 use Rattle.spec_tcp.specs.Machine.{tcp_shape}
+use Rattle.spec_tcp.specs.declared.endpoint.Emission.{Emission}
 use Rattle.spec_tcp.specs.declared.endpoint.EndpointId.{EndpointId}
 use Rattle.spec_tcp_laws.specs.Consequences.{find}
 use Rattle.spec_tcp_laws.specs.Runs.{world_at_end}
@@ -83,3 +87,22 @@ abbrev pub EventsAreSteps : Trace → Witness → Type 0
 EventsAreSteps t w =
     (place moment : ℕ) (me : EndpointId) (event : Event) → Happens t w place moment me event
     → IsBy t w place moment me.host event
+
+-- something of this kind happens at an endpoint of the host
+abbrev pub HappensThere : Trace → Witness → (place moment : ℕ) → Host → Event → Type 0
+HappensThere t w place moment host event =
+    (number : ℕ) × Happens t w place moment (record { host = host; number = number }) event
+
+-- the other way round: each step that processes or builds a segment, lets a timer expire or begins fast recovery does
+-- this at an endpoint
+pub record StepsAreEvents (t : Trace) (w : Witness) : Type 0 where
+  pub processes : (place moment line : ℕ) (host : Host) (choice : TakeChoice)
+      → IsStep w place moment (labels.T host line choice)
+      → (m : Emission) × (waiting line (pick (world_before t w place).hosts host).inbox ≡ Some m)
+      × HappensThere t w place moment host (Processes (segment_length m) m.flags.rst)
+  pub builds : (place moment : ℕ) (host : Host) (m : SegmentPlan) → IsStep w place moment (labels.M host m)
+      → HappensThere t w place moment host (Builds m)
+  pub expires : (place moment : ℕ) (host : Host) (timer : Timer) → ExpiresAt t w place moment host timer
+      → HappensThere t w place moment host (Expires timer)
+  pub recovers : (place moment : ℕ) (host : Host) (recovery : Recovery)
+      → IsStep w place moment (labels.F host recovery) → HappensThere t w place moment host Recovers

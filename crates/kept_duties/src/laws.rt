@@ -7,7 +7,7 @@ ghost use Rattle.case_forms.specs.declared.steps.Witness.{Witness};
 ghost use Rattle.spec_duties.specs.Resent.{judges_repeats, judges_windows};
 ghost use Rattle.checker.specs.Explains.{Explains};
 ghost use Rattle.kept_duties.specs.Segments.{ArrivalsAreHandled, SendingsAreFresh};
-ghost use Rattle.kept_duties.specs.Happens.{EventsAreSteps};
+ghost use Rattle.kept_duties.specs.Happens.{EventsAreSteps, StepsAreEvents};
 ghost use Rattle.kept_duties.specs.Repeats.{NothingIsResentTwice, RepeatsStayWithin};
 ghost use Rattle.kept_duties.specs.Counts.{AcknowledgmentsAreFew};
 ghost use Rattle.kept_duties.specs.Soon.{ReceiptsAreAnswered, ExpiriesAreFollowed, ProbesAreSent, WorkIsBegun};
@@ -42,7 +42,11 @@ pub fn sendings_are_fresh()
 /// What happens at an endpoint is done by a step of the witness with the label or the line that belongs to it, of the
 /// endpoint's host. So the laws below are about steps and lines.
 pub fn events_are_steps()
-    ensures { (t : Trace) (w : Witness) → EventsAreSteps t w }
+    ensures events { (t : Trace) (w : Witness) → EventsAreSteps t w }
+
+    // The other way round: what such a step does happens at an endpoint of the host.
+    ensures steps { (t : Trace) (w : Witness) (slack : ℕ) → Explains t w → t.header.slack ≡ Some slack
+        → StepsAreEvents t w }
 {}
 
 /// Between two expiries or the like, an endpoint built no position twice again, if the header says that retransmissions
