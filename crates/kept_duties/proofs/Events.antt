@@ -1,20 +1,15 @@
 -- What happens at an endpoint is done by a step with a label or a line.
-use Rattle.std.proofs.Common.{◌≡◌, ℕ, suc, ◌⊎◌, inl, inr, Bool, true, false, List, length, Option, Some, None, refl, ap, sym, subst, ◌∙◌, arith}
-use Rattle.std.specs.Prelude.{if◌then◌else◌, slice_get}
+use Rattle.std.proofs.Common.{◌≡◌, ℕ, length, Option, Some, None, refl, ap, sym, subst, ◌∙◌}
+use Rattle.std.specs.Prelude.{slice_get}
 use Rattle.std.specs.Option.{option_map, option_map_or}
-use Rattle.std.proofs.lemmas.Option.{none-some, same_Some, slice_get_within}
+use Rattle.std.proofs.lemmas.Option.{none-some}
 use Rattle.case_forms.specs.TakenLines.{timer_of}
-use Rattle.case_forms.specs.Steps.{extras_count}
 use Rattle.case_forms.specs.declared.calls.Host.{Host}
-use Rattle.case_forms.specs.declared.named_line.Extras.{Extras}
-use Rattle.case_forms.specs.declared.named_line.Extras.TheVariants.{Bare, One, Two}
 use Rattle.case_forms.specs.declared.steps.SegmentPlan.{SegmentPlan}
 use Rattle.case_forms.specs.declared.steps.Step.{Step as WitnessStep}
 use Rattle.case_forms.specs.declared.steps.TakeChoice.{TakeChoice}
-use Rattle.case_forms.specs.declared.taken_line.Expired.{Expired}
 use Rattle.case_forms.specs.declared.timer.Recovery.{Recovery}
 use Rattle.case_forms.specs.declared.timer.Timer.{Timer}
-use Rattle.case_forms.specs.declared.timer.Timer.TheVariants.{Giveup, Msl2, Persist, Rto}
 use Rattle.case_forms.specs.declared.trace.Header.{Header}
 use Rattle.case_forms.specs.declared.trace.Span.{Span}
 use Rattle.verdict.specs.Rules.{first_broken}
@@ -26,7 +21,7 @@ use Rattle.spec_network.specs.Tables.{on, pick, waiting}
 use Rattle.spec_tcp.specs.Arrives.{AtEndpoint, AtListener, Nobody, Taker, taker, taker_rules}
 use Rattle.spec_tcp.specs.Endpoints.{segment_length}
 use Rattle.spec_tcp.specs.HostTcp.{endpoint_of, place_of}
-use Rattle.spec_tcp.specs.Machine.{tcp, tcp_shape}
+use Rattle.spec_tcp.specs.Machine.{tcp_shape}
 use Rattle.spec_tcp.specs.declared.endpoint.Emission.{Emission}
 use Rattle.spec_tcp.specs.declared.endpoint.Endpoint.{Endpoint}
 use Rattle.spec_tcp_laws.proofs.Rules.{map_or_passes, on_passes}
@@ -45,7 +40,7 @@ use Rattle.case_forms.specs.declared.trace.Trace.{Trace}
 use Rattle.spec_duties.specs.declared.events.Event.{Event}
 use Rattle.spec_duties.specs.declared.events.Event.TheVariants.{Builds, Calls, Drops, Expires, Opens, Processes, Recovers}
 use Rattle.spec_duties.specs.declared.events.Event.TheVariants.{Sends}
-use Rattle.kept_duties.specs.Happens.{EventsAreSteps, ExpiresAt, Happens, HappensThere, IsBy, StepsAreEvents, act_at, known_before}
+use Rattle.kept_duties.specs.Happens.{EventsAreSteps, ExpiresAt, HappensThere, IsBy, StepsAreEvents, act_at, known_before}
 use Rattle.kept_duties.specs.Happens.{world_before}
 use Rattle.kept_duties.specs.Places.{IsStep, SendsAt}
 use Rattle.kept_duties.proofs.Labels.{expires_at, expiry_act, hidden_label, hidden_step, sends_at}
@@ -132,9 +127,11 @@ module _ (t : Trace) (w : Witness) (slack : ℕ) (r : Run t.header slack (length
       let q = taker_touched t.header moment v host choice p.0 p.2 in (
         p.0,
         subst (λ (v : World tcp_shape). waiting line (pick v.hosts host).inbox ≡ Some p.0) (world_is t w place) p.1,
-        makes_happen place moment (At host (model.Takes line choice)) host (processing_of p.0) acts
-            (q.0, ap (λ (o : Option Emission). (on o unseen (λ m. taking_sight t.header host (pick v.hosts host).body line choice m
-            (taker (pick v.hosts host).body m))).touched) p.1 ∙ q.1),
+        makes_happen place moment (At host (model.Takes line choice)) host (processing_of p.0) acts (
+          q.0,
+          ap (λ (o : Option Emission). (on o unseen (λ m. taking_sight t.header host (pick v.hosts host).body line choice m
+              (taker (pick v.hosts host).body m))).touched) p.1 ∙ q.1,
+        ),
       )
 
   building : (place moment : ℕ) (host : Host) (m : SegmentPlan) → IsStep w place moment (labels.M host m) → HappensThere t w place moment host (Builds m)

@@ -545,7 +545,7 @@ expired_of version host lport rport Giveup (Two a b) count = absurd (omega (arit
 pub expiry_act : (t : Trace) (w : Witness) → Placed t.header t.lines (moves w.steps) → (place moment : ℕ) (host : Host) (timer : Timer)
     → (a : ExpiresAt t w place moment host timer)
     → (e : Expired) × (act_at t w place ≡ Some (stamp moment (model.At host
-        (model.Expires a.shown.number (record { lport = a.lport; rport = a.rport; expired = e })))))
+    (model.Expires a.shown.number (record { lport = a.lport; rport = a.rport; expired = e })))))
     × (timer_of e ≡ timer)
 expiry_act t w placed place moment host timer a =
     let p = placed.timely a.line place (record {

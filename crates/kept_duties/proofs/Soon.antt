@@ -292,7 +292,7 @@ module _ (t : Trace) (w : Witness) (slack : ℕ) (r : Run t.header slack (length
       at_once : is_closed (seen (known_before t w (suc place)).model me).state ≡ true → IsDoneBy t w place (a.act.moment + extra + slack) me Kind
       at_once closed =
           inr (inl (closes t w slack r placed me get extra Kind sel duty place a.act a.is (within t w place a.act a.is) place a.act (omega arith)
-              (λ less. absurd (omega (arith, less))) a.is closed
+          (λ less. absurd (omega (arith, less))) a.is closed
           (λ event shows. omega arith)))
 
       since_then : (since : ℕ) → get (owed_by (known_before t w (suc place)).duties me.host me.number) ≡ Some since
