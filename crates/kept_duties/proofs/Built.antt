@@ -29,6 +29,9 @@ use Rattle.kept_duties.proofs.Runs.{Goes, Run, run_goes, run_keeps}
 use Rattle.kept_duties.proofs.Sights.{IsMade, IsNew, PostOf, builds, count_after, made_by, made_from, post_builds, post_of, post_sends, sends}
 use Rattle.kept_duties.proofs.Sights.{waiting_elsewhere, waiting_here}
 
+same_pair : (o : Option (Host × ℕ)) (g host : Host) (q n : ℕ) → o ≡ Some (g, q) → g ≡ host → q ≡ n → o ≡ Some (host, n)
+same_pair o g host q n is same number = is ∙ (λ i. Some (same i, number i))
+
 module _ (h : Header) (slack n : ℕ) (acts : ℕ → Option (Stamped tcp_shape)) (known : ℕ → Known) (r : Run h slack n acts known) where
   -- whether an act builds a mere acknowledgment
   abbrev pub counts_by : Known → Stamped tcp_shape → Bool
@@ -167,7 +170,8 @@ module _ (h : Header) (slack n : ℕ) (acts : ℕ → Option (Stamped tcp_shape)
             let low' = low_number j host number (omega (arith, low)) was in
             let next = of.0 in
             let other : nat_eq number q ≡ false = grind (arith, nat_tests, low', next) in
-            go_on number (post.Builds q) shows ∙ waiting_elsewhere number q (Some just_built) table other ∙ waits
+            subst (λ (o : Option Built). o ≡ Some b) (sym (go_on number (post.Builds q) shows))
+            (waiting_elsewhere number q (Some just_built) table other ∙ waits)
         by (post.Sends q) shows of = test (nat_eq number q) refl
           where
             test : (t : Bool) → nat_eq number q ≡ t → waiting number (known (suc j)).duties.built ≡ Some b
@@ -176,8 +180,9 @@ module _ (h : Header) (slack n : ℕ) (acts : ℕ → Option (Stamped tcp_shape)
                 let sent = post_sends h x.moment (known j).model x.step of.0 q goes.permitted of.1 in
                 let other = subst (λ (k : ℕ). WasBuilt j of.0 k) e (all of.0 q sent.1.made sent.1.there).was in
                 let one : of.0 ≡ host = same_builder j of.0 host number (omega (arith, low)) other was in
-                absurd (not (of.1 ∙ ap (λ (g : Host). Some (g, q)) one ∙ ap (λ (k : ℕ). Some (host, k)) e))
-            test false other = go_on number (post.Sends q) shows ∙ waiting_elsewhere number q None table other ∙ waits
+                absurd (not (same_pair (sends x.step) of.0 host q number of.1 one e))
+            test false other =
+                subst (λ (o : Option Built). o ≡ Some b) (sym (go_on number (post.Sends q) shows)) (waiting_elsewhere number q None table other ∙ waits)
 
     step : AllInTime (suc j) (known (suc j))
     step host number m there =

@@ -31,6 +31,7 @@ use Rattle.interval_order.specs.Placed.{Placed}
 use Rattle.spec_network.specs.HostSteps.{Lawful, after}
 use Rattle.spec_network.specs.Hosts.{Effect, Stamped, World, Step, At, Makes, Sends, Takes}
 use Rattle.spec_network.specs.Tables.{Made, host_is, on, pick}
+use Rattle.spec_tcp.specs.HostTcp.{place_of}
 use Rattle.spec_tcp.specs.Machine.{made_at, tcp, tcp_shape}
 use Rattle.spec_tcp.specs.Makes.{emission_of}
 use Rattle.spec_tcp.specs.declared.endpoint.Emission.{Emission}
@@ -62,7 +63,7 @@ use Rattle.kept_duties.proofs.Since.{steady_at}
 use Rattle.kept_duties.proofs.Built.{Sent, WasBuilt, counts_by, same_builder, same_place, sent_was_built}
 use Rattle.kept_duties.proofs.Labels.{sending_act}
 use Rattle.kept_duties.proofs.Sights.{builds, made_by, sends}
-use Rattle.kept_duties.proofs.Touched.{AsBefore, AsShown, BuildsAs, Child, Opened, Touches, as_before, seen, touched, touches_or_not}
+use Rattle.kept_duties.proofs.Touched.{AsBefore, AsShown, Child, Opened, Touches, as_before, seen, touched, touches_or_not}
 
 -- ---- what happens at an endpoint
 
@@ -190,7 +191,8 @@ module _ (t : Trace) (w : Witness) (slack : ℕ) (given : t.header.slack ≡ Som
     is : act_at t w place ≡ Some act
     shows : (sight t.header act.moment (known_before t w place).model act.step).touched ≡ Some (touched (known_before t w place).model me (Builds plan))
     mere : is_mere_ack plan (seen (known_before t w place).model me) (seen (known_before t w (suc place)).model me) ≡ true
-    builds : BuildsAs (known_before t w place).model act.step me.host me.number plan
+    step : act.step ≡ At me.host (Makes plan)
+    ports : place_of (pick (known_before t w place).model.hosts me.host).body plan.lport plan.rport ≡ Some me.number
     there : find (known_before t w place).model.hosts me ≡ Some endpoint
 
   mere_built : (place : ℕ) → builds_mere_at t w me place ≡ true → MereBuilt place
@@ -223,14 +225,15 @@ module _ (t : Trace) (w : Witness) (slack : ℕ) (given : t.header.slack ≡ Som
             is = at;
             shows = shows;
             mere = mere;
-            builds = found.built m refl;
+            step = found.does;
+            ports = found.built m refl;
             there = e.1;
           }
           there (inr (inl o)) =
-              let b = (found.built m refl).is in
+              let b = found.does in
               absurd (let clash : At me.host (Makes m) ≡ Effect o.thread (answers.Given o.socket) = sym b ∙ o.is in cc clash)
           there (inr (inr c)) =
-              let b = (found.built m refl).is in
+              let b = found.does in
               absurd (let clash : At me.host (Makes m) ≡ At me.host (Takes c.line c.how) = sym b ∙ c.is in cc clash)
 
       named : (x : Stamped tcp_shape) → act_at t w place ≡ Some x → (m : SegmentPlan) → (s : Touched)
@@ -306,7 +309,7 @@ module _ (t : Trace) (w : Witness) (slack : ℕ) (given : t.header.slack ≡ Som
         act = b.act;
         low = m.low;
         is = b.is;
-        builds = ap builds b.builds.is;
+        builds = ap builds b.step;
         count =
             m.number ∙ ap (λ (q : ℕ). suc q) (sym (count_is t w slack given lawful dutiful m.place
             (let below = m.low in let top = low in omega (arith, below, top))));
@@ -330,8 +333,8 @@ module _ (t : Trace) (w : Witness) (slack : ℕ) (given : t.header.slack ≡ Som
           let content = subst (λ (q : ℕ). made_by (known_before t w q).model b.act.step ≡ Some sent.made.emission) same
           (subst (λ (x : Stamped tcp_shape). made_by (known_before t w sent.was.place).model x.step ≡ Some sent.made.emission) act_same sent.content) in
           sym content
-          ∙ ap (made_by k.model) b.builds.is
-          ∙ ap (λ (o : Option ℕ). option_map_or (made_at me.host body b.plan) o None) b.builds.ports
+          ∙ ap (made_by k.model) b.step
+          ∙ ap (λ (o : Option ℕ). option_map_or (made_at me.host body b.plan) o None) b.ports
           ∙ ap (option_map (λ (e : Endpoint). emission_of (record { host = me.host; number = me.number }) e b.plan)) b.there
 
       built : sent.made.emission ≡ emission_of (record { host = me.host; number = me.number }) b.endpoint b.plan

@@ -91,16 +91,6 @@ from_heard n thread e (Two a b) line host wire is = absurd cc
 
 -- ---- what a line's step does
 
--- the line that a step takes is an `I` line of that host, with this number
-pub record IsArrival (h : Header) (label : Label NamedLine) (find : ℕ → Option Line) (host : Host) (line : ℕ) : Type 0 where
-  pub named : NamedLine
-  pub shown : Line
-  pub wire : Wire
-  pub takes : label ≡ labels.L named
-  pub there : find named.number ≡ Some shown
-  pub number : shown.number ≡ line
-  pub arrives : shown.event ≡ events.Came host wire
-
 abbrev stamp : ℕ → model.Step tcp_shape → Stamped tcp_shape
 stamp moment step = record { moment = moment; step = step }
 

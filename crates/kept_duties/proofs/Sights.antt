@@ -21,16 +21,14 @@ use Rattle.spec_network.specs.Hosts.{World, HostState, Deed, Does, Expires, Make
 use Rattle.spec_network.specs.Hosts.{Turn, Idle, Called, Answered, turn_of}
 use Rattle.spec_network.specs.Tables.{Made, gone_out, on, other, pick, settled, unsent, waiting}
 use Rattle.spec_network.proofs.Entries.{lookup_insert}
-use Rattle.spec_tcp.specs.Arrives.{taker}
 use Rattle.spec_tcp.specs.HostTcp.{HostTcp, thing_of}
 use Rattle.spec_tcp.specs.Machine as acts
 use Rattle.spec_tcp.specs.Machine.{Act, Calls, act_after, act_makes, tcp, tcp_shape, aim}
 use Rattle.spec_tcp.specs.declared.endpoint.Emission.{Emission}
 use Rattle.spec_tcp.specs.declared.endpoint.SocketTarget.{SocketTarget}
 use Rattle.spec_tcp.specs.declared.endpoint.SocketTarget.TheVariants.{ListenerAt, EndpointAt}
-use Rattle.spec_duties.specs.Dropped.{taking_breaks, answering_breaks}
 use Rattle.spec_duties.specs.Sights.{unseen, sight, call_sight, effect_sight, accept_sight, close_sight, other_sight, is_done}
-use Rattle.spec_duties.specs.Sights.{at_sender, taking_sight, dropping_sight}
+use Rattle.spec_duties.specs.Sights.{at_sender}
 use Rattle.spec_duties.specs.declared.sights.Mail.{Mail}
 use Rattle.spec_duties.specs.declared.sights.Mail.TheVariants as mail
 use Rattle.spec_duties.specs.declared.sights.Post.{Post}
@@ -163,20 +161,6 @@ mail_enters h moment w (At g (Gets k copied wire)) host line e = ap mail.Enters 
 mail_enters h moment w (At g (Hears k wire)) host line e = ap mail.Enters (pair_right g host k line e)
 mail_enters h moment w step host line e = absurd (none-some (host, line) e)
 
-pub mail_leaves : (h : Header) (moment : ℕ) (w : World tcp_shape) (step : Step tcp_shape) (host : Host) (line : ℕ)
-    → Permitted (tcp h) moment w step → leaves step ≡ Some (host, line) → (sight h moment w step).mail ≡ mail.Leaves line
-mail_leaves h moment w (At g (Takes k how)) host line may e =
-    let p = on_passes (waiting k (pick w.hosts g).inbox) rules.Inbox _ may in
-    ap (λ o. (on o unseen (λ m. taking_sight h g (pick w.hosts g).body k how m (taker (pick w.hosts g).body m))).mail) p.1
-    ∙ ap mail.Leaves (pair_right g host k line e)
-mail_leaves h moment w (At g (Drops k)) host line may e =
-    let p = on_passes (waiting k (pick w.hosts g).inbox) rules.Inbox _ may in
-    ap (λ o. (on o unseen (λ m. dropping_sight g (pick w.hosts g).body k (taking_breaks h moment w g k) (answering_breaks h w g k) m
-    (taker (pick w.hosts g).body m))).mail) p.1
-    ∙ ap mail.Leaves (pair_right g host k line e)
-mail_leaves h moment w (At g (Answers k)) host line may e = ap mail.Leaves (pair_right g host k line e)
-mail_leaves h moment w step host line may e = absurd (none-some (host, line) e)
-
 waits_there : {P : Emission → Type 0} (w : World tcp_shape) (g : Host) (k : ℕ) (host : Host) (line : ℕ)
     → ◌≡◌ {A = Option (Host × ℕ)} (Some (g, k)) (Some (host, line))
     → (m : Emission) × (waiting k (pick w.hosts g).inbox ≡ Some m) × P m
@@ -188,7 +172,7 @@ waits_there w g k host line e p =
           (subst (λ (q : ℕ). waiting q (pick w.hosts g).inbox ≡ Some p.0) same.1 p.1),
     )
 
--- and it takes what waits
+-- what leaves an inbox waited there
 pub leaves_waits : (h : Header) (moment : ℕ) (w : World tcp_shape) (step : Step tcp_shape) (host : Host) (line : ℕ)
     → Permitted (tcp h) moment w step → leaves step ≡ Some (host, line) → (m : Emission) × (waiting line (pick w.hosts host).inbox ≡ Some m)
 leaves_waits h moment w (At g (Takes k how)) host line may e = waits_there w g k host line e (on_passes (waiting k (pick w.hosts g).inbox) rules.Inbox _ may)

@@ -101,11 +101,6 @@ StepDoes step host events.Recovers = (x : Recovery) × (step ≡ At host (Does x
 StepDoes step host (events.Calls aborts) = (thread : ℕ) × (answer : Answer) × (step ≡ Effect thread answer)
 StepDoes step host events.Opens = (thread : ℕ) × (answer : Answer) × (step ≡ Effect thread answer)
 
--- a step that builds a segment, of the endpoint at a place
-pub record BuildsAs (w : World tcp_shape) (step : Step tcp_shape) (host : Host) (place : ℕ) (m : SegmentPlan) : Type 0 where
-  pub is : step ≡ At host (Makes m)
-  pub ports : place_of (pick w.hosts host).body m.lport m.rport ≡ Some place
-
 abbrev pub name_of : Touched → EndpointId
 name_of t = record { host = t.host; number = t.place }
 
@@ -113,14 +108,16 @@ pub record AsShown (w : World tcp_shape) (step : Step tcp_shape) (t : Touched) :
   pub before : t.before ≡ seen w (name_of t)
   pub there : ((e : Endpoint) × (find w.hosts (name_of t) ≡ Some e)) ⊎ Opened w step t ⊎ Child w step t
   pub does : StepDoes step t.host t.event
-  pub built : (m : SegmentPlan) → t.event ≡ events.Builds m → BuildsAs w step t.host t.place m
+  -- a segment is built by the endpoint that its ports name
+  pub built : (m : SegmentPlan) → t.event ≡ events.Builds m → place_of (pick w.hosts t.host).body m.lport m.rport ≡ Some t.place
 
 abbrev pub AsBefore : World tcp_shape → Step tcp_shape → Option Touched → Type 0
 AsBefore w step None = Unit {0}
 AsBefore w step (Some t) = AsShown w step t
 
 place_before : (w : World tcp_shape) (step : Step tcp_shape) (host : Host) (event : Event) (i : ℕ) → StepDoes step host event
-    → ((m : SegmentPlan) → event ≡ events.Builds m → BuildsAs w step host i m) → AsBefore w step (at_place host (pick w.hosts host).body event i)
+    → ((m : SegmentPlan) → event ≡ events.Builds m → place_of (pick w.hosts host).body m.lport m.rport ≡ Some i)
+    → AsBefore w step (at_place host (pick w.hosts host).body event i)
 place_before w step host event i does built = by (slice_get (pick w.hosts host).body.endpoints i) refl
   where
     by : (o : Option Endpoint) → slice_get (pick w.hosts host).body.endpoints i ≡ o
@@ -129,7 +126,8 @@ place_before w step host event i does built = by (slice_get (pick w.hosts host).
     by (Some e) is = record { before = sym (ap (λ (o : Option Endpoint). option_map_or view_of o unborn) is); there = inl (e, is); does = does; built = built }
 
 ports_before : (w : World tcp_shape) (step : Step tcp_shape) (host : Host) (event : Event) (lport rport : ℕ) → StepDoes step host event
-    → ((i : ℕ) → place_of (pick w.hosts host).body lport rport ≡ Some i → (m : SegmentPlan) → event ≡ events.Builds m → BuildsAs w step host i m)
+    → ((i : ℕ) → place_of (pick w.hosts host).body lport rport ≡ Some i → (m : SegmentPlan) → event ≡ events.Builds m
+    → place_of (pick w.hosts host).body m.lport m.rport ≡ Some i)
     → AsBefore w step (at_ports host (pick w.hosts host).body event lport rport)
 ports_before w step host event lport rport does built = by (place_of (pick w.hosts host).body lport rport) refl
   where
@@ -248,10 +246,7 @@ as_before h moment w (At host (Does x)) = ports_before w (At host (Does x)) host
 as_before h moment w (At host (Expires line x)) = ports_before w (At host (Expires line x)) host _ x.lport x.rport (line, x, refl, refl) (λ i is p e. absurd cc)
 as_before h moment w (At host (Makes m)) =
     ports_before w (At host (Makes m)) host (events.Builds m) m.lport m.rport refl
-    (λ i at p e. let same : m ≡ p = cc in record {
-      is = ap (λ (q : SegmentPlan). At host (Makes q)) same;
-      ports = ap (λ (q : SegmentPlan). place_of (pick w.hosts host).body q.lport q.rport) (sym same) ∙ at;
-    })
+    (λ i at p e. let same : m ≡ p = cc in ap (λ (q : SegmentPlan). place_of (pick w.hosts host).body q.lport q.rport) (sym same) ∙ at)
 as_before h moment w (At host (Sends line number wire)) =
     on_cases (λ (s : Sight). AsBefore w (At host (Sends line number wire)) s.touched) (lookup (nat_eq number) (pick w.hosts host).made) unseen _ tt
     (λ m is. sender_before w (At host (Sends line number wire)) host m.emission (line, number, wire, refl))
