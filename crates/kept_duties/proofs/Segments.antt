@@ -23,7 +23,7 @@ use Rattle.spec_duties.specs.Cases.{Dutiful, Known, first_known, known_after_all
 use Rattle.spec_duties.specs.End as end
 use Rattle.spec_duties.specs.End.{end_rules, first_waiting}
 use Rattle.kept_duties.specs.Happens.{act_at, known_before}
-use Rattle.kept_duties.specs.Places.{built_before, builder}
+use Rattle.kept_duties.specs.Places.{IsStep, builder, built_before}
 use Rattle.checker.specs.Seen.{act_of, moves, stamped}
 use Rattle.kept_duties.specs.Segments.{ArrivalsAreHandled, EndsBy, LeavesBy, SendingsAreFresh}
 use Rattle.kept_duties.proofs.Built.{count_next, sent_in_time}
@@ -56,6 +56,9 @@ count_one {X} p xs i x at = by (p x) refl
 none_mapped : {X Y : Type 0} (f : X → Y) (o : Option X) → option_map f o ≡ None → o ≡ None
 none_mapped f None e = refl
 none_mapped f (Some x) e = absurd (none-some (f x) (sym e))
+
+step_at : (w : Witness) (place moment : ℕ) (s : Step) → slice_get w.steps place ≡ Some s → s.moment ≡ moment → IsStep w place moment s.label
+step_at w place moment s here is = record { span = s.span; here = here ∙ ap (λ (m : ℕ). Some (record s { moment = m })) is }
 
 -- the step of an act
 pub step_of_act : (t : Trace) (w : Witness) (place : ℕ) (x : Stamped tcp_shape) → act_at t w place ≡ Some x
@@ -137,7 +140,7 @@ module _ (t : Trace) (w : Witness) (slack : ℕ) (given : t.header.slack ≡ Som
         before = b.0.low;
         builds = record {
           label = s.0.label;
-          step = record { span = s.0.span; here = s.1 ∙ ap (λ (m : ℕ). Some (record s.0 { moment = m })) is.1 };
+          step = step_at w b.0.place b.0.act.moment s.0 s.1 is.1;
           builds = is.0 ∙ b.0.builds;
           count = b.0.count ∙ ap (λ (n : ℕ). suc n) count;
         };
