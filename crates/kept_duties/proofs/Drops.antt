@@ -1,0 +1,113 @@
+-- A dropped segment need neither be processed nor answered.
+use Rattle.std.proofs.Common.{◌≡◌, ℕ, ◌⊎◌, inl, inr, Bool, true, false, length, Option, Some, None, refl, ap, sym, subst, ◌∙◌, arith}
+use Rattle.std.proofs.lemmas.Bool.Decides.{nat_tests}
+use Rattle.std.proofs.lemmas.Option.{slice_get_within}
+use Rattle.std.specs.Prelude.{◌&&◌, ◌||◌, if◌then◌else◌, is_some, not, slice_get}
+use Rattle.std.specs.Option.{option_map_or}
+use Rattle.case_forms.specs.declared.calls.Host.{Host}
+use Rattle.case_forms.specs.declared.steps.Step.{Step as WitnessStep}
+use Rattle.case_forms.specs.declared.steps.Witness.{Witness}
+use Rattle.case_forms.specs.declared.trace.Trace.{Trace}
+use Rattle.verdict.specs.declared.rule.Rule.TheVariants as rules
+use Rattle.verdict.proofs.RuleLemmas.{none_all}
+use Rattle.spec_network.specs.Hosts.{At, Drops, Takes, World}
+use Rattle.spec_network.specs.Tables.{on, pick, waiting}
+use Rattle.spec_tcp.specs.Arrives.{AtEndpoint, AtListener, Nobody, Taker, taker}
+use Rattle.spec_tcp.specs.Machine.{tcp_shape}
+use Rattle.spec_tcp.specs.declared.endpoint.Emission.{Emission}
+use Rattle.spec_tcp.specs.declared.endpoint.Listener.{Listener}
+use Rattle.spec_tcp_laws.proofs.Rules.{not_false, on_passes}
+use Rattle.spec_duties.specs.Dropped.{answering_breaks, discards_at, dropping_of, is_challenged, is_unacceptable, meets_closed_window, spared_by, taking_breaks}
+use Rattle.spec_duties.specs.Sights.{dropping_sight, sight, taking_sight, unseen}
+use Rattle.spec_duties.specs.Watching.{drops_needed, duty_rules, is_spared}
+use Rattle.spec_duties.specs.declared.sights.Spared.TheVariants as spareds
+use Rattle.kept_duties.specs.Drops.{ByEndpoint, ByListener, DropsAreLawful, MayBeDropped, MayBeSpared, NextIsKept, host_before}
+use Rattle.kept_duties.specs.Happens.{act_at, known_before, world_before}
+use Rattle.checker.specs.Seen.{act_of}
+use Rattle.kept_duties.proofs.Runs.{Run, run_goes, world_is}
+
+-- of three tests, one isn't passed
+needed_not : (takes spares answers : Bool) → ((takes && not spares) || answers) ≡ false → ((takes ≡ false) ⊎ (spares ≡ true)) × (answers ≡ false)
+needed_not true true answers e = (inr refl, e)
+needed_not true false answers e = absurd cc
+needed_not false spares answers e = (inl refl, e)
+
+answers_not : (breaks unacceptable : Bool) → (not breaks && not unacceptable) ≡ false → (breaks ≡ true) ⊎ (unacceptable ≡ true)
+answers_not true unacceptable e = inl refl
+answers_not false true e = inr refl
+answers_not false false e = absurd cc
+
+module _ (t : Trace) (w : Witness) (slack : ℕ) (r : Run t.header slack (length w.steps) (act_at t w) (known_before t w)) where
+  spared : (place : ℕ) (host : Host) (m : Emission) → is_spared (known_before t w place).duties host
+      (spared_by (host_before t w place host) m (taker (host_before t w place host) m)) ≡ true
+      → MayBeSpared t w place host m
+  spared place host m = by (taker (host_before t w place host) m) refl
+    where
+      ends : (c : Bool) → (is_spared (known_before t w place).duties host (if c then spareds.Yes else spareds.No)) ≡ true → c ≡ true
+      ends true e = refl
+      ends false e = absurd cc
+
+      full : (l : ℕ) → taker (host_before t w place host) m ≡ AtListener l → (o : Option Listener) → slice_get (host_before t w place host).listeners l ≡ o
+          → is_spared (known_before t w place).duties host (option_map_or (λ x. spareds.IfFull l x.backlog) o spareds.No) ≡ true → MayBeSpared t w place host m
+      full l goes None at e = absurd cc
+      full l goes (Some x) at e = ByListener l x goes at (grind (arith, nat_tests, e))
+
+      by : (k : Taker) → taker (host_before t w place host) m ≡ k → is_spared (known_before t w place).duties host (spared_by (host_before t w place host) m k)
+          ≡ true
+          → MayBeSpared t w place host m
+      by Nobody goes e = absurd cc
+      by (AtListener l) goes e = full l goes (slice_get (host_before t w place host).listeners l) refl e
+      by (AtEndpoint i f) goes e = ByEndpoint i f goes (ends (is_challenged f m || meets_closed_window f m) e)
+
+  pub drops_lawful : DropsAreLawful t w
+  drops_lawful place moment line host is =
+      let low = slice_get_within w.steps place _ is.here in
+      let goes = run_goes t.header slack (length w.steps) (act_at t w) (known_before t w) r place (record { moment = moment; step = At host (Drops line) }) low
+      (ap (λ (o : Option WitnessStep). option_map_or (act_of t.header t.lines) o None) is.here) in
+      let k = known_before t w place in
+      let p = on_passes (waiting line (pick k.model.hosts host).inbox) rules.Inbox _ goes.permitted in
+      let fine = (none_all (duty_rules t.header slack moment k.duties (sight t.header moment k.model (At host (Drops line)))) goes.dutiful).0 in
+      by p.0 (subst (λ (v : World tcp_shape). waiting line (pick v.hosts host).inbox ≡ Some p.0) (world_is t w place) p.1)
+      (subst (λ (v : World tcp_shape). drops_needed k.duties (Some (dropping_of host (taking_breaks t.header moment v host line)
+      (answering_breaks t.header v host line)
+      (spared_by (pick v.hosts host).body p.0 (taker (pick v.hosts host).body p.0)))) ≡ false) (world_is t w place)
+      (sym (ap (λ (o : Option Emission). drops_needed k.duties (on o unseen (λ m. dropping_sight host (pick k.model.hosts host).body line
+      (taking_breaks t.header moment k.model host line) (answering_breaks t.header k.model host line) m
+      (taker (pick k.model.hosts host).body m))).dropping) p.1) ∙ fine))
+    where
+      by : (m : Emission) → waiting line (pick (world_before t w place).hosts host).inbox ≡ Some m
+          → drops_needed (known_before t w place).duties (Some (dropping_of host (taking_breaks t.header moment (world_before t w place) host line)
+          (answering_breaks t.header (world_before t w place) host line) (spared_by (host_before t w place host) m (taker (host_before t w place host) m))))
+          ≡ false
+          → MayBeDropped t w place moment host line
+      by m waits none =
+          let taking = taking_breaks t.header moment (world_before t w place) host line in
+          let answering = answering_breaks t.header (world_before t w place) host line in
+          let s = is_spared (known_before t w place).duties host (spared_by (host_before t w place host) m (taker (host_before t w place host) m)) in
+          let both = needed_not (not (is_some taking)) s (not (is_some answering) && not (is_unacceptable taking)) none in
+          record {
+            segment = m;
+            waits = waits;
+            processing = process both.0;
+            answering = answers_not (is_some answering) (is_unacceptable taking) both.1;
+          }
+        where
+          process : (not (is_some (taking_breaks t.header moment (world_before t w place) host line)) ≡ false)
+              ⊎ (is_spared (known_before t w place).duties host (spared_by (host_before t w place host) m (taker (host_before t w place host) m)) ≡ true)
+              → (is_some (taking_breaks t.header moment (world_before t w place) host line) ≡ true) ⊎ MayBeSpared t w place host m
+          process (inl breaks) = inl (not_false (is_some (taking_breaks t.header moment (world_before t w place) host line)) breaks)
+          process (inr full) = inr (spared place host m full)
+
+  pub next_kept : NextIsKept t w
+  next_kept place moment line i host choice m e is waits goes_to =
+      let low = slice_get_within w.steps place _ is.here in
+      let goes = run_goes t.header slack (length w.steps) (act_at t w) (known_before t w) r place
+      (record { moment = moment; step = At host (Takes line choice) }) low
+      (ap (λ (o : Option WitnessStep). option_map_or (act_of t.header t.lines) o None) is.here) in
+      let k = known_before t w place in
+      let fine = (none_all (duty_rules t.header slack moment k.duties (sight t.header moment k.model (At host (Takes line choice)))) goes.dutiful).1.0 in
+      let here : (sight t.header moment (world_before t w place) (At host (Takes line choice))).discards ≡ false =
+      subst (λ (v : World tcp_shape). (sight t.header moment v (At host (Takes line choice))).discards ≡ false) (world_is t w place) fine in
+      let b = host_before t w place host in
+      sym (ap (λ (o : Option Emission). (on o unseen (λ m. taking_sight t.header host b line choice m (taker b m))).discards) waits
+      ∙ ap (λ (k : Taker). discards_at t.header.version choice m k) goes_to) ∙ here

@@ -1,0 +1,184 @@
+-- What the definitions say of a few steps.
+use Rattle.std.proofs.Common.{◌≡◌, ℕ, true, false, [], ◌∷◌, None, Some, refl, arith}
+use Rattle.std.specs.Prelude.{◌==◌}
+use Rattle.case_forms.specs.declared.calls.Host.TheVariants.{Zero, One}
+use Rattle.case_forms.specs.declared.named_line.Extras.TheVariants as extras
+use Rattle.case_forms.specs.declared.named_line.NamedLine.{NamedLine}
+use Rattle.case_forms.specs.declared.steps.Label.{Label}
+use Rattle.case_forms.specs.declared.steps.Label.TheVariants as labels
+use Rattle.case_forms.specs.declared.steps.SegmentPlan.{SegmentPlan}
+use Rattle.case_forms.specs.declared.steps.Step.{Step}
+use Rattle.case_forms.specs.declared.steps.TakeChoice.{TakeChoice}
+use Rattle.case_forms.specs.declared.steps.Witness.{Witness}
+use Rattle.case_forms.specs.declared.trace.Event.TheVariants as events
+use Rattle.case_forms.specs.declared.trace.Trace.{Trace}
+use Rattle.case_forms.specs.declared.trace.Wire.{Wire}
+use Rattle.case_forms.specs.declared.version.Initial.TheVariants.{Rfc5681}
+use Rattle.case_forms.specs.declared.version.Judged.TheVariants.{Full}
+use Rattle.case_forms.specs.declared.version.Version.TheVariants.{Five}
+use Rattle.spec_duties.specs.Resent.{is_repeating, repeated_end}
+use Rattle.spec_duties.specs.Views.{unborn}
+use Rattle.spec_duties.specs.declared.events.Event.TheVariants as happening
+use Rattle.spec_duties.specs.declared.sights.Touched.{Touched}
+use Rattle.spec_duties.specs.declared.views.View.{View}
+use Rattle.checker.specs.Again.{nowhere}
+use Rattle.kept_duties.specs.Counts.{builds_mere, count_before, event_for, sent_by}
+use Rattle.kept_duties.specs.Places.{ArrivesAt, IsProcessed, SendsAt, built_before}
+use Rattle.kept_duties.specs.Segments.{EndsBy, IsBuiltBefore, LeavesBy}
+use Rattle.kept_duties.specs.Soon.{Answers, SendsOldest}
+
+-- an empty acknowledgment, and three bytes
+abbrev ack : SegmentPlan
+ack = record {
+  lport = 80;
+  rport = 4000;
+  pos = 4;
+  len = 0;
+  flags = record { ack = true; rst = false; syn = false; fin = false };
+  window = 9000;
+  iss = None;
+  shift = None;
+}
+
+abbrev bytes : SegmentPlan
+bytes = record ack { pos = 2; len = 3 }
+
+abbrev step_at : ℕ → Label NamedLine → Step
+step_at moment label = record { moment = moment; label = label; span = nowhere }
+
+abbrev choice : TakeChoice
+choice = record { cwnd = 0; keep = true; sample = false }
+
+-- a segment arrives at host 1 and is processed; two are built, and the first of them is sent
+abbrev facts_witness : Witness
+facts_witness = record {
+  version = Five;
+  steps =
+      step_at 12 (labels.L (record { number = 11; extras = extras.One 9 }))
+      ∷ step_at 13 (labels.T One 11 choice)
+      ∷ step_at 14 (labels.M One ack)
+      ∷ step_at 15 (labels.M One bytes)
+      ∷ step_at 40 (labels.L (record { number = 12; extras = extras.One 1 }))
+      ∷ [];
+}
+
+module _ (wire : Wire) where
+  abbrev facts_trace : Trace
+  facts_trace = record {
+    header = record {
+      version = Five;
+      skew = 0;
+      msl = 120000000;
+      grain = 1000;
+      minrto = 1000000;
+      extra = 0;
+      initial = Rfc5681;
+      congestion = Full;
+      slack = Some 30;
+    };
+    lines =
+        record { number = 11; moment = 12; thread = 1; event = events.Came One wire; span = nowhere }
+        ∷ record { number = 12; moment = 40; thread = 1; event = events.Sent One wire; span = nowhere }
+        ∷ [];
+  }
+
+  arrives_here : ArrivesAt facts_trace facts_witness 0 12 One 11
+  arrives_here = record {
+    extras = extras.One 9;
+    shown = record { number = 11; moment = 12; thread = 1; event = events.Came One wire; span = nowhere };
+    wire = wire;
+    step = record { span = nowhere; here = refl };
+    is = refl;
+    arrives = refl;
+  }
+
+  sent_here : SendsAt facts_trace facts_witness 4 40 One 1
+  sent_here = record {
+    line = 12;
+    shown = record { number = 12; moment = 40; thread = 1; event = events.Sent One wire; span = nowhere };
+    wire = wire;
+    step = record { span = nowhere; here = refl };
+    is = refl;
+    sends = refl;
+  }
+
+  number_here : sent_by facts_trace (labels.L (record { number = 12; extras = extras.One 1 })) ≡ Some 1
+  number_here = refl
+
+  no_number_there : sent_by facts_trace (labels.L (record { number = 11; extras = extras.One 9 })) ≡ None
+  no_number_there = refl
+
+processed_here : LeavesBy facts_witness 0 42 One 11
+processed_here = record {
+  later = 1;
+  moment = 13;
+  after = omega arith;
+  leaves = IsProcessed choice (record { span = nowhere; here = refl });
+  soon = omega arith;
+}
+
+ends_here : EndsBy facts_witness 40
+ends_here = omega arith
+
+ends_later : EndsBy facts_witness 39 → ⊥
+ends_later e = omega (arith, e)
+
+built_here : IsBuiltBefore facts_witness 30 4 40 One 1
+built_here = record {
+  earlier = 2;
+  since = 14;
+  before = omega arith;
+  builds = record { label = labels.M One ack; step = record { span = nowhere; here = refl }; builds = refl; count = refl };
+  soon = omega arith;
+}
+
+two_are_built : built_before facts_witness 4 ≡ 2
+two_are_built = refl
+
+-- what counts, and for whom
+abbrev sent_four : View
+sent_four = record unborn { snd_una = 1; snd_max = 4; snd_wnd = 9000 }
+
+mere_here : builds_mere (happening.Builds ack) sent_four sent_four ≡ true
+mere_here = refl
+
+not_with_bytes : builds_mere (happening.Builds bytes) sent_four sent_four ≡ false
+not_with_bytes = refl
+
+not_with_a_window : builds_mere (happening.Builds ack) sent_four (record sent_four { rcv_adv = 1 }) ≡ false
+not_with_a_window = refl
+
+-- of bytes at 2 to 4, position 4 wasn't built before
+sent_before : is_repeating sent_four bytes ≡ true
+sent_before = refl
+
+ends_at_four : repeated_end sent_four bytes ≡ 4
+ends_at_four = refl
+
+one_in_three : count_before (λ place. place == 1) 3 ≡ 1
+one_in_three = refl
+
+abbrev touches_zero : Touched
+touches_zero = record { host = Zero; place = 0; event = happening.Recovers; before = unborn }
+
+for_its_endpoint : event_for (record { host = Zero; number = 0 }) (Some touches_zero) ≡ Some happening.Recovers
+for_its_endpoint = refl
+
+for_no_other_place : event_for (record { host = Zero; number = 1 }) (Some touches_zero) ≡ None
+for_no_other_place = refl
+
+for_no_other_host : event_for (record { host = One; number = 0 }) (Some touches_zero) ≡ None
+for_no_other_host = refl
+
+-- what ends a duty
+ack_answers : Answers (happening.Sends (record { flags = ack.flags; pos = 4; length = 0 })) sent_four sent_four
+ack_answers = refl
+
+first_position_again : SendsOldest (happening.Sends (record { flags = ack.flags; pos = 1; length = 1 })) sent_four sent_four
+first_position_again = refl
+
+later_position_is_not : SendsOldest (happening.Sends (record { flags = ack.flags; pos = 2; length = 1 })) sent_four sent_four → ⊥
+later_position_is_not e = cc e
+
+acknowledged_instead : SendsOldest happening.Recovers sent_four (record sent_four { snd_una = 2 })
+acknowledged_instead = refl

@@ -1,0 +1,14 @@
+pub mod Runs
+pub mod Sights
+pub mod Inbox
+pub mod Built
+pub mod Labels
+pub mod Segments
+pub mod Touched
+pub mod Repeats
+pub mod Since
+pub mod Soon
+pub mod Counts
+pub mod Events
+pub mod Facts
+pub mod Drops

@@ -1,0 +1,294 @@
+-- What an endpoint owes since a moment is done in time, or it is CLOSED, or the witness ends.
+use Rattle.std.proofs.Common.{◌≡◌, ℕ, zero, suc, ◌+◌, ◌<◌, ◌≤◌, ◌⊎◌, inl, inr, Bool, true, false, List, [], ◌∷◌, length, Option, Some, None, refl, ap, sym}
+use Rattle.std.proofs.Common.{subst, ◌∙◌, arith}
+use Rattle.std.proofs.Math.Nat.{eq-or-lt_of_le, zero-add}
+use Rattle.std.specs.List.{AllByRecursion}
+use Rattle.std.specs.Prelude.{◌||◌, slice_get}
+use Rattle.std.specs.Option.{option_map, option_map_or}
+use Rattle.std.proofs.lemmas.Option.{none-some, same_Some, slice_get-map}
+use Rattle.case_forms.specs.States.{is_closed}
+use Rattle.case_forms.specs.declared.calls.Host.{Host}
+use Rattle.case_forms.specs.declared.calls.Host.TheVariants.{Zero, One}
+use Rattle.case_forms.specs.declared.steps.Witness.{Witness}
+use Rattle.case_forms.specs.declared.trace.Header.{Header}
+use Rattle.case_forms.specs.declared.trace.Trace.{Trace}
+use Rattle.verdict.specs.Rules.{first_broken}
+use Rattle.verdict.proofs.RuleLemmas.{none_all}
+use Rattle.interval_order.specs.Orders.{last_moment}
+use Rattle.interval_order.specs.Placed.{Placed}
+use Rattle.spec_network.specs.Hosts.{Stamped, World}
+use Rattle.spec_network.specs.Tables.{pick}
+use Rattle.spec_tcp.specs.Machine.{tcp_shape}
+use Rattle.spec_tcp.specs.declared.endpoint.Endpoint.{Endpoint}
+use Rattle.spec_tcp.specs.declared.endpoint.EndpointId.{EndpointId}
+use Rattle.spec_tcp_laws.specs.Consequences.{find}
+use Rattle.spec_tcp_laws.proofs.Rules.{neither}
+use Rattle.spec_tcp_laws.proofs.Runs.{Steady, later_step, steady_start, steady_step}
+use Rattle.spec_duties.specs.Cases.{Known, first_known}
+use Rattle.spec_duties.specs.End.{either, end_rules, lates_at, lates_from, lates_of_all, lates_of_host}
+use Rattle.spec_duties.specs.Owed as owed
+use Rattle.spec_duties.specs.Owed.{late_rules, lates_of, none_late, owed_after}
+use Rattle.spec_duties.specs.Sights.{sight}
+use Rattle.spec_duties.specs.Views.{unborn, view_of}
+use Rattle.spec_duties.specs.Watching.{Duties, listener_closed, owed_by}
+use Rattle.spec_duties.specs.declared.events.Event.{Event}
+use Rattle.spec_duties.specs.declared.owed.Lates.{Lates}
+use Rattle.spec_duties.specs.declared.owed.Owed.{Owed}
+use Rattle.spec_duties.specs.declared.views.View.{View}
+use Rattle.kept_duties.specs.Happens.{act_at, known_before, seen_before}
+use Rattle.checker.specs.Seen.{move_of, moves}
+use Rattle.kept_duties.specs.Soon.{ClosesBy, HappensBy, IsDoneBy}
+use Rattle.kept_duties.proofs.Labels.{builder_is}
+use Rattle.kept_duties.proofs.Repeats.{happens_from, happens_to, owes_of}
+use Rattle.kept_duties.proofs.Runs.{Goes, Run, run_keeps, world_is}
+use Rattle.kept_duties.proofs.Segments.{step_of_act}
+use Rattle.kept_duties.proofs.Touched.{Owes, Touches, seen, touched, touches_or_not}
+
+-- a duty that an endpoint has since a moment: `get`. It has this much time, and this kind of event ends it, or CLOSED
+pub record Duty (get : Owed → Option ℕ) (extra : ℕ) (Kind : Event → (before after : View) → Type 0) (sel : Lates → Bool) : Type 0 where
+  pub nothing : get owed.nothing ≡ None
+  pub onward : (event : Event) (before after : View) (moment : ℕ) (listener : Option ℕ) (counts : Bool) (o : Owed) (since : ℕ) → get o ≡ Some since
+      → Kind event before after ⊎ (is_closed after.state ≡ true) ⊎ (get (owed_after event before after moment listener counts o) ≡ Some since)
+  pub back : (event : Event) (before after : View) (moment : ℕ) (listener : Option ℕ) (counts : Bool) (o : Owed) (since : ℕ)
+      → get (owed_after event before after moment listener counts o) ≡ Some since → (since ≡ moment) ⊎ (get o ≡ Some since)
+  pub rules : (l : Lates) → AllByRecursion (λ r. r.1 ≡ false) (late_rules l) → sel l ≡ false
+  pub either : (a b : Lates) → sel (either a b) ≡ (sel a || sel b)
+  pub fine : (slack moment : ℕ) (v : View) (listener : Option ℕ) (o : Owed) (since : ℕ) → sel (lates_of slack moment v listener o) ≡ false
+      → is_closed v.state ≡ false → get o ≡ Some since → moment ≤ since + extra + slack
+
+-- the comparison at the end looks at each endpoint
+module _ (sel : Lates → Bool) (joins : (a b : Lates) → sel (either a b) ≡ (sel a || sel b)) (slack moment : ℕ) (d : Duties) where
+  sel_from : (host : Host) (place : ℕ) (so_far : Lates) (es : List Endpoint) → sel (lates_from slack moment d host place so_far es) ≡ false
+      → (sel so_far ≡ false) × ((i : ℕ) (e : Endpoint) → slice_get es i ≡ Some e → sel (lates_at slack moment d host (place + i) e) ≡ false)
+  sel_from host place so_far [] none = (none, λ i e at. absurd (none-some e at))
+  sel_from host place so_far (x ∷ es) none =
+      let rest = sel_from host (suc place) (either so_far (lates_at slack moment d host place x)) es none in
+      let both = neither (sel so_far) (sel (lates_at slack moment d host place x)) (sym (joins so_far (lates_at slack moment d host place x)) ∙ rest.0) in
+      (both.0, at both.1 rest.1)
+    where
+      at : sel (lates_at slack moment d host place x) ≡ false
+          → ((i : ℕ) (e : Endpoint) → slice_get es i ≡ Some e → sel (lates_at slack moment d host (suc place + i) e) ≡ false)
+          → (i : ℕ) (e : Endpoint) → slice_get (x ∷ es) i ≡ Some e → sel (lates_at slack moment d host (place + i) e) ≡ false
+      at first rest zero e is =
+          let here : place ≡ place + zero = omega arith in
+          subst (λ (n : ℕ). sel (lates_at slack moment d host n e) ≡ false) here
+          (subst (λ (y : Endpoint). sel (lates_at slack moment d host place y) ≡ false) (same_Some x e is) first)
+      at first rest (suc i) e is =
+          let there : suc place + i ≡ place + suc i = omega arith in
+          subst (λ (n : ℕ). sel (lates_at slack moment d host n e) ≡ false) there (rest i e is)
+
+  pub sel_all : (w : World tcp_shape) → sel (lates_of_all slack moment d w) ≡ false
+      → (me : EndpointId) (e : Endpoint) → find w.hosts me ≡ Some e → sel (lates_at slack moment d me.host me.number e) ≡ false
+  sel_all w none me e = by me.host
+    where
+      by : (host : Host) → slice_get (pick w.hosts host).body.endpoints me.number ≡ Some e → sel (lates_at slack moment d host me.number e) ≡ false
+      by One is =
+          let all = sel_from One 0 (lates_of_host slack moment d w Zero (none_late false)) w.hosts.one.body.endpoints none in
+          subst (λ (n : ℕ). sel (lates_at slack moment d One n e) ≡ false) (zero-add me.number) (all.1 me.number e is)
+      by Zero is =
+          let all = sel_from One 0 (lates_of_host slack moment d w Zero (none_late false)) w.hosts.one.body.endpoints none in
+          let first = sel_from Zero 0 (none_late false) w.hosts.zero.body.endpoints all.0 in
+          subst (λ (n : ℕ). sel (lates_at slack moment d Zero n e) ≡ false) (zero-add me.number) (first.1 me.number e is)
+
+nothing_first : (h : Header) (host : Host) (n : ℕ) → owed_by (first_known h).duties host n ≡ owed.nothing
+nothing_first h Zero n = refl
+nothing_first h One n = refl
+
+-- the moments of acts don't fall
+pub moments_rise : (t : Trace) (w : Witness) → Placed t.header t.lines (moves w.steps) → (i j : ℕ) (x y : Stamped tcp_shape)
+    → act_at t w i ≡ Some x → act_at t w j ≡ Some y → i < j → x.moment ≤ y.moment
+moments_rise t w placed i j x y a b less =
+    let s = step_of_act t w i x a in
+    let u = step_of_act t w j y b in
+    let le = placed.rising i j (move_of s.0) (move_of u.0) (slice_get-map move_of w.steps i ∙ ap (option_map move_of) s.1)
+    (slice_get-map move_of w.steps j ∙ ap (option_map move_of) u.1) less in
+    let first = (builder_is t.header t.lines s.0 x s.2).1 in
+    let second = (builder_is t.header t.lines u.0 y u.2).1 in
+    subst (λ (m : ℕ). m ≤ y.moment) first (subst (λ (m : ℕ). s.0.moment ≤ m) second le)
+
+module _ (t : Trace) (w : Witness) (slack : ℕ) (r : Run t.header slack (length w.steps) (act_at t w) (known_before t w))
+    (placed : Placed t.header t.lines (moves w.steps)) where
+  pub steady_at : (to : ℕ) → to ≤ length w.steps → Steady (known_before t w to).model.hosts
+  steady_at to high =
+      run_keeps t.header slack (length w.steps) (act_at t w) (known_before t w) r (λ j k. Steady k.model.hosts) (λ j k s. s) 0 to (omega arith) high
+      (subst (λ (k : Known). Steady k.model.hosts) (sym r.start) (steady_start t.header))
+      (λ j x low less is goes s. subst (λ (v : World tcp_shape). Steady v.hosts) (sym goes.model)
+      (steady_step t.header x.moment (known_before t w j).model x.step s goes.permitted))
+
+  module _ (me : EndpointId) (get : Owed → Option ℕ) (extra : ℕ) (Kind : Event → (before after : View) → Type 0) (sel : Lates → Bool)
+      (duty : Duty get extra Kind sel) where
+    abbrev pub since_at : Known → Option ℕ
+    since_at k = get (owed_by k.duties me.host me.number)
+
+    -- it is owed since the moment of an act
+    record Began (to since : ℕ) : Type 0 where
+      place : ℕ
+      act : Stamped tcp_shape
+      low : place < to
+      is : act_at t w place ≡ Some act
+      time : act.moment ≡ since
+
+    abbrev began_before : (j since : ℕ) → Began j since → Began (suc j) since
+    began_before j since b = record { place = b.place; act = b.act; low = (let low = b.low in omega arith); is = b.is; time = b.time }
+
+    began_at : (to : ℕ) → to ≤ length w.steps → (since : ℕ) → since_at (known_before t w to) ≡ Some since → Began to since
+    began_at to high =
+        run_keeps t.header slack (length w.steps) (act_at t w) (known_before t w) r (λ j k. (since : ℕ) → since_at k ≡ Some since → Began j since)
+        (λ j k all since is. began_before j since (all since is)) 0 to (omega arith) high
+        (λ since is. absurd (none-some since (sym (ap since_at r.start ∙ ap get (nothing_first t.header me.host me.number) ∙ duty.nothing) ∙ is)))
+        (λ j x low less is goes all since now. next j x is goes all since now
+        (touches_or_not t.header slack (known_before t w j) (known_before t w (suc j)) x me goes))
+      where
+        next : (j : ℕ) (x : Stamped tcp_shape) → act_at t w j ≡ Some x → Goes t.header slack (known_before t w j) (known_before t w (suc j)) x
+            → ((since : ℕ) → since_at (known_before t w j) ≡ Some since → Began j since) → (since : ℕ) → since_at (known_before t w (suc j)) ≡ Some since
+            → Touches t.header (known_before t w j) x me
+            ⊎ ((owed_by (known_before t w (suc j)).duties me.host me.number ≡ owed_by (known_before t w j).duties me.host me.number)
+            × ((event : Event) → (sight t.header x.moment (known_before t w j).model x.step).touched ≡ Some (touched (known_before t w j).model me event) → ⊥))
+            → Began (suc j) since
+        next j x is goes all since now (inr same) = began_before j since (all since (sym (ap get same.0) ∙ now))
+        next j x is goes all since now (inl at) =
+            let owes = owes_of t w slack r j x me at.event is at.shows in
+            by (duty.back at.event (seen (known_before t w j).model me) (seen (known_before t w (suc j)).model me) x.moment owes.listener owes.counts
+            (owed_by (known_before t w j).duties me.host me.number) since (sym (ap get owes.after) ∙ now))
+          where
+            by : (since ≡ x.moment) ⊎ (since_at (known_before t w j) ≡ Some since) → Began (suc j) since
+            by (inl here) = record { place = j; act = x; low = omega arith; is = is; time = sym here }
+            by (inr old) = began_before j since (all since old)
+
+    module _ (i : ℕ) (x : Stamped tcp_shape) (is : act_at t w i ≡ Some x) (low : i < length w.steps) where
+      abbrev pub by_then : ℕ
+      by_then = x.moment + extra + slack
+
+      pub not_after : (since : ℕ) → since_at (known_before t w (suc i)) ≡ Some since → since ≤ x.moment
+      not_after since now =
+          let b = began_at (suc i) (omega (arith, low)) since now in
+          let behind = b.low in
+          by b (eq-or-lt_of_le (let le : b.place ≤ i = omega arith in le))
+        where
+          by : (b : Began (suc i) since) → (b.place ≡ i) ⊎ (b.place < i) → since ≤ x.moment
+          by b (inl here) =
+              let one : b.act ≡ x = same_Some b.act x (sym b.is ∙ ap (act_at t w) here ∙ is) in
+              let same : since ≡ x.moment = sym b.time ∙ ap (λ (y : Stamped tcp_shape). y.moment) one in
+              omega (arith, same)
+          by b (inr less) = subst (λ (m : ℕ). m ≤ x.moment) b.time (moments_rise t w placed b.place i b.act x b.is is less)
+
+      -- what is still owed, by an endpoint that isn't CLOSED
+      pub record Still (since : ℕ) (k : Known) : Type 0 where
+        pub owes : since_at k ≡ Some since
+        pub open' : is_closed (seen k.model me).state ≡ false
+        pub there : (e : Endpoint) × (find k.model.hosts me ≡ Some e)
+
+      abbrev pub Goes_on : (since : ℕ) → Known → Type 0
+      Goes_on since k = HappensBy t w i by_then me Kind ⊎ ClosesBy t w i by_then me ⊎ Still since k
+
+      -- the endpoint is CLOSED after an act that is in time, if it is one of the endpoint
+      pub closes : (j : ℕ) (y : Stamped tcp_shape) → i ≤ j → (i < j → is_closed (seen (known_before t w j).model me).state ≡ false) → act_at t w j ≡ Some y
+          → is_closed (seen (known_before t w (suc j)).model me).state ≡ true
+          → ((event : Event) → (sight t.header y.moment (known_before t w j).model y.step).touched ≡ Some (touched (known_before t w j).model me event)
+          → y.moment ≤ by_then)
+          → ClosesBy t w i by_then me
+      closes j y behind opened at closed soon = record {
+        later = j;
+        behind = behind;
+        open_before = λ less. ap (λ (v : World tcp_shape). is_closed (seen v me).state) (sym (world_is t w j)) ∙ opened less;
+        closed_after = ap (λ (v : World tcp_shape). is_closed (seen v me).state) (sym (world_is t w (suc j))) ∙ closed;
+        soon = λ moment event a.
+            let one : a.act ≡ y = same_Some a.act y (sym a.is ∙ at) in
+            let time : y.moment ≡ moment = sym (ap (λ (z : Stamped tcp_shape). z.moment) one) ∙ a.time in
+            subst (λ (m : ℕ). m ≤ by_then) time (soon event
+            (subst (λ (z : Stamped tcp_shape). (sight t.header z.moment (known_before t w j).model z.step).touched
+            ≡ Some (touched (known_before t w j).model me event))
+            one (happens_to t w j moment me event a)));
+      }
+
+      module _ (since : ℕ) (old : since ≤ x.moment) where
+        next : (j : ℕ) (y : Stamped tcp_shape) → suc i ≤ j → j < length w.steps → act_at t w j ≡ Some y
+            → Goes t.header slack (known_before t w j) (known_before t w (suc j)) y → Goes_on since (known_before t w j)
+            → Goes_on since (known_before t w (suc j))
+        next j y behind less at goes (inl done) = inl done
+        next j y behind less at goes (inr (inl closed)) = inr (inl closed)
+        next j y behind less at goes (inr (inr still)) =
+            by_step (touches_or_not t.header slack (known_before t w j) (known_before t w (suc j)) y me goes)
+          where
+            k : Known
+            k = known_before t w j
+
+            there : (e : Endpoint) × (find (known_before t w (suc j)).model.hosts me ≡ Some e)
+            there =
+                let f = later_step t.header y.moment (known_before t w j).model y.step
+                (steady_at j (omega (arith, less))) goes.permitted me still.there.0 still.there.1 in
+                (f.0, ap (λ (v : World tcp_shape). find v.hosts me) goes.model ∙ f.1)
+
+            stays : since_at (known_before t w (suc j)) ≡ Some since
+                → ((event : Event) → (sight t.header y.moment (known_before t w j).model y.step).touched ≡ Some (touched (known_before t w j).model me event)
+                → y.moment ≤ by_then)
+                → Goes_on since (known_before t w (suc j))
+            stays now soon = test (is_closed (seen (known_before t w (suc j)).model me).state) refl
+              where
+                test : (c : Bool) → is_closed (seen (known_before t w (suc j)).model me).state ≡ c → Goes_on since (known_before t w (suc j))
+                test true closed = inr (inl (closes j y (omega (arith, behind)) (λ less. still.open') at closed soon))
+                test false open' = inr (inr (record { owes = now; open' = open'; there = there }))
+
+            by_step : Touches t.header (known_before t w j) y me
+                ⊎ ((owed_by (known_before t w (suc j)).duties me.host me.number ≡ owed_by (known_before t w j).duties me.host me.number)
+                × ((event : Event) → (sight t.header y.moment (known_before t w j).model y.step).touched ≡ Some (touched (known_before t w j).model me event)
+                → ⊥))
+                → Goes_on since (known_before t w (suc j))
+            by_step (inr same) = stays (ap get same.0 ∙ still.owes) (λ event shows. absurd (same.1 event shows))
+            by_step (inl touch) = ends (duty.onward touch.event before after' y.moment owes.listener owes.counts
+                (owed_by (known_before t w j).duties me.host me.number) since still.owes)
+              where
+                before : View
+                before = seen (known_before t w j).model me
+
+                after' : View
+                after' = seen (known_before t w (suc j)).model me
+
+                owes : Owes t.header slack (known_before t w j) (known_before t w (suc j)) y me touch.event
+                owes = owes_of t w slack r j y me touch.event at touch.shows
+
+                soon : y.moment ≤ by_then
+                soon =
+                    let le = duty.fine slack y.moment before owes.listener (owed_by (known_before t w j).duties me.host me.number) since
+                    (duty.rules _ owes.lates) still.open' still.owes in
+                    omega (arith, le, old)
+
+                ends : Kind touch.event before after' ⊎ (is_closed after'.state ≡ true)
+                    ⊎ (get (owed_after touch.event before after' y.moment owes.listener owes.counts (owed_by (known_before t w j).duties me.host me.number))
+                    ≡ Some since)
+                    → Goes_on since (known_before t w (suc j))
+                ends (inl kind) = inl (record {
+                  later = j;
+                  moment = y.moment;
+                  event = touch.event;
+                  behind = omega (arith, behind);
+                  happens = happens_from t w j y me touch.event at touch.shows;
+                  kind =
+                      subst (λ (v : World tcp_shape). Kind touch.event (seen_before t w j me) (seen v me)) (world_is t w (suc j))
+                      (subst (λ (v : World tcp_shape). Kind touch.event (seen v me) after') (world_is t w j) kind);
+                  soon = soon;
+                })
+                ends (inr (inl closed)) = inr (inl (closes j y (omega (arith, behind)) (λ less. still.open') at closed (λ event shows. soon)))
+                ends (inr (inr on)) = stays (ap get owes.after ∙ on) (λ event shows. soon)
+
+        -- from the act on to the end
+        pub done_by : (late : first_broken (end_rules slack (last_moment (moves w.steps)) (known_before t w (length w.steps)).duties
+            (known_before t w (length w.steps)).model) ≡ None) → Goes_on since (known_before t w (suc i)) → IsDoneBy t w i by_then me Kind
+        done_by late begins =
+            at_end (run_keeps t.header slack (length w.steps) (act_at t w) (known_before t w) r (λ j k. Goes_on since k) (λ j k p. p) (suc i) (length w.steps)
+            (omega (arith, low)) (omega arith) begins next)
+          where
+            at_end : Goes_on since (known_before t w (length w.steps)) → IsDoneBy t w i by_then me Kind
+            at_end (inl done) = inl done
+            at_end (inr (inl closed)) = inr (inl closed)
+            at_end (inr (inr still)) =
+                let last = last_moment (moves w.steps) in
+                let k = known_before t w (length w.steps) in
+                let e = still.there in
+                let none = duty.rules _ (none_all (end_rules slack last k.duties k.model) late).1 in
+                let here = sel_all sel duty.either slack last k.duties k.model none me e.0 e.1 in
+                let open' : is_closed (view_of e.0).state ≡ false =
+                sym (ap (λ (o : Option Endpoint). is_closed (option_map_or view_of o unborn).state) e.1) ∙ still.open' in
+                let le = duty.fine slack last (view_of e.0) (listener_closed k.duties me.host (view_of e.0))
+                (owed_by k.duties me.host me.number) since here open' still.owes in
+                inr (inr (omega (arith, le, old)))

@@ -1,0 +1,8 @@
+use Rattle.kept_duties.proofs.Runs.{run_of}
+use Rattle.kept_duties.proofs.Segments.{end_fine}
+use Rattle.kept_duties.proofs.Soon.{work_begun}
+use Rattle.kept_duties.proofs.laws.work_is_begun.Goals as goal
+
+pub returns : goal.returns
+returns c = λ t w slack e given.
+    work_begun t w slack (run_of t w slack given e.run e.duties) e.placed (end_fine t w slack given e.in_time)

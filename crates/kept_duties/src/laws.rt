@@ -1,0 +1,99 @@
+//! What a yes with a slack means for every trace and every witness.
+
+ghost use Rattle.std.specs.Prelude.{◌≡◌, ℕ, true, Some};
+ghost use Rattle.case_forms.specs.Traces.{IsTrace};
+ghost use Rattle.case_forms.specs.declared.trace.Trace.{Trace};
+ghost use Rattle.case_forms.specs.declared.steps.Witness.{Witness};
+ghost use Rattle.spec_duties.specs.Resent.{judges_repeats, judges_windows};
+ghost use Rattle.checker.specs.Explains.{Explains};
+ghost use Rattle.kept_duties.specs.Segments.{ArrivalsAreHandled, SendingsAreFresh};
+ghost use Rattle.kept_duties.specs.Happens.{EventsAreSteps, StepsAreEvents};
+ghost use Rattle.kept_duties.specs.Repeats.{NothingIsResentTwice, RepeatsStayWithin};
+ghost use Rattle.kept_duties.specs.Counts.{AcknowledgmentsAreFew};
+ghost use Rattle.kept_duties.specs.Soon.{ReceiptsAreAnswered, ExpiriesAreFollowed, ProbesAreSent, WorkIsBegun};
+ghost use Rattle.kept_duties.specs.Drops.{DropsAreLawful, NextIsKept};
+
+/// If a witness explains a trace, each segment that arrived was processed, dropped or answered with a reset, by the
+/// host at which it arrived, at most the slack later; unless the last step is at most the slack later (RFC 9293,
+/// 3.10.7). A trace that has a text meets `IsTrace`.
+pub fn arrivals_are_handled()
+    ensures { (t : Trace) (w : Witness) (slack : ℕ) → IsTrace t → Explains t w → t.header.slack ≡ Some slack
+        → ArrivalsAreHandled t w slack }
+{}
+
+/// Each segment that was dropped may be: to process it would break a rule of the model, or it is spared; and to answer
+/// it with a reset would break one, or an acknowledgment is as good (RFC 9293, 3.10.7).
+pub fn drops_are_lawful()
+    ensures { (t : Trace) (w : Witness) (slack : ℕ) → Explains t w → t.header.slack ≡ Some slack → DropsAreLawful t w }
+{}
+
+/// No step that processed a segment discarded what was next in order, as far as the endpoint had room for it (RFC 9293,
+/// 3.10.7.4, seventh).
+pub fn next_is_kept()
+    ensures { (t : Trace) (w : Witness) (slack : ℕ) → Explains t w → t.header.slack ≡ Some slack → NextIsKept t w }
+{}
+
+/// Each segment that was sent had been built by its host at most the slack before (RFC 9293, 3.10.2 and 3.10.7).
+pub fn sendings_are_fresh()
+    ensures { (t : Trace) (w : Witness) (slack : ℕ) → Explains t w → t.header.slack ≡ Some slack
+        → SendingsAreFresh t w slack }
+{}
+
+/// What happens at an endpoint is done by a step of the witness with the label or the line that belongs to it, of the
+/// endpoint's host. So the laws below are about steps and lines.
+pub fn events_are_steps()
+    ensures events { (t : Trace) (w : Witness) → EventsAreSteps t w }
+
+    // The other way round: what such a step does happens at an endpoint of the host.
+    ensures steps { (t : Trace) (w : Witness) (slack : ℕ) → Explains t w → t.header.slack ≡ Some slack
+        → StepsAreEvents t w }
+{}
+
+/// Between two expiries or the like, an endpoint built no position twice again, if the header says that retransmissions
+/// are judged (RFC 6298, 5.4 and 5.5; RFC 5681, 3.2).
+pub fn nothing_is_resent_twice()
+    ensures { (t : Trace) (w : Witness) (slack : ℕ) → Explains t w → t.header.slack ≡ Some slack
+        → judges_repeats t.header.congestion ≡ true → NothingIsResentTwice t w }
+{}
+
+/// Bytes that are built again end within the congestion window, if the header says that it is judged (RFC 5681, 3.1).
+pub fn repeats_stay_within()
+    ensures { (t : Trace) (w : Witness) (slack : ℕ) → Explains t w → t.header.slack ≡ Some slack
+        → judges_windows t.header.congestion ≡ true → RepeatsStayWithin t w }
+{}
+
+/// At each moment, an endpoint had sent at most as many empty acknowledgments as segments had come to it; those that
+/// announced more window aren't counted (RFC 5681, 4.2).
+pub fn acknowledgments_are_few()
+    ensures { (t : Trace) (w : Witness) (slack : ℕ) → Explains t w → t.header.slack ≡ Some slack
+        → AcknowledgmentsAreFew t w }
+{}
+
+/// Once an endpoint received something, it sent a segment with ACK or RST at most half a second and the slack later;
+/// unless it was CLOSED, or the last step is at most that much later (RFC 9293, 3.8.6.3; RFC 5681, 4.2).
+pub fn receipts_are_answered()
+    ensures { (t : Trace) (w : Witness) (slack : ℕ) → Explains t w → t.header.slack ≡ Some slack
+        → ReceiptsAreAnswered t w slack }
+{}
+
+/// After each expiry of a retransmission timer, the oldest unacknowledged position was sent again or acknowledged at
+/// most the slack later; unless the endpoint was CLOSED, or the last step is at most that much later (RFC 6298, 5.4).
+pub fn expiries_are_followed()
+    ensures { (t : Trace) (w : Witness) (slack : ℕ) → Explains t w → t.header.slack ≡ Some slack
+        → ExpiriesAreFollowed t w slack }
+{}
+
+/// After each expiry of a persist timer, any segment was sent or more was acknowledged at most the slack later; unless
+/// the endpoint was CLOSED, or the last step is at most that much later (RFC 9293, 3.8.6.1).
+pub fn probes_are_sent()
+    ensures { (t : Trace) (w : Witness) (slack : ℕ) → Explains t w → t.header.slack ≡ Some slack
+        → ProbesAreSent t w slack }
+{}
+
+/// If something waits to be sent after a step at an endpoint, with nothing outstanding and no window that holds it
+/// back, this ended at most a second and the slack later; unless the endpoint was CLOSED, or the last step is at most
+/// that much later (RFC 9293, 3.8.6.2.1).
+pub fn work_is_begun()
+    ensures { (t : Trace) (w : Witness) (slack : ℕ) → Explains t w → t.header.slack ≡ Some slack
+        → WorkIsBegun t w slack }
+{}

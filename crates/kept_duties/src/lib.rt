@@ -1,0 +1,26 @@
+//! What a yes with a slack says of the duties and limits of version 5, in terms of the trace's lines and the witness's
+//! steps.
+//!
+//! If a witness explains a trace whose header gives a slack, then segments were handled, sent, acknowledged and sent
+//! again in time, and nothing was sent too often. Each statement is about places in the list of steps; what duties keep
+//! between the steps doesn't appear in it. This crate has no code, only laws.
+//!
+//! - `laws`: the laws, each the contract of a call that does nothing
+//!
+//! The definitions:
+//!
+//! - `specs/Places`: what steps do with segments, by the lines and numbers that they name
+//! - `specs/Segments`: each segment that arrived was handled; each that was sent had just been built
+//! - `specs/Drops`: each segment that was dropped may be; what was next in order was kept
+//! - `specs/Happens`: what happens at an endpoint
+//! - `specs/Soon`: by when acknowledgments, retransmissions, probes and waiting data are sent
+//! - `specs/Repeats`, `specs/Counts`: how often positions and empty acknowledgments are sent at most
+#![tactic(auto)]
+
+mod laws;
+
+pub use laws::{
+    acknowledgments_are_few, arrivals_are_handled, drops_are_lawful, events_are_steps,
+    expiries_are_followed, next_is_kept, nothing_is_resent_twice, probes_are_sent,
+    receipts_are_answered, repeats_stay_within, sendings_are_fresh, work_is_begun,
+};
