@@ -1,4 +1,4 @@
--- Duty acknowledge: what was received is acknowledged within half a second (RFC 9293, 3.8.6.3, MUST-59, and 3.10.7.4;
+-- Duty acknowledge: what was received is acknowledged within half a second (RFC 9293, 3.8.6.3, MUST-40, and 3.10.7.4;
 -- RFC 5681, 4.2).
 use Rattle.std.specs.Prelude.{ℕ, ◌+◌, nat_le, nat_lt, Bool, true, false, not, ◌&&◌, ◌||◌, if◌then◌else◌}
 use Rattle.std.specs.Prelude.{Option, None, Some}
