@@ -244,7 +244,8 @@ recovery_is_due e cwnd ssthresh moment passed =
     let begins = neither (not (may_recover e.control)) (e.stream.snd_una == snd_max e) threshold.0 in
     record {
       outstanding = differ e.stream.snd_una (snd_max e) begins.1;
-      duplicates = λ counts. duplicate (counts_duplicates e.control.profile) e.control.values.dup e.control.values.fast counts (not_false (may_recover e.control) begins.0);
+      duplicates = λ counts.
+          duplicate (counts_duplicates e.control.profile) e.control.values.dup e.control.values.fast counts (not_false (may_recover e.control) begins.0);
     }
   where
     now : Signal

@@ -22,11 +22,14 @@ use Rattle.spec_tcp.specs.declared.endpoint.Endpoint.{Endpoint}
 use Rattle.spec_tcp_laws.specs.Ascending.{rule_number}
 use Rattle.spec_tcp_laws.specs.Judging.{body_by, header_by, world_judged}
 
--- the level's own rules: new data beyond cwnd, the growth of cwnd and ssthresh, and when fast recovery begins
+-- the level's own rules: data beyond cwnd, the growth of cwnd and ssthresh, when fast recovery begins, and how often
+-- data is sent again; the model has the first three
 abbrev pub is_of_level : Rule → Bool
 is_of_level rules.Congestion = true
 is_of_level rules.Growth = true
 is_of_level rules.Recovery = true
+is_of_level rules.Resent = true
+is_of_level rules.ResentBeyond = true
 is_of_level rule = false
 
 -- all other rules

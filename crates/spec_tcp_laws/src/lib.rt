@@ -13,8 +13,8 @@
 //! The statements are in specs/: `Runs` has what the steps of a run show by themselves, `Consequences` what follows for
 //! streams between two recorded hosts, `Carried` what follows for one host's reads in every case, `Bounds` what follows
 //! for windows, `Transitions` how states and positions change, `Ascending` the rules' numbers, `HeardNumbers` how a
-//! number is read, `Sameness` the comparisons, `ForgettingLaws` what may be discarded, `Judging` what follows if less of
-//! congestion control is judged, and `Levels` what is the same at every level.
+//! number is read, `Sameness` the comparisons, `ForgettingLaws` what may be discarded, `Judging` what follows if less
+//! of congestion control is judged, and `Levels` what is the same at every level.
 #![tactic(auto)]
 
 mod forgetting;
