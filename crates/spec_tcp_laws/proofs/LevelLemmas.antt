@@ -22,10 +22,10 @@ use Rattle.verdict.proofs.RuleLemmas.{none_all}
 use Rattle.window_rules.specs.Control.{counts_duplicates, greatest, may_recover}
 use Rattle.window_rules.specs.declared.control.Profile.{Profile}
 use Rattle.window_rules.specs.declared.control.Signal.{Signal}
-use Rattle.spec_network.specs.HostRules.{aim_of, call_rules, deed_rules, fresh_rules, just, open_rules, pending_rules, step_rules}
+use Rattle.spec_network.specs.HostRules.{aim_of, call_rules, deed_rules, just, open_rules, pending_rules, step_rules}
 use Rattle.spec_network.specs.Hosts.{Answered, Answers, At, Begin, Called, Deed, Does, Drops, Effect, Expires, Finish, Gets, Hears, HostState, Idle, Makes}
 use Rattle.spec_network.specs.Hosts.{Sends, Step, Takes, Turn, World, turn_of}
-use Rattle.spec_network.specs.Tables.{Both, on, pick, waiting}
+use Rattle.spec_network.specs.Tables.{Both, on, waiting}
 use Rattle.spec_tcp.specs.Arrives.{AtEndpoint, AtListener, Nobody, Taker, taker, taker_rules}
 use Rattle.spec_tcp.specs.Arrives.OtherStates.{connected_rules}
 use Rattle.spec_tcp.specs.Arrives.SynSent.{syn_sent_rules}
@@ -36,7 +36,6 @@ use Rattle.spec_tcp.specs.Machine.{Act, aim, act_rules, gives, rules_at, tcp, tc
 use Rattle.spec_tcp.specs.Machine as acts
 use Rattle.spec_tcp.specs.Makes.{making_rules}
 use Rattle.spec_tcp.specs.Recovery.{recovery_rules}
-use Rattle.spec_tcp.specs.Reset.{reset_rules}
 use Rattle.spec_tcp.specs.Signals.{at_moment, profile_of, recovery_signal}
 use Rattle.spec_tcp.specs.Timeouts.{expiry_rules}
 use Rattle.spec_tcp.specs.declared.endpoint.Emission.{Emission}
@@ -44,7 +43,7 @@ use Rattle.spec_tcp.specs.declared.endpoint.Endpoint.{Endpoint}
 use Rattle.spec_tcp.specs.declared.endpoint.EndpointId.{EndpointId}
 use Rattle.spec_tcp_laws.specs.Ascending.{ascend, rule_number}
 use Rattle.spec_tcp_laws.specs.Judging.{body_by, endpoint_by, header_by, host_by, world_by, world_judged}
-use Rattle.spec_tcp_laws.specs.Levels.{BeginsRecovery, JudgedAlike, RecoveryIsDue, RefusedAlike, is_of_level, other_rules}
+use Rattle.spec_tcp_laws.specs.Levels.{JudgedAlike, RecoveryIsDue, RefusedAlike, is_of_level, other_rules}
 use Rattle.spec_tcp_laws.proofs.Ascending.{rules_ascend}
 use Rattle.spec_tcp_laws.proofs.JudgedActs.{nothing_same, taker_by, taker_is}
 use Rattle.spec_tcp_laws.proofs.JudgedBodies.{call_allows_by, endpoint_of_by}

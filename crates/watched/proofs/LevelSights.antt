@@ -1,6 +1,6 @@
 -- What a step shows at another level of congestion control: the same, but for the congestion edge.
 use Rattle.std.proofs.Common.{◌≡◌, ℕ, suc, ◌≤◌, Bool, true, false, List, [], ◌∷◌, Option, None, Some, map, refl, ap, sym, ◌∙◌, arith}
-use Rattle.std.specs.Prelude.{if◌then◌else◌, slice_get, nat_eq, nat_lt, length}
+use Rattle.std.specs.Prelude.{if◌then◌else◌, slice_get, nat_eq, nat_lt}
 use Rattle.std.specs.Map.{lookup}
 use Rattle.std.specs.Option.{option_map, option_map_or}
 use Rattle.std.proofs.lemmas.Bool.Decides.{nat_tests}
@@ -41,15 +41,15 @@ use Rattle.spec_tcp.specs.declared.endpoint.Endpoint.{Endpoint}
 use Rattle.spec_tcp.specs.declared.endpoint.EndpointId.{EndpointId}
 use Rattle.spec_tcp.specs.declared.endpoint.SocketTarget.{SocketTarget}
 use Rattle.spec_tcp.specs.declared.endpoint.SocketTarget.TheVariants.{EndpointAt, ListenerAt}
-use Rattle.spec_tcp_laws.specs.Judging.{IsJudged, body_by, endpoint_by, extent, header_by, host_by, world_by}
+use Rattle.spec_tcp_laws.specs.Judging.{body_by, endpoint_by, header_by, host_by, world_by}
 use Rattle.spec_tcp_laws.proofs.JudgedActs.{MayJudgeAll, nothing_same, taker_by, taker_is}
 use Rattle.spec_tcp_laws.proofs.JudgedBodies.{place_by}
 use Rattle.spec_tcp_laws.proofs.JudgedRules.{MayJudge}
-use Rattle.spec_tcp_laws.proofs.JudgedWorlds.{aim_same, hosts_by, may_judge}
+use Rattle.spec_tcp_laws.proofs.JudgedWorlds.{aim_same, may_judge}
 use Rattle.spec_duties.specs.Dropped.{answering_breaks, bare, discards_at, spared_by, taking_breaks}
 use Rattle.spec_duties.specs.Sights.{accept_sight, accepting, at_drop, at_next, at_place, at_ports, at_sender, at_target, call_sight, close_sight}
 use Rattle.spec_duties.specs.Sights.{deed_sight, dropping_sight, effect_sight, is_done, on_thing, opened_sight, other_sight, pending_sight, processing_of}
-use Rattle.spec_duties.specs.Sights.{sending_of, sight, taking_sight, touching, unseen, view_in}
+use Rattle.spec_duties.specs.Sights.{sending_of, sight, taking_sight, unseen, view_in}
 use Rattle.spec_duties.specs.Views.{unborn, view_of}
 use Rattle.spec_duties.specs.declared.events.Event.{Event}
 use Rattle.spec_duties.specs.declared.sights.Post.TheVariants.{Sends}
@@ -57,8 +57,7 @@ use Rattle.spec_duties.specs.declared.sights.Queueing.{Queueing}
 use Rattle.spec_duties.specs.declared.sights.Queueing.TheVariants as queueing
 use Rattle.spec_duties.specs.declared.sights.Sight.{Sight}
 use Rattle.spec_duties.specs.declared.sights.Touched.{Touched}
-use Rattle.spec_duties.specs.declared.views.View.{View}
-use Rattle.watched.specs.Levels.{EndsBelow, LessJudgedShowsTheSame, ShowsHigher, sight_with, touched_with, view_with}
+use Rattle.watched.specs.Levels.{EndsBelow, LessJudgedShowsTheSame, ShowsHigher, touched_with, view_with}
 
 -- one touched endpoint is another but for its congestion edge, which isn't lower
 abbrev Higher : Option Touched → Option Touched → Type 0

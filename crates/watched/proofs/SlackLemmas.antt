@@ -1,7 +1,6 @@
 -- Neither the model nor what a step shows depends on the slack.
-use Rattle.std.proofs.Common.{◌≡◌, ℕ, suc, Bool, true, List, [], ◌∷◌, ◌++◌, Option, None, Some, refl, ap, ◌∙◌}
+use Rattle.std.proofs.Common.{◌≡◌, ℕ, suc, Bool, true, List, [], ◌∷◌, ◌++◌, Option, None, Some, refl, ap}
 use Rattle.std.specs.Option.{option_map_or}
-use Rattle.case_forms.specs.States.{is_syn_sent}
 use Rattle.case_forms.specs.declared.calls.Answer.{Answer}
 use Rattle.case_forms.specs.declared.calls.Call.{Call}
 use Rattle.case_forms.specs.declared.calls.Host.{Host}
@@ -25,9 +24,8 @@ use Rattle.spec_tcp.specs.Timeouts.{expiry_rules}
 use Rattle.spec_tcp.specs.declared.endpoint.Emission.{Emission}
 use Rattle.spec_tcp.specs.declared.endpoint.Endpoint.{Endpoint}
 use Rattle.spec_duties.specs.Dropped.{answering_breaks, bare, taking_breaks}
-use Rattle.spec_duties.specs.Sights.{call_sight, deed_sight, dropping_sight, effect_sight, pending_sight, sight, taking_sight, unseen}
+use Rattle.spec_duties.specs.Sights.{deed_sight, effect_sight, sight}
 use Rattle.spec_duties.specs.Slack.{with_slack}
-use Rattle.spec_duties.specs.declared.sights.Sight.{Sight}
 use Rattle.watched.specs.Slack.{SlackIsNotRead}
 
 -- for each slack

@@ -9,7 +9,6 @@ use Rattle.duties.proofs.SlackLemmas.{dutiful_any, late_any, less_late}
 use Rattle.spec_duties.specs.Cases.{Dutiful, Known, judged_rules, known_after, known_after_all, late_at_end, noted_by, watch_rules}
 use Rattle.spec_duties.specs.Sights.{sight}
 use Rattle.spec_duties.specs.Slack.{AtMost, with_slack}
-use Rattle.spec_duties.specs.Watching.{Duties}
 use Rattle.spec_duties.specs.declared.sights.Sight.{Sight}
 use Rattle.watched.proofs.SlackLemmas.{after_same, rules_same, sight_same}
 
