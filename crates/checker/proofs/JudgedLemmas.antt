@@ -1,5 +1,5 @@
 -- Where less of congestion control is judged, what explains a trace still explains it.
-use Rattle.std.proofs.Common.{◌≡◌, ℕ, ◌≤◌, List, [], ◌∷◌, None, refl, sym, ap, subst, ◌∙◌}
+use Rattle.std.proofs.Common.{◌≡◌, ℕ, ◌≤◌, List, [], ◌∷◌, Option, refl, sym, ap, subst, ◌∙◌}
 use Rattle.std.specs.List.{cons_option}
 use Rattle.case_forms.specs.declared.steps.Step.{Step}
 use Rattle.case_forms.specs.declared.steps.Witness.{Witness}
@@ -7,6 +7,7 @@ use Rattle.case_forms.specs.declared.trace.Header.{Header}
 use Rattle.case_forms.specs.declared.trace.Line.{Line}
 use Rattle.case_forms.specs.declared.trace.Trace.{Trace}
 use Rattle.case_forms.specs.declared.version.Judged.{Judged}
+use Rattle.verdict.specs.declared.rule.Rule.{Rule}
 use Rattle.verdict.specs.declared.report.Verdict.{Verdict}
 use Rattle.verdict.specs.declared.report.Verdict.TheVariants.{Yes, No}
 use Rattle.interval_order.specs.Orders.{Move, last_moment}
@@ -17,8 +18,8 @@ use Rattle.spec_network.proofs.Turns.{turns}
 use Rattle.spec_tcp.specs.Machine.{tcp, tcp_shape}
 use Rattle.spec_tcp_laws.specs.Judging.{extent, header_by}
 use Rattle.spec_tcp_laws.proofs.JudgedRuns.{judged_start, lawful_by}
-use Rattle.spec_duties.specs.Cases.{first_known, known_after_all}
-use Rattle.duties.proofs.SlackLemmas.{dutiful_any, late_any}
+use Rattle.spec_duties.specs.Cases.{Dutiful, Known, first_known, known_after_all, late_at_end}
+use Rattle.watched.proofs.LevelRuns.{dutiful_by, end_by, known_by}
 use Rattle.checker.specs.Explains.{Explains, IsYes}
 use Rattle.checker.specs.Judges.{Counts}
 use Rattle.checker.specs.Judging.{trace_by}
@@ -41,31 +42,42 @@ placed_by j h all steps p = record {
   threads = p.threads;
 }
 
-explained_by : (j : Judged) (t : Trace) (w : Witness) → t.header.slack ≡ None → extent j ≤ extent t.header.congestion → Explains t w → Explains (trace_by j t) w
-explained_by j t w any le e =
+explained_by : (j : Judged) (t : Trace) (w : Witness) → extent j ≤ extent t.header.congestion → Explains t w → Explains (trace_by j t) w
+explained_by j t w le e =
     let by = header_by j t.header in
+    let same = stamped_by j t.header t.lines w.steps in
     let run : Lawful (tcp (header_by j t.header)) (start (tcp (header_by j t.header))) (stamped (header_by j t.header) t.lines w.steps) =
     subst (λ (xs : List (Stamped tcp_shape)). Lawful (tcp (header_by j t.header)) (start (tcp (header_by j t.header))) xs)
-    (sym (stamped_by j t.header t.lines w.steps))
+    (sym same)
     (lawful_by j t.header (start (tcp t.header)) (stamped t.header t.lines w.steps) le (judged_start t.header) e.run) in
     record {
       placed = placed_by j t.header t.lines (moves w.steps) e.placed;
       turns = λ thread. turns (tcp by) thread (start (tcp by)) (stamped by t.lines w.steps) run;
       run = run;
-      duties = dutiful_any by (first_known by) (stamped by t.lines w.steps) any;
-      in_time = late_any by (last_moment (moves w.steps)) (known_after_all by (first_known by) (stamped by t.lines w.steps)) any;
+      duties =
+          subst (λ (xs : List (Stamped tcp_shape)). Dutiful (header_by j t.header) (first_known (header_by j t.header)) xs) (sym same)
+          (dutiful_by j t.header (first_known t.header) (stamped t.header t.lines w.steps) le (judged_start t.header) e.run e.duties);
+      in_time =
+          ap (λ (xs : List (Stamped tcp_shape)). late (known_after_all (header_by j t.header) (first_known (header_by j t.header)) xs)) same
+          ∙ ap late (known_by j t.header (first_known t.header) (stamped t.header t.lines w.steps) le (judged_start t.header) e.run)
+          ∙ end_by j t.header (last_moment (moves w.steps)) (known_after_all t.header (first_known t.header) (stamped t.header t.lines w.steps))
+          ∙ e.in_time;
     }
+  where
+    late : Known → Option (ℕ × Rule)
+    late k = late_at_end (header_by j t.header) (last_moment (moves w.steps)) k
 
 -- a yes on the same witness has the same counts
-same_counts : (u : Trace) (w : Witness) (lines hidden : ℕ) → Counts w lines hidden → (v : Verdict) → verdict u w ≡ v → IsYes v → verdict u w ≡ Yes lines hidden
+pub same_counts : (u : Trace) (w : Witness) (lines hidden : ℕ) → Counts w lines hidden → (v : Verdict) → verdict u w ≡ v → IsYes v
+    → verdict u w ≡ Yes lines hidden
 same_counts u w lines hidden c (Yes some others) is said =
     let d = (verdict_says u w (Yes some others) is).1 in
     is ∙ ap (λ (n : ℕ). Yes n others) (d.lines_are ∙ sym c.lines_are) ∙ ap (λ (n : ℕ). Yes lines n) (d.hidden_are ∙ sym c.hidden_are)
 same_counts u w lines hidden c (No witness_line trace_line rule) is said = absurd said
 
-pub yes_stays : (j : Judged) (t : Trace) (w : Witness) (lines hidden : ℕ) → t.header.slack ≡ None → extent j ≤ extent t.header.congestion
+pub yes_stays : (j : Judged) (t : Trace) (w : Witness) (lines hidden : ℕ) → extent j ≤ extent t.header.congestion
     → verdict t w ≡ Yes lines hidden
     → verdict (trace_by j t) w ≡ Yes lines hidden
-yes_stays j t w lines hidden any le is =
+yes_stays j t w lines hidden le is =
     let said = verdict_says t w (Yes lines hidden) is in
-    same_counts (trace_by j t) w lines hidden said.1 (verdict (trace_by j t) w) refl (explains_yes (trace_by j t) w (explained_by j t w any le said.0))
+    same_counts (trace_by j t) w lines hidden said.1 (verdict (trace_by j t) w) refl (explains_yes (trace_by j t) w (explained_by j t w le said.0))

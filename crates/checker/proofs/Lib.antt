@@ -24,3 +24,4 @@ pub mod StreamLemmas
 pub mod StepSpans
 pub mod PrintedLemmas
 pub mod JudgedLemmas
+mod LessLateLemmas

@@ -13,3 +13,4 @@ pub mod Turns
 pub mod Texts
 pub mod Headline
 pub mod Judging
+pub mod Slack

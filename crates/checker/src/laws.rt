@@ -1,6 +1,6 @@
 //! What a yes means for every trace and every witness.
 
-ghost use Rattle.std.specs.Prelude.{◌≡◌, ◌<◌, ◌↔◌, ℕ, List, ◌++◌, Some, Ok, length, map, take};
+ghost use Rattle.std.specs.Prelude.{◌≡◌, ◌<◌, ◌↔◌, ℕ, List, ◌++◌, Option, Some, Ok, length, map, take};
 ghost use Rattle.case_forms.specs.declared.trace.Line.{Line};
 ghost use Rattle.case_forms.specs.declared.trace.Trace.{Trace};
 ghost use Rattle.case_forms.specs.declared.steps.Witness.{Witness};
@@ -19,6 +19,7 @@ ghost use Rattle.checker.specs.Seen.{moves};
 ghost use Rattle.checker.specs.Cases.{case_result};
 ghost use Rattle.checker.specs.Verdicts.{verdict};
 ghost use Rattle.checker.specs.Judging.{LessJudgedStaysYes};
+ghost use Rattle.checker.specs.Slack.{AnyNamesNoDuty, LessLateStaysYes};
 ghost use Rattle.checker.specs.Explains.{Explains, IsYes};
 ghost use Rattle.checker.specs.Peers.{AllPeersAreMet, EachPeerWasMet};
 ghost use Rattle.checker.specs.Again.{HaveTwo, without_spans};
@@ -57,6 +58,16 @@ pub fn yes_counts_all_lines()
 /// `full` is one under `recovery`, and a yes under `recovery` is one under `none`.
 pub fn less_judged_stays_yes()
     ensures { (j : Judged) → LessJudgedStaysYes j }
+{}
+
+/// A yes with a slack stays a yes, with the same counts, with each greater slack, and with `any`.
+pub fn less_late_stays_yes()
+    ensures { (slack : Option ℕ) → LessLateStaysYes slack }
+{}
+
+/// With `slack any`, no verdict names a rule from 40 on: only the order of lines and the model are judged.
+pub fn any_names_no_duty()
+    ensures { AnyNamesNoDuty }
 {}
 
 /// At each moment of the witness, what the receives on a socket number returned is a prefix of what the sends on one

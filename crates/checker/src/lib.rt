@@ -48,9 +48,10 @@ mod two_texts;
 
 pub use case::{CaseFault, check_case};
 pub use laws::{
-    earlier_lines_are_taken_first, explained_follows, explained_is_yes, less_judged_stays_yes,
-    peers_are_met, printed_case, receives_begin_sends, streams_at_each_moment,
-    two_witnesses_of_one_trace, verdict_when_read_again, yes_counts_all_lines,
+    any_names_no_duty, earlier_lines_are_taken_first, explained_follows, explained_is_yes,
+    less_judged_stays_yes, less_late_stays_yes, peers_are_met, printed_case, receives_begin_sends,
+    streams_at_each_moment, two_witnesses_of_one_trace, verdict_when_read_again,
+    yes_counts_all_lines,
 };
 pub use printed::print_case;
 pub use replay::check;

@@ -37,7 +37,7 @@ use Rattle.spec_duties.specs.declared.views.View.{View}
 
 -- ---- without a slack
 
-nothing_judged : (h : Header) (moment : ℕ) (d : Duties) (s : Sight) → h.slack ≡ None → judged_rules h moment d s ≡ []
+pub nothing_judged : (h : Header) (moment : ℕ) (d : Duties) (s : Sight) → h.slack ≡ None → judged_rules h moment d s ≡ []
 nothing_judged h moment d s any = ap (λ o. on o [] (λ slack. duty_rules h slack moment d s)) any
 
 pub dutiful_any : (h : Header) (k : Known) (xs : List (Stamped tcp_shape)) → h.slack ≡ None → Dutiful h k xs
@@ -58,13 +58,13 @@ slack_is_not_noted h a b moment w s d = refl
 
 -- ---- with a greater one
 
-abbrev AreFewer : List (Rule × Bool) → List (Rule × Bool) → Type 0
+abbrev pub AreFewer : List (Rule × Bool) → List (Rule × Bool) → Type 0
 AreFewer [] [] = Unit {0}
 AreFewer [] (y ∷ ys) = ⊥
 AreFewer (x ∷ xs) [] = ⊥
 AreFewer (x ∷ xs) (y ∷ ys) = (x.1 ≡ false → y.1 ≡ false) × AreFewer xs ys
 
-fewer_none : (xs ys : List (Rule × Bool)) → AreFewer xs ys → first_broken xs ≡ None → first_broken ys ≡ None
+pub fewer_none : (xs ys : List (Rule × Bool)) → AreFewer xs ys → first_broken xs ≡ None → first_broken ys ≡ None
 fewer_none [] [] f e = refl
 fewer_none [] (y ∷ ys) f e = absurd f
 fewer_none (x ∷ xs) [] f e = absurd f

@@ -38,7 +38,7 @@ abbrev pub MayJudgeAll : Profile → HostTcp → Type 0
 MayJudgeAll p b = (i : ℕ) (e : Endpoint) → slice_get b.endpoints i ≡ Some e → MayJudge p e
 
 -- whom a segment finds
-abbrev taker_by : Profile → Taker → Taker
+abbrev pub taker_by : Profile → Taker → Taker
 taker_by p Nobody = Nobody
 taker_by p (AtListener l) = AtListener l
 taker_by p (AtEndpoint i e) = AtEndpoint i (endpoint_by p e)
@@ -64,7 +64,7 @@ endpoint_taker_by p b m i = rw (slice_get-map (endpoint_by p) b.endpoints i) (by
     by None = listener_taker_by p b m
     by (Some e) = closed e (is_closed e.state)
 
-taker_is : (p : Profile) (b : HostTcp) (m : Emission) → taker (body_by p b) m ≡ taker_by p (taker b m)
+pub taker_is : (p : Profile) (b : HostTcp) (m : Emission) → taker (body_by p b) m ≡ taker_by p (taker b m)
 taker_is p b m = rw (place_by p b m.rport m.lport) (by (place_of b m.rport m.lport))
   where
     by : (o : Option ℕ)
@@ -105,7 +105,7 @@ taker_passes p j h me b how m moment (AtEndpoint i e) may passed = by (as_read h
     by m true passed = syn_sent_passes p e how m moment (may i e refl) passed
     by m false passed = connected_passes p j h b name e how m moment (may i e refl) passed
 
-nothing_same : (p : Profile) (m : Emission) (t : Taker) → finds_nothing m (taker_by p t) ≡ finds_nothing m t
+pub nothing_same : (p : Profile) (m : Emission) (t : Taker) → finds_nothing m (taker_by p t) ≡ finds_nothing m t
 nothing_same p m Nobody = refl
 nothing_same p m (AtListener l) = refl
 nothing_same p m (AtEndpoint i e) = refl

@@ -39,7 +39,7 @@ both_pass : (xs ys zs : List (Rule × Bool)) → (first_broken ys ≡ None → f
 both_pass xs ys zs passes passed = let parts = none_both xs ys passed in first_broken-append_none xs zs parts.0 ∙ passes parts.1
 
 -- both hosts, where the congestion control of each endpoint goes by this profile
-abbrev hosts_by : Profile → Both (HostState tcp_shape) → Both (HostState tcp_shape)
+abbrev pub hosts_by : Profile → Both (HostState tcp_shape) → Both (HostState tcp_shape)
 hosts_by p hosts = record { zero = host_by p hosts.zero; one = host_by p hosts.one }
 
 deed_passes : (p : Profile) (j : Judged) (h : Header) (me : Host) (moment : ℕ) (far : List (ℕ × Emission)) (s : HostState tcp_shape) (d : Deed tcp_shape)
@@ -61,12 +61,12 @@ deed_passes p j h me moment far s (Answers line) may passed =
     (λ e. acts.act_rules (header_by j h) me moment (body_by p s.body) (acts.Resets e))
     (λ e. act_passes p j h me moment s.body (acts.Resets e) may) passed
 
-aim_same : (p : Profile) (j : Judged) (h : Header) (hosts : Both (HostState tcp_shape)) (a : Aim)
+pub aim_same : (p : Profile) (j : Judged) (h : Header) (hosts : Both (HostState tcp_shape)) (a : Aim)
     → aim_of (tcp (header_by j h)) (hosts_by p hosts) a ≡ aim_of (tcp h) hosts a
 aim_same p j h hosts (ThatHost host) = refl
 aim_same p j h hosts (ThatSocket n) = refl
 
-fresh_same : (p : Profile) (j : Judged) (h : Header) (hosts : Both (HostState tcp_shape)) (o : Option ℕ)
+pub fresh_same : (p : Profile) (j : Judged) (h : Header) (hosts : Both (HostState tcp_shape)) (o : Option ℕ)
     → fresh_rules (tcp (header_by j h)) (hosts_by p hosts) o ≡ fresh_rules (tcp h) hosts o
 fresh_same p j h hosts None = refl
 fresh_same p j h hosts (Some n) = refl
@@ -95,7 +95,7 @@ open_passes p j h moment hosts (Called call) answer may passed =
 open_passes p j h moment hosts (Answered given) answer may passed = refl
 
 -- each endpoint of a judged world is judged less by a word that judges less
-may_judge : (j : Judged) (h : Header) (w : World tcp_shape) → extent j ≤ extent h.congestion → IsJudged h w → (host : Host)
+pub may_judge : (j : Judged) (h : Header) (w : World tcp_shape) → extent j ≤ extent h.congestion → IsJudged h w → (host : Host)
     → MayJudgeAll (profile_of (header_by j h)) (pick w.hosts host).body
 may_judge j h w le is host i e at = record {
   less =

@@ -38,3 +38,4 @@ pub mod JudgedBodies
 pub mod JudgedActs
 pub mod JudgedWorlds
 pub mod JudgedRuns
+pub mod LevelLemmas

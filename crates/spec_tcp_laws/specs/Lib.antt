@@ -8,3 +8,4 @@ pub mod Ascending
 pub mod Transitions
 pub mod Sameness
 pub mod Judging
+pub mod Levels

@@ -8,17 +8,19 @@
 //!   are too old, how a number is read if its position isn't known, and that the model's comparisons are equality
 //! - `forgetting`: discarding what may be discarded changes no rule, and nothing that is kept
 //! - `judging`: if less of congestion control is judged, all is accepted that was
+//! - `levels`: every rule but three is the same at every level of congestion control
 //!
 //! The statements are in specs/: `Runs` has what the steps of a run show by themselves, `Consequences` what follows for
 //! streams between two recorded hosts, `Carried` what follows for one host's reads in every case, `Bounds` what follows
 //! for windows, `Transitions` how states and positions change, `Ascending` the rules' numbers, `HeardNumbers` how a
-//! number is read, `Sameness` the comparisons, `ForgettingLaws` what may be discarded, and `Judging` what follows if
-//! less of congestion control is judged.
+//! number is read, `Sameness` the comparisons, `ForgettingLaws` what may be discarded, `Judging` what follows if less
+//! of congestion control is judged, and `Levels` what is the same at every level.
 #![tactic(auto)]
 
 mod forgetting;
 mod judging;
 mod laws;
+mod levels;
 
 pub use forgetting::{forgetting_is_free, runs_forget};
 pub use judging::{judged_stays, less_is_judged, runs_with_less_judged};
@@ -27,3 +29,4 @@ pub use laws::{
     old_copies_are_refused, positions_never_fall, profiles_are_named, reads_were_carried,
     received_is_a_prefix, rules_ascend, sameness_is_equality, states_follow, windows_follow,
 };
+pub use levels::{judged_alike, recovery_is_due, refused_alike};

@@ -4,3 +4,7 @@ pub mod CaseLemmas
 mod EndLemmas
 pub mod ForgetLemmas
 mod PlaceLemmas
+pub mod SlackLemmas
+pub mod SlackRuns
+pub mod LevelSights
+pub mod LevelRuns

@@ -1,2 +1,4 @@
 pub mod Targets
 pub mod Watched
+pub mod Levels
+pub mod Slack

@@ -7,7 +7,7 @@
 //! - `cases`: a case with its duties: each step, and the comparison at the end
 //! - `sights`: what a step shows of the world; `calls`: the same for the effect of a call; `dropped`: for a segment
 //!   that is dropped
-//! - `ending`: what is late at the end; `laws`: what duties read of the world
+//! - `ending`: what is late at the end; `laws`: what duties read of the world and of the header
 #![tactic(auto)]
 
 mod calls;
@@ -18,4 +18,7 @@ mod laws;
 mod sights;
 
 pub use cases::{Case, apply_hidden, apply_line_owned};
-pub use laws::{case_rules_ascend, nothing_discarded_is_seen};
+pub use laws::{
+    case_judged_alike, case_rules_ascend, less_judged_shows_the_same, nothing_discarded_is_seen,
+    slack_is_not_read,
+};

@@ -1,0 +1,127 @@
+-- With a greater slack, what explains a trace still explains it; with `any`, no rule of a duty is named.
+use Rattle.std.proofs.Common.{◌≡◌, ℕ, ◌≤◌, Bool, true, false, List, [], ◌∷◌, ◌++◌, Option, None, Some, inl, inr, refl, sym, ap, subst, ◌∙◌}
+use Rattle.std.proofs.Common.{◌+◌, ◌⊎◌, take}
+use Rattle.std.specs.Prelude.{nat_le}
+use Rattle.std.specs.List.{cons_option}
+use Rattle.std.specs.Option.{option_map_or}
+use Rattle.std.proofs.lemmas.Option.{none-some, same_Some}
+use Rattle.case_forms.specs.declared.steps.Step.{Step}
+use Rattle.case_forms.specs.declared.steps.Witness.{Witness}
+use Rattle.case_forms.specs.declared.trace.Header.{Header}
+use Rattle.case_forms.specs.declared.trace.Line.{Line}
+use Rattle.case_forms.specs.declared.trace.Trace.{Trace}
+use Rattle.verdict.specs.Rules.{first_broken}
+use Rattle.verdict.specs.declared.report.Verdict.TheVariants.{Yes, No}
+use Rattle.verdict.specs.declared.rule.Rule.{Rule}
+use Rattle.verdict.specs.declared.rule.Rule.TheVariants.{Unplaced}
+use Rattle.interval_order.specs.OrderRules.{order_rules}
+use Rattle.interval_order.specs.Orders.{Move, last_moment, order_of}
+use Rattle.interval_order.specs.Placed.{Placed}
+use Rattle.spec_network.specs.HostRules.{step_rules}
+use Rattle.spec_network.specs.HostSteps.{start, Lawful}
+use Rattle.spec_network.specs.Hosts.{Stamped}
+use Rattle.spec_network.proofs.Turns.{turns}
+use Rattle.spec_tcp.specs.Machine.{tcp, tcp_shape}
+use Rattle.spec_tcp_laws.specs.Ascending.{rule_number}
+use Rattle.spec_tcp_laws.proofs.Rules.{at_most_to, both_true}
+use Rattle.duties.proofs.SlackLemmas.{late_any, nothing_judged}
+use Rattle.spec_duties.specs.Cases.{Dutiful, Known, first_known, known_after_all, late_at_end, watch_rules}
+use Rattle.spec_duties.specs.Sights.{sight}
+use Rattle.spec_duties.specs.Slack.{AtMost, with_slack}
+use Rattle.watched.proofs.AscendLemmas.{rules_top, tops}
+use Rattle.watched.proofs.SlackRuns.{dutiful_with, end_with, lawful_with}
+use Rattle.checker.specs.Explains.{Explains}
+use Rattle.checker.specs.Judges.{BreaksFirst, LeavesLine, OwesAtEnd, rules_at}
+use Rattle.checker.specs.Seen.{act_of, move_of, moves, stamped}
+use Rattle.checker.specs.Slack.{AnyNamesNoDuty, LessLateStaysYes, trace_with}
+use Rattle.checker.specs.Verdicts.{act_rules, all_rules, verdict}
+use Rattle.checker.proofs.JudgeLemmas.{verdict_says}
+use Rattle.checker.proofs.JudgedLemmas.{same_counts}
+use Rattle.checker.proofs.YesLemmas.{explains_yes}
+
+-- neither the steps as the model sees them nor a placement reads the slack
+stamped_with : (slack : Option ℕ) (h : Header) (all : List Line) (steps : List Step) → stamped (with_slack slack h) all steps ≡ stamped h all steps
+stamped_with slack h all [] = refl
+stamped_with slack h all (s ∷ steps) = ap (cons_option (act_of h all s)) (stamped_with slack h all steps)
+
+placed_with : (slack : Option ℕ) (h : Header) (all : List Line) (steps : List Move) → Placed h all steps → Placed (with_slack slack h) all steps
+placed_with slack h all steps p = record {
+  rising = p.rising;
+  every = p.every;
+  once = p.once;
+  timely = λ n i t. let found = p.timely n i t in (found.0, found.1, record { count = found.2.count; since = found.2.since; until = found.2.until });
+  threads = p.threads;
+}
+
+explained_with : (slack : Option ℕ) (t : Trace) (w : Witness) → AtMost t.header.slack slack → Explains t w → Explains (trace_with slack t) w
+explained_with slack t w at e =
+    let by = with_slack slack t.header in
+    let same = stamped_with slack t.header t.lines w.steps in
+    let run : Lawful (tcp (with_slack slack t.header)) (start (tcp (with_slack slack t.header))) (stamped (with_slack slack t.header) t.lines w.steps) =
+    subst (λ (xs : List (Stamped tcp_shape)). Lawful (tcp (with_slack slack t.header)) (start (tcp (with_slack slack t.header))) xs) (sym same)
+    (lawful_with slack t.header (start (tcp t.header)) (stamped t.header t.lines w.steps) e.run) in
+    record {
+      placed = placed_with slack t.header t.lines (moves w.steps) e.placed;
+      turns = λ thread. turns (tcp by) thread (start (tcp by)) (stamped by t.lines w.steps) run;
+      run = run;
+      duties =
+          subst (λ (xs : List (Stamped tcp_shape)). Dutiful (with_slack slack t.header) (first_known (with_slack slack t.header)) xs) (sym same)
+          (dutiful_with t.header.slack slack t.header (first_known t.header) (stamped t.header t.lines w.steps) at e.duties);
+      in_time =
+          ap (λ (xs : List (Stamped tcp_shape)). late (known_after_all (with_slack slack t.header) (first_known t.header) xs)) same
+          ∙ end_with t.header.slack slack t.header (first_known t.header) (stamped t.header t.lines w.steps) (last_moment (moves w.steps)) at e.in_time;
+    }
+  where
+    late : Known → Option (ℕ × Rule)
+    late k = late_at_end (with_slack slack t.header) (last_moment (moves w.steps)) k
+
+pub less_late_stays_yes : (slack : Option ℕ) → LessLateStaysYes slack
+less_late_stays_yes slack = record {
+  explains = λ t w at e. explained_with slack t w at e;
+  yes = λ t w lines hidden at is.
+      let said = verdict_says t w (Yes lines hidden) is in
+      same_counts (trace_with slack t) w lines hidden said.1 (verdict (trace_with slack t) w) refl
+      (explains_yes (trace_with slack t) w (explained_with slack t w at said.0));
+}
+
+-- ---- with `any`
+
+tops_both : (xs ys : List (Rule × Bool)) → tops xs ≡ true → tops ys ≡ true → tops (xs ++ ys) ≡ true
+tops_both [] ys a b = b
+tops_both ((r, broken) ∷ xs) ys a b = let parts = both_true (nat_le (rule_number r) 39) (tops xs) a in rw (parts.0, tops_both xs ys parts.1 b) refl
+
+broken_top : (xs : List (Rule × Bool)) (rule : Rule) → tops xs ≡ true → first_broken xs ≡ Some rule → rule_number rule ≤ 39
+broken_top [] rule top is = absurd (none-some rule is)
+broken_top ((r, true) ∷ xs) rule top is =
+    subst (λ (x : Rule). rule_number x ≤ 39) (same_Some r rule is) (at_most_to (rule_number r) 39 (both_true (nat_le (rule_number r) 39) (tops xs) top).0)
+broken_top ((r, false) ∷ xs) rule top is = broken_top xs rule (both_true (nat_le (rule_number r) 39) (tops xs) top).1 is
+
+case_top : (h : Header) (k : Known) (o : Option (Stamped tcp_shape)) → h.slack ≡ None → tops (option_map_or (act_rules h k) o []) ≡ true
+case_top h k None any = refl
+case_top h k (Some x) any =
+    let none = nothing_judged h x.moment k.duties (sight h x.moment k.model x.step) any in
+    tops_both (step_rules (tcp h) x.moment k.model x.step) (watch_rules h x.moment k x.step) (rules_top h x.moment k.model x.step) (ap tops none)
+
+all_top : (h : Header) (lines : List Line) (earlier : List Step) (k : Known) (s : Step) → h.slack ≡ None → tops (all_rules h lines earlier k s) ≡ true
+all_top h lines earlier k s any =
+    tops_both (order_rules (order_of h lines (moves earlier)) (move_of s)) (option_map_or (act_rules h k) (act_of h lines s) []) refl
+    (case_top h k (act_of h lines s) any)
+
+pub any_names_no_duty : AnyNamesNoDuty
+any_names_no_duty t w witness_line trace_line rule any is = by (verdict_says t w (No witness_line trace_line rule) is)
+  where
+    before : ℕ → Known
+    before place = known_after_all t.header (first_known t.header) (stamped t.header t.lines (take place w.steps))
+
+    ended : Known
+    ended = known_after_all t.header (first_known t.header) (stamped t.header t.lines w.steps)
+
+    by : ((witness_line ≡ 0) × (rule ≡ Unplaced) × LeavesLine t w trace_line)
+        ⊎ ((witness_line ≡ 0) × OwesAtEnd t w trace_line rule)
+        ⊎ ((place : ℕ) × (witness_line ≡ place + 2) × BreaksFirst t w place trace_line rule)
+        → rule_number rule ≤ 39
+    by (inl left) = rw left.1 (at_most_to 39 39 refl)
+    by (inr (inl owes)) = absurd (none-some (trace_line, rule) (sym (late_any t.header (last_moment (moves w.steps)) ended any) ∙ owes.1.late))
+    by (inr (inr breaks)) =
+        broken_top (rules_at t w breaks.0 breaks.2.step) rule
+        (all_top t.header t.lines (take breaks.0 w.steps) (before breaks.0) breaks.2.step any) breaks.2.breaks

@@ -1,0 +1,27 @@
+-- With a greater slack, a yes stays a yes; with `any`, no duty is judged.
+use Rattle.std.specs.Prelude.{◌≡◌, ◌≤◌, ℕ, Option, None}
+use Rattle.case_forms.specs.declared.steps.Witness.{Witness}
+use Rattle.case_forms.specs.declared.trace.Trace.{Trace}
+use Rattle.verdict.specs.declared.rule.Rule.{Rule}
+use Rattle.verdict.specs.declared.report.Verdict.TheVariants.{Yes, No}
+use Rattle.spec_tcp_laws.specs.Ascending.{rule_number}
+use Rattle.spec_duties.specs.Slack.{AtMost, with_slack}
+use Rattle.checker.specs.Explains.{Explains}
+use Rattle.checker.specs.Verdicts.{verdict}
+
+-- the same trace with another slack
+abbrev pub trace_with : Option ℕ → Trace → Trace
+trace_with slack t = record t { header = with_slack slack t.header }
+
+-- with this slack or with `any`, if that is at least the trace's: what explains the trace still does, and a yes stays a
+-- yes with the same counts
+pub record LessLateStaysYes (slack : Option ℕ) : Type 0 where
+  pub explains : (t : Trace) (w : Witness) → AtMost t.header.slack slack → Explains t w
+      → Explains (trace_with slack t) w
+  pub yes : (t : Trace) (w : Witness) (lines hidden : ℕ) → AtMost t.header.slack slack
+      → verdict t w ≡ Yes lines hidden → verdict (trace_with slack t) w ≡ Yes lines hidden
+
+-- with `any`, a no names a rule of order or of the model, whose numbers are at most 39
+abbrev pub AnyNamesNoDuty : Type 0
+AnyNamesNoDuty = (t : Trace) (w : Witness) (witness_line trace_line : ℕ) (rule : Rule) → t.header.slack ≡ None
+    → verdict t w ≡ No witness_line trace_line rule → rule_number rule ≤ 39

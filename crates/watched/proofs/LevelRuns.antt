@@ -1,0 +1,297 @@
+-- Duties at another level of congestion control: if less is judged, no more of their rules are broken, and the same is kept.
+use Rattle.std.proofs.Common.{◌≡◌, ℕ, suc, ◌+◌, ◌≤◌, Bool, true, false, List, [], ◌∷◌, ◌++◌, Option, None, Some, map, refl, ap, sym, subst, ◌∙◌, arith}
+use Rattle.std.specs.Prelude.{◌&&◌, if◌then◌else◌, is_some, nat_le, nat_lt}
+use Rattle.std.specs.Option.{option_map}
+use Rattle.std.proofs.lemmas.Bool.Decides.{nat_tests}
+use Rattle.case_forms.specs.declared.calls.Host.{Host}
+use Rattle.case_forms.specs.declared.calls.Host.TheVariants.{Zero, One}
+use Rattle.case_forms.specs.declared.timer.Timer.TheVariants.{Giveup, Msl2, Persist, Rto}
+use Rattle.case_forms.specs.declared.trace.Header.{Header}
+use Rattle.case_forms.specs.declared.version.Judged.{Judged}
+use Rattle.case_forms.specs.declared.version.Judged.TheVariants as judged
+use Rattle.verdict.specs.Rules.{first_broken}
+use Rattle.verdict.specs.declared.rule.Rule.{Rule}
+use Rattle.verdict.specs.declared.rule.Rule.TheVariants as rules
+use Rattle.window_rules.specs.declared.control.Profile.{Profile}
+use Rattle.spec_network.specs.HostRules.{step_rules}
+use Rattle.spec_network.specs.HostSteps.{Lawful, after}
+use Rattle.spec_network.specs.Hosts.{Stamped, Step, World}
+use Rattle.spec_network.specs.Tables.{on}
+use Rattle.spec_tcp.specs.Machine.{tcp, tcp_shape}
+use Rattle.spec_tcp.specs.Signals.{profile_of}
+use Rattle.spec_tcp.specs.declared.endpoint.Endpoint.{Endpoint}
+use Rattle.spec_tcp_laws.specs.Judging.{IsJudged, endpoint_by, extent, header_by, world_by, world_judged}
+use Rattle.spec_tcp_laws.specs.Levels.{is_of_level, other_rules}
+use Rattle.spec_tcp_laws.proofs.JudgedRuns.{judged_step}
+use Rattle.spec_tcp_laws.proofs.JudgedWorlds.{after_kept}
+use Rattle.spec_tcp_laws.proofs.LevelLemmas.{step_alike}
+use Rattle.duties.proofs.SlackLemmas.{AreFewer, fewer_none}
+use Rattle.spec_duties.specs.Cases.{Dutiful, Known, judged_rules, known_after, known_after_all, late_at_end, noted_by, watch_rules}
+use Rattle.spec_duties.specs.End.{either, first_waiting, lates_at, lates_from, lates_of_all, lates_of_host, line_of}
+use Rattle.spec_duties.specs.declared.events.Event.{Event}
+use Rattle.spec_duties.specs.declared.events.Event.TheVariants.{Builds, Calls, Drops, Expires, Opens, Processes, Recovers, Sends}
+use Rattle.spec_duties.specs.Owed.{late_rules, none_late, owed_after}
+use Rattle.spec_duties.specs.Resent.{is_repeating, is_resent, is_resent_beyond, judges_repeats, judges_windows}
+use Rattle.spec_duties.specs.Sights.{sight, view_in}
+use Rattle.spec_duties.specs.declared.sights.Sight.{Sight}
+use Rattle.spec_duties.specs.declared.sights.Touched.{Touched}
+use Rattle.spec_duties.specs.Watching.{Duties, builds_mere_ack, built_after, built_by, counts_now, duties_after, duty_rules, touched_rules}
+use Rattle.spec_duties.specs.declared.owed.Lates.{Lates}
+use Rattle.spec_duties.specs.declared.owed.Owed.{Owed}
+use Rattle.spec_duties.specs.declared.sights.Post.{Post}
+use Rattle.spec_duties.specs.declared.sights.Post.TheVariants as post
+use Rattle.spec_duties.specs.declared.tables.Built.{Built}
+use Rattle.spec_duties.specs.declared.views.View.{View}
+use Rattle.watched.specs.Levels.{CaseJudgedAlike, EndsBelow, known_judged, sight_with, touched_with, view_with}
+use Rattle.watched.proofs.LevelSights.{shows_the_same, view_seen}
+
+-- ---- what is kept doesn't depend on the edge
+
+owed_same : (event : Event) (a b : ℕ) (before after : View) (moment : ℕ) (closed : Option ℕ) (counts : Bool) (o : Owed)
+    → owed_after event (view_with a before) (view_with b after) moment closed counts o ≡ owed_after event before after moment closed counts o
+owed_same Opens a b before after moment closed counts o = refl
+owed_same (Calls abort) a b before after moment closed counts o = refl
+owed_same (Processes length rst) a b before after moment closed counts o = refl
+owed_same (Drops asks unlimited) a b before after moment closed counts o = refl
+owed_same (Builds m) a b before after moment closed counts o = refl
+owed_same (Sends s) a b before after moment closed counts o = refl
+owed_same (Expires Rto) a b before after moment closed counts o = refl
+owed_same (Expires Persist) a b before after moment closed counts o = refl
+owed_same (Expires Msl2) a b before after moment closed counts o = refl
+owed_same (Expires Giveup) a b before after moment closed counts o = refl
+owed_same Recovers a b before after moment closed counts o = refl
+
+mere_same : (a b : ℕ) (after : View) (t : Touched) → builds_mere_ack (view_with b after) (touched_with a t) ≡ builds_mere_ack after t
+mere_same a b after t = by t.event
+  where
+    at : Event → Touched
+    at event = record t { event = event }
+
+    by : (event : Event) → builds_mere_ack (view_with b after) (touched_with a (at event)) ≡ builds_mere_ack after (at event)
+    by (Builds m) = refl
+    by Opens = refl
+    by (Calls abort) = refl
+    by (Processes length rst) = refl
+    by (Drops asks unlimited) = refl
+    by (Sends s) = refl
+    by (Expires timer) = refl
+    by Recovers = refl
+
+built_same : (a b : ℕ) (after : View) (moment : ℕ) (o : Option Touched) (it : Post) (built : List (ℕ × Option Built))
+    → built_after (view_with b after) moment (option_map (touched_with a) o) it built ≡ built_after after moment o it built
+built_same a b after moment o post.Nothing built = refl
+built_same a b after moment None (post.Builds number) built = refl
+built_same a b after moment (Some t) (post.Builds number) built = rw (mere_same a b after t) refl
+built_same a b after moment o (post.Sends number) built = refl
+
+duties_same : (a b : ℕ) (after : View) (moment : ℕ) (s : Sight) (d : Duties)
+    → duties_after (view_with b after) moment (sight_with a s) d ≡ duties_after after moment s d
+duties_same a b after moment s d = rw (built_same a b after moment s.touched s.post d.built) (by s.touched)
+  where
+    with : Option Touched → Sight
+    with o = record s { touched = o }
+
+    by : (o : Option Touched)
+        → (let x : Duties =
+        record (duties_after (view_with b after) moment (sight_with a (with o)) d) { built = built_after after moment s.touched s.post d.built } in x)
+        ≡ record (duties_after after moment (with o) d) { built = built_after after moment s.touched s.post d.built }
+    by None = refl
+    by (Some t) =
+        rw (owed_same t.event a b t.before after moment _ _ _) refl
+
+-- ---- if less is judged, no more rules are broken
+
+repeats_less : (j k : Judged) → extent j ≤ extent k → judges_repeats j ≡ true → judges_repeats k ≡ true
+repeats_less j judged.Full le is = refl
+repeats_less j judged.Recovery le is = refl
+repeats_less judged.Full judged.NoControl le is = absurd (omega (arith, le))
+repeats_less judged.Recovery judged.NoControl le is = absurd (omega (arith, le))
+repeats_less judged.NoControl judged.NoControl le is = is
+
+windows_less : (j k : Judged) → extent j ≤ extent k → judges_windows j ≡ true → judges_windows k ≡ true
+windows_less j judged.Full le is = refl
+windows_less judged.Full judged.Recovery le is = absurd (omega (arith, le))
+windows_less judged.Recovery judged.Recovery le is = is
+windows_less judged.NoControl judged.Recovery le is = absurd cc
+windows_less judged.Full judged.NoControl le is = absurd (omega (arith, le))
+windows_less judged.Recovery judged.NoControl le is = absurd (omega (arith, le))
+windows_less judged.NoControl judged.NoControl le is = is
+
+repeat_passes : (a b c d : Bool) → (a ≡ true → b ≡ true) → (b && c && d) ≡ false → (a && c && d) ≡ false
+repeat_passes true true c d less e = e
+repeat_passes true false c d less e = let is : false ≡ true = less refl in absurd cc
+repeat_passes false b c d less e = refl
+
+beyond_passes : (a b c d x y : Bool) → (a ≡ true → b ≡ true) → (x ≡ false → y ≡ false) → (b && c && d && x) ≡ false → (a && c && d && y) ≡ false
+beyond_passes true true true true x y less lower e = lower e
+beyond_passes true true true false x y less lower e = refl
+beyond_passes true true false d x y less lower e = refl
+beyond_passes true false c d x y less lower e = let is : false ≡ true = less refl in absurd cc
+beyond_passes false b c d x y less lower e = refl
+
+resent_less : (j k : Judged) (edge : ℕ) (event : Event) (v : View) (again : ℕ) → extent j ≤ extent k → is_resent k event v again ≡ false
+    → is_resent j event (view_with edge v) again ≡ false
+resent_less j k edge (Builds m) v again le e =
+    repeat_passes (judges_repeats j) (judges_repeats k) (is_repeating v m) (nat_lt m.pos again) (repeats_less j k le) e
+resent_less j k edge _ v again le e = refl
+
+below : (low high n : ℕ) → low ≤ high → nat_lt low n ≡ false → nat_lt high n ≡ false
+below low high n le e = grind (arith, nat_tests)
+
+beyond_less : (j k : Judged) (edge : ℕ) (event : Event) (v : View) → extent j ≤ extent k → v.congestion_edge ≤ edge → is_resent_beyond k event v ≡ false
+    → is_resent_beyond j event (view_with edge v) ≡ false
+beyond_less j k edge (Builds m) v le higher e =
+    beyond_passes (judges_windows j) (judges_windows k) (nat_lt 0 m.len) (nat_le (m.pos + m.len) v.snd_max) (nat_lt v.congestion_edge (m.pos + m.len))
+    (nat_lt edge (m.pos + m.len)) (windows_less j k le) (below v.congestion_edge edge (m.pos + m.len) higher) e
+beyond_less j k edge _ v le higher e = refl
+
+touched_fewer : (j : Judged) (h : Header) (slack moment : ℕ) (d : Duties) (counts : Bool) (edge : ℕ) (o : Option Touched) → extent j ≤ extent h.congestion
+    → EndsBelow edge o
+    → AreFewer (on o [] (touched_rules h slack moment d counts))
+    (on (option_map (touched_with edge) o) [] (touched_rules (header_by j h) slack moment d counts))
+touched_fewer j h slack moment d counts edge None le higher = tt
+touched_fewer j h slack moment d counts edge (Some t) le higher = (
+  λ e. e,
+  (
+    λ e. e,
+    (
+      λ e. e,
+      (
+        λ e. e,
+        (
+          λ e. e,
+          (λ e. e, (resent_less j h.congestion edge t.event t.before _ le, (beyond_less j h.congestion edge t.event t.before le higher, (λ e. e, tt)))),
+        ),
+      ),
+    ),
+  ),
+)
+
+rules_fewer : (j : Judged) (h : Header) (moment : ℕ) (d : Duties) (edge : ℕ) (s : Sight) (slack : Option ℕ) → extent j ≤ extent h.congestion
+    → EndsBelow edge s.touched
+    → first_broken (on slack [] (λ slack. duty_rules h slack moment d s)) ≡ None
+    → first_broken (on slack [] (λ slack. duty_rules (header_by j h) slack moment d (sight_with edge s))) ≡ None
+rules_fewer j h moment d edge s None le higher e = refl
+rules_fewer j h moment d edge s (Some slack) le higher e =
+    fewer_none (duty_rules h slack moment d s) (duty_rules (header_by j h) slack moment d (sight_with edge s))
+    (λ e. e, (λ e. e, (λ e. e, (λ e. e, touched_fewer j h slack moment d (counts_now (built_by d s.post)) edge s.touched le higher)))) e
+
+-- ---- a step of a case
+
+watch_passes : (j : Judged) (h : Header) (moment : ℕ) (k : Known) (step : Step tcp_shape) → extent j ≤ extent h.congestion → IsJudged h k.model
+    → first_broken (watch_rules h moment k step) ≡ None → first_broken (watch_rules (header_by j h) moment (known_judged j h k) step) ≡ None
+watch_passes j h moment k step le is e =
+    let seen = shows_the_same j h moment k.model step le is in
+    ap (λ (s : Sight). first_broken (judged_rules (header_by j h) moment k.duties s)) seen.1
+    ∙ rules_fewer j h moment k.duties seen.0 (sight h moment k.model step) h.slack le seen.2 e
+
+-- of the other rules, it breaks the same
+others_both : (xs ys : List (Rule × Bool)) → other_rules (xs ++ ys) ≡ other_rules xs ++ other_rules ys
+others_both [] ys = refl
+others_both ((r, b) ∷ xs) ys = by (is_of_level r) (others_both xs ys)
+  where
+    by : (own : Bool) → other_rules (xs ++ ys) ≡ other_rules xs ++ other_rules ys
+        → (if own then other_rules (xs ++ ys) else (r, b) ∷ other_rules (xs ++ ys))
+        ≡ (if own then other_rules xs else (r, b) ∷ other_rules xs) ++ other_rules ys
+    by true rest = rest
+    by false rest = ap (λ (zs : List (Rule × Bool)). (r, b) ∷ zs) rest
+
+duties_alike : (j : Judged) (h : Header) (moment : ℕ) (d : Duties) (edge : ℕ) (s : Sight)
+    → other_rules (judged_rules (header_by j h) moment d (sight_with edge s)) ≡ other_rules (judged_rules h moment d s)
+duties_alike j h moment d edge s = by h.slack s.touched
+  where
+    with : Option Touched → Sight
+    with o = record s { touched = o }
+
+    by : (slack : Option ℕ) (o : Option Touched)
+        → other_rules (on slack [] (λ slack. duty_rules (header_by j h) slack moment d (sight_with edge (with o))))
+        ≡ other_rules (on slack [] (λ slack. duty_rules h slack moment d (with o)))
+    by None o = refl
+    by (Some slack) None = refl
+    by (Some slack) (Some t) = refl
+
+pub case_alike : (j : Judged) (h : Header) → CaseJudgedAlike j h
+case_alike j h moment k step le is =
+    let seen = shows_the_same j h moment k.model step le is in
+    others_both (step_rules (tcp (header_by j h)) moment (world_judged j h k.model) step)
+    (watch_rules (header_by j h) moment (known_judged j h k) step)
+    ∙ ap (λ (xs : List (Rule × Bool)). xs ++ other_rules (watch_rules (header_by j h) moment (known_judged j h k) step))
+    (step_alike (profile_of (header_by j h)) j h moment k.model step)
+    ∙ ap (λ (xs : List (Rule × Bool)). other_rules (step_rules (tcp h) moment k.model step) ++ xs)
+    (ap (λ (s : Sight). other_rules (judged_rules (header_by j h) moment k.duties s)) seen.1
+    ∙ duties_alike j h moment k.duties seen.0 (sight h moment k.model step))
+    ∙ sym (others_both (step_rules (tcp h) moment k.model step) (watch_rules h moment k step))
+
+noted_same : (j : Judged) (h : Header) (moment : ℕ) (w : World tcp_shape) (edge : ℕ) (s : Sight) (d : Duties)
+    → noted_by (header_by j h) moment (world_judged j h w) (sight_with edge s) d ≡ noted_by h moment w s d
+noted_same j h moment w edge s d =
+    let seen = view_seen (profile_of (header_by j h)) w edge s.touched in
+    ap (λ (v : View). on h.slack d (λ slack. duties_after v moment (sight_with edge s) d)) seen.1 ∙ by seen.0 h.slack
+  where
+    by : (b : ℕ) (slack : Option ℕ)
+        → on slack d (λ slack. duties_after (view_with b (view_in w s.touched)) moment (sight_with edge s) d)
+        ≡ on slack d (λ slack. duties_after (view_in w s.touched) moment s d)
+    by b None = refl
+    by b (Some slack) = duties_same edge b (view_in w s.touched) moment s d
+
+known_kept : (j : Judged) (h : Header) (moment : ℕ) (k : Known) (step : Step tcp_shape) → extent j ≤ extent h.congestion → IsJudged h k.model
+    → known_after (header_by j h) moment (known_judged j h k) step ≡ known_judged j h (known_after h moment k step)
+known_kept j h moment k step le is =
+    let seen = shows_the_same j h moment k.model step le is in
+    let world = after_kept j h moment k.model step in
+    ap (λ (s : Sight). known (after (tcp (header_by j h)) moment (world_judged j h k.model) step) s) seen.1
+    ∙ ap (λ (w : World tcp_shape). known w (sight_with seen.0 (sight h moment k.model step))) world
+    ∙ ap (λ (d : Duties). pair (world_judged j h (after (tcp h) moment k.model step)) d)
+    (noted_same j h moment (after (tcp h) moment k.model step) seen.0 (sight h moment k.model step) k.duties)
+  where
+    pair : World tcp_shape → Duties → Known
+    pair w d = record { model = w; duties = d }
+
+    known : World tcp_shape → Sight → Known
+    known w s = pair w (noted_by (header_by j h) moment w s k.duties)
+
+-- ---- a run, and its end
+
+pub dutiful_by : (j : Judged) (h : Header) (k : Known) (xs : List (Stamped tcp_shape)) → extent j ≤ extent h.congestion → IsJudged h k.model
+    → Lawful (tcp h) k.model xs
+    → Dutiful h k xs → Dutiful (header_by j h) (known_judged j h k) xs
+dutiful_by j h k [] le is may kept = tt
+dutiful_by j h k (x ∷ xs) le is may kept = (
+  watch_passes j h x.moment k x.step le is kept.0,
+  subst (λ (n : Known). Dutiful (header_by j h) n xs) (sym (known_kept j h x.moment k x.step le is))
+      (dutiful_by j h (known_after h x.moment k x.step) xs le (judged_step h x.moment k.model x.step is may.0) may.1 kept.1),
+)
+
+pub known_by : (j : Judged) (h : Header) (k : Known) (xs : List (Stamped tcp_shape)) → extent j ≤ extent h.congestion → IsJudged h k.model
+    → Lawful (tcp h) k.model xs
+    → known_after_all (header_by j h) (known_judged j h k) xs ≡ known_judged j h (known_after_all h k xs)
+known_by j h k [] le is may = refl
+known_by j h k (x ∷ xs) le is may =
+    ap (λ (n : Known). known_after_all (header_by j h) n xs) (known_kept j h x.moment k x.step le is)
+    ∙ known_by j h (known_after h x.moment k x.step) xs le (judged_step h x.moment k.model x.step is may.0) may.1
+
+lates_same : (p : Profile) (slack moment : ℕ) (d : Duties) (host : Host) (place : ℕ) (so_far : Lates) (es : List Endpoint)
+    → lates_from slack moment d host place so_far (map (endpoint_by p) es) ≡ lates_from slack moment d host place so_far es
+lates_same p slack moment d host place so_far [] = refl
+lates_same p slack moment d host place so_far (e ∷ es) =
+    lates_same p slack moment d host (suc place) (either so_far (lates_at slack moment d host place e)) es
+
+all_same : (p : Profile) (slack moment : ℕ) (d : Duties) (w : World tcp_shape) → lates_of_all slack moment d (world_by p w) ≡ lates_of_all slack moment d w
+all_same p slack moment d w =
+    lates_same p slack moment d One 0 (lates_of_host slack moment d (world_by p w) Zero (none_late false)) w.hosts.one.body.endpoints
+    ∙ ap (λ (so_far : Lates). lates_of_host slack moment d w One so_far)
+    (lates_same p slack moment d Zero 0 (none_late false) w.hosts.zero.body.endpoints)
+
+pub end_by : (j : Judged) (h : Header) (moment : ℕ) (k : Known) → late_at_end (header_by j h) moment (known_judged j h k) ≡ late_at_end h moment k
+end_by j h moment k = by h.slack
+  where
+    with : ℕ → Lates → Option (ℕ × Rule)
+    with slack l =
+        option_map (λ rule. (line_of (first_waiting slack moment k.duties.inbox) rule, rule))
+        (first_broken ((rules.ProcessLate, is_some (first_waiting slack moment k.duties.inbox)) ∷ late_rules l))
+
+    by : (o : Option ℕ)
+        → on o None (λ slack. with slack (lates_of_all slack moment k.duties (world_judged j h k.model)))
+        ≡ on o None (λ slack. with slack (lates_of_all slack moment k.duties k.model))
+    by None = refl
+    by (Some slack) = ap (with slack) (all_same (profile_of (header_by j h)) slack moment k.duties k.model)
