@@ -41,6 +41,31 @@ fn line_part(bytes: &[u8], most: usize) -> (usize, bool)
     }
 }
 
+// Appends the bytes of one read of a line, as `append_line_piece`, and counts nothing.
+#[inline(always)]
+fn append_part<B: BufRead>(inner: &mut B, most: usize, buf: &mut Vec<u8>) -> Result<bool, ReadFault>
+    requires { 0 < most }
+    ensures appends { StartsWith buf.new.items buf.old.items }
+    ensures most { length (appended_bytes buf.old.items buf.new.items) ≤ most }
+    ensures bytes { Consumes (B.remaining inner.old) (B.remaining inner.new)
+        (appended_bytes buf.old.items buf.new.items) }
+    ensures more { result ≡ Ok false → HasNoFeed (appended_bytes buf.old.items buf.new.items) }
+    ensures ended { result ≡ Ok true → EndsAtFeed (appended_bytes buf.old.items buf.new.items)
+        ⊎ ((appended_bytes buf.old.items buf.new.items ≡ [])
+        × OnSome (B.remaining inner.old) (IsAtEnd (B.remaining inner.new))) }
+{
+    let available = match inner.fill_buf() {
+        Ok(available) => available,
+        Err(_) => return Err(ReadFault::Read),
+    };
+    let (count, is_ended) = line_part(available, most);
+    if buf.extend_from_slice(&available[..count]).is_err() {
+        return Err(ReadFault::OutOfMemory);
+    }
+    inner.consume(count);
+    Ok(is_ended || count == 0)
+}
+
 impl<B: BufRead> Counted<B> {
     // Appends the bytes of one read of a line, up to a limit, and returns whether the line is at its end: after its LF,
     // or at the end of the input, if there are no bytes.
@@ -62,19 +87,11 @@ impl<B: BufRead> Counted<B> {
             self.count_failure();
             return Err(ReadFault::Read);
         }
-        let available = match self.inner.fill_buf() {
-            Ok(available) => available,
-            Err(_) => {
-                self.count_failure();
-                return Err(ReadFault::Read);
-            }
-        };
-        let (count, is_ended) = line_part(available, most);
-        if buf.extend_from_slice(&available[..count]).is_err() {
-            return Err(ReadFault::OutOfMemory);
+        let piece = append_part(&mut self.inner, most, buf);
+        if let Err(ReadFault::Read) = piece {
+            self.count_failure();
         }
-        self.inner.consume(count);
-        Ok(is_ended || count == 0)
+        piece
     }
 
     /// Reads one line with its LF, or all that is left if no LF follows. Of a line of more than `most` bytes, only the
