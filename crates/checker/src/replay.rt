@@ -93,7 +93,10 @@ fn judge(
 {
     let mut window = offer_all(alloc, header, lines)?;
     let mut world = Case::start(alloc, header);
-    replay_all(&mut window, &mut world, steps)
+    let verdict = replay_all(&mut window, &mut world, steps);
+    drop(world);
+    drop(window);
+    verdict
 }
 
 // The verdict on these steps, if the window holds all lines and the world is that before the first step.

@@ -141,7 +141,10 @@ fn judge<A: BufRead, B: BufRead>(
 {
     let mut window = Window::new(alloc, header);
     let mut world = Case::start(alloc, header);
-    judge_in(alloc, &mut window, &mut world, lines, steps)
+    let verdict = judge_in(alloc, &mut window, &mut world, lines, steps);
+    drop(world);
+    drop(window);
+    verdict
 }
 
 // The same, if no line was offered to the window and the world is that before the first step.

@@ -173,9 +173,8 @@ impl HostCore {
         ensures err { OnErr result (self.new ≡ self.old) }
     {
         let host = self.me();
-        let reset = Label::R { host, line };
-        if self.admits(&reset) {
-            self.add(reset, Affected::Nobody)?;
+        if self.admits(&Label::R { host, line }) {
+            self.add(Label::R { host, line }, Affected::Nobody)?;
             return Ok(());
         }
         self.add(Label::K { host, line }, Affected::Nobody)?;
