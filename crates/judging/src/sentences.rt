@@ -2,8 +2,9 @@
 
 use crate::case_lines::CaseLines;
 use crate::connections::Connections;
-use crate::trying::Tried;
-use case_forms::{Header, Judged, OutOfMemory};
+use crate::levels::{Level, is_yes_without_duties};
+use crate::trying::{Question, Tried};
+use case_forms::{Judged, OutOfMemory};
 use itoa::Buffer;
 use plain_words::{about, word_if};
 use replayed::{Reason, Refused};
@@ -20,43 +21,78 @@ fn level_name(level: Judged) -> &'static str {
     }
 }
 
-/// Writes a level and its verdict, as a line.
-pub(crate) fn say_row(out: &mut String, tried: &Tried) -> Result<(), OutOfMemory> {
-    writeln!(
-        out,
-        "{:<10}{}",
-        level_name(tried.level),
-        tried.facts.verdict
-    )
-}
-
-/// Writes what the verdict of the last level means. `first` is what `full` refused, if it did.
-pub(crate) fn say_conclusion(
+/// The lines of the answer: each level with its verdict, and what the verdict of the last level means.
+pub(crate) fn answer(
     alloc: Global,
-    out: &mut String,
-    tried: &Tried,
-    header: &Header,
-    first: Option<Refused>,
-) -> Result<(), OutOfMemory> {
-    let facts = tried.facts;
-    match facts.verdict {
-        Verdict::Yes { .. } => {
-            out.push_str(meaning(tried.level))?;
-            say_connections(out, facts.connections)?;
-        }
-        Verdict::No { .. } => say_none(out, tried.ending)?,
+    question: Question<'_, '_>,
+    levels: &[Level],
+    last: &Tried,
+) -> Result<String, OutOfMemory> {
+    let mut out = String::new(alloc);
+    for level in levels {
+        let (name, verdict) = (level_name(level.judged), level.verdict);
+        writeln!(out, "{name:<10}{verdict}")?;
     }
-    if header.version.is_half() {
+    say_meaning(&mut out, question, levels, last)?;
+    if question.header.version.is_half() {
         out.push_str("Only host 0 was recorded; the other host isn't judged.\n")?;
     }
-    say_added(out, facts.lines)?;
-    let last = sentence(alloc, facts.refused)?;
-    let first = sentence(alloc, first)?;
-    if !last.is_empty() {
-        writeln!(out, "Under {}: {last}", level_name(tried.level))?;
+    say_added(&mut out, last.facts.lines)?;
+    say_refusals(alloc, &mut out, levels)?;
+    say_without_duties(&mut out, levels)?;
+    Ok(out)
+}
+
+// Writes what the verdict of the last level means.
+fn say_meaning(
+    out: &mut String,
+    question: Question<'_, '_>,
+    levels: &[Level],
+    last: &Tried,
+) -> Result<(), OutOfMemory> {
+    match last.facts.verdict {
+        Verdict::Yes { .. } => {
+            out.push_str(meaning(last.level))?;
+            say_slack(out, question.slack)?;
+            say_connections(out, last.facts.connections)
+        }
+        Verdict::No { .. } => say_none(out, levels, last.ending),
     }
-    if !first.is_empty() && first != last {
-        writeln!(out, "Under full: {first}")?;
+}
+
+// Writes what the last level refused, if it did. If `full` refused something else, or a duty refused another level,
+// that follows.
+fn say_refusals(alloc: Global, out: &mut String, levels: &[Level]) -> Result<(), OutOfMemory> {
+    let [stricter @ .., last] = levels else {
+        return Ok(());
+    };
+    let of_last = sentence(alloc, last.refused)?;
+    say_under(out, last.judged, of_last.as_str())?;
+    for level in stricter {
+        if matches!(level.judged, Judged::Full) || level.without_duties.is_some() {
+            let own = sentence(alloc, level.refused)?;
+            if own != of_last {
+                say_under(out, level.judged, own.as_str())?;
+            }
+        }
+    }
+    Ok(())
+}
+
+fn say_under(out: &mut String, level: Judged, sentence: &str) -> Result<(), OutOfMemory> {
+    if sentence.is_empty() {
+        return Ok(());
+    }
+    writeln!(out, "Under {}: {sentence}", level_name(level))
+}
+
+// Writes the verdicts without duties.
+fn say_without_duties(out: &mut String, levels: &[Level]) -> Result<(), OutOfMemory> {
+    for level in levels {
+        if let Some(verdict) = level.without_duties {
+            let name = level_name(level.judged);
+            writeln!(out, "Under {name}, without duties: {verdict}")?;
+        }
     }
     Ok(())
 }
@@ -71,6 +107,23 @@ The congestion window isn't judged.\n",
         Judged::NoControl => "The run follows RFC 9293 as this profile reads it.\n\
 The congestion window isn't judged.\n\
 The choice of when to retransmit data isn't judged either.\n",
+    }
+}
+
+// Writes how late a host may have been with its duties, in microseconds. None: they weren't judged.
+fn say_slack(out: &mut String, slack: Option<u64>) -> Result<(), OutOfMemory> {
+    match slack {
+        None => Ok(()),
+        Some(0) => out.push_str("No duty was late (rules 40 to 52).\n"),
+        Some(slack) => {
+            let (count, unit) = match (slack / 1_000_000, slack % 1_000_000) {
+                (seconds, 0) => (seconds, "second"),
+                _ => (slack, "microsecond"),
+            };
+            let (s, count) = (word_if(count != 1, "s"), Grouped(count));
+            write!(out, "No duty was late by more than {count} {unit}{s}")?;
+            out.push_str(" (rules 40 to 52).\n")
+        }
     }
 }
 
@@ -106,12 +159,16 @@ pub(crate) fn lines_kept(alloc: Global, lines: CaseLines) -> Result<String, OutO
 }
 
 // Writes that no level has a yes, and why the search ended without one.
-fn say_none(out: &mut String, ending: Ending) -> Result<(), OutOfMemory> {
-    out.push_str("No witness was found, even without judging congestion control.\n")?;
+fn say_none(out: &mut String, levels: &[Level], ending: Ending) -> Result<(), OutOfMemory> {
+    let s = word_if(is_yes_without_duties(levels), " that keeps every duty");
+    writeln!(
+        out,
+        "No witness was found{s}, even without judging congestion control."
+    )?;
     out.push_str(match ending {
-        // The search does steps by the model alone, so a rule of duties is broken.
-        Ending::Whole => "The search explained every line, but it doesn't judge duties;\n\
-a witness that keeps to them may still exist.\n",
+        // So a duty is late at the end.
+        Ending::Whole => "The search explained every line, but a duty is late;\n\
+a witness that keeps it may still exist.\n",
         Ending::Exhausted { .. } =>
             "The search ran out of alternatives. It makes at most two changes at once, near the refused line;\n\
 a witness that needs other changes may still exist.\n",

@@ -55,11 +55,33 @@ impl From<CaseFault> for JudgeFault {
     }
 }
 
-/// A level that was tried.
+/// A trace that is judged, and how.
+#[derive(Clone, Copy)]
+pub(crate) struct Question<'q, 't> {
+    pub text: &'t [u8],
+    /// The header of the trace.
+    pub header: &'q Header,
+    /// How late a host may be with its duties, in microseconds. None: they aren't judged.
+    pub slack: Option<u64>,
+    /// How many search steps are spent on going back at each level.
+    pub budget: u64,
+}
+
+impl Question<'_, '_> {
+    /// The same without duties.
+    pub(crate) fn without_duties(self) -> Self {
+        Question {
+            slack: None,
+            ..self
+        }
+    }
+}
+
+/// The case that was found at a level.
 #[derive(Drop)]
 pub(crate) struct Tried<'t> {
     pub level: Judged,
-    /// The trace in version 4 or 5, and the witness that was found.
+    /// The trace in version 5, and the witness that was found.
     pub case: CaseText<'t>,
     /// How the search ended.
     pub ending: Ending,
@@ -76,17 +98,15 @@ pub(crate) struct Facts {
     pub connections: Connections,
 }
 
-/// Looks for a witness of a trace at a level, with so many search steps for going back, and judges it. The header is
-/// that of the trace.
+/// Looks for a witness of a trace at a level, and judges it.
 pub(crate) fn try_level<'t>(
     alloc: Global,
-    text: &'t [u8],
-    header: &Header,
+    question: Question<'_, 't>,
     level: Judged,
-    budget: u64,
 ) -> Result<Tried<'t>, JudgeFault> {
-    let events = events_of(text, header.first_event_line());
-    let header = judged_by(header, level);
+    let Question { text, budget, .. } = question;
+    let events = events_of(text, question.header.first_event_line());
+    let header = judged_by(question.header, level, question.slack);
     let (found, connections) = search(alloc, text, &header, budget)?;
     let ending = found.ending;
     let case = case_of(alloc, &header, events, found)?;

@@ -1,0 +1,75 @@
+//! The levels that were tried, and whether duties alone refuse one.
+
+use crate::trying::{Facts, JudgeFault, Question, try_level};
+use case_forms::Judged;
+use replayed::Refused;
+use std::alloc::Global;
+use verdict::{Rule, Verdict};
+
+/// A level that was tried, once its case isn't needed any more.
+#[derive(Clone, Copy)]
+pub(crate) struct Level {
+    pub judged: Judged,
+    pub verdict: Verdict,
+    /// What the verdict refuses. None: it is yes.
+    pub refused: Option<Refused>,
+    /// The verdict at this level if duties aren't judged. None: that wasn't tried.
+    pub without_duties: Option<Verdict>,
+}
+
+impl Level {
+    /// A level at which this was found, after these stricter ones. If a duty refuses it, it is tried without duties,
+    /// too. That isn't done if a stricter level has a yes without duties; then this one also has.
+    pub(crate) fn new(
+        alloc: Global,
+        question: Question<'_, '_>,
+        stricter: &[Level],
+        judged: Judged,
+        facts: Facts,
+    ) -> Result<Level, JudgeFault> {
+        let is_asked = match facts.refused {
+            Some(refused) => is_of_duties(refused.rule) && !is_yes_without_duties(stricter),
+            None => false,
+        };
+        let without_duties = if is_asked {
+            Some(
+                try_level(alloc, question.without_duties(), judged)?
+                    .facts
+                    .verdict,
+            )
+        } else {
+            None
+        };
+        Ok(Level {
+            judged,
+            verdict: facts.verdict,
+            refused: facts.refused,
+            without_duties,
+        })
+    }
+}
+
+/// Whether one of these levels is known to have a yes if duties aren't judged.
+pub(crate) fn is_yes_without_duties(levels: &[Level]) -> bool {
+    levels.iter().any(|level| matches!(level.without_duties, Some(Verdict::Yes { .. })))
+}
+
+// Whether a rule is about duties and limits: version 5 judges it, unless its slack is `any`.
+fn is_of_duties(rule: Rule) -> bool {
+    match rule {
+        Rule::LineRange | Rule::LineAgain | Rule::ThreadOrder | Rule::MomentFalls => false,
+        Rule::MomentOff | Rule::Overdue | Rule::ThreadBusy | Rule::NoCall => false,
+        Rule::DoneTwice | Rule::AnswerDiffers | Rule::Socket | Rule::CallAnswer => false,
+        Rule::NoEndpoint | Rule::State | Rule::Iss | Rule::BytesDiffer => false,
+        Rule::NotMade | Rule::PayloadRange | Rule::AckField | Rule::OldData => false,
+        Rule::Offered | Rule::Congestion | Rule::Size | Rule::NoEmission => false,
+        Rule::CopyDiffers | Rule::Lifetime | Rule::Inbox | Rule::NotPeer => false,
+        Rule::Number | Rule::Unacceptable | Rule::AckRange | Rule::QueueFull => false,
+        Rule::Growth | Rule::Sample | Rule::TimerOff | Rule::TimerEarly => false,
+        Rule::Recovery | Rule::ScaleUnread | Rule::Unplaced => false,
+        Rule::Dropped | Rule::Discarded | Rule::ProcessLate | Rule::SendLate => true,
+        Rule::AckLate | Rule::ExpiryLate | Rule::ResendLate | Rule::ProbeLate => true,
+        Rule::StartLate | Rule::ResetLate | Rule::Resent | Rule::ResentBeyond => true,
+        Rule::AckExcess => true,
+    }
+}
