@@ -3,9 +3,10 @@
 //! Few stacks follow RFC 5681 to the letter. So a trace is rewritten in version 5 of the texts, once for each level of
 //! the header line `congestion`, from `full` on, until `checker` accepts the witness that `witness_search` finds. The
 //! answer is the strictest level with a yes, and the first thing that `full` refused, as `replayed` reads it from the
-//! case. A level that a duty refuses is tried without duties, too, until one has a yes then. The time is linear in the size of the trace, and a budget bounds what the search spends on going back at each
-//! level. Of a long transfer, the search has the text and the parsed trace in memory; the parsed trace is freed before
-//! the case is judged, whose event lines aren't copied. Each function is proved only to be safe and to return.
+//! case. A level that a duty refuses is tried without duties, too, until one has a yes then. The time is linear in the
+//! size of the trace, and a budget bounds what the search spends on going back at each level. Of a long transfer, the
+//! search has the text and the parsed trace in memory; the parsed trace is freed before the case is judged, whose event
+//! lines aren't copied. Each function is proved only to be safe and to return.
 //!
 //! - `judge`, `Judgement`: the answer for a trace, the level with a yes, and the case of the last level
 //! - `Slack`: how late a host may be with its duties
