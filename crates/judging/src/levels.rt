@@ -13,6 +13,8 @@ pub(crate) struct Level {
     pub verdict: Verdict,
     /// What the verdict refuses. None: it is yes.
     pub refused: Option<Refused>,
+    /// When a late duty is refused, in microseconds. None: it isn't one that the verdict refuses.
+    pub late_at: Option<u64>,
     /// The verdict at this level if duties aren't judged. None: that wasn't tried.
     pub without_duties: Option<Verdict>,
 }
@@ -28,7 +30,7 @@ impl Level {
         facts: Facts,
     ) -> Result<Level, JudgeFault> {
         let is_asked = match facts.refused {
-            Some(refused) => is_of_duties(refused.rule) && !is_yes_without_duties(stricter),
+            Some(refused) => judges(refused.rule).is_some() && !is_yes_without_duties(stricter),
             None => false,
         };
         let without_duties = if is_asked {
@@ -44,6 +46,7 @@ impl Level {
             judged,
             verdict: facts.verdict,
             refused: facts.refused,
+            late_at: facts.late_at,
             without_duties,
         })
     }
@@ -54,22 +57,32 @@ pub(crate) fn is_yes_without_duties(levels: &[Level]) -> bool {
     levels.iter().any(|level| matches!(level.without_duties, Some(Verdict::Yes { .. })))
 }
 
-// Whether a rule is about duties and limits: version 5 judges it, unless its slack is `any`.
-fn is_of_duties(rule: Rule) -> bool {
+/// What a rule of version 5 judges.
+#[derive(Clone, Copy)]
+pub(crate) enum Judges {
+    /// By when something has to be done.
+    Deadline,
+    /// What may be dropped or discarded, and how often something may be done.
+    Limit,
+}
+
+/// What a rule judges, if it is one of those that version 5 adds, and that `slack any` leaves out.
+pub(crate) fn judges(rule: Rule) -> Option<Judges> {
     match rule {
-        Rule::LineRange | Rule::LineAgain | Rule::ThreadOrder | Rule::MomentFalls => false,
-        Rule::MomentOff | Rule::Overdue | Rule::ThreadBusy | Rule::NoCall => false,
-        Rule::DoneTwice | Rule::AnswerDiffers | Rule::Socket | Rule::CallAnswer => false,
-        Rule::NoEndpoint | Rule::State | Rule::Iss | Rule::BytesDiffer => false,
-        Rule::NotMade | Rule::PayloadRange | Rule::AckField | Rule::OldData => false,
-        Rule::Offered | Rule::Congestion | Rule::Size | Rule::NoEmission => false,
-        Rule::CopyDiffers | Rule::Lifetime | Rule::Inbox | Rule::NotPeer => false,
-        Rule::Number | Rule::Unacceptable | Rule::AckRange | Rule::QueueFull => false,
-        Rule::Growth | Rule::Sample | Rule::TimerOff | Rule::TimerEarly => false,
-        Rule::Recovery | Rule::ScaleUnread | Rule::Unplaced => false,
-        Rule::Dropped | Rule::Discarded | Rule::ProcessLate | Rule::SendLate => true,
-        Rule::AckLate | Rule::ExpiryLate | Rule::ResendLate | Rule::ProbeLate => true,
-        Rule::StartLate | Rule::ResetLate | Rule::Resent | Rule::ResentBeyond => true,
-        Rule::AckExcess => true,
+        Rule::LineRange | Rule::LineAgain | Rule::ThreadOrder | Rule::MomentFalls => None,
+        Rule::MomentOff | Rule::Overdue | Rule::ThreadBusy | Rule::NoCall => None,
+        Rule::DoneTwice | Rule::AnswerDiffers | Rule::Socket | Rule::CallAnswer => None,
+        Rule::NoEndpoint | Rule::State | Rule::Iss | Rule::BytesDiffer => None,
+        Rule::NotMade | Rule::PayloadRange | Rule::AckField | Rule::OldData => None,
+        Rule::Offered | Rule::Congestion | Rule::Size | Rule::NoEmission => None,
+        Rule::CopyDiffers | Rule::Lifetime | Rule::Inbox | Rule::NotPeer => None,
+        Rule::Number | Rule::Unacceptable | Rule::AckRange | Rule::QueueFull => None,
+        Rule::Growth | Rule::Sample | Rule::TimerOff | Rule::TimerEarly => None,
+        Rule::Recovery | Rule::ScaleUnread | Rule::Unplaced => None,
+        Rule::Dropped | Rule::Discarded => Some(Judges::Limit),
+        Rule::ProcessLate | Rule::SendLate | Rule::AckLate => Some(Judges::Deadline),
+        Rule::ExpiryLate | Rule::ResendLate | Rule::ProbeLate => Some(Judges::Deadline),
+        Rule::StartLate | Rule::ResetLate => Some(Judges::Deadline),
+        Rule::Resent | Rule::ResentBeyond | Rule::AckExcess => Some(Judges::Limit),
     }
 }

@@ -38,7 +38,7 @@ pub(crate) fn answer(
         out.push_str("Only host 0 was recorded; the other host isn't judged.\n")?;
     }
     say_added(&mut out, last.facts.lines)?;
-    say_refusals(alloc, &mut out, levels)?;
+    say_refusals(alloc, &mut out, question.slack, levels)?;
     say_without_duties(&mut out, levels)?;
     Ok(out)
 }
@@ -62,15 +62,20 @@ fn say_meaning(
 
 // Writes what the last level refused, if it did. If `full` refused something else, or a duty refused another level,
 // that follows.
-fn say_refusals(alloc: Global, out: &mut String, levels: &[Level]) -> Result<(), OutOfMemory> {
+fn say_refusals(
+    alloc: Global,
+    out: &mut String,
+    slack: Option<u64>,
+    levels: &[Level],
+) -> Result<(), OutOfMemory> {
     let [stricter @ .., last] = levels else {
         return Ok(());
     };
-    let of_last = sentence(alloc, last.refused)?;
+    let of_last = sentence(alloc, slack, last)?;
     say_under(out, last.judged, of_last.as_str())?;
     for level in stricter {
         if matches!(level.judged, Judged::Full) || level.without_duties.is_some() {
-            let own = sentence(alloc, level.refused)?;
+            let own = sentence(alloc, slack, level)?;
             if own != of_last {
                 say_under(out, level.judged, own.as_str())?;
             }
@@ -115,15 +120,11 @@ fn say_slack(out: &mut String, slack: Option<u64>) -> Result<(), OutOfMemory> {
     match slack {
         None => Ok(()),
         Some(0) => out.push_str("No duty was late (rules 40 to 52).\n"),
-        Some(slack) => {
-            let (count, unit) = match (slack / 1_000_000, slack % 1_000_000) {
-                (seconds, 0) => (seconds, "second"),
-                _ => (slack, "microsecond"),
-            };
-            let (s, count) = (word_if(count != 1, "s"), Grouped(count));
-            write!(out, "No duty was late by more than {count} {unit}{s}")?;
-            out.push_str(" (rules 40 to 52).\n")
-        }
+        Some(slack) => writeln!(
+            out,
+            "No duty was late by more than {} (rules 40 to 52).",
+            Time(slack)
+        ),
     }
 }
 
@@ -179,17 +180,29 @@ a witness that needs other changes may still exist.\n",
     })
 }
 
-// What was refused, as the end of a sentence; empty if nothing was.
-fn sentence(alloc: Global, refused: Option<Refused>) -> Result<String, OutOfMemory> {
+// What a level refused, as the end of a sentence; empty if nothing was.
+fn sentence(alloc: Global, slack: Option<u64>, level: &Level) -> Result<String, OutOfMemory> {
     let mut out = String::new(alloc);
-    if let Some(refused) = refused {
+    if let Some(refused) = level.refused {
         match refused.line {
             0 => out.push_str("after the last step")?,
             line => write!(out, "line {line}")?,
         }
         say_reason(&mut out, &refused)?;
+        say_late(&mut out, slack, level.late_at)?;
+        out.push_str(".")?;
     }
     Ok(out)
+}
+
+// When a late duty is refused, at a moment in microseconds, as the end of a sentence.
+fn say_late(out: &mut String, slack: Option<u64>, at: Option<u64>) -> Result<(), OutOfMemory> {
+    match (slack, at) {
+        (Some(slack), Some(at)) => {
+            write!(out, "; at {at}, the slack of {} was over", Time(slack))
+        }
+        (None, _) | (_, None) => Ok(()),
+    }
 }
 
 fn say_reason(out: &mut String, refused: &Refused) -> Result<(), OutOfMemory> {
@@ -197,27 +210,27 @@ fn say_reason(out: &mut String, refused: &Refused) -> Result<(), OutOfMemory> {
         Reason::Beyond { bytes, cwnd } => {
             let (s, bytes) = (word_if(bytes != 1, "s"), Grouped(bytes));
             write!(out, " sends {bytes} byte{s} beyond the congestion window")?;
-            write!(out, " of {} (RFC 5681, 3.1).", Grouped(cwnd))
+            write!(out, " of {} (RFC 5681, 3.1)", Grouped(cwnd))
         }
         Reason::Gap { pos, sent } => {
             write!(out, " begins at position {pos}, but only positions")?;
-            write!(out, " below {sent} were sent before (old-data).")
+            write!(out, " below {sent} were sent before (old-data)")
         }
         Reason::Acknowledged { pos, una } => {
             write!(out, " begins at position {pos}, and everything")?;
-            write!(out, " below {una} is acknowledged already (old-data).")
+            write!(out, " below {una} is acknowledged already (old-data)")
         }
         // Fast recovery begins after the handshake, so only a timeout permits retransmitting a SYN.
         Reason::Again { syn: true } => {
-            write!(out, " retransmits a SYN before its timeout (RFC 6298, 5).")
+            write!(out, " retransmits a SYN before its timeout (RFC 6298, 5)")
         }
         Reason::Again { syn: false } => {
             write!(out, " retransmits data without a timeout, fast recovery")?;
-            write!(out, " or a reopened window (old-data).")
+            write!(out, " or a reopened window (old-data)")
         }
         Reason::Other => {
             let rule = refused.rule;
-            write!(out, ": {} ({rule}).", about(rule).refused)
+            write!(out, ": {} ({rule})", about(rule).refused)
         }
     }
 }
@@ -237,5 +250,21 @@ impl fmt::Display for Grouped {
             write!(f, "{}", char::from(*digit))?;
         }
         Ok(())
+    }
+}
+
+// A time in microseconds, in seconds if they are whole.
+#[derive(Clone, Copy)]
+struct Time(u64);
+
+impl fmt::Display for Time {
+    fn fmt<W: fmt::Write>(&self, f: &mut fmt::Formatter<W>) -> fmt::Result {
+        let (count, unit) = if self.0 != 0 && self.0 % 1_000_000 == 0 {
+            (self.0 / 1_000_000, "second")
+        } else {
+            (self.0, "microsecond")
+        };
+        write!(f, "{} {unit}", Grouped(count))?;
+        write!(f, "{}", word_if(count != 1, "s"))
     }
 }
