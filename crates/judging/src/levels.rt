@@ -30,15 +30,13 @@ impl Level {
         facts: Facts,
     ) -> Result<Level, JudgeFault> {
         let is_asked = match facts.refused {
-            Some(refused) => judges(refused.rule).is_some() && !is_yes_without_duties(stricter),
+            Some(refused) => duty_rule_of(refused.rule).is_some()
+                && !is_yes_without_duties(stricter),
             None => false,
         };
         let without_duties = if is_asked {
-            Some(
-                try_level(alloc, question.without_duties(), judged)?
-                    .facts
-                    .verdict,
-            )
+            let tried = try_level(alloc, question.without_duties(), judged)?;
+            Some(tried.facts.verdict)
         } else {
             None
         };
@@ -57,17 +55,17 @@ pub(crate) fn is_yes_without_duties(levels: &[Level]) -> bool {
     levels.iter().any(|level| matches!(level.without_duties, Some(Verdict::Yes { .. })))
 }
 
-/// What a rule of version 5 judges.
+/// What a rule of duties and limits is about.
 #[derive(Clone, Copy)]
-pub(crate) enum Judges {
+pub(crate) enum DutyRule {
     /// By when something has to be done.
     Deadline,
     /// What may be dropped or discarded, and how often something may be done.
     Limit,
 }
 
-/// What a rule judges, if it is one of those that version 5 adds, and that `slack any` leaves out.
-pub(crate) fn judges(rule: Rule) -> Option<Judges> {
+/// What a rule is about, if it is one that version 5 adds, and that `slack any` leaves out.
+pub(crate) fn duty_rule_of(rule: Rule) -> Option<DutyRule> {
     match rule {
         Rule::LineRange | Rule::LineAgain | Rule::ThreadOrder | Rule::MomentFalls => None,
         Rule::MomentOff | Rule::Overdue | Rule::ThreadBusy | Rule::NoCall => None,
@@ -79,10 +77,10 @@ pub(crate) fn judges(rule: Rule) -> Option<Judges> {
         Rule::Number | Rule::Unacceptable | Rule::AckRange | Rule::QueueFull => None,
         Rule::Growth | Rule::Sample | Rule::TimerOff | Rule::TimerEarly => None,
         Rule::Recovery | Rule::ScaleUnread | Rule::Unplaced => None,
-        Rule::Dropped | Rule::Discarded => Some(Judges::Limit),
-        Rule::ProcessLate | Rule::SendLate | Rule::AckLate => Some(Judges::Deadline),
-        Rule::ExpiryLate | Rule::ResendLate | Rule::ProbeLate => Some(Judges::Deadline),
-        Rule::StartLate | Rule::ResetLate => Some(Judges::Deadline),
-        Rule::Resent | Rule::ResentBeyond | Rule::AckExcess => Some(Judges::Limit),
+        Rule::Dropped | Rule::Discarded => Some(DutyRule::Limit),
+        Rule::ProcessLate | Rule::SendLate | Rule::AckLate => Some(DutyRule::Deadline),
+        Rule::ExpiryLate | Rule::ResendLate | Rule::ProbeLate => Some(DutyRule::Deadline),
+        Rule::StartLate | Rule::ResetLate => Some(DutyRule::Deadline),
+        Rule::Resent | Rule::ResentBeyond | Rule::AckExcess => Some(DutyRule::Limit),
     }
 }

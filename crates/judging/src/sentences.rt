@@ -73,12 +73,14 @@ fn say_refusals(
     };
     let of_last = sentence(alloc, slack, last)?;
     say_under(out, last.judged, of_last.as_str())?;
+    let mut before = String::new(alloc);
     for level in stricter {
         if matches!(level.judged, Judged::Full) || level.without_duties.is_some() {
             let own = sentence(alloc, slack, level)?;
-            if own != of_last {
+            if own != of_last && own != before {
                 say_under(out, level.judged, own.as_str())?;
             }
+            before = own;
         }
     }
     Ok(())

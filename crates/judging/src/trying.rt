@@ -2,7 +2,7 @@
 
 use crate::case_lines::{CaseLines, case_lines};
 use crate::connections::{Connections, Explained, connections_of};
-use crate::levels::{Judges, judges};
+use crate::levels::{DutyRule, duty_rule_of};
 use crate::rewriting::{events_of, header_text, judged_by};
 use case_forms::{Header, Judged, OutOfMemory};
 use checker::{CaseFault, check_streams};
@@ -190,7 +190,7 @@ fn late_at(
             witness_line,
             rule,
             ..
-        } if matches!(judges(rule), Some(Judges::Deadline)) => {
+        } if matches!(duty_rule_of(rule), Some(DutyRule::Deadline)) => {
             moment_in(alloc, header, case, witness_line)
         }
         Verdict::Yes { .. } | Verdict::No { .. } => Ok(None),
