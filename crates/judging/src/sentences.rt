@@ -169,10 +169,8 @@ fn say_none(out: &mut String, levels: &[Level], ending: Ending) -> Result<(), Ou
         "No witness was found{s}, even without judging congestion control."
     )?;
     out.push_str(match ending {
-        // The search judges no duty, so one refuses a step, or is late at the end.
-        Ending::Whole => "The search explained every line, but broke a duty.\n\
-A witness that keeps every duty may still exist.\n",
-        Ending::Exhausted { .. } =>
+        // If every line is explained, a duty is late at the end.
+        Ending::Whole | Ending::Exhausted { .. } =>
             "The search ran out of alternatives. It makes at most two changes at once, near the refused line;\n\
 a witness that needs other changes may still exist.\n",
         Ending::BudgetSpent { .. } =>
