@@ -21,7 +21,8 @@ USAGE = [
     ["judge", "none"], ["judge", "--least"], ["judge", "--least", "None"], ["judge", "--least", "none", "--least", "none"],
     ["judge", "--case"], ["judge", "--case", ""], ["judge", "--case", "-x"], ["judge", "--case", "x", "--case", "x"],
     ["draw", "--from="], ["draw", "--from=0"], ["draw", "--from=9", "--to=8"], ["draw", "--from=9", "--from", "9"], ["judge", "--least="],
-    ["judge", "--case="], ["explain", "--simulated=yes"],
+    ["judge", "--case="], ["judge", "--slack"], ["judge", "--slack="], ["judge", "--slack", "Any"], ["judge", "--slack", "any", "--slack", "0"],
+    ["explain", "--simulated=yes"],
 ]
 RANGES = [
     (["--from", "9"], 9, None), (["--to", "12"], None, 12), (["--from", "9", "--to", "12"], 9, 12),

@@ -82,8 +82,8 @@ class Pages(unittest.TestCase):
         self.assertEqual(self.faults("curl http://10.9.0.2/, http://10.9.0.2/README.md"), [])
 
 
-# Lines of `judge` about the recording and the case, which don't say what a yes means.
-OTHER = re.compile(r"Only host 0 |The search added |The case has |No connection |\d+ of \d+ connections ")
+# Lines of `judge` about the recording, the case and the slack, which don't say what a level means.
+OTHER = re.compile(r"Only host 0 |The search added |The case has |No connection |No duty was late|\d+ of \d+ connections ")
 
 
 class Yes(unittest.TestCase):

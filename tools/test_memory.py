@@ -57,6 +57,15 @@ class Memory(unittest.TestCase):
             file.write(UNEXPLAINED)
         self.assertLess(self.peak(NO, "judge", "--budget", "0"), 3)
 
+    def test_judge_with_a_late_duty(self):
+        # The last segment of the receiver, its acknowledgment, is missing in both captures.
+        with open(self.trace, encoding="ascii") as file:
+            lines = file.readlines()[:-2]
+        end = int(lines[-1].split()[0]) + 10_000_000
+        with open(self.trace, "w", encoding="ascii") as file:
+            file.writelines([*lines, f"{end} 9 B status 0\n", f"{end} 9 E badsocket\n"])
+        self.assertLess(self.peak(NO, "judge", "--case", self.case), 3)
+
     def test_find(self):
         self.assertLess(self.peak(DONE, "find"), 3)
 

@@ -11,6 +11,8 @@ from .remedies import OFFLOADS_OFF
 # Lines of segments have these threads; lines of calls have threads from FIRST_THREAD on.
 THREADS = {("O", 0): 1, ("I", 0): 2, ("O", 1): 3, ("I", 1): 4}
 FIRST_THREAD = 11
+# A call that changes nothing ends each trace, in a thread of its own: it shows how long the recording lasted, and so what a host didn't do.
+LAST_CALL = ("B status 0", "E badsocket")
 LONGEST_SEGMENT = 65515
 
 
@@ -91,10 +93,10 @@ def cases_by_listener(name, connections, endpoints):
 
 
 class Writer:
-    """Writes the lines of a case."""
+    """Writes the lines of a case. `end` is the moment when the recording ended, by host 0's clock."""
 
-    def __init__(self, case, captures, clock, notes):
-        self.case, self.captures, self.clock, self.notes = case, captures, clock, notes
+    def __init__(self, case, captures, clock, end, notes):
+        self.case, self.captures, self.clock, self.end, self.notes = case, captures, clock, end, notes
         self.numbers, self.threads = {}, {}
         self.both = len(captures) == 2 or None in captures
 
@@ -102,10 +104,12 @@ class Writer:
         """All lines in order, with numbers and threads. A trace may be large, so each is made when it is asked for."""
         for endpoint in self.case.endpoints:
             self.numbers[id(endpoint)] = len(self.numbers) + 1
-        start = None
+        start, last = None, 0
         for line in heapq.merge(self.segments(), self.calls(), key=lambda line: line.moment):
-            start = line.moment - 10**9 if start is None else start
+            start, last = line.moment - 10**9 if start is None else start, line.moment
             yield f"{(line.moment - start) // 1000} {self.thread(line.thread)} {line.text}\n"
+        for text in LAST_CALL if start is not None else ():
+            yield f"{(max(last, self.end) - start) // 1000} {self.thread(LAST_CALL)} {text}\n"
 
     def thread(self, key):
         """The number of a thread."""

@@ -1,6 +1,7 @@
 """The command tcpwit-import."""
 import argparse
 import os
+import re
 from ipaddress import ip_address
 from itertools import chain
 
@@ -44,14 +45,22 @@ def parser():
     add_words_of_judging(words)
     words.add_argument("--keep-gaps", action="store_true", help="accept captures that lost packets and logs that lack sends")
     words.add_argument("--skip-begun", action="store_true", help="leave out connections that began before the capture")
+    words.add_argument("--end", type=moment, metavar="SECONDS",
+                       help="when the recording ended, in seconds since 1970 by host 0's clock (default: the last packet or call)")
     words.add_argument("--quiet", action="store_true", help="print only errors")
     group = words.add_argument_group("header values, to replace the detected ones")
-    group.add_argument("--version", type=int, choices=sorted(headers.LINES), help="format version (default: 2 for two hosts, 3 for one; 4 with --congestion)")
+    add_version_and_slack(group)
     for name in headers.LIMITS:
         group.add_argument("--" + name, type=number_within(*headers.LIMITS[name]), metavar="N", help=headers.HELP[name])
     for name, values in headers.WORDS.items():
         group.add_argument("--" + name, choices=values, help=headers.HELP.get(name))
     return words
+
+
+def add_version_and_slack(words):
+    """The options for the format version and for the slack."""
+    words.add_argument("--version", type=int, choices=sorted(headers.LINES), help=headers.HELP["version"])
+    words.add_argument("--slack", type=slack, metavar="N", help=headers.HELP["slack"])
 
 
 def add_words_of_judging(words):
@@ -69,6 +78,19 @@ def number_within(least, greatest):
             raise argparse.ArgumentTypeError(f"{text!r} isn't a whole number from {least} to {greatest}")
         return int(text)
     return whole
+
+
+def slack(text):
+    """An argparse type: a number of microseconds, or `any`."""
+    return text if text == headers.ANY else number_within(0, headers.GREATEST_SLACK)(text)
+
+
+def moment(text):
+    """An argparse type: seconds since 1970, as nanoseconds."""
+    if not re.fullmatch(r"[0-9]{1,10}(\.[0-9]{1,9})?", text):
+        raise argparse.ArgumentTypeError(f"{text!r} isn't a time in seconds, such as 1764300000.25")
+    seconds, _, part = text.partition(".")
+    return int(seconds) * 10**9 + int(part.ljust(9, "0"))
 
 
 HOSTS = {"0": 0, "1": 1, "both": None}
@@ -131,16 +153,18 @@ def run(options, notes):
         raise Problem(f"{', '.join(names.values())}: no TCP segment", "capture at the interface that the programs use, with the filter tcp or none",
                       NOTHING_SENT)
     endpoints = []
+    last = {host: max((packet.moment for packet in of_host), default=0) for host, of_host in packets.items()}
     for host in sorted(logs, key=str):
         own = [names[None if None in names else host]] if None in names or host in names else []
         events = read_log(logs[host])
+        last[host] = max(last.get(host, 0), *(event.begin if event.end is None else event.end for event in events))
         with Part(f"converting the calls of {', '.join(logs[host])}"):
             endpoints += HostCalls(host, connections, own, notes).run(released(events))
     if not endpoints:
         raise Problem(f"{', '.join(name for files in logs.values() for name in files)}: no TCP call", ALL_CALLS, ELSEWHERE)
     hosts = 2 if len(logs) == 2 or None in logs else 1
     with Part("comparing the captures and the calls"):
-        return make_traces(options, notes, names, connections, endpoints, hosts)
+        return make_traces(options, notes, names, connections, endpoints, hosts, last)
 
 
 def released(events):
@@ -150,8 +174,8 @@ def released(events):
         yield events.pop()
 
 
-def make_traces(options, notes, names, connections, endpoints, hosts):
-    """The lines of each trace by its name."""
+def make_traces(options, notes, names, connections, endpoints, hosts, last):
+    """The lines of each trace by its name. `last` has the moment of each host's last packet or call, by its own clock."""
     connections = chosen_connections(options, notes, connections, endpoints, hosts, names)
     if hosts == 2:
         refuse_missing_ends(connections, endpoints, notes)
@@ -164,14 +188,16 @@ def make_traces(options, notes, names, connections, endpoints, hosts):
         refuse_distant(clock)
         if clock != SAME:
             notes.say(said(clock))
-    chosen = {name: getattr(options, name) for name in (*headers.LIMITS, *headers.WORDS) if getattr(options, name) is not None}
+    chosen = {name: getattr(options, name) for name in (*headers.LIMITS, *headers.WORDS, "slack") if getattr(options, name) is not None}
     lines = headers.header(hosts, (clock.skew + 999) // 1000, chosen, options.version)
     notes.say(f"header: {', '.join(lines)} ({'two hosts' if hosts == 2 else 'one host'} recorded)")
     head = [line + "\n" for line in lines]
     cases = cases_of(options, connections, endpoints, hosts)
     for case in cases:
         say_established(case, notes, f"{case.name}: " if len(cases) > 1 else "")
-    return {case.name: chain(head, Writer(case, names if hosts == 2 or None in names else {0: names[0]}, clock, notes).lines()) for case in cases}
+    captures = names if hosts == 2 or None in names else {0: names[0]}
+    end = options.end or max(clock.at(moment) if host == 1 else moment for host, moment in last.items())
+    return {case.name: chain(head, Writer(case, captures, clock, end, notes).lines()) for case in cases}
 
 
 def say_established(case, notes, prefix):

@@ -1,14 +1,17 @@
 """The header of a trace. Only this module chooses the version and the kernel settings that go with it."""
 from .problem import Problem
 
-# The version for two recorded hosts and for one, and the version that states how much of congestion control is judged.
-WHOLE, HALF, BY_LEVEL = 2, 3, 4
+# The version of a trace, unless the user chooses another.
+VERSION = 5
 KERNEL = "plain"
 
 # The levels: how much of congestion control is judged, from all of it down to nothing.
 FULL = "full"
 LEVELS = (FULL, "recovery", "none")
-VALUES = {"skew": 0, "msl": 60_000_000, "grain": 4000, "minrto": 200_000, "extra": 1, "initial": 6928, "congestion": FULL}
+VALUES = {"skew": 0, "msl": 60_000_000, "grain": 4000, "minrto": 200_000, "extra": 1, "initial": 6928, "congestion": FULL,
+          "slack": 1_000_000}
+ANY = "any"
+GREATEST_SLACK = 10**18
 LIMITS = {"skew": (0, 10**9), "msl": (1, 3_600_000_000), "grain": (0, 60_000_000), "minrto": (0, 60_000_000), "extra": (0, 65535)}
 WORDS = {"initial": ("5681", "6928"), "congestion": LEVELS}
 HELP = {
@@ -18,19 +21,22 @@ HELP = {
     "minrto": "minimum retransmission timeout, in microseconds",
     "extra": "children that a listen queue holds beyond its backlog",
     "initial": "RFC of the initial congestion window",
-    "congestion": "how much of congestion control is judged; selects format version 4",
+    "congestion": f"how much of congestion control is judged (default: {FULL})",
+    "slack": f"how late a host may be with its duties, in microseconds; {ANY}: duties aren't judged (default: {VALUES['slack']})",
+    "version": f"format version (default: {VERSION})",
 }
 LINES = {
     1: ("skew", "msl", "grain", "minrto", "extra"),
     2: ("skew", "msl", "grain", "minrto", "extra", "initial"),
     3: ("skew", "msl", "grain", "minrto", "extra", "initial", "half"),
     4: ("skew", "msl", "grain", "minrto", "extra", "initial", "hosts", "congestion"),
+    5: ("skew", "msl", "grain", "minrto", "extra", "initial", "hosts", "congestion", "slack"),
 }
 
 
 def header(hosts, skew, chosen, version=None):
     """The lines of a header for this many recorded hosts. The values of `chosen` replace detected and default ones."""
-    version = version or (BY_LEVEL if "congestion" in chosen else WHOLE if hosts == 2 else HALF)
+    version = version or VERSION
     if hosts == 1 and version < 3:
         raise Problem(f"format version {version} is for two recorded hosts", "leave out --version, or give the capture and calls of host 1",
                       "leave out --version, or record both hosts")

@@ -56,8 +56,10 @@ def case_of(trace):
 
 
 def judge_all(program, traces, options):
-    """Judges trace files at --congestion or stricter, prints the lines of each and returns the highest status."""
+    """Judges trace files at --congestion or stricter, with --slack, prints the lines of each and returns the highest status."""
     words = ["--least", options.congestion or FULL]
+    if options.slack is not None:
+        words += ["--slack", str(options.slack)]
     if options.budget is not None:
         words += ["--budget", str(options.budget)]
     with Part("freeing the memory of the import"):

@@ -38,8 +38,9 @@ class Conversion(unittest.TestCase):
         endpoints = HostCalls(host, connections, [f"c{host}"], self.notes).run(found)
         for connection in connections:
             connection.hosts = {connection.client: 0, connection.server: 1}
-        writer = Writer(Case("run", connections, endpoints), {0: "c0", 1: "c1"}, SAME, self.notes)
-        lines = [line.rstrip("\n").split(" ", 2) for line in writer.lines()]
+        writer = Writer(Case("run", connections, endpoints), {0: "c0", 1: "c1"}, SAME, 0, self.notes)
+        # The last two lines are the call that ends each trace.
+        lines = [line.rstrip("\n").split(" ", 2) for line in writer.lines()][:-2]
         told = [line for line in lines if line[2][0] in "BE"]
         self.texts, self.threads = [text for _, _, text in lines], [thread for _, thread, _ in told]
         return [text for _, _, text in told]

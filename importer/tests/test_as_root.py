@@ -71,6 +71,15 @@ class AsRoot(unittest.TestCase):
         for name, ends in (("host0.log", rb"10\.9\.0\.1:\d+->10\.9\.0\.2:80"), ("host1.log", rb"10\.9\.0\.2:80->10\.9\.0\.1:\d+")):
             with open(f"{self.folder}/out/{name}", "rb") as file:
                 self.assertRegex(file.read(), rb"TCP:\[" + ends + rb"\]>, ")
+
+    def test_a_trace_ends_when_the_recording_stopped(self):
+        self.assertEqual(self.record("--transfer", "5")[0], 0)
+        with open(f"{self.folder}/out/run.trace", encoding="ascii") as file:
+            rows = [line.rstrip("\n").split(" ", 2) for line in file]
+        self.assertEqual([text for _, _, text in rows[-2:]], ["B status 0", "E badsocket"])
+        # Before the captures are stopped, the recorder looks four times, every 200 ms, whether they still grow.
+        self.assertGreater(int(rows[-1][0]) - int(rows[-3][0]), 500_000)
+
     def test_ctrl_c_ends_a_pair(self):
         client = "import socket, time; end = socket.create_connection(('10.9.0.2', 80)); time.sleep(60)"
         words = [RECORD, "--no-check", "--out", f"{self.folder}/out", "--pair", SERVER, "--", sys.executable, "-c", client]

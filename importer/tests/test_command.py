@@ -99,13 +99,14 @@ class Command(WithFiles):
         status, out, error = run(*self.captures, *self.logs)
         self.assertEqual(status, 0, error)
         lines = out.splitlines()
-        self.assertEqual(lines[:7], ["trace 2", "skew 0", "msl 60000000", "grain 4000", "minrto 200000", "extra 1", "initial 6928"])
-        moments = [int(line.split()[0]) for line in lines[7:]]
+        self.assertEqual(lines[:10], ["trace 5", "skew 0", "msl 60000000", "grain 4000", "minrto 200000", "extra 1", "initial 6928", "hosts 2",
+                                      "congestion full", "slack 1000000"])
+        moments = [int(line.split()[0]) for line in lines[10:]]
         self.assertEqual(moments, sorted(moments))
-        self.assertEqual([line.split(" ", 2)[2][:14] for line in lines[7:]][:6],
+        self.assertEqual([line.split(" ", 2)[2][:14] for line in lines[10:]][:6],
                          ["B listen 1 80 ", "E ok 2", "B accept 2", "B open 0 4000 ", "E ok 1", "B await 1"])
-        self.assertEqual(sum(line.split()[2] in "OI" for line in lines[7:]), 16)
-        self.assertIn("header: trace 2", error)
+        self.assertEqual(sum(line.split()[2] in "OI" for line in lines[10:]), 16)
+        self.assertIn("header: trace 5", error)
 
     def test_header_lines_are_chosen(self):
         _, out, _ = run(*self.captures, *self.logs, "--version", "1", "--msl", "5", "--skew", "7")
@@ -115,22 +116,78 @@ class Command(WithFiles):
         for word in ("full", "recovery", "none"):
             status, out, error = run(*self.captures, *self.logs, "--congestion", word)
             lines = out.splitlines()
-            self.assertEqual((status, lines[0], lines[6:9]), (0, "trace 4", ["initial 6928", "hosts 2", f"congestion {word}"]), error)
-            self.assertEqual(lines[9:], run(*self.captures, *self.logs)[1].splitlines()[7:])
+            self.assertEqual((status, lines[0], lines[6:9]), (0, "trace 5", ["initial 6928", "hosts 2", f"congestion {word}"]), error)
+            self.assertEqual(lines[9:], run(*self.captures, *self.logs)[1].splitlines()[9:])
         _, out, _ = run(*self.captures[:3], *self.logs[:3], "--congestion", "none")
         self.assertEqual(out.splitlines()[7:9], ["hosts 1", "congestion none"])
         self.assertEqual(run(*self.captures, *self.logs, "--version", "4")[1].splitlines()[8], "congestion full")
         self.refused([*self.captures, *self.logs, "--congestion", "none", "--version", "2"], "format version 2 has no line congestion")
 
+    def test_how_late_a_duty_may_be(self):
+        for slack in ("any", "0", "20000", str(10**18)):
+            status, out, error = run(*self.captures, *self.logs, "--slack", slack)
+            self.assertEqual((status, out.splitlines()[9]), (0, f"slack {slack}"), error)
+        self.assertEqual(run(*self.captures[:3], *self.logs[:3], "--slack", "any")[1].splitlines()[7:10], ["hosts 1", "congestion full", "slack any"])
+        self.refused([*self.captures, *self.logs, "--slack", "any", "--version", "4"], "format version 4 has no line slack")
+        for wrong in ("", "-1", "1.5", "Any", str(10**18 + 1)):
+            self.assertEqual(run(*self.captures, *self.logs, "--slack=" + wrong)[0], 2)
+
+    def ending(self, *words):
+        """The last call of a trace: how many microseconds it comes after the line before it, whether its thread is the last, and its words."""
+        status, out, error = run(*words)
+        self.assertEqual(status, 0, error)
+        rows = [line.split(" ", 2) for line in out.splitlines()[10:]]
+        before, begin, end = rows[-3:]
+        self.assertEqual((begin[0], begin[1]), (end[0], end[1]))
+        threads = [int(thread) for _, thread, _ in rows[:-2]]
+        return int(begin[0]) - int(before[0]), int(begin[1]) > max(threads), begin[2], end[2]
+
+    def test_a_call_that_changes_nothing_ends_the_trace(self):
+        call = (True, "B status 0", "E badsocket")
+        # The last segment is received 18 ms after the first one was sent, and the connection's last call ends before it.
+        self.assertEqual(self.ending(*self.captures, *self.logs), (0, *call))
+        later = [*CLIENT, (99, AT + 5 * SECOND, "close(99) = -1 EBADF (Bad file descriptor)")]
+        self.assertEqual(self.ending(*self.captures, *self.write_logs(later, SERVER)), (5 * 10**6 - 18_000, *call))
+        # A call that didn't end, in the log of the other host.
+        later = [*SERVER, (99, AT + 6 * SECOND, "recvfrom(9, <unfinished ...>")]
+        self.assertEqual(self.ending(*self.captures, *self.write_logs(CLIENT, later)), (6 * 10**6 - 18_000, *call))
+        for version in ("1", "2", "4"):
+            self.assertEqual(run(*self.captures, *self.write_logs(CLIENT, SERVER), "--version", version)[1].splitlines()[-1].split(" ", 2)[2], "E badsocket")
+
+    def test_a_packet_of_another_connection_shows_that_the_recording_went_on(self):
+        other = Talk(zero=("10.9.0.1", 5000), one=("10.9.0.2", 90), at=AT + 7 * SECOND)
+        found = talk()
+        for host in (0, 1):
+            found.frames[host] += other.frames[host]
+        # Its last segment arrives 5 ms after its first one was sent.
+        self.assertEqual(self.ending(*found.write(self.folder), *self.logs)[0], 7 * 10**6 + 5000 - 18_000)
+        self.assertEqual(self.ending(*found.write(self.folder)[:3], *self.logs[:3])[0], 7 * 10**6 + 4000 - 17_000)
+
+    def test_the_end_of_the_recording_is_given(self):
+        self.assertEqual(self.ending(*self.captures, *self.logs, "--end", "110.25")[0], 10_250_000 - 18_000)
+        # Not before the last line.
+        self.assertEqual(self.ending(*self.captures, *self.logs, "--end", "100")[0], 0)
+        for wrong in ("", "x", "-1", "1.", ".5", "1e3", "1.0000000001"):
+            self.assertEqual(run(*self.captures, *self.logs, "--end=" + wrong)[0], 2)
+
+    def test_the_end_by_the_clock_of_host_1(self):
+        late = talk()
+        late.frames[1] = [(moment + 5 * SECOND, frame) for moment, frame in late.frames[1]]
+        server = [(process, moment + 5 * SECOND, text) for process, moment, text in SERVER]
+        server.append((99, AT + 8 * SECOND, "close(99) = -1 EBADF (Bad file descriptor)"))
+        self.assertEqual(self.ending(*late.write(self.folder), *self.write_logs(CLIENT, server))[0], 3 * 10**6 - 18_000)
+
     def test_a_half_trace(self):
         status, out, _ = run(*self.captures[:3], *self.logs[:3])
-        self.assertEqual((status, out.splitlines()[0], out.splitlines()[7]), (0, "trace 3", "half 0"))
-        self.assertTrue(all(line.split()[3] != "1" for line in out.splitlines()[8:] if line.split()[2] in "OI"))
+        self.assertEqual((status, out.splitlines()[0], out.splitlines()[7]), (0, "trace 5", "hosts 1"))
+        self.assertTrue(all(line.split()[3] != "1" for line in out.splitlines()[10:] if line.split()[2] in "OI"))
+        _, out, _ = run(*self.captures[:3], *self.logs[:3], "--version", "3")
+        self.assertEqual((out.splitlines()[0], out.splitlines()[7]), ("trace 3", "half 0"))
 
     def test_one_capture_of_both_hosts(self):
         status, out, error = run("--capture", "both", f"{self.folder}/c1.pcap", *self.logs)
         self.assertEqual(status, 0, error)
-        letters = [line.split()[2] for line in out.splitlines()[7:] if line.split()[2] in "OI"]
+        letters = [line.split()[2] for line in out.splitlines()[10:] if line.split()[2] in "OI"]
         self.assertEqual(letters, ["O", "I"] * 8)
 
     def test_clocks_that_differ(self):
@@ -255,8 +312,8 @@ class Command(WithFiles):
         self.refused(words, "c1.pcap: the capture is empty")
         status, out, error = run(*words, "--zero", ZERO[0], "--one", ONE[0])
         self.assertEqual(status, 0, error)
-        self.assertEqual([line.split(" ", 2)[2][:9] for line in out.splitlines()[7:]],
-                         ["B listen ", "E ok 2", "B open 0 ", "E ok 1", "B await 1", "O 0 0fa00", "E timeout", "B close 1", "E ok"])
+        self.assertEqual([line.split(" ", 2)[2][:9] for line in out.splitlines()[10:]],
+                         ["B listen ", "E ok 2", "B open 0 ", "E ok 1", "B await 1", "O 0 0fa00", "E timeout", "B close 1", "E ok", "B status ", "E badsock"])
         self.assertIn("0 of 1 connections were established", error)
         self.assertIn("its SYN was never answered)\n", error)
         self.refused([*words, "--one", "host"], "host isn't an address")
@@ -381,6 +438,7 @@ class Command(WithFiles):
             self.refused(["--lab", "/nowhere", "--transfer", "5"], "/nowhere: No such file or directory", recording)
             self.refused(["--as", "n\x1bo", "--transfer", "5"], r"--as n\x1bo: no such user", recording)
             self.refused(["--congestion", "none", "--version", "2", "--transfer", "5"], "format version 2 has no line congestion", recording)
+            self.refused(["--slack", "any", "--version", "4", "--transfer", "5"], "format version 4 has no line slack", recording)
             self.refused(["--version", "3", "--transfer", "5"], "format version 3 is for one recorded host", recording)
 
     def test_all_that_is_missing_is_named_at_once(self):

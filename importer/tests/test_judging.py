@@ -67,6 +67,13 @@ class Judging(test_command.WithFiles):
         for wrong in ("-1", "1.5", "x", str(2**64)):
             self.assertEqual(self.importing(*self.lab(LINES), "--budget=" + wrong)[0], 2)
 
+    def test_the_slack(self):
+        self.importing(*self.lab(LINES), "--slack", "any")
+        self.assertEqual(self.text("run.trace").splitlines()[9], "slack any")
+        self.recorded(*self.lab(LINES), "--slack", "0")
+        self.assertEqual(self.text("kept/run.trace").splitlines()[9], "slack 0")
+        self.assertEqual(self.text("words"), "judge --least full --slack any --case ./run.case\njudge --least full --slack 0 --case ./run.case\ndraw\n")
+
     def test_the_status_is_that_of_the_word(self):
         status, out, _ = self.importing(*self.lab(LINES, "exit 1"), "--congestion", "recovery")
         self.assertEqual((status, out), (1, LINES))
@@ -100,7 +107,7 @@ class Judging(test_command.WithFiles):
 
     def test_no_check_judges_nothing(self):
         status, out, _ = self.importing("--no-check", "--lab", "/nowhere")
-        self.assertEqual((status, out, self.text("run.trace")[:8]), (0, "", "trace 2\n"))
+        self.assertEqual((status, out, self.text("run.trace")[:8]), (0, "", "trace 5\n"))
 
     def test_a_program_that_fails(self):
         words = [*self.captures, *self.logs, "--out", f"{self.folder}/run.trace"]
@@ -148,7 +155,7 @@ class Judging(test_command.WithFiles):
         self.assertEqual(self.text("kept/run.trace").splitlines()[7:9], ["hosts 2", "congestion none"])
         self.assertEqual((self.text("kept/run.case"), self.text("kept/run.svg")), ("a case\n", "<svg/>\n"))
         self.assertEqual(self.recorded(*self.lab(LINES, "exit 1"))[:2], (1, LINES))
-        self.assertEqual(self.text("kept/run.trace")[:8], "trace 2\n")
+        self.assertEqual(self.text("kept/run.trace")[:8], "trace 5\n")
 
     def test_a_program_that_failed_is_named_with_the_verdict(self):
         for status, said in ((0, None), (22, "curl\x1b[2J ended with status 22"), (-11, "curl\x1b[2J was ended by SIGSEGV")):

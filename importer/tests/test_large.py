@@ -119,15 +119,19 @@ class Clocks(unittest.TestCase):
 
 class Headers(unittest.TestCase):
     def test_versions(self):
-        self.assertEqual(header(2, 0, {}), ["trace 2", "skew 0", "msl 60000000", "grain 4000", "minrto 200000", "extra 1", "initial 6928"])
-        self.assertEqual(header(1, 5, {})[0::7], ["trace 3", "half 0"])
+        whole = ["skew 0", "msl 60000000", "grain 4000", "minrto 200000", "extra 1", "initial 6928"]
+        self.assertEqual(header(2, 0, {}), ["trace 5", *whole, "hosts 2", "congestion full", "slack 1000000"])
+        self.assertEqual(header(1, 5, {}), ["trace 5", "skew 5", *whole[1:], "hosts 1", "congestion full", "slack 1000000"])
+        self.assertEqual(header(2, 0, {"congestion": "none", "slack": "any"})[8:], ["congestion none", "slack any"])
+        self.assertEqual(header(2, 0, {"slack": 0})[9:], ["slack 0"])
         self.assertEqual(header(2, 3, {"msl": 9}, 1), ["trace 1", "skew 3", "msl 9", "grain 4000", "minrto 200000", "extra 1"])
+        self.assertEqual(header(2, 0, {}, 2), ["trace 2", *whole])
+        self.assertEqual(header(1, 5, {}, 3)[0::7], ["trace 3", "half 0"])
         self.assertEqual(header(1, 0, {}, 4)[6:], ["initial 6928", "hosts 1", "congestion full"])
-        self.assertEqual(header(2, 7, {"congestion": "none"}),
-                         ["trace 4", "skew 7", "msl 60000000", "grain 4000", "minrto 200000", "extra 1", "initial 6928", "hosts 2", "congestion none"])
+        self.assertEqual(header(2, 7, {"congestion": "none"}, 4), ["trace 4", "skew 7", *whole[1:], "hosts 2", "congestion none"])
 
     def test_refusals(self):
-        for words in ((1, 0, {}, 2), (2, 0, {}, 3), (2, 0, {"congestion": "full"}, 2), (2, 0, {"initial": "5681"}, 1)):
+        for words in ((1, 0, {}, 2), (2, 0, {}, 3), (2, 0, {"congestion": "full"}, 2), (2, 0, {"initial": "5681"}, 1), (2, 0, {"slack": "any"}, 4)):
             with self.assertRaises(Problem):
                 header(*words)
 

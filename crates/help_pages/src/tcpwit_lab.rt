@@ -57,12 +57,17 @@ pub(crate) static TCPWIT_LAB: CommandLine = CommandLine {
         Subcommand {
             name: "judge",
             about: "Finds the strictest level that gets a yes for a trace",
-            usage: "tcpwit_lab judge [--least LEVEL] [--budget N] [--case FILE] < TRACE",
+            usage: "tcpwit_lab judge [--least LEVEL] [--slack SLACK] [--budget N] [--case FILE] < TRACE",
             arguments: &[
                 Argument {
                     name: "least",
                     form: Form::Option("LEVEL"),
                     help: "The weakest level that gives status 0: full, recovery, none [default: full]",
+                },
+                Argument {
+                    name: "slack",
+                    form: Form::Option("SLACK"),
+                    help: "How late a duty may be, in microseconds, or any [default: 1000000]",
                 },
                 Argument {
                     name: "budget",
@@ -129,6 +134,10 @@ const JUDGE: &str = "\
 Input: a trace. It looks for a witness at the levels `full`, `recovery` and `none`, in this order,
 until the first yes. Output: a line for each level tried, what the yes means, and what `full`
 refused first. If a line can't be explained, it goes back, as find does.
+
+It judges duties, too, such as acknowledging in time: a host may be SLACK late with them. With
+`--slack any`, they aren't judged. A trace of version 5 has a slack of its own, which is the default
+then. If a duty refuses a level, the output has the verdict without duties, too.
 
 Status: 0 if LEVEL or a stricter one has a yes, 1 if none has.";
 

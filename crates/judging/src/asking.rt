@@ -1,10 +1,11 @@
 //! The levels, one after the other until one has a yes.
 
-use crate::rewriting::header_of;
-use crate::sentences::{lines_kept, say_conclusion, say_row};
-use crate::trying::{JudgeFault, Tried, try_level};
+use crate::levels::Level;
+use crate::rewriting::{Slack, header_of};
+use crate::sentences::{answer, lines_kept};
+use crate::trying::{Facts, JudgeFault, Question, Tried, try_level};
 use case_forms::Judged;
-use std::alloc::Global;
+use std::alloc::{AllocError, Global};
 use verdict::Verdict;
 use witness_search::CaseText;
 
@@ -17,7 +18,7 @@ pub struct Judgement<'t> {
     pub kept: String,
     /// The strictest level with a yes. None: no level has one.
     pub level: Option<Judged>,
-    /// The case of the last level that was tried: the trace in version 4 or 5, and its witness.
+    /// The case of the last level that was tried: the trace in version 5, and its witness.
     pub case: CaseText<'t>,
 }
 
@@ -34,34 +35,62 @@ impl Judgement<'_> {
 }
 
 /// Judges a trace of any version, and tries no level after the first yes. At each level, so many search steps are spent
-/// on going back.
-pub fn judge(alloc: Global, text: &[u8], budget: u64) -> Result<Judgement<'_>, JudgeFault> {
+/// on going back. If a level is a no by a duty, it is tried without duties, too, which gives no level.
+pub fn judge(
+    alloc: Global,
+    text: &[u8],
+    slack: Slack,
+    budget: u64,
+) -> Result<Judgement<'_>, JudgeFault> {
     let header = header_of(alloc, text)?;
-    let mut said = String::new(alloc);
-    let mut first = None;
-    for level in [Judged::Full, Judged::Recovery] {
-        let tried = try_level(alloc, text, &header, level, budget)?;
-        say_row(&mut said, &tried)?;
-        first = first.or(tried.facts.refused);
-        if tried.facts.refused.is_none() {
-            say_conclusion(alloc, &mut said, &tried, &header, first)?;
-            return concluded(alloc, said, tried);
+    let question = Question {
+        text,
+        header: &header,
+        slack: slack.under(&header),
+        budget,
+    };
+    let mut levels = Vec::new(alloc);
+    for judged in [Judged::Full, Judged::Recovery] {
+        let tried = try_level(alloc, question, judged)?;
+        let facts = tried.facts;
+        if facts.refused.is_none() {
+            return concluded(alloc, question, levels, tried);
         }
+        drop(tried);
+        add_level(alloc, question, &mut levels, judged, facts)?;
     }
-    let tried = try_level(alloc, text, &header, Judged::NoControl, budget)?;
-    say_row(&mut said, &tried)?;
-    say_conclusion(alloc, &mut said, &tried, &header, first)?;
-    concluded(alloc, said, tried)
+    let tried = try_level(alloc, question, Judged::NoControl)?;
+    concluded(alloc, question, levels, tried)
 }
 
+// Adds a level at which this was found to the stricter ones.
+fn add_level(
+    alloc: Global,
+    question: Question<'_, '_>,
+    levels: &mut Vec<Level>,
+    judged: Judged,
+    facts: Facts,
+) -> Result<(), JudgeFault> {
+    let level = Level::new(alloc, question, levels.as_slice(), judged, facts)?;
+    match levels.push(level) {
+        Ok(()) => Ok(()),
+        Err(e) => Err(AllocError::from(e).into()),
+    }
+}
+
+// The answer after the last level that is tried, with the levels before it.
 fn concluded<'t>(
     alloc: Global,
-    text: String,
+    question: Question<'_, '_>,
+    mut levels: Vec<Level>,
     tried: Tried<'t>,
 ) -> Result<Judgement<'t>, JudgeFault> {
-    let kept = lines_kept(alloc, tried.facts.lines)?;
-    let level = match tried.facts.verdict {
-        Verdict::Yes { .. } => Some(tried.level),
+    let (judged, facts) = (tried.level, tried.facts);
+    add_level(alloc, question, &mut levels, judged, facts)?;
+    let text = answer(alloc, question, levels.as_slice(), &tried)?;
+    let kept = lines_kept(alloc, facts.lines)?;
+    let level = match facts.verdict {
+        Verdict::Yes { .. } => Some(judged),
         Verdict::No { .. } => None,
     };
     let case = tried.case;

@@ -1,19 +1,22 @@
 //! How much of the RFCs a recorded run follows.
 //!
-//! Few stacks follow RFC 5681 to the letter. So a trace is rewritten in version 4 of the texts, once for each level of
+//! Few stacks follow RFC 5681 to the letter. So a trace is rewritten in version 5 of the texts, once for each level of
 //! the header line `congestion`, from `full` on, until `checker` accepts the witness that `witness_search` finds. The
 //! answer is the strictest level with a yes, and the first thing that `full` refused, as `replayed` reads it from the
-//! case. The time is linear in the size of the trace, and a budget bounds what the search spends on going back at each
-//! level. Of a long transfer, the search has the text and the parsed trace in memory; the parsed trace is freed before
-//! the case is judged, whose event lines aren't copied. Each function is proved only to be safe and to return.
+//! case. A level that a duty refuses is tried without duties, too, until one has a yes then. The time is linear in the
+//! size of the trace, and a budget bounds what the search spends on going back at each level. Of a long transfer, the
+//! search has the text and the parsed trace in memory; the parsed trace is freed before the case is judged, whose event
+//! lines aren't copied. Each function is proved only to be safe and to return.
 //!
 //! - `judge`, `Judgement`: the answer for a trace, the level with a yes, and the case of the last level
+//! - `Slack`: how late a host may be with its duties
 //!
 //! Private modules:
 //!
 //! - `asking`: the levels, one after the other
-//! - `rewriting`: a trace in version 4 or 5
+//! - `rewriting`: a trace in version 5
 //! - `trying`: one level: the case that is found, and its verdict
+//! - `levels`: what is known of each level, and whether duties alone refuse it
 //! - `case_lines`: whether that case has every line of the trace
 //! - `connections`: how many connections it has, and how many were established
 //! - `sentences`: what a yes says, and what a no refuses
@@ -22,6 +25,7 @@
 mod asking;
 mod case_lines;
 mod connections;
+mod levels;
 mod rewriting;
 mod sentences;
 #[cfg(test)]
@@ -29,4 +33,5 @@ mod tests;
 mod trying;
 
 pub use asking::{Judgement, judge};
+pub use rewriting::{GREATEST_SLACK, Slack};
 pub use trying::JudgeFault;

@@ -1,4 +1,4 @@
-//! A trace in version 4, or in version 5 if it has that version: another header, and the same event lines.
+//! A trace in version 5: another header, and the same event lines.
 
 use bstr::ByteSlice;
 use case_forms::{Header, Judged, Lines, OutOfMemory, Trace, Version};
@@ -18,18 +18,45 @@ pub(crate) fn header_text(alloc: Global, header: &Header) -> Result<Vec<u8>, Out
     print_trace(alloc, &Trace { header, lines })
 }
 
-/// The header in version 4, or in version 5, which keeps its slack, at this level. What an older version doesn't say is
-/// read as it is judged: RFC 5681 gives the first window.
-pub(crate) fn judged_by(header: &Header, level: Judged) -> Header {
+/// How late a host may be with its duties.
+#[derive(Clone, Copy)]
+pub enum Slack {
+    /// As the trace says if it has version 5, else a second.
+    Usual,
+    /// So many microseconds, at most `GREATEST_SLACK`.
+    Given(u64),
+    /// Duties aren't judged.
+    Any,
+}
+
+/// The greatest slack that a header can have, in microseconds.
+pub const GREATEST_SLACK: u64 = 1_000_000_000_000_000_000;
+
+const SECOND: u64 = 1_000_000;
+
+impl Slack {
+    /// The slack for a trace with this header, in microseconds. None: duties aren't judged.
+    pub(crate) fn under(self, header: &Header) -> Option<u64> {
+        match self {
+            Slack::Usual if header.version.says_slack() => header.slack,
+            Slack::Usual => Some(SECOND),
+            Slack::Given(slack) => Some(slack),
+            Slack::Any => None,
+        }
+    }
+}
+
+/// The header in version 5, at this level and with this slack. What an older version doesn't say is read as it is
+/// judged: RFC 5681 gives the first window.
+pub(crate) fn judged_by(header: &Header, level: Judged, slack: Option<u64>) -> Header {
     let version = match header.version {
-        Version::One | Version::Two | Version::Four => Version::Four,
-        Version::Three | Version::FourHalf => Version::FourHalf,
-        Version::Five => Version::Five,
-        Version::FiveHalf => Version::FiveHalf,
+        Version::One | Version::Two | Version::Four | Version::Five => Version::Five,
+        Version::Three | Version::FourHalf | Version::FiveHalf => Version::FiveHalf,
     };
     Header {
         version,
         congestion: level,
+        slack,
         ..*header
     }
 }

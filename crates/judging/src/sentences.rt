@@ -2,8 +2,9 @@
 
 use crate::case_lines::CaseLines;
 use crate::connections::Connections;
-use crate::trying::Tried;
-use case_forms::{Header, Judged, OutOfMemory};
+use crate::levels::{Level, is_yes_without_duties};
+use crate::trying::{Question, Tried};
+use case_forms::{Judged, OutOfMemory};
 use itoa::Buffer;
 use plain_words::{about, word_if};
 use replayed::{Reason, Refused};
@@ -20,43 +21,85 @@ fn level_name(level: Judged) -> &'static str {
     }
 }
 
-/// Writes a level and its verdict, as a line.
-pub(crate) fn say_row(out: &mut String, tried: &Tried) -> Result<(), OutOfMemory> {
-    writeln!(
-        out,
-        "{:<10}{}",
-        level_name(tried.level),
-        tried.facts.verdict
-    )
-}
-
-/// Writes what the verdict of the last level means. `first` is what `full` refused, if it did.
-pub(crate) fn say_conclusion(
+/// The lines of the answer: each level with its verdict, and what the verdict of the last level means.
+pub(crate) fn answer(
     alloc: Global,
-    out: &mut String,
-    tried: &Tried,
-    header: &Header,
-    first: Option<Refused>,
-) -> Result<(), OutOfMemory> {
-    let facts = tried.facts;
-    match facts.verdict {
-        Verdict::Yes { .. } => {
-            out.push_str(meaning(tried.level))?;
-            say_connections(out, facts.connections)?;
-        }
-        Verdict::No { .. } => say_none(out, tried.ending)?,
+    question: Question<'_, '_>,
+    levels: &[Level],
+    last: &Tried,
+) -> Result<String, OutOfMemory> {
+    let mut out = String::new(alloc);
+    for level in levels {
+        let (name, verdict) = (level_name(level.judged), level.verdict);
+        writeln!(out, "{name:<10}{verdict}")?;
     }
-    if header.version.is_half() {
+    say_meaning(&mut out, question, levels, last)?;
+    if question.header.version.is_half() {
         out.push_str("Only host 0 was recorded; the other host isn't judged.\n")?;
     }
-    say_added(out, facts.lines)?;
-    let last = sentence(alloc, facts.refused)?;
-    let first = sentence(alloc, first)?;
-    if !last.is_empty() {
-        writeln!(out, "Under {}: {last}", level_name(tried.level))?;
+    say_added(&mut out, last.facts.lines)?;
+    say_refusals(alloc, &mut out, question.slack, levels)?;
+    say_without_duties(&mut out, levels)?;
+    Ok(out)
+}
+
+// Writes what the verdict of the last level means.
+fn say_meaning(
+    out: &mut String,
+    question: Question<'_, '_>,
+    levels: &[Level],
+    last: &Tried,
+) -> Result<(), OutOfMemory> {
+    match last.facts.verdict {
+        Verdict::Yes { .. } => {
+            out.push_str(meaning(last.level))?;
+            say_slack(out, question.slack)?;
+            say_connections(out, last.facts.connections)
+        }
+        Verdict::No { .. } => say_none(out, levels, last.ending),
     }
-    if !first.is_empty() && first != last {
-        writeln!(out, "Under full: {first}")?;
+}
+
+// Writes what the last level refused, if it did. If `full` refused something else, or a duty refused another level,
+// that follows.
+fn say_refusals(
+    alloc: Global,
+    out: &mut String,
+    slack: Option<u64>,
+    levels: &[Level],
+) -> Result<(), OutOfMemory> {
+    let [stricter @ .., last] = levels else {
+        return Ok(());
+    };
+    let of_last = sentence(alloc, slack, last)?;
+    say_under(out, last.judged, of_last.as_str())?;
+    let mut before = String::new(alloc);
+    for level in stricter {
+        if matches!(level.judged, Judged::Full) || level.without_duties.is_some() {
+            let own = sentence(alloc, slack, level)?;
+            if own != of_last && own != before {
+                say_under(out, level.judged, own.as_str())?;
+            }
+            before = own;
+        }
+    }
+    Ok(())
+}
+
+fn say_under(out: &mut String, level: Judged, sentence: &str) -> Result<(), OutOfMemory> {
+    if sentence.is_empty() {
+        return Ok(());
+    }
+    writeln!(out, "Under {}: {sentence}", level_name(level))
+}
+
+// Writes the verdicts without duties.
+fn say_without_duties(out: &mut String, levels: &[Level]) -> Result<(), OutOfMemory> {
+    for level in levels {
+        if let Some(verdict) = level.without_duties {
+            let name = level_name(level.judged);
+            writeln!(out, "Under {name}, without duties: {verdict}")?;
+        }
     }
     Ok(())
 }
@@ -71,6 +114,19 @@ The congestion window isn't judged.\n",
         Judged::NoControl => "The run follows RFC 9293 as this profile reads it.\n\
 The congestion window isn't judged.\n\
 The choice of when to retransmit data isn't judged either.\n",
+    }
+}
+
+// Writes how late a host may have been with its duties, in microseconds. None: they weren't judged.
+fn say_slack(out: &mut String, slack: Option<u64>) -> Result<(), OutOfMemory> {
+    match slack {
+        None => Ok(()),
+        Some(0) => out.push_str("No duty was late (rules 40 to 52).\n"),
+        Some(slack) => writeln!(
+            out,
+            "No duty was late by more than {} (rules 40 to 52).",
+            Time(slack)
+        ),
     }
 }
 
@@ -106,13 +162,15 @@ pub(crate) fn lines_kept(alloc: Global, lines: CaseLines) -> Result<String, OutO
 }
 
 // Writes that no level has a yes, and why the search ended without one.
-fn say_none(out: &mut String, ending: Ending) -> Result<(), OutOfMemory> {
-    out.push_str("No witness was found, even without judging congestion control.\n")?;
+fn say_none(out: &mut String, levels: &[Level], ending: Ending) -> Result<(), OutOfMemory> {
+    let s = word_if(is_yes_without_duties(levels), " that keeps every duty");
+    writeln!(
+        out,
+        "No witness was found{s}, even without judging congestion control."
+    )?;
     out.push_str(match ending {
-        // The search does steps by the model alone, so a rule of duties is broken.
-        Ending::Whole => "The search explained every line, but it doesn't judge duties;\n\
-a witness that keeps to them may still exist.\n",
-        Ending::Exhausted { .. } =>
+        // If every line is explained, a duty is late at the end.
+        Ending::Whole | Ending::Exhausted { .. } =>
             "The search ran out of alternatives. It makes at most two changes at once, near the refused line;\n\
 a witness that needs other changes may still exist.\n",
         Ending::BudgetSpent { .. } =>
@@ -122,17 +180,29 @@ a witness that needs other changes may still exist.\n",
     })
 }
 
-// What was refused, as the end of a sentence; empty if nothing was.
-fn sentence(alloc: Global, refused: Option<Refused>) -> Result<String, OutOfMemory> {
+// What a level refused, as the end of a sentence; empty if nothing was.
+fn sentence(alloc: Global, slack: Option<u64>, level: &Level) -> Result<String, OutOfMemory> {
     let mut out = String::new(alloc);
-    if let Some(refused) = refused {
+    if let Some(refused) = level.refused {
         match refused.line {
             0 => out.push_str("after the last step")?,
             line => write!(out, "line {line}")?,
         }
         say_reason(&mut out, &refused)?;
+        say_late(&mut out, slack, level.late_at)?;
+        out.push_str(".")?;
     }
     Ok(out)
+}
+
+// When a late duty is refused, at a moment in microseconds, as the end of a sentence.
+fn say_late(out: &mut String, slack: Option<u64>, at: Option<u64>) -> Result<(), OutOfMemory> {
+    match (slack, at) {
+        (Some(slack), Some(at)) => {
+            write!(out, "; at {at}, the slack of {} was over", Time(slack))
+        }
+        (None, _) | (_, None) => Ok(()),
+    }
 }
 
 fn say_reason(out: &mut String, refused: &Refused) -> Result<(), OutOfMemory> {
@@ -140,27 +210,27 @@ fn say_reason(out: &mut String, refused: &Refused) -> Result<(), OutOfMemory> {
         Reason::Beyond { bytes, cwnd } => {
             let (s, bytes) = (word_if(bytes != 1, "s"), Grouped(bytes));
             write!(out, " sends {bytes} byte{s} beyond the congestion window")?;
-            write!(out, " of {} (RFC 5681, 3.1).", Grouped(cwnd))
+            write!(out, " of {} (RFC 5681, 3.1)", Grouped(cwnd))
         }
         Reason::Gap { pos, sent } => {
             write!(out, " begins at position {pos}, but only positions")?;
-            write!(out, " below {sent} were sent before (old-data).")
+            write!(out, " below {sent} were sent before (old-data)")
         }
         Reason::Acknowledged { pos, una } => {
             write!(out, " begins at position {pos}, and everything")?;
-            write!(out, " below {una} is acknowledged already (old-data).")
+            write!(out, " below {una} is acknowledged already (old-data)")
         }
         // Fast recovery begins after the handshake, so only a timeout permits retransmitting a SYN.
         Reason::Again { syn: true } => {
-            write!(out, " retransmits a SYN before its timeout (RFC 6298, 5).")
+            write!(out, " retransmits a SYN before its timeout (RFC 6298, 5)")
         }
         Reason::Again { syn: false } => {
             write!(out, " retransmits data without a timeout, fast recovery")?;
-            write!(out, " or a reopened window (old-data).")
+            write!(out, " or a reopened window (old-data)")
         }
         Reason::Other => {
             let rule = refused.rule;
-            write!(out, ": {} ({rule}).", about(rule).refused)
+            write!(out, ": {} ({rule})", about(rule).refused)
         }
     }
 }
@@ -180,5 +250,21 @@ impl fmt::Display for Grouped {
             write!(f, "{}", char::from(*digit))?;
         }
         Ok(())
+    }
+}
+
+// A time in microseconds, in seconds if they are whole.
+#[derive(Clone, Copy)]
+struct Time(u64);
+
+impl fmt::Display for Time {
+    fn fmt<W: fmt::Write>(&self, f: &mut fmt::Formatter<W>) -> fmt::Result {
+        let (count, unit) = if self.0 != 0 && self.0 % 1_000_000 == 0 {
+            (self.0 / 1_000_000, "second")
+        } else {
+            (self.0, "microsecond")
+        };
+        write!(f, "{} {unit}", Grouped(count))?;
+        write!(f, "{}", word_if(count != 1, "s"))
     }
 }

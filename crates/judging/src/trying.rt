@@ -2,6 +2,7 @@
 
 use crate::case_lines::{CaseLines, case_lines};
 use crate::connections::{Connections, Explained, connections_of};
+use crate::levels::{DutyRule, duty_rule_of};
 use crate::rewriting::{events_of, header_text, judged_by};
 use case_forms::{Header, Judged, OutOfMemory};
 use checker::{CaseFault, check_streams};
@@ -11,6 +12,7 @@ use std::alloc::{AllocError, Global};
 use thiserror::Error;
 use trace_reader::{Counted, read_trace};
 use verdict::Verdict;
+use witness::StepReader;
 use witness_search::{CaseText, Ending, Found, find_witness};
 
 /// Why a trace can't be judged.
@@ -55,11 +57,33 @@ impl From<CaseFault> for JudgeFault {
     }
 }
 
-/// A level that was tried.
+/// A trace that is judged, and how.
+#[derive(Clone, Copy)]
+pub(crate) struct Question<'q, 't> {
+    pub text: &'t [u8],
+    /// The header of the trace.
+    pub header: &'q Header,
+    /// How late a host may be with its duties, in microseconds. None: they aren't judged.
+    pub slack: Option<u64>,
+    /// How many search steps are spent on going back at each level.
+    pub budget: u64,
+}
+
+impl Question<'_, '_> {
+    /// The same without duties.
+    pub(crate) fn without_duties(self) -> Self {
+        Question {
+            slack: None,
+            ..self
+        }
+    }
+}
+
+/// The case that was found at a level.
 #[derive(Drop)]
 pub(crate) struct Tried<'t> {
     pub level: Judged,
-    /// The trace in version 4 or 5, and the witness that was found.
+    /// The trace in version 5, and the witness that was found.
     pub case: CaseText<'t>,
     /// How the search ended.
     pub ending: Ending,
@@ -72,21 +96,21 @@ pub(crate) struct Facts {
     pub verdict: Verdict,
     /// What the verdict refuses. None: it is yes.
     pub refused: Option<Refused>,
+    /// When a late duty is refused, in microseconds. None: it isn't one that the verdict refuses.
+    pub late_at: Option<u64>,
     pub lines: CaseLines,
     pub connections: Connections,
 }
 
-/// Looks for a witness of a trace at a level, with so many search steps for going back, and judges it. The header is
-/// that of the trace.
+/// Looks for a witness of a trace at a level, and judges it.
 pub(crate) fn try_level<'t>(
     alloc: Global,
-    text: &'t [u8],
-    header: &Header,
+    question: Question<'_, 't>,
     level: Judged,
-    budget: u64,
 ) -> Result<Tried<'t>, JudgeFault> {
-    let events = events_of(text, header.first_event_line());
-    let header = judged_by(header, level);
+    let Question { text, budget, .. } = question;
+    let events = events_of(text, question.header.first_event_line());
+    let header = judged_by(question.header, level, question.slack);
     let (found, connections) = search(alloc, text, &header, budget)?;
     let ending = found.ending;
     let case = case_of(alloc, &header, events, found)?;
@@ -147,7 +171,47 @@ fn judged(
     Ok(Facts {
         verdict,
         refused,
+        late_at: late_at(alloc, header, case, verdict)?,
         lines: case_lines(events, case).ok_or(JudgeFault::Altered)?,
         connections,
     })
+}
+
+// The moment of the step at which a duty is late, or of the last step if it's late at the end. None: the verdict
+// refuses no late duty.
+fn late_at(
+    alloc: Global,
+    header: &Header,
+    case: &CaseText<'_>,
+    verdict: Verdict,
+) -> Result<Option<u64>, ReplayFault> {
+    match verdict {
+        Verdict::No {
+            witness_line,
+            rule,
+            ..
+        } if matches!(duty_rule_of(rule), Some(DutyRule::Deadline)) => {
+            moment_in(alloc, header, case, witness_line)
+        }
+        Verdict::Yes { .. } | Verdict::No { .. } => Ok(None),
+    }
+}
+
+// The moment of the step in this line of the witness; for line 0, that of the last step. None: it has no step.
+fn moment_in(
+    alloc: Global,
+    header: &Header,
+    case: &CaseText<'_>,
+    line: u64,
+) -> Result<Option<u64>, ReplayFault> {
+    let mut steps = StepReader::new(alloc, header.version, Counted::new(case.witness()));
+    let last = if line == 0 { u64::MAX } else { line };
+    let mut moment = None;
+    for _ in 2..=last {
+        let Some(step) = steps.next()? else {
+            break;
+        };
+        moment = Some(step.moment);
+    }
+    Ok(moment)
 }

@@ -108,7 +108,7 @@ fn write_judgement<H: Files + Eprint, W: Write>(
     text: &[u8],
     w: &mut Counted<W>,
 ) -> u8 {
-    let judgement = match judge(alloc, text, judging.budget) {
+    let judgement = match judge(alloc, text, judging.slack, judging.budget) {
         Ok(judgement) => judgement,
         Err(JudgeFault::Trace(fault)) => return say_bad_trace(rt, alloc, "judge", text, &fault, w),
         Err(JudgeFault::Witness(fault)) => return say_fault(rt, alloc, "bad witness ", &fault, w),

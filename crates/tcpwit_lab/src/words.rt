@@ -2,6 +2,7 @@
 
 use case_forms::Judged;
 use drawing::Range;
+use judging::{GREATEST_SLACK, Slack};
 use why::Origin;
 use witness_search::USUAL_BUDGET;
 
@@ -25,6 +26,8 @@ pub(crate) struct Judging<'w> {
     pub least: Judged,
     /// The file in which the case of the last level is kept. None: it isn't kept.
     pub case: Option<&'w str>,
+    /// How late a host may be with its duties.
+    pub slack: Slack,
     /// How many search steps are spent on going back at each level.
     pub budget: u64,
 }
@@ -54,10 +57,10 @@ fn find_budget(options: &[&str]) -> Option<u64> {
     budget_of(value_of(options, "--budget"))
 }
 
-// What `--least LEVEL`, `--case FILE` and `--budget N` ask for, in any order and each at most once. LEVEL is `full`,
-// `recovery` or `none`; `full` if it isn't given. FILE isn't empty. None: other words.
+// What `--least LEVEL`, `--slack SLACK`, `--case FILE` and `--budget N` ask for, in any order and each at most once.
+// LEVEL is `full`, `recovery` or `none`; `full` if it isn't given. FILE isn't empty. None: other words.
 fn judging_of<'w>(options: &[&'w str]) -> Option<Judging<'w>> {
-    if !are_options(options, &["--least", "--case", "--budget"]) {
+    if !are_options(options, &["--least", "--slack", "--case", "--budget"]) {
         return None;
     }
     let least = match value_of(options, "--least") {
@@ -66,12 +69,14 @@ fn judging_of<'w>(options: &[&'w str]) -> Option<Judging<'w>> {
         Some("none") => Judged::NoControl,
         Some(_) => return None,
     };
+    let slack = slack_of(value_of(options, "--slack"))?;
     let budget = budget_of(value_of(options, "--budget"))?;
     match value_of(options, "--case") {
         Some("") => None,
         case => Some(Judging {
             least,
             case,
+            slack,
             budget,
         }),
     }
@@ -107,8 +112,28 @@ fn line_number(value: Option<&str>) -> Option<Option<u64>> {
 fn budget_of(value: Option<&str>) -> Option<u64> {
     match value {
         None => Some(USUAL_BUDGET),
-        Some("0") => Some(0),
-        Some(digits) => number_of(digits),
+        Some(digits) => count_of(digits),
+    }
+}
+
+// The slack that the value of `--slack` gives: `any`, or a number of microseconds that a header can have. None: another
+// word.
+fn slack_of(value: Option<&str>) -> Option<Slack> {
+    match value {
+        None => Some(Slack::Usual),
+        Some("any") => Some(Slack::Any),
+        Some(digits) => match count_of(digits)? {
+            slack if slack <= GREATEST_SLACK => Some(Slack::Given(slack)),
+            _ => None,
+        },
+    }
+}
+
+// A number in digits alone, 0 or without a leading zero.
+fn count_of(digits: &str) -> Option<u64> {
+    match digits {
+        "0" => Some(0),
+        digits => number_of(digits),
     }
 }
 

@@ -82,8 +82,7 @@ def parser():
     words.add_argument("--kernel", choices=("plain", "shipped"),
                        help=f"a pair's kernel settings: without the additions of other RFCs (plain), or unchanged (shipped); default: {headers.KERNEL}")
     words.add_argument("--congestion", choices=headers.WORDS["congestion"], help=headers.HELP["congestion"])
-    words.add_argument("--version", type=int, choices=sorted(headers.LINES),
-                       help="format version (default: 2 for two hosts, 3 for one; 4 with --congestion)")
+    importing.add_version_and_slack(words)
     words.add_argument("--as", dest="user", metavar="USER", help="run the programs as this user (default: the user who called sudo)")
     words.add_argument("--wait", type=within(0.1, 600), metavar="N", help="seconds within which a pair's server must listen (default: 10)")
     words.add_argument("--linger", type=within(0, 600), metavar="N", help="seconds that a pair's server keeps running after the client (default: 1)")
@@ -130,8 +129,11 @@ def complete(words, options, defaults, are_used, cause):
 def header_words(options):
     """The importer's arguments for the header. Refuses ones that don't fit the recorded hosts, before anything is recorded."""
     hosts = 2 if options.pair or options.transfer or options.namespace else 1
-    headers.header(hosts, 0, {"congestion": options.congestion} if options.congestion else {}, options.version)
-    return [word for name in ("version", "congestion") if (value := getattr(options, name)) for word in ("--" + name, str(value))]
+    chosen = {name: value for name in ("congestion", "slack") if (value := getattr(options, name)) is not None}
+    headers.header(hosts, 0, chosen, options.version)
+    if options.version:
+        chosen["version"] = options.version
+    return [word for name, value in chosen.items() for word in ("--" + name, str(value))]
 
 
 def refuse_missing(options):

@@ -3,6 +3,7 @@ import contextlib
 import os
 import shlex
 import sys
+import time
 from typing import NamedTuple
 
 from ..problem import Problem, say
@@ -29,7 +30,7 @@ class Recording:
 
     def __init__(self, options):
         self.options, self.folder = options, Folder(options.out)
-        self.captures, self.programs, self.remarks = [], [], []
+        self.captures, self.programs, self.remarks, self.ended = [], [], [], 0
 
     def capture(self, interface, name, namespace=None):
         """Starts a capture."""
@@ -73,9 +74,14 @@ class Recording:
             for capture in self.captures:
                 capture.wait()
         captures, self.captures = self.captures, []
+        self.ended = time.time_ns()
         for capture in captures:
             capture.stop()
         self.folder.refuse_full_disk()
+
+    def end_words(self):
+        """The importer's argument for the moment when the captures ended."""
+        return ["--end", f"{self.ended // 10**9}.{self.ended % 10**9:09d}"]
 
     def abandon(self):
         """Ends everything that still runs, after an error."""
@@ -109,7 +115,8 @@ class Recording:
             raise Problem(carrier.fault, "use --kernel plain")
         return [word for number, option in enumerate(("--zero", "--one"))
                 for word in ("--capture", str(number), self.folder.file(f"host{number}.pcap"),
-                             "--calls", str(number), self.folder.file(f"host{number}.log"), option, ADDRESSES[number], option, ADDRESSES_6[number])]
+                             "--calls", str(number), self.folder.file(f"host{number}.log"), option, ADDRESSES[number], option, ADDRESSES_6[number])
+                ] + self.end_words()
 
     def alone(self):
         """Records one program: both hosts in a namespace, or one host with its peer elsewhere. Returns the importer's arguments."""
@@ -124,7 +131,7 @@ class Recording:
         self.finish(program)
         self.end(0 if options.serve else min(options.linger, 0.1))
         host = "both" if options.namespace else "0"
-        return ["--capture", host, self.folder.file("run.pcap"), "--calls", host, self.folder.file("run.log")]
+        return ["--capture", host, self.folder.file("run.pcap"), "--calls", host, self.folder.file("run.log"), *self.end_words()]
 
 
 def pair_words(options):
