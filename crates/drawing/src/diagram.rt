@@ -3,6 +3,7 @@
 use crate::Done;
 use crate::callers::Callers;
 use crate::fates::{Fate, Fates};
+use crate::missing::{Missing, debtor};
 use crate::picture::{Point, arrow, at, begin, dot, end, line, text};
 use crate::range::{Drawn, Range, last_line};
 use case_forms::{Answer, Call, Event, Host, Line, OutOfMemory, Timer, Wire};
@@ -43,6 +44,8 @@ struct Drawing<'d> {
     range: Drawn,
     /// The line below which the refusal has a row of its own. None: nothing is refused.
     marked: Option<u64>,
+    /// The duty whose deadline has a row of its own. None: the refusal is about no duty of an endpoint.
+    missing: Option<Missing>,
     fates: &'d Fates,
     numbers: Numbers,
     callers: Callers,
@@ -50,18 +53,21 @@ struct Drawing<'d> {
 
 /// The case as a picture in SVG, of the lines in a range.
 pub fn draw(alloc: Global, case: &Case, range: Range) -> Result<String, OutOfMemory> {
+    let debtor = debtor(alloc, case)?;
     let fates = Fates::of(alloc, case)?;
+    let range = Drawn::of(range, case, &fates);
     let (mut out, mut texts) = (String::new(alloc), String::new(alloc));
     let mut drawing = Drawing {
         out: &mut out,
         texts: &mut texts,
-        range: Drawn::of(range, case, &fates),
+        range,
         marked: marked_line(case, &fates),
+        missing: Missing::of(debtor, case, range),
         fates: &fates,
         numbers: Numbers::new(alloc, case.trace.header.version),
         callers: Callers::new(alloc),
     };
-    drawing.all(case)?;
+    drawing.all(case, debtor.map_or("", |debtor| debtor.debt.what))?;
     drop(drawing);
     Ok(out)
 }
@@ -74,6 +80,11 @@ fn marked_line(case: &Case, fates: &Fates) -> Option<u64> {
         Refusal::Unplaced(line) => Some(line),
         Refusal::Late { .. } => Some(last_line(case)),
     }
+}
+
+// The rows of a mark below a line, above the row of another line: one or none.
+fn rows_above(mark: Option<u64>, number: u64) -> u64 {
+    u64::from(mark.is_some_and(|mark| mark < number))
 }
 
 // So many pixels from the line of a host, on the side of the other host.
@@ -93,25 +104,25 @@ fn outside(host: Host, pixels: u64) -> u64 {
 }
 
 impl Drawing<'_> {
-    fn all(&mut self, case: &Case) -> Done {
+    // `owed` is what is missing, if anything is.
+    fn all(&mut self, case: &Case, owed: &str) -> Done {
         self.frame(case.trace.header.version.is_half())?;
         for line in case.trace.lines.as_slice() {
             self.line(line)?;
         }
+        self.missing(owed)?;
         self.refusal(case)?;
         self.out.push_str(self.texts.as_str())?;
         end(self.out)
     }
 
-    // The height of a line's row. The refusal has a row below the marked line.
+    // The height of a line's row. The refusal has a row below the marked line, and so has a deadline.
     fn row(&self, number: u64) -> u64 {
         let Drawn { from, to } = self.range;
         let number = number.min(to.saturating_add(1));
-        let refusal = match self.marked {
-            Some(marked) if marked < number => 1,
-            _ => 0,
-        };
-        let above = number.saturating_sub(from).saturating_add(refusal);
+        let deadline = self.missing.map(|missing| missing.after);
+        let marks = rows_above(self.marked, number).saturating_add(rows_above(deadline, number));
+        let above = number.saturating_sub(from).saturating_add(marks);
         TOP.saturating_add(above.saturating_mul(ROW))
     }
 
@@ -201,7 +212,7 @@ impl Drawing<'_> {
         line(self.out, "bar", at(x, top), at(x, bottom))?;
         if let Some(before) = self.fates.effects.get(&from) {
             let y = self.row(*before).saturating_add(ROW / 2);
-            dot(self.out, at(x, y.min(bottom)))?;
+            dot(self.out, "#337", at(x, y.min(bottom)))?;
         }
         Ok(())
     }
@@ -252,6 +263,18 @@ impl Drawing<'_> {
         text(self.texts, class, at, &format_args!("timer {name} expires"))
     }
 
+    // A red dot at the host when something was due, and what that is.
+    fn missing(&mut self, owed: &str) -> Done {
+        let Some(Missing { host, due, after }) = self.missing else {
+            return Ok(());
+        };
+        let y = self.row(after).saturating_add(ROW);
+        dot(self.out, "#d00", at(inside(host, 0), y))?;
+        let class = if host == Host::One { "no left" } else { "no" };
+        let at = at(inside(host, 10), y.saturating_add(4));
+        text(self.texts, class, at, &format_args!("due by {due}: {owed}"))
+    }
+
     // What is refused: a step with its rule, a line that no step uses, or a duty that is late at the end.
     fn refusal(&mut self, case: &Case) -> Done {
         match case.refusal() {
@@ -271,7 +294,9 @@ impl Drawing<'_> {
 
     // A red line after the marked line, and its text.
     fn mark(&mut self, words: &impl fmt::Display) -> Done {
-        let row = self.row(self.marked.unwrap_or(0));
+        let marked = self.marked.unwrap_or(0);
+        let deadline = self.missing.filter(|missing| missing.after == marked);
+        let row = self.row(marked).saturating_add(deadline.map_or(0, |_| ROW));
         let (middle, y) = ((ZERO + ONE) / 2, row.saturating_add(ROW / 2));
         line(self.out, "refused", at(120, y), at(WIDTH - 20, y))?;
         text(

@@ -9,12 +9,13 @@
 //!
 //! - `showing`: a case as text
 //! - `diagram`: a case as a picture; `range`: the lines that are drawn; `picture`: parts in SVG; `fates`: what became
-//!   of the lines; `callers`: hosts and columns of threads
+//!   of the lines; `callers`: hosts and columns of threads; `missing`: what was due and is missing
 #![tactic(auto)]
 
 mod callers;
 mod diagram;
 mod fates;
+mod missing;
 mod picture;
 mod range;
 mod showing;

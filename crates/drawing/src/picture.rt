@@ -76,10 +76,11 @@ fn stroke(out: &mut String, class: &str, from: Point, to: Point) -> Done {
     write!(out, " x2=\"{}\" y2=\"{}\"", to.x, to.y)
 }
 
-/// A filled circle.
-pub(crate) fn dot(out: &mut String, at: Point) -> Done {
+/// A circle that is filled with a color.
+pub(crate) fn dot(out: &mut String, color: &str, at: Point) -> Done {
     let Point { x, y } = at;
-    writeln!(out, "<circle r=\"4\" fill=\"#337\" cx=\"{x}\" cy=\"{y}\"/>")
+    write!(out, "<circle r=\"4\" fill=\"{color}\" ")?;
+    writeln!(out, "cx=\"{x}\" cy=\"{y}\"/>")
 }
 
 /// A text of a class, from a point on.

@@ -65,6 +65,16 @@ impl Carried {
     }
 }
 
+impl Carried {
+    // Whether its first byte, or its FIN if it has none, is at a position.
+    fn begins_at(&self, position: u64) -> bool {
+        match self.bytes {
+            Some(bytes) => bytes.first == position,
+            None => self.fin == Some(position),
+        }
+    }
+}
+
 impl fmt::Display for Carried {
     fn fmt<W: fmt::Write>(&self, f: &mut fmt::Formatter<W>) -> fmt::Result {
         match (self.bytes, self.fin) {
@@ -164,8 +174,11 @@ impl Review<'_> {
         }))
     }
 
-    /// A host drops a segment.
+    /// A host drops a segment, which a rule may judge.
     pub(crate) fn drop_arrival(&mut self, world: &World, arrival: &Arrival<'_>) -> Done {
+        if self.found.covered.duties {
+            return Ok(());
+        }
         match self.met(world, arrival) {
             Some((who, what)) => self.found.add(arrival.line, who, "drops", &what),
             None => Ok(()),
@@ -205,7 +218,7 @@ impl Review<'_> {
         ((listener.queue.len() as u64) < room).then_some(Who::Listener { host, port })
     }
 
-    // Remarks on what an endpoint doesn't keep, and remembers what it keeps beyond a gap.
+    // Remarks on what an endpoint doesn't keep, unless a rule judges that, and remembers what it keeps beyond a gap.
     fn keep(&mut self, arrival: &Arrival<'_>, keeps: bool) -> Done {
         let Some((id, endpoint, fresh)) = self.fresh(arrival) else {
             return Ok(());
@@ -213,6 +226,9 @@ impl Review<'_> {
         let who = Who::of(id.host, endpoint);
         if keeps {
             return self.hold(id, arrival.line, who, fresh, endpoint.rcv_nxt());
+        }
+        if self.found.covered.duties && fresh.begins_at(endpoint.rcv_nxt()) {
+            return Ok(());
         }
         let lost = self.not_held(id, fresh);
         if lost.bytes.is_none() && lost.fin.is_none() {

@@ -29,11 +29,14 @@ impl Burst {
         self
     }
 
-    /// Remarks on the bytes beyond the loss window, if there are any.
+    /// Remarks on the bytes beyond the loss window, if there are any and no rule judges them.
     pub(crate) fn say(&self, found: &mut Found) -> Done {
         let Some((bytes, lines)) = self.beyond else {
             return Ok(());
         };
+        if found.covered.windows {
+            return Ok(());
+        }
         let beyond = "beyond the loss window of one segment (RFC 5681, 3.1)";
         let what = &format_args!("{bytes} {}, {beyond}", self.permits.last);
         found.add_at(lines, self.who, "retransmits", what)

@@ -1,8 +1,9 @@
 //! The remarks that were found, in the order of their places, and parts of them in words. Bytes and FINs are named by
 //! their positions.
 
+use crate::covered::Covered;
 use crate::review::Remarked;
-use case_forms::{Host, OutOfMemory};
+use case_forms::{Header, Host, OutOfMemory};
 use plain_words::HostName;
 use spec_tcp::Endpoint;
 use std::alloc::Global;
@@ -18,13 +19,17 @@ pub(crate) struct Found {
     text: String,
     /// By the line that a remark begins at, and its number: where it begins and ends in the text.
     places: BTreeMap<(u64, u64), (usize, usize)>,
+    /// What rules say, so that it is no remark.
+    pub covered: Covered,
 }
 
 impl Found {
-    pub(crate) fn new(alloc: Global) -> Found {
+    /// No remark so far on a case with this header.
+    pub(crate) fn new(alloc: Global, header: &Header) -> Found {
         Found {
             text: String::new(alloc),
             places: BTreeMap::new(alloc),
+            covered: Covered::by(header),
         }
     }
 
@@ -139,6 +144,8 @@ impl Display for Stretch {
 pub(crate) struct Repeats {
     pub who: Who,
     pub position: u64,
+    /// They are of a SYN with ACK.
+    pub is_syn_ack: bool,
     pub times: u64,
     pub lines: Lines,
 }
@@ -151,8 +158,11 @@ impl Repeats {
         self.times = self.times.saturating_add(1);
     }
 
-    /// Remarks on them.
+    /// Remarks on them, unless a rule judges them.
     pub(crate) fn say(&self, found: &mut Found, how: &impl Display) -> Done {
+        if found.covered.repeats && !self.is_syn_ack {
+            return Ok(());
+        }
         let what = &format_args!("{self} {how}");
         found.add_at(self.lines, self.who, "retransmits", what)
     }

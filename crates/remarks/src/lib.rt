@@ -11,6 +11,7 @@
 //! Private modules:
 //!
 //! - `review`: the replay of the case, and what is remembered beside it
+//! - `covered`: which remarks rules 40 to 52 make needless
 //! - `found`: the remarks that were found, and parts of them in words
 //! - `notes`: what is remembered of an endpoint and its retransmissions
 //! - `arrivals`: what is dropped, or processed and not kept; `sendings`: what is sent, and sent again
@@ -21,6 +22,7 @@
 mod acknowledgments;
 mod arrivals;
 mod bursts;
+mod covered;
 mod ends;
 mod found;
 mod notes;

@@ -25,7 +25,7 @@ pub fn remark(alloc: Global, case: &Case<'_>) -> Result<Remarked, ReplayFault> {
     let mut review = Review {
         case,
         moment: 0,
-        found: Found::new(alloc),
+        found: Found::new(alloc, &case.trace.header),
         notes: BTreeMap::new(alloc),
         made: BTreeMap::new(alloc),
         shown: BTreeSet::new(alloc),

@@ -26,6 +26,7 @@ pub(crate) struct Sending {
     pub end: u64,
     /// Its first position was made before.
     is_again: bool,
+    is_syn_ack: bool,
     /// It is empty and begins with an acknowledged position: a keep-alive, or a probe of a closed window.
     is_probe: bool,
     /// Of a reset, the line of the reset that it follows.
@@ -60,6 +61,7 @@ impl Sending {
             position: plan.pos,
             end,
             is_again: plan.pos < end && plan.pos < endpoint.snd_max(),
+            is_syn_ack: plan.flags.syn && plan.flags.ack,
             is_probe: plan.pos == end && plan.pos < endpoint.stream.snd_una,
             reset: None,
             una: endpoint.stream.snd_una,
@@ -76,15 +78,16 @@ impl Sending {
         Repeats {
             who: self.who,
             position: self.position,
+            is_syn_ack: self.is_syn_ack,
             times: 0,
             lines: Lines(0, 0),
         }
     }
 
-    // Remarks on a segment that was built long before it is sent.
+    // Remarks on a segment that was built long before it is sent, unless rules judge that.
     fn say_wait(&self, found: &mut Found, now: Now) -> Done {
         let waited = now.moment.saturating_sub(self.made);
-        if waited <= WAIT {
+        if waited <= WAIT || found.covered.duties {
             return Ok(());
         }
         let what = &format_args!("{} after building it", Time(waited));

@@ -250,9 +250,9 @@ fn say_given_up(found: &mut Found, now: Now, begun: u64, grain: u64) -> Done {
     found.add(now.line, now.who, "gives up", what)
 }
 
-/// Remarks on a timer that ran for more than twice its time with nothing sent.
+/// Remarks on a timer that ran for more than twice its time with nothing sent, unless rules judge that.
 pub(crate) fn say_late(found: &mut Found, now: Now, note: &Note) -> Done {
-    let Some(clock) = note.clock else {
+    let Some(clock) = note.clock.filter(|_| !found.covered.duties) else {
         return Ok(());
     };
     let ran = now.moment.saturating_sub(clock.since.max(note.last_sent));
@@ -265,9 +265,9 @@ pub(crate) fn say_late(found: &mut Found, now: Now, note: &Note) -> Done {
     found.add(now.line, now.who, "sends nothing:", what)
 }
 
-/// Remarks on a window that is open for long.
+/// Remarks on a window that is open for long, unless a rule judges that.
 pub(crate) fn say_stall(found: &mut Found, now: Now, stall: Option<Stall>) -> Done {
-    let Some(stall) = stall else {
+    let Some(stall) = stall.filter(|_| !found.covered.duties) else {
         return Ok(());
     };
     let time = now.moment.saturating_sub(stall.since);

@@ -9,6 +9,7 @@ use std::alloc::Global;
 use std::io::BufRead;
 use trace_reader::Counted;
 use verdict::{Rule, Verdict};
+use watched::Case;
 use witness::StepReader;
 
 /// The step that a verdict refuses, or what it refuses after the last step.
@@ -70,16 +71,16 @@ fn refused_at<A: BufRead, B: BufRead>(
     steps: &mut StepReader<B>,
     step: RefusedStep,
 ) -> Result<Refused, ReplayFault> {
-    let mut world = World::start(alloc, header);
-    let refused = replay_to(header, &mut world, lines, steps, step);
-    drop(world);
+    let mut watched = Case::start(alloc, header);
+    let refused = replay_to(header, &mut watched, lines, steps, step);
+    drop(watched);
     refused
 }
 
 // Does the steps before the refused one.
 fn replay_to<A: BufRead, B: BufRead>(
     header: &Header,
-    world: &mut World,
+    watched: &mut Case,
     lines: &mut UnusedLines<A>,
     steps: &mut StepReader<B>,
     refused: RefusedStep,
@@ -90,12 +91,12 @@ fn replay_to<A: BufRead, B: BufRead>(
             break;
         };
         if number == refused.line {
-            return Ok(refused_now(world, &step, rule, after));
+            return Ok(refused_now(watched.world(), &step, rule, after));
         }
         if let Label::L(named) = &step.label {
             after = named.number.saturating_add(1);
         }
-        apply_read(world, lines, &step)?;
+        apply_read(watched, lines, &step)?;
     }
     // The witness has the step, since it was judged.
     Ok(Refused {
@@ -107,15 +108,15 @@ fn replay_to<A: BufRead, B: BufRead>(
 
 // Does a step. If it uses a line, that is read, and it isn't copied.
 fn apply_read<A: BufRead>(
-    world: &mut World,
+    watched: &mut Case,
     lines: &mut UnusedLines<A>,
     step: &Step,
 ) -> Result<(), ReplayFault> {
     let Label::L(named) = &step.label else {
-        return apply_other(world, step);
+        return apply_other(watched, step);
     };
     match lines.remove(named.number)? {
-        Some(line) => apply_taken(world, step.moment, line, named.extras),
+        Some(line) => apply_taken(watched, step.moment, line, named.extras),
         None => Ok(()),
     }
 }

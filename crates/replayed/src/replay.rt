@@ -1,4 +1,4 @@
-//! The world of a case before and after each step.
+//! The world of a case, and its duties, before and after each step.
 
 ghost use Rattle.std.specs.Prelude.{◌<◌, IsTrue};
 ghost use Rattle.case_forms.specs.Witnesses.{IsWithinLimits};
@@ -6,11 +6,12 @@ ghost use Rattle.spec_tcp.specs.Bounds.{most_steps};
 
 use crate::case::Case;
 use case_forms::{Extras, GREATEST_POSITION, Label, Line, MOST_STEPS, NamedLine, Step};
+use duties::Duties;
 use endpoint_state::{StepFault, World};
 use line_fields::{SourceFault, TextFault};
-use spec_step::{apply_hidden, apply_line_owned};
 use std::alloc::{AllocError, AllocFailed, Global};
 use thiserror::Error;
+use watched::{apply_hidden, apply_line_owned};
 
 /// Why a case can't be replayed.
 #[derive(Clone, Copy, Debug, Error)]
@@ -52,7 +53,7 @@ impl<T: Drop> From<AllocFailed<T>> for ReplayFault {
 #[derive(Drop)]
 pub struct Replay<'c> {
     case: &'c Case<'c>,
-    world: World,
+    watched: watched::Case,
 }
 
 impl<'c> Replay<'c> {
@@ -60,13 +61,23 @@ impl<'c> Replay<'c> {
     pub fn new(alloc: Global, case: &'c Case<'c>) -> Replay<'c> {
         Replay {
             case,
-            world: World::start(alloc, &case.trace.header),
+            watched: watched::Case::start(alloc, &case.trace.header),
         }
     }
 
     /// The world after the steps that were done.
     pub fn world(&self) -> &World {
-        &self.world
+        self.watched.world()
+    }
+
+    /// What its hosts owe after these steps. Nothing, if the header has no slack.
+    pub fn duties(&self) -> &Duties {
+        self.watched.duties()
+    }
+
+    /// The case that is replayed.
+    pub fn case(&self) -> &'c Case<'c> {
+        self.case
     }
 
     /// Does the steps before the refused one, or all of them.
@@ -77,43 +88,43 @@ impl<'c> Replay<'c> {
         Ok(())
     }
 
-    /// Does a step. If it breaks a rule, the world doesn't change.
+    /// Does a step. After one that a duty refuses, the replay is of no use.
     pub fn apply(&mut self, step: &Step) -> Result<(), ReplayFault> {
         let Label::L(named) = &step.label else {
-            return apply_other(&mut self.world, step);
+            return apply_other(&mut self.watched, step);
         };
         match self.case.line(named.number) {
-            Some(line) => apply_taken(&mut self.world, step.moment, line.copy()?, named.extras),
+            Some(line) => apply_taken(&mut self.watched, step.moment, line.copy()?, named.extras),
             None => Ok(()),
         }
     }
 }
 
-/// Uses a line, whose segment isn't copied. If the step breaks a rule, the world doesn't change.
+/// Uses a line, whose segment isn't copied. After a step that a duty refuses, the case is of no use.
 pub(crate) fn apply_taken(
-    world: &mut World,
+    watched: &mut watched::Case,
     moment: u64,
     line: Line,
     extras: Extras,
 ) -> Result<(), ReplayFault> {
-    if !has_room(world) {
+    if !may_go_on(watched) {
         return Err(ReplayFault::TooManySteps);
     }
     match line.taken(extras) {
-        Some(taken) => unless_broken(apply_line_owned(world, moment, taken)),
+        Some(taken) => unless_broken(apply_line_owned(watched, moment, taken)),
         None => Ok(()),
     }
 }
 
-/// Does a step that uses no line. If it breaks a rule, the world doesn't change.
-pub(crate) fn apply_other(world: &mut World, step: &Step) -> Result<(), ReplayFault> {
-    if !has_room(world) {
+/// Does a step that uses no line, in the same way.
+pub(crate) fn apply_other(watched: &mut watched::Case, step: &Step) -> Result<(), ReplayFault> {
+    if !may_go_on(watched) {
         return Err(ReplayFault::TooManySteps);
     }
     if !is_within_limits(&step.label) {
         return Ok(());
     }
-    unless_broken(apply_hidden(world, step.moment, &step.label))
+    unless_broken(apply_hidden(watched, step.moment, &step.label))
 }
 
 // A step that breaks a rule isn't done, which is no fault.
@@ -129,6 +140,13 @@ pub fn has_room(world: &World) -> bool
     ensures { IsTrue result → world.now.steps < most_steps }
 {
     world.steps() < MOST_STEPS
+}
+
+// The same for a case.
+fn may_go_on(watched: &watched::Case) -> bool
+    ensures { IsTrue result → watched.now.steps < most_steps }
+{
+    watched.steps() < MOST_STEPS
 }
 
 // Whether the position that a label names is within limits; no witness that can be read has another.

@@ -29,15 +29,19 @@ pub(crate) fn offered(out: &mut String, Building { plan, endpoint, .. }: Buildin
     writeln!(out, "= SND.UNA {una} + SND.WND {wnd}{probe}")
 }
 
-/// The end of new bytes, and the congestion edge.
-pub(crate) fn congestion(out: &mut String, Building { plan, endpoint, .. }: Building) -> Done {
+/// The end of the segment's bytes, which are `what`, and the congestion edge.
+pub(crate) fn congestion(
+    out: &mut String,
+    what: &str,
+    Building { plan, endpoint, .. }: Building,
+) -> Done {
     let (una, control) = (endpoint.stream.snd_una, &endpoint.control);
     if una >= POSITIONS {
         return Ok(());
     }
     let (cwnd, smss) = (control.values.cwnd, control.values.smss);
     let (end, edge) = (end_of(plan), control.send_edge(una));
-    write!(out, "new bytes end at {end}, the congestion edge ")?;
+    write!(out, "{what} end at {end}, the congestion edge ")?;
     write!(out, "is {edge} = SND.UNA {una} + cwnd {cwnd}")?;
     if edge > una.saturating_add(u64::from(cwnd)) {
         write!(out, " + two segments of {smss}")?;

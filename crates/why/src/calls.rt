@@ -9,7 +9,7 @@ use case_forms::{Answer, Call, Event, Host, Label};
 use endpoint_state::World;
 use plain_words::{AnswerFields, AnswerWords, CallWords, HostName};
 use replayed::socket_of;
-use spec_tcp::SocketTarget;
+use spec_tcp::{EndpointId, SocketTarget};
 
 // Of data with more bytes than this, only the length is shown.
 const SHOWN: usize = 60;
@@ -78,13 +78,13 @@ pub(crate) fn describe_end(out: &mut String, scene: &Scene, thread: u32, answer:
 }
 
 /// Where a socket number was returned before.
-pub(crate) fn socket(out: &mut String, world: &World, number: u32) -> Done {
-    if let Some(host) = giver(world, number) {
+pub(crate) fn socket(out: &mut String, scene: &Scene, number: u32) -> Done {
+    if let Some(host) = giver(scene.world(), number) {
         write!(out, "socket number {number} was returned before, ")?;
         let host = HostName(host);
         writeln!(out, "at {host}; each is returned once, at either host")?;
     }
-    describe_named(out, world, number)
+    describe_named(out, scene, number)
 }
 
 /// What the call refers to, and the answers that it may have.
@@ -92,7 +92,7 @@ pub(crate) fn call_answer(out: &mut String, scene: &Scene, thread: u32, answer: 
     let Some(call) = scene.world().pending_call(thread) else {
         return Ok(());
     };
-    describe_object(out, scene.world(), call)?;
+    describe_object(out, scene, call)?;
     out.push_str("the witness has the answer:")?;
     say_answer(out, answer)?;
     out.push_str("allowed there:")?;
@@ -101,21 +101,26 @@ pub(crate) fn call_answer(out: &mut String, scene: &Scene, thread: u32, answer: 
 }
 
 // Writes what a call refers to.
-fn describe_object(out: &mut String, world: &World, call: &Call) -> Done {
+fn describe_object(out: &mut String, scene: &Scene, call: &Call) -> Done {
+    let world = scene.world();
     match call {
         Call::Listen(host, port, _) => match world.body(*host).listener_on(*port) {
             Some(place) => describe_listener(out, world, *host, place),
             None => Ok(()),
         },
-        Call::Connect(host, lport, rport) => match world.body(*host).endpoint_of(*lport, *rport) {
-            Some(endpoint) => describe(out, *host, endpoint),
+        Call::Connect(host, lport, rport) => match world.body(*host).place_of(*lport, *rport) {
+            Some(place) => describe_at(out, scene, *host, place),
             None => Ok(()),
         },
         _ => match socket_of(call) {
-            Some(socket) => describe_named(out, world, socket),
+            Some(socket) => describe_named(out, scene, socket),
             None => Ok(()),
         },
     }
+}
+
+fn describe_at(out: &mut String, scene: &Scene, host: Host, number: u32) -> Done {
+    describe(out, scene, EndpointId { host, number })
 }
 
 /// The host that returned a socket number. None: neither did.
@@ -127,16 +132,13 @@ pub(crate) fn giver(world: &World, socket: u32) -> Option<Host> {
 }
 
 // Writes what a socket number names at the host that returned it.
-fn describe_named(out: &mut String, world: &World, socket: u32) -> Done {
+fn describe_named(out: &mut String, scene: &Scene, socket: u32) -> Done {
+    let world = scene.world();
     let Some(host) = giver(world, socket) else {
         return writeln!(out, "socket number {socket} was never returned");
     };
-    let body = world.body(host);
-    match body.thing(socket) {
-        Some(SocketTarget::EndpointAt(place)) => match body.endpoint_at(place) {
-            Some(endpoint) => describe(out, host, endpoint),
-            None => Ok(()),
-        },
+    match world.body(host).thing(socket) {
+        Some(SocketTarget::EndpointAt(place)) => describe_at(out, scene, host, place),
         Some(SocketTarget::ListenerAt(place)) => describe_listener(out, world, host, place),
         None => writeln!(out, "socket number {socket} was closed or aborted"),
     }

@@ -1,10 +1,13 @@
 //! An endpoint in words.
 
 use crate::Done;
+use crate::owed::describe_owed;
+use crate::scene::Scene;
 use case_forms::Host;
 use endpoint_state::Endpoint;
 use line_fields::state_name;
 use plain_words::{HostName, word_if};
+use spec_tcp::EndpointId;
 
 // The slow start threshold of an endpoint that hasn't set it.
 const UNSET: u32 = u32::MAX;
@@ -15,12 +18,38 @@ pub(crate) fn no_endpoint(out: &mut String, host: Host, lport: u16, rport: u16) 
     writeln!(out, "its port {lport} and the peer's port {rport}")
 }
 
-/// Writes the values of an endpoint that rules compare, as they are before the step.
-pub(crate) fn describe(out: &mut String, host: Host, endpoint: &Endpoint) -> Done {
+/// Writes the endpoint of a host with these ports, or that it has none.
+pub(crate) fn describe_ports(
+    out: &mut String,
+    scene: &Scene,
+    host: Host,
+    lport: u16,
+    rport: u16,
+) -> Done {
+    match scene.world().body(host).place_of(lport, rport) {
+        Some(number) => describe(out, scene, EndpointId { host, number }),
+        None => no_endpoint(out, host, lport, rport),
+    }
+}
+
+/// Writes the values of an endpoint that rules compare, as they are before the step or after the last one.
+pub(crate) fn describe(out: &mut String, scene: &Scene, id: EndpointId) -> Done {
+    let Some(endpoint) = scene.world().body(id.host).endpoint_at(id.number) else {
+        return Ok(());
+    };
     let (lport, rport) = (endpoint.lport, endpoint.rport);
     let state = state_name(endpoint.state);
-    write!(out, "before the step, {}'s endpoint ", HostName(host))?;
+    out.push_str(match scene.step {
+        Some(_) => "before the step",
+        None => "after the last step",
+    })?;
+    write!(out, ", {}'s endpoint ", HostName(id.host))?;
     writeln!(out, "{lport} -> {rport}: {state}")?;
+    describe_values(out, endpoint)?;
+    describe_owed(out, scene, id, endpoint)
+}
+
+fn describe_values(out: &mut String, endpoint: &Endpoint) -> Done {
     describe_sending(out, endpoint)?;
     describe_receiving(out, endpoint)?;
     describe_windows(out, endpoint)?;

@@ -1,11 +1,11 @@
 //! The verdict on a case, and the reason for it in plain words.
 
-use crate::described::{describe, no_endpoint};
+use crate::described::describe_ports;
 use crate::known::{Origin, say_cause};
 use crate::marks::mark;
 use crate::scene::{Object, Scene};
 use crate::unjudged::say_unjudged;
-use crate::{Done, building, calls, inbox, late, numbers, order, processing, timers, wire};
+use crate::{Done, building, calls, inbox, late, limits, numbers, order, processing, timers, wire};
 use case_forms::{Answer, Event, Host, Label, Line, OutOfMemory, Step};
 use checker::{CaseFault, check_case};
 use line_fields::{FaultKind, TextFault};
@@ -162,14 +162,6 @@ fn describe_line(out: &mut String, scene: &Scene, line: &Line) -> Done {
     }
 }
 
-// The endpoint of a host with these ports, or that it has none.
-fn describe_ports(out: &mut String, scene: &Scene, host: Host, lport: u16, rport: u16) -> Done {
-    match scene.endpoint(host, lport, rport) {
-        Some(endpoint) => describe(out, host, endpoint),
-        None => no_endpoint(out, host, lport, rport),
-    }
-}
-
 // What the rule compares. Each rule is named, so that a new one can't be forgotten here.
 fn compare(out: &mut String, scene: &Scene, rule: Rule) -> Done {
     let (world, moment, object) = (scene.world(), scene.moment(), scene.object());
@@ -186,7 +178,7 @@ fn compare(out: &mut String, scene: &Scene, rule: Rule) -> Done {
         (Rule::Overdue, _, _) => order::overdue(out, scene),
         (Rule::Unplaced, _, _) => order::unplaced(out, scene),
         (Rule::Socket, Object::Effect(_, Answer::Given(number)), _) => {
-            calls::socket(out, world, *number)
+            calls::socket(out, scene, *number)
         }
         (Rule::CallAnswer, Object::Effect(thread, answer), _) => {
             calls::call_answer(out, scene, thread, answer)
@@ -207,7 +199,7 @@ fn compare(out: &mut String, scene: &Scene, rule: Rule) -> Done {
         (Rule::AckField, Object::Building(it), _) => building::ack_field(out, it),
         (Rule::OldData, Object::Building(it), _) => building::old_data(out, it, moment),
         (Rule::Offered, Object::Building(it), _) => building::offered(out, it),
-        (Rule::Congestion, Object::Building(it), _) => building::congestion(out, it),
+        (Rule::Congestion, Object::Building(it), _) => building::congestion(out, "new bytes", it),
         (Rule::Size, Object::Building(it), _) => building::size(out, it),
         (Rule::CopyDiffers, Object::Came(m, wire), _) => wire::copy_differs(out, m, wire),
         (Rule::Lifetime, Object::Came(m, _), _) => wire::lifetime(out, scene, m),
@@ -253,10 +245,16 @@ fn compare(out: &mut String, scene: &Scene, rule: Rule) -> Done {
         (Rule::ScaleUnread, Object::Processing(it), Some(m)) => {
             processing::scale_unread(out, it.endpoint, m)
         }
+        (Rule::Dropped, _, _) => limits::dropped(out, scene),
+        (Rule::Discarded, Object::Processing(it), Some(m)) => limits::discarded(
+            out,
+            it.endpoint,
+            m,
+        ),
+        (Rule::ProcessLate, _, _) => late::waiting(out, scene),
+        (Rule::SendLate, Object::Sent(_, number, _), _) => late::built(out, scene, number),
         (
-            Rule::ProcessLate
-            | Rule::SendLate
-            | Rule::AckLate
+            Rule::AckLate
             | Rule::ExpiryLate
             | Rule::ResendLate
             | Rule::ProbeLate
@@ -264,7 +262,12 @@ fn compare(out: &mut String, scene: &Scene, rule: Rule) -> Done {
             | Rule::ResetLate,
             _,
             _,
-        ) => late::slack(out, scene, rule),
+        ) => late::owed(out, scene),
+        (Rule::Resent, Object::Building(it), _) => limits::resent(out, scene, it),
+        (Rule::ResentBeyond, Object::Building(it), _) => {
+            building::congestion(out, "outstanding bytes", it)
+        }
+        (Rule::AckExcess, _, _) => limits::ack_excess(out, scene),
         // What the step is about says it all.
         (
             Rule::ThreadBusy
@@ -299,11 +302,10 @@ fn compare(out: &mut String, scene: &Scene, rule: Rule) -> Done {
             | Rule::TimerOff
             | Rule::TimerEarly
             | Rule::Recovery
-            | Rule::Dropped
             | Rule::Discarded
+            | Rule::SendLate
             | Rule::Resent
-            | Rule::ResentBeyond
-            | Rule::AckExcess,
+            | Rule::ResentBeyond,
             _,
             _,
         ) => Ok(()),

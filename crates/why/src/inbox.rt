@@ -1,7 +1,7 @@
 //! The segments in an inbox, and which of them a reset may answer.
 
 use crate::Done;
-use crate::described::{describe, no_endpoint};
+use crate::described::{describe_ports, no_endpoint};
 use crate::numbers::ack_of_syn;
 use crate::scene::{Scene, witness_line};
 use case_forms::{Event, Host, Label};
@@ -25,7 +25,7 @@ fn describe_waiting(out: &mut String, scene: &Scene, host: Host, m: &Emission) -
             let read = scene.as_read(endpoint, m);
             let (pos, ack) = read.map_or((m.pos, m.ack), |read| (read.pos(), read.ack()));
             by_positions(out, m, pos, ack)?;
-            describe(out, host, endpoint)
+            describe_ports(out, scene, host, m.rport, m.lport)
         }
         None if scene.header().version.is_half() => {
             by_numbers(out, m)?;

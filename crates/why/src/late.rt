@@ -1,50 +1,46 @@
 //! The rules of duties that are late, at a step or after the last one.
 
 use crate::Done;
-use crate::scene::Scene;
-use case_forms::{Label, Step};
+use crate::described::describe;
+use crate::scene::{Object, Scene};
+use case_forms::Label;
 use plain_words::about;
 use replayed::Refusal;
-use verdict::Rule;
 
-/// Writes which duty is late after the last step, if one is.
+/// Writes which duty is late after the last step, if one is, and the endpoint whose it is.
 pub(crate) fn describe_end(out: &mut String, scene: &Scene) -> Done {
     let Refusal::Late { rule, .. } = scene.refusal() else {
         return Ok(());
     };
-    let (moment, refused) = (last_moment(scene), about(rule).refused);
+    let (moment, refused) = (scene.last_moment(), about(rule).refused);
     out.push_str("no step is refused, and each line is placed\n")?;
     write!(out, "by the moment of the last step, {moment}, ")?;
-    writeln!(out, "a duty is late: {refused}")
-}
-
-// The moment of the last step.
-fn last_moment(scene: &Scene) -> u64 {
-    scene.before.last().map_or(0, |step| step.moment)
-}
-
-/// Since when the segment waits, for `process-late`, and how late the header lets a host be.
-pub(crate) fn slack(out: &mut String, scene: &Scene, rule: Rule) -> Done {
-    if let Rule::ProcessLate = rule {
-        waiting(out, scene)?;
-    }
-    match scene.header().slack {
-        Some(slack) => writeln!(out, "a host may be at most {slack} microseconds late"),
+    writeln!(out, "a duty is late: {refused}")?;
+    match scene.debtor {
+        Some(debtor) => describe(out, scene, debtor.id),
         None => Ok(()),
     }
 }
 
-// The moment at which the segment came.
-fn waiting(out: &mut String, scene: &Scene) -> Done {
+/// Writes the endpoint that the step touches, if that is the effect of a call or a segment that is sent. For any other
+/// step it was written before.
+pub(crate) fn describe_touched(out: &mut String, scene: &Scene) -> Done {
+    let is_unwritten = matches!(scene.object(), Object::Effect(..) | Object::Sent(..));
+    match scene.touched {
+        Some(id) if is_unwritten => describe(out, scene, id),
+        _ => Ok(()),
+    }
+}
+
+/// Since when the segment waits in the inbox, and when it was due.
+pub(crate) fn waiting(out: &mut String, scene: &Scene) -> Done {
     let line = waiting_line(scene);
-    match scene.before.iter().find(|step| uses(step, line)) {
-        Some(step) => writeln!(
-            out,
-            "the segment of line {line} has waited since {}",
-            step.moment
-        ),
-        None => Ok(()),
-    }
+    let mut inbox = scene.duties().inbox().iter();
+    let Some((_, Some(since))) = inbox.find(|(number, _)| *number == line) else {
+        return Ok(());
+    };
+    write!(out, "the segment of line {line} has waited since {since}; ")?;
+    say_due(out, scene, "it", u128::from(*since))
 }
 
 // The line of the segment that waits; 0 if none does.
@@ -56,7 +52,42 @@ fn waiting_line(scene: &Scene) -> u64 {
     }
 }
 
-// Whether a step uses a line of the trace.
-fn uses(step: &Step, line: u64) -> bool {
-    matches!(&step.label, Label::L(named) if named.number == line)
+/// When the segment was built that the step sends, and when it was due.
+pub(crate) fn built(out: &mut String, scene: &Scene, number: u32) -> Done {
+    describe_touched(out, scene)?;
+    let Some(since) = built_at(scene, number) else {
+        return Ok(());
+    };
+    write!(out, "segment {number} was built at {since}; ")?;
+    say_due(out, scene, "it", u128::from(since))
+}
+
+// When a segment was built: each `M` and `R` step builds one, and they are numbered from 1.
+fn built_at(scene: &Scene, number: u32) -> Option<u64> {
+    let place = usize::try_from(number).ok()?.checked_sub(1)?;
+    let mut building = scene.before.iter().filter(|step| matches!(
+        step.label,
+        Label::M { .. } | Label::R { .. }
+    ));
+    building.nth(place).map(|step| step.moment)
+}
+
+/// What an endpoint owes, and when it was due.
+pub(crate) fn owed(out: &mut String, scene: &Scene) -> Done {
+    describe_touched(out, scene)?;
+    match scene.debtor {
+        Some(debtor) => say_due(out, scene, debtor.debt.what, debtor.debt.due),
+        None => Ok(()),
+    }
+}
+
+// When something was due, without and with the slack, and the moment that is too late.
+fn say_due(out: &mut String, scene: &Scene, what: &str, due: u128) -> Done {
+    let slack = u128::from(scene.header().slack.unwrap_or(0));
+    let latest = due.saturating_add(slack);
+    write!(out, "{what} was due by {due}, with the slack by {latest}; ")?;
+    match scene.step {
+        Some(step) => writeln!(out, "the step's moment is {}", step.moment),
+        None => writeln!(out, "the last step's moment is {}", scene.last_moment()),
+    }
 }

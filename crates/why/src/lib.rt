@@ -11,8 +11,9 @@
 //! - `explaining`: the verdict's line, what the refused step is about, and what each rule compares there
 //! - `marks`: a line with a fault, and a mark under its columns
 //! - `scene`: the world before the refused step, and what the step is about
-//! - `described`: an endpoint in words; `inbox`: a received segment in words
-//! - `order`, `calls`, `building`, `wire`, `processing`, `numbers`, `timers`, `late`: what the rules compare
+//! - `described`: an endpoint in words; `owed`: what it owes; `inbox`: a received segment in words
+//! - `order`, `calls`, `building`, `wire`, `processing`, `numbers`, `timers`: what the rules compare; `late`, `limits`:
+//!   the same for duties
 //! - `answers`: the answers that a call may have
 //! - `known`: what is known at the step of the causes of its rule
 //! - `fitting`, `segment_window`, `changes`: the other windows that a segment would fit, kept while the case is
@@ -30,9 +31,11 @@ mod fitting;
 mod inbox;
 mod known;
 mod late;
+mod limits;
 mod marks;
 mod numbers;
 mod order;
+mod owed;
 mod processing;
 mod scene;
 mod segment_window;

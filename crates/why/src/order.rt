@@ -57,9 +57,8 @@ pub(crate) fn thread_order(out: &mut String, scene: &Scene) -> Done {
 
 /// The moment of the step, next to that of the step before it.
 pub(crate) fn moment_falls(out: &mut String, scene: &Scene) -> Done {
-    let before = scene.before.last().map_or(0, |step| step.moment);
     write!(out, "the step's moment is {}, ", scene.moment())?;
-    writeln!(out, "that of the step before is {before}")
+    writeln!(out, "that of the step before is {}", scene.last_moment())
 }
 
 /// When a line may be used.

@@ -5,9 +5,10 @@ use case_forms::{
     Answer, Event, Extras, Header, Host, Label, Line, NamedLine, Recovery, SegmentPlan, Step,
     TakeChoice, Timer, Wire,
 };
+use duties::Duties;
 use endpoint_state::{Endpoint, World};
-use replayed::{Case, Refusal, Replay, ReplayFault};
-use spec_tcp::{Arrived, Emission};
+use replayed::{Case, Debtor, Refusal, Replay, ReplayFault};
+use spec_tcp::{Arrived, Emission, EndpointId};
 use std::alloc::Global;
 use std::collections::BTreeMap;
 
@@ -25,6 +26,10 @@ pub(crate) struct Scene<'c> {
     pub used: BTreeMap<u64, u64>,
     /// If the step builds a segment, other windows of the endpoint that builds it.
     pub others: Option<OtherWindows>,
+    /// The endpoint that the step touches. None: it touches none, or creates one.
+    pub touched: Option<EndpointId>,
+    /// The endpoint whose duty is late at the step or after the last one. None: the rule is none of 44 to 49.
+    pub debtor: Option<Debtor>,
 }
 
 /// What a step is about, and the endpoint that it concerns.
@@ -87,11 +92,20 @@ impl<'c> Scene<'c> {
             replay: Replay::new(alloc, case),
             used: BTreeMap::new(alloc),
             others: OtherWindows::of(alloc, step),
+            touched: None,
+            debtor: None,
         }
     }
 
-    /// Does the steps before the refused one.
+    /// Does the steps before the refused one, and looks at that.
     pub(crate) fn run(&mut self) -> Result<(), ReplayFault> {
+        self.do_steps()?;
+        self.touched = self.step.and_then(|step| self.replay.touched(step));
+        self.debtor = self.replay.debtor();
+        Ok(())
+    }
+
+    fn do_steps(&mut self) -> Result<(), ReplayFault> {
         for (place, step) in self.before.iter().enumerate() {
             if let Some(others) = &mut self.others {
                 others.note(self.replay.world(), step);
@@ -111,6 +125,10 @@ impl<'c> Scene<'c> {
         self.replay.world()
     }
 
+    pub(crate) fn duties(&self) -> &Duties {
+        self.replay.duties()
+    }
+
     pub(crate) fn header(&self) -> &'c Header {
         &self.case.trace.header
     }
@@ -123,6 +141,11 @@ impl<'c> Scene<'c> {
     /// Where the case is refused.
     pub(crate) fn refusal(&self) -> Refusal<'c> {
         self.case.refusal()
+    }
+
+    /// The moment of the last step before the refused one.
+    pub(crate) fn last_moment(&self) -> u64 {
+        self.before.last().map_or(0, |step| step.moment)
     }
 
     /// The moment of the step.

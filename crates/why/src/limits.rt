@@ -1,0 +1,68 @@
+//! The limits: what may be dropped or discarded, and how often something is sent.
+
+use crate::Done;
+use crate::late::describe_touched;
+use crate::scene::{Building, Scene};
+use case_forms::{Label, TakeChoice};
+use endpoint_state::Endpoint;
+use spec_duties::Owed;
+use spec_tcp::Arrived;
+
+// The choice with which a segment may be processed if it may be with any.
+const LEAST: TakeChoice = TakeChoice {
+    cwnd: 0,
+    keep: false,
+    sample: false,
+};
+
+/// Why the segment of a line may not be dropped.
+pub(crate) fn dropped(out: &mut String, scene: &Scene) -> Done {
+    let Some(Label::K { host, line }) = scene.step.map(|step| &step.label) else {
+        return Ok(());
+    };
+    let taken = scene
+        .world()
+        .admits_taking(*host, scene.moment(), *line, LEAST);
+    out.push_str(if taken.is_ok() {
+        "processing it would break no rule, so it may not be dropped\n"
+    } else {
+        "answering it with a reset would break no rule, so it may not be dropped\n"
+    })
+}
+
+/// What is next in order, and where the receive window ends.
+pub(crate) fn discarded(out: &mut String, endpoint: &Endpoint, m: &Arrived) -> Done {
+    let (first, length) = (m.pos(), m.length());
+    let (next, edge) = (endpoint.rcv_nxt(), endpoint.window.rcv_adv);
+    write!(out, "it occupies {length} positions, from {first} on; ")?;
+    write!(out, "{next} is next in order and inside the window, ")?;
+    writeln!(
+        out,
+        "which ends before {edge}, and the step doesn't keep it"
+    )
+}
+
+/// Where the segment begins, and up to where data was sent again already.
+pub(crate) fn resent(out: &mut String, scene: &Scene, it: Building) -> Done {
+    let Some(Owed { again, .. }) = owed_by_touched(scene) else {
+        return Ok(());
+    };
+    write!(out, "it begins at {}, and again is {again}: ", it.plan.pos)?;
+    out.push_str("all positions below that were sent again already\n")
+}
+
+/// For how many segments an acknowledgment may still be sent.
+pub(crate) fn ack_excess(out: &mut String, scene: &Scene) -> Done {
+    describe_touched(out, scene)?;
+    let Some(Owed { answers, .. }) = owed_by_touched(scene) else {
+        return Ok(());
+    };
+    write!(out, "answers is {answers}: as many acknowledgments ")?;
+    out.push_str("were sent as segments came\n")
+}
+
+// What the endpoint owes that the step touches.
+fn owed_by_touched(scene: &Scene) -> Option<Owed> {
+    let id = scene.touched?;
+    Some(scene.duties().owed_by(id.host, id.number))
+}

@@ -1,0 +1,40 @@
+//! What an endpoint owes.
+
+use crate::Done;
+use crate::scene::Scene;
+use endpoint_state::Endpoint;
+use plain_words::word_if;
+use replayed::{Debt, debts_of};
+use spec_tcp::EndpointId;
+
+/// Writes what an endpoint owes, if the header has a slack.
+pub(crate) fn describe_owed(
+    out: &mut String,
+    scene: &Scene,
+    id: EndpointId,
+    endpoint: &Endpoint,
+) -> Done {
+    let Some(slack) = scene.header().slack else {
+        return Ok(());
+    };
+    out.push_str("  owes:")?;
+    let start = out.len();
+    for debt in debts_of(scene.duties(), id, endpoint) {
+        if let Some(debt) = debt {
+            out.push_str(word_if(start < out.len(), ";"))?;
+            say_debt(out, &debt)?;
+        }
+    }
+    if start == out.len() {
+        return out.push_str(" nothing\n");
+    }
+    writeln!(out, " (and {slack} of slack)")
+}
+
+fn say_debt(out: &mut String, debt: &Debt) -> Done {
+    write!(out, " {} since {}, ", debt.what, debt.since)?;
+    if debt.is_due_at_once() {
+        return out.push_str("due at once");
+    }
+    write!(out, "due by {}", debt.due)
+}
