@@ -18,4 +18,6 @@ mod laws;
 mod sights;
 
 pub use cases::{Case, apply_hidden, apply_line_owned};
+pub use ending::late_at_end;
 pub use laws::{case_rules_ascend, nothing_discarded_is_seen};
+pub use sights::{sight_of_hidden, sight_of_line, view_in};

@@ -3,7 +3,7 @@
 use crate::candidates::{Candidates, Done};
 use crate::together::Kind;
 use case_forms::{Event, Line, OutOfMemory, Timer};
-use forward_pass::{Attempt, Deed, EndpointKey, Failure, Fate, Findings, Remedy, Unseen};
+use forward_pass::{Attempt, Deed, EndpointKey, Failure, Fate, Findings, Remedy, Sought, Unseen};
 use segment::Flag;
 use verdict::Rule;
 
@@ -29,6 +29,8 @@ pub(crate) struct Known<'t> {
     pub lines: &'t [Line],
     pub findings: &'t Findings,
     pub failure: Failure,
+    /// For how many microseconds an arrival may wait.
+    longest_wait: u64,
 }
 
 // A line that is examined, the first time or the second.
@@ -50,11 +52,13 @@ pub(crate) fn push_candidates(out: &mut Candidates, known: &Known<'_>) -> Result
 
 impl<'t> Known<'t> {
     /// What is known of an attempt's failure. None: it didn't fail.
-    pub(crate) fn of(attempt: &'t Attempt, lines: &'t [Line]) -> Option<Known<'t>> {
+    pub(crate) fn of(attempt: &'t Attempt, sought: Sought<'t>) -> Option<Known<'t>> {
+        let slack = sought.header.slack.unwrap_or(LONGEST_WAIT);
         Some(Known {
-            lines,
+            lines: sought.lines,
             findings: &attempt.findings,
             failure: attempt.failure()?,
+            longest_wait: slack.min(LONGEST_WAIT),
         })
     }
 
@@ -127,7 +131,12 @@ impl<'t> Known<'t> {
     fn is_timed(&self) -> bool {
         matches!(
             self.failure.rule,
-            Rule::TimerOff | Rule::TimerEarly | Rule::Growth | Rule::OldData
+            Rule::TimerOff
+                | Rule::TimerEarly
+                | Rule::Growth
+                | Rule::OldData
+                | Rule::ExpiryLate
+                | Rule::Resent
         )
     }
 
@@ -154,7 +163,7 @@ impl<'t> Known<'t> {
             return false;
         };
         !matches!(line.event, Event::Came(..))
-            || later.moment.saturating_sub(line.moment) <= LONGEST_WAIT
+            || later.moment.saturating_sub(line.moment) <= self.longest_wait
     }
 
     // The segment of a line was built after one of the lines before it, or something happened before the line.

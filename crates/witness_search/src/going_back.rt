@@ -11,6 +11,7 @@ use case_forms::OutOfMemory;
 use forward_pass::{Attempt, Choices, Sought};
 use std::collections::BTreeMap;
 use std::mem::swap;
+use verdict::Rule;
 
 // How many times candidates are listed for one line.
 const LISTS: u32 = 3;
@@ -33,6 +34,26 @@ struct Level {
     /// The next candidate, and the first one of another level.
     next: usize,
     stop: usize,
+}
+
+// Whether a rule is one of a duty or a limit (version 5).
+fn is_of_duty(rule: Rule) -> bool {
+    matches!(
+        rule,
+        Rule::Dropped
+            | Rule::Discarded
+            | Rule::ProcessLate
+            | Rule::SendLate
+            | Rule::AckLate
+            | Rule::ExpiryLate
+            | Rule::ResendLate
+            | Rule::ProbeLate
+            | Rule::StartLate
+            | Rule::ResetLate
+            | Rule::Resent
+            | Rule::ResentBeyond
+            | Rule::AckExcess
+    )
 }
 
 /// A search that goes back.
@@ -93,7 +114,7 @@ impl<'t> Retries<'t> {
                 break;
             }
         }
-        Ok(())
+        self.forgive()
     }
 
     // How many steps are spent in all, at most.
@@ -146,7 +167,7 @@ impl<'t> Retries<'t> {
 
     // Tries two candidates of the best attempt at once. The result is whether they explain a further line.
     fn try_pairs(&mut self) -> Result<bool, OutOfMemory> {
-        let Some(known) = Known::of(&self.best, self.sought.lines) else {
+        let Some(known) = Known::of(&self.best, self.sought) else {
             return Ok(false);
         };
         let place = known.failure.place;
@@ -212,7 +233,7 @@ impl<'t> Retries<'t> {
 
     // Puts the level of the last attempt on the path, unless candidates were listed this often for its line.
     fn go_on_from_last(&mut self, lists: u32) -> Done {
-        let Some(known) = Known::of(&self.last, self.sought.lines) else {
+        let Some(known) = Known::of(&self.last, self.sought) else {
             return Ok(());
         };
         let place = known.failure.place;
@@ -230,6 +251,37 @@ impl<'t> Retries<'t> {
             next,
             stop: self.candidates.len(),
         })?;
+        Ok(())
+    }
+
+    // If no choice explains a line, one may do so that breaks a duty before it. The witness then ends with the step that
+    // the duty refuses: it tells more than the line, which the trace explains only without that duty.
+    fn forgive(&mut self) -> Done {
+        let Some(known) = Known::of(&self.best, self.sought) else {
+            return Ok(());
+        };
+        if self.sought.header.slack.is_none() || is_of_duty(known.failure.rule) {
+            return Ok(());
+        }
+        let place = known.failure.place;
+        self.pairs.truncate(0);
+        push_candidates(&mut self.pairs, &known)?;
+        self.sought.forgives = true;
+        self.try_forgiving(place)
+    }
+
+    // Tries the choices of the best attempt, then one candidate more, until one explains a place.
+    fn try_forgiving(&mut self, place: usize) -> Done {
+        let most = self.cost.saturating_add(self.budget).min(self.most());
+        for index in 0..=self.pairs.len() {
+            self.choices.set(&self.chosen)?;
+            if let Some(index) = index.checked_sub(1) {
+                self.choices.push_all(self.pairs.at(index))?;
+            }
+            if self.try_once(place)? || self.cost >= most {
+                break;
+            }
+        }
         Ok(())
     }
 

@@ -74,11 +74,13 @@ impl Known<'_> {
         self.widen(out)?;
         self.drop_all(out)?;
         match (self.failure.rule, self.failure.key) {
-            (Rule::OldData, Some(at)) => {
+            (Rule::OldData | Rule::Resent | Rule::ExpiryLate, Some(at)) => {
                 self.expire_each(out, at)?;
                 self.measure_less(out, at)
             }
-            (Rule::CallAnswer | Rule::TimerOff, Some(at)) => self.expire_each(out, at),
+            (Rule::CallAnswer | Rule::TimerOff | Rule::ResendLate, Some(at)) => {
+                self.expire_each(out, at)
+            }
             (Rule::TimerEarly, Some(at)) => self.measure_less(out, at),
             _ => Ok(()),
         }
