@@ -31,12 +31,10 @@ impl Watch {
             .err()
     }
 
-    // Whether a step is done that breaks this rule of a duty.
-    fn permits(self, broken: Option<Rule>) -> Result<(), StepFault> {
-        match broken {
-            Some(rule) if !self.forgives => Err(StepFault::Broken(rule)),
-            _ => Ok(()),
-        }
+    // Whether a step is done that breaks this rule of a duty. `admitted`: whether the model permits it.
+    fn permits(self, broken: Rule, admitted: Result<(), Rule>) -> Result<(), Rule> {
+        admitted?;
+        if self.forgives { Ok(()) } else { Err(broken) }
     }
 
     // What hosts owe after a step.
@@ -58,10 +56,9 @@ impl Watch {
     {
         let sight = sight_of_line(world, self.moment, &line);
         let broken = self.broken(world, duties, &sight);
-        if broken.is_some() {
-            admits_line(world, self.moment, &line)?;
+        if let Some(rule) = broken {
+            self.permits(rule, admits_line(world, self.moment, &line))?;
         }
-        self.permits(broken)?;
         apply_line_owned(world, self.moment, line)?;
         self.note(world, duties, &sight)?;
         Ok(broken)
@@ -79,10 +76,9 @@ impl Watch {
     {
         let sight = sight_of_hidden(world, self.moment, label);
         let broken = self.broken(world, duties, &sight);
-        if broken.is_some() {
-            admits_hidden(world, self.moment, label)?;
+        if let Some(rule) = broken {
+            self.permits(rule, admits_hidden(world, self.moment, label))?;
         }
-        self.permits(broken)?;
         apply_hidden(world, self.moment, label)?;
         self.note(world, duties, &sight)?;
         Ok(broken)

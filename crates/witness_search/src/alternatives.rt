@@ -30,7 +30,7 @@ pub(crate) struct Known<'t> {
     pub findings: &'t Findings,
     pub failure: Failure,
     /// For how many microseconds an arrival may wait.
-    longest_wait: u64,
+    pub longest_wait: u64,
 }
 
 // A line that is examined, the first time or the second.

@@ -18,9 +18,9 @@ pub const USUAL_BUDGET: u64 = 2_000_000;
 pub enum Ending {
     /// All lines are explained.
     Whole,
-    /// No other choice explains this line of the trace.
+    /// No other choice explains this line of the trace. 0: each is explained, but a duty is late at the end.
     Exhausted { line: u64 },
-    /// This line of the trace isn't explained, and the budget is spent.
+    /// This line of the trace isn't explained, and the budget is spent. 0: as in `Exhausted`.
     BudgetSpent { line: u64 },
     /// Explaining this line of the trace would take more steps than a case can have.
     TooManySteps { line: u64 },
@@ -146,7 +146,14 @@ fn end_with_forgiven(alloc: Global, findings: &mut Findings) -> Result<(), OutOf
 // How a search ended.
 fn ending_of(retries: &Retries<'_>) -> Ending {
     let first = retries.sought.header.first_event_line();
-    let line_at = |place: usize| first.saturating_add(place as u64);
+    let count = retries.sought.lines.len();
+    let line_at = |place: usize| {
+        if place < count {
+            first.saturating_add(place as u64)
+        } else {
+            0
+        }
+    };
     if let Some(forgiven) = retries.best.findings.forgiven {
         let line = line_at(forgiven.place);
         return Ending::Exhausted { line };

@@ -254,8 +254,8 @@ impl<'t> Retries<'t> {
         Ok(())
     }
 
-    // If no choice explains a line, one may do so that breaks a duty before it. The witness then ends with the step that
-    // the duty refuses: it tells more than the line, which the trace explains only without that duty.
+    // If no choice explains a line, one that breaks a duty may do so. The witness then ends with the step that the duty
+    // refuses, which tells more than the line.
     fn forgive(&mut self) -> Done {
         let Some(known) = Known::of(&self.best, self.sought) else {
             return Ok(());
@@ -267,18 +267,25 @@ impl<'t> Retries<'t> {
         self.pairs.truncate(0);
         push_candidates(&mut self.pairs, &known)?;
         self.sought.forgives = true;
-        self.try_forgiving(place)
+        let cost = self.cost;
+        self.try_forgiving(place)?;
+        self.cost = cost;
+        Ok(())
     }
 
-    // Tries the choices of the best attempt, then one candidate more, until one explains a place.
+    // Tries the choices of the best attempt, then one candidate more, until one explains a place. It spends at most the
+    // budget for one line.
     fn try_forgiving(&mut self, place: usize) -> Done {
         let most = self.cost.saturating_add(self.budget).min(self.most());
         for index in 0..=self.pairs.len() {
+            if self.cost >= most {
+                break;
+            }
             self.choices.set(&self.chosen)?;
             if let Some(index) = index.checked_sub(1) {
                 self.choices.push_all(self.pairs.at(index))?;
             }
-            if self.try_once(place)? || self.cost >= most {
+            if self.try_once(place)? {
                 break;
             }
         }

@@ -74,10 +74,16 @@ impl Known<'_> {
         self.widen(out)?;
         self.drop_all(out)?;
         match (self.failure.rule, self.failure.key) {
-            (Rule::OldData | Rule::Resent | Rule::ExpiryLate, Some(at)) => {
+            (Rule::OldData | Rule::Resent, Some(at)) => {
                 self.expire_each(out, at)?;
                 self.measure_less(out, at)
             }
+            (Rule::ExpiryLate, Some(at)) => {
+                self.expire_in_time(out, at, Remedy::Rto)?;
+                self.expire_each(out, at)?;
+                self.measure_less(out, at)
+            }
+            (Rule::ProbeLate, Some(at)) => self.expire_in_time(out, at, Remedy::Persist),
             (Rule::CallAnswer | Rule::TimerOff | Rule::ResendLate, Some(at)) => {
                 self.expire_each(out, at)
             }
@@ -133,6 +139,20 @@ impl Known<'_> {
             }
         }
         out.end()
+    }
+
+    // A timer expires before the failure, as early as the slack permits if its segment is sent then.
+    fn expire_in_time(&self, out: &mut Candidates, at: EndpointKey, remedy: Remedy) -> Done {
+        let Some(line) = self.lines.get(self.failure.place) else {
+            return Ok(());
+        };
+        let first = line.moment.saturating_sub(self.longest_wait);
+        let places = (1..=REACH).map_while(|distance| self.place_at(Side::Before, distance));
+        let moment_at = |place: usize| self.lines.get(place).map_or(0, |line| line.moment);
+        match places.take_while(|place| first <= moment_at(*place)).last() {
+            Some(place) => out.push(place, Deed::Before(at, remedy)),
+            None => Ok(()),
+        }
     }
 
     // The segment with bytes or a FIN that an endpoint sends with the line at a place.

@@ -165,8 +165,8 @@ impl<'t> Pass<'t> {
         Ok(())
     }
 
-    // The oldest segment may be sent again without another expiry after one, or if retransmissions aren't judged. Duties
-    // require the timer to expire all the same.
+    // After one expiry, or if retransmissions aren't judged, the oldest segment may be sent again without another.
+    // A duty requires one all the same.
     fn expire_before_oldest(&mut self, key: EndpointKey, wire: &Wire) -> Done {
         if !self.progress.has_expiry_due(key) {
             return Ok(());
