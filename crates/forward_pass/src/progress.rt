@@ -477,7 +477,10 @@ impl Progress {
 
     /// Whether an armed retransmission timer has to expire at some moment, if duties are judged.
     pub(crate) fn has_expiry_due(&self, key: EndpointKey) -> bool {
-        let endpoint = self.slack.and(self.endpoint(key));
+        if self.slack.is_none() {
+            return false;
+        }
+        let endpoint = self.endpoint(key);
         endpoint.is_some_and(|endpoint| expiry_due(&view_of(endpoint), 0).is_some())
     }
 

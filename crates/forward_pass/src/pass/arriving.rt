@@ -22,6 +22,9 @@ use verdict::Rule;
 // microseconds before the stack processes it, and longer on a busy machine.
 const LATE: u64 = 20_000;
 
+// For how many microseconds an acknowledgment may be delayed (RFC 9293, 3.8.6.3).
+const DELAY: u64 = 500_000;
+
 // When an arrival is processed.
 #[derive(Clone, Copy)]
 enum Turn {
@@ -41,11 +44,11 @@ fn acknowledges_next(endpoint: &Endpoint, wire: &Wire) -> bool {
 }
 
 // Whether a segment was built before its sender processes an arrival: it acknowledges less, or contains what the
-// arrival acknowledges. If so, the result is whether the arrival changes what is acknowledged.
-fn built_before(endpoint: &Endpoint, m: &Arrived<'_>, wire: &Wire) -> Option<bool> {
+// arrival acknowledges. If so, the result is whether the arrival changes what is acknowledged. `is_open`: it may do so.
+fn built_before(endpoint: &Endpoint, m: &Arrived<'_>, wire: &Wire, is_open: bool) -> Option<bool> {
     let seg = &wire.seg;
     let end = u128::from(m.pos()) + m.length();
-    let next = m.pos() <= endpoint.rcv_nxt() && u128::from(endpoint.rcv_nxt()) < end;
+    let next = is_open && m.pos() <= endpoint.rcv_nxt() && u128::from(endpoint.rcv_nxt()) < end;
     if next && acknowledges_next(endpoint, wire) {
         return Some(next);
     }
@@ -220,6 +223,12 @@ impl<'t> Pass<'t> {
         if how.is_widened {
             self.widen(host, line)?;
         }
+        if self.is_unanswered(host, line) {
+            let dropped = self.progress.drop_arrival(host, line, Will::Try);
+            if permitted(dropped)?.is_some() {
+                return Ok(());
+            }
+        }
         if self.try_processing(host, line, how)? {
             return Ok(());
         }
@@ -227,6 +236,24 @@ impl<'t> Pass<'t> {
             return Ok(());
         }
         self.answer_or_drop(host, line)
+    }
+
+    // Whether a SYN that would create an endpoint isn't answered in time, if duties are judged.
+    fn is_unanswered(&self, host: Host, line: u64) -> bool {
+        let slack = self.progress.slack();
+        let (Some(slack), Some((key, m))) = (slack, self.progress.waiting(host, line)) else {
+            return false;
+        };
+        if !m.flags.syn || self.progress.read(key, m).is_some() {
+            return false;
+        }
+        let latest = self
+            .progress
+            .moment()
+            .saturating_add(slack)
+            .saturating_add(DELAY);
+        let next = self.outgoing.next(key);
+        next.is_none_or(|shown| latest < self.moment_of(shown))
     }
 
     // Answers an arrival by a reset, or drops it.
@@ -377,7 +404,11 @@ impl<'t> Pass<'t> {
         let (key, m) = self.progress.waiting(host, line)?;
         let shown = self.outgoing.next(key)?;
         let (endpoint, read) = self.progress.read(key, m)?;
-        Some((shown, built_before(endpoint, &read, shown.wire)?))
+        // What meets a closed window is dropped and answered, if duties are judged.
+        let is_open = self.progress.slack().is_none()
+            || 0 < endpoint.receive_window()
+            || endpoint.irs.is_none();
+        Some((shown, built_before(endpoint, &read, shown.wire, is_open)?))
     }
 
     // Whether a segment that is built now is sent in time.
