@@ -284,7 +284,7 @@ impl Progress {
 
     // Does a step that takes a line and that duties judge.
     fn watch_line(&mut self, slack: u64, line: TakenLine, will: Will) -> Result<(), StepFault>
-        requires { self.old.world.now.steps < most_steps }
+        requires { self.old.world.steps < most_steps }
     {
         let watch = self.watch(slack, will);
         let broken = watch.line(&mut self.world, &mut self.duties, line)?;
@@ -294,7 +294,7 @@ impl Progress {
 
     // Does a step that takes no line.
     fn do_hidden(&mut self, label: &Label<NamedLine>, will: Will) -> Result<(), StepFault>
-        requires steps { self.old.world.now.steps < most_steps }
+        requires steps { self.old.world.steps < most_steps }
         requires label { IsWithinLimits label.now }
     {
         match self.slack {
@@ -396,7 +396,7 @@ impl Progress {
 
     // A timer expires with the next line.
     fn expire_by(&mut self, key: EndpointKey, expired: Expired, will: Will) -> Result<(), StepFault>
-        requires { self.old.world.now.steps < most_steps }
+        requires { self.old.world.steps < most_steps }
     {
         let (host, ports, line) = (key.host(), key.ports(), self.log.number);
         match self.slack {

@@ -36,23 +36,11 @@ struct Level {
     stop: usize,
 }
 
-// Whether a rule is one of a duty or a limit (version 5).
-fn is_of_duty(rule: Rule) -> bool {
+// Whether a line that breaks a rule shows that its host didn't process what came.
+fn shows_what_came(rule: Rule) -> bool {
     matches!(
         rule,
-        Rule::Dropped
-            | Rule::Discarded
-            | Rule::ProcessLate
-            | Rule::SendLate
-            | Rule::AckLate
-            | Rule::ExpiryLate
-            | Rule::ResendLate
-            | Rule::ProbeLate
-            | Rule::StartLate
-            | Rule::ResetLate
-            | Rule::Resent
-            | Rule::ResentBeyond
-            | Rule::AckExcess
+        Rule::BytesDiffer | Rule::CallAnswer | Rule::State | Rule::NoEndpoint
     )
 }
 
@@ -254,13 +242,13 @@ impl<'t> Retries<'t> {
         Ok(())
     }
 
-    // If no choice explains a line, one that breaks a duty may do so. The witness then ends with the step that the duty
-    // refuses, which tells more than the line.
+    // If no choice explains a line, since its host didn't process what came, one that breaks a duty may do so. The
+    // witness then ends with the step that the duty refuses, which tells more than the line.
     fn forgive(&mut self) -> Done {
         let Some(known) = Known::of(&self.best, self.sought) else {
             return Ok(());
         };
-        if self.sought.header.slack.is_none() || is_of_duty(known.failure.rule) {
+        if self.sought.header.slack.is_none() || !shows_what_came(known.failure.rule) {
             return Ok(());
         }
         let place = known.failure.place;
