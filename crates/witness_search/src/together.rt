@@ -141,6 +141,11 @@ impl Known<'_> {
         out.end()
     }
 
+    // The moment of the line at a place, in microseconds.
+    fn moment_at(&self, place: usize) -> u64 {
+        self.lines.get(place).map_or(0, |line| line.moment)
+    }
+
     // A timer expires before the failure, as early as the slack permits if its segment is sent then.
     fn expire_in_time(&self, out: &mut Candidates, at: EndpointKey, remedy: Remedy) -> Done {
         let Some(line) = self.lines.get(self.failure.place) else {
@@ -148,8 +153,8 @@ impl Known<'_> {
         };
         let first = line.moment.saturating_sub(self.longest_wait);
         let places = (1..=REACH).map_while(|distance| self.place_at(Side::Before, distance));
-        let moment_at = |place: usize| self.lines.get(place).map_or(0, |line| line.moment);
-        match places.take_while(|place| first <= moment_at(*place)).last() {
+        let near = places.take_while(|place| first <= self.moment_at(*place));
+        match near.last() {
             Some(place) => out.push(place, Deed::Before(at, remedy)),
             None => Ok(()),
         }

@@ -240,10 +240,8 @@ impl<'t> Pass<'t> {
 
     // Whether a SYN that would create an endpoint isn't answered in time, if duties are judged.
     fn is_unanswered(&self, host: Host, line: u64) -> bool {
-        let Some(slack) = self.progress.slack() else {
-            return false;
-        };
-        let Some((key, m)) = self.progress.waiting(host, line) else {
+        let slack = self.progress.slack();
+        let (Some(slack), Some((key, m))) = (slack, self.progress.waiting(host, line)) else {
             return false;
         };
         if !m.flags.syn || self.progress.read(key, m).is_some() {
