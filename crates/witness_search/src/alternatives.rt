@@ -3,7 +3,7 @@
 use crate::candidates::{Candidates, Done};
 use crate::together::Kind;
 use case_forms::{Event, Line, OutOfMemory, Timer};
-use forward_pass::{Attempt, Deed, EndpointKey, Failure, Fate, Findings, Remedy, Sought, Unseen};
+use forward_pass::{Attempt, Deed, EndpointKey, Failure, Fate, Findings, Remedy, Unseen};
 use segment::Flag;
 use verdict::Rule;
 
@@ -52,13 +52,16 @@ pub(crate) fn push_candidates(out: &mut Candidates, known: &Known<'_>) -> Result
 
 impl<'t> Known<'t> {
     /// What is known of an attempt's failure. None: it didn't fail.
-    pub(crate) fn of(attempt: &'t Attempt, sought: Sought<'t>) -> Option<Known<'t>> {
-        let slack = sought.header.slack.unwrap_or(LONGEST_WAIT);
+    pub(crate) fn of(
+        attempt: &'t Attempt,
+        lines: &'t [Line],
+        slack: Option<u64>,
+    ) -> Option<Known<'t>> {
         Some(Known {
-            lines: sought.lines,
+            lines,
             findings: &attempt.findings,
             failure: attempt.failure()?,
-            longest_wait: slack.min(LONGEST_WAIT),
+            longest_wait: slack.unwrap_or(LONGEST_WAIT).min(LONGEST_WAIT),
         })
     }
 
