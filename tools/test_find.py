@@ -1,6 +1,6 @@
 #!/usr/bin/python3
 """Tests `tcpwit_lab find`: how it ends, where it adds lines, which lines are copies of which, segments that an attacker chose, which of
-several witnesses it prefers, and hosts that process late or measure few round trips."""
+several witnesses it prefers, hosts that process late or measure few round trips, and duties that a witness has to keep."""
 import glob
 import os
 import random
@@ -250,6 +250,92 @@ class Samples(unittest.TestCase):
         tried = re.fullmatch("every line is explained; other choices tried: ([0-9]+)\n", said)
         self.assertTrue(tried, said)
         self.assertGreater(int(tried[1]) * trace.count("\n"), 5000)
+
+
+class Watched(Recording):
+    """Such a trace of version 5, whose duties are judged with a slack in microseconds."""
+
+    def __init__(self, slack, level="full"):
+        self.HEADER = f"trace 5,skew 0,msl 120000000,grain 1000,minrto 1000000,extra 0,initial 5681,hosts 1,congestion {level},slack {slack}".split(",")
+        super().__init__()
+
+    def stop(self, after):
+        """The recording goes on for some time, and ends with a call that changes nothing."""
+        self.moment += after
+        self.lines += [f"{self.moment} 99 B status 0", f"{self.moment} 99 E badsocket"]
+
+
+class Duties(unittest.TestCase):
+    """In version 5 with a slack, a witness has to keep duties."""
+
+    def found(self, recording, *words):
+        """The case that is found, and the answer to it."""
+        lines, witness, _ = find(recording.text(), *words)
+        case = "".join(line + "\n" for line in [*lines, "witness 5", *witness])
+        ran = subprocess.run([*LAB, "explain"], input=case, capture_output=True, text=True, check=False, timeout=60)
+        return lines, witness, ran.stdout.splitlines()[0]
+
+    def test_a_late_host_keeps_what_it_receives(self):
+        """A segment doesn't acknowledge what arrived 50 ms before."""
+        it = Watched(100_000)
+        it.call(f"send {it.opener} 78", "ok 1")
+        came = it.came(1, 1, b"0123456789", after=1000)
+        it.sent(1, 1, b"x", after=50_000)
+        it.sent(2, 11)
+        _, witness, answer = self.found(it, "--budget", "0")
+        self.assertRegex(answer, "^yes")
+        self.assertTrue(takings(witness)[came][1])
+
+    def test_a_reset_answers_what_may_not_be_dropped(self):
+        """A segment arrives for ports that are closed, and no line shows the reset."""
+        it = Watched(1000)
+        line = it.line(5, f"I 0 {it.segment(1, (80, 5000), (1, 1), 0x10, b'')}", 10)
+        it.stop(100_000)
+        _, witness, answer = self.found(it)
+        self.assertRegex(answer, "^yes")
+        self.assertIn(f"R 0 {line}", [step.split(" ", 1)[1] for step in witness])
+
+    def retransmitted_twice(self, level):
+        it = Watched(1000, level)
+        it.call(f"send {it.opener} 78", "ok 1")
+        for after in (10, 1_000_000, 2_000_000):
+            it.sent(1, 1, b"x", after=after)
+        it.came(1, 2)
+        return it
+
+    def test_each_retransmission_of_a_position_needs_an_expiry(self):
+        for level in ("full", "recovery", "none"):
+            it = self.retransmitted_twice(level)
+            lines, _, answer = self.found(it)
+            self.assertRegex(answer, "^yes", level)
+            self.assertEqual(sum(line.endswith(" T 0 4000 80 rto") for line in lines), 2, level)
+
+    def test_an_acknowledgment_answers_a_late_arrival(self):
+        it = Watched(10_000)
+        it.sent(1, 1)
+        it.came(1, 1, b"0123456789", after=1000)
+        it.sent(1, 1, after=5_000)
+        it.sent(1, 11)
+        self.assertRegex(self.found(it)[2], "^yes")
+
+    def test_the_end(self):
+        """If the round trip of the SYN isn't measured, the RTO may be three seconds."""
+        it = Watched(1000)
+        it.call(f"send {it.opener} 78", "ok 1")
+        it.sent(1, 1, b"x")
+        it.stop(3_000_000)
+        self.assertRegex(self.found(it)[2], "^yes")
+
+    def test_a_duty_that_no_witness_keeps(self):
+        """The case ends with the step that the duty refuses, not where the trace shows it."""
+        it = Watched(1000)
+        it.call(f"send {it.opener} 787878", "ok 3")
+        came = it.came(1, 1, b"0123456789", after=1000)
+        for at in (1, 2, 3):
+            it.sent(at, 1, b"x", after=100_000)
+        _, witness, answer = self.found(it)
+        self.assertRegex(answer, "^no [0-9]+ 0 (discarded|dropped)$")
+        self.assertRegex(witness[-1], f" (T|K) 0 {came}( |$)")
 
 
 if __name__ == "__main__":

@@ -19,6 +19,7 @@
 //! - `late`: arrivals that are processed late
 //! - `key`: endpoints, by their host and ports
 //! - `stop`: why a step isn't done
+//! - `watching`: steps that duties judge, too
 #![tactic(auto)]
 
 mod attempt;
@@ -31,10 +32,11 @@ mod outgoing;
 mod pass;
 mod progress;
 mod stop;
+mod watching;
 
 pub use attempt::{Attempt, End, Failure};
 pub use choices::{Choice, Choices, Deed, Fate, Remedy, Unseen};
 pub use key::EndpointKey;
 pub use outgoing::LaterLines;
 pub use pass::Sought;
-pub use progress::{Added, Findings, MeantCall};
+pub use progress::{Added, Findings, Forgiven, MeantCall};

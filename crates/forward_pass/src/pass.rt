@@ -28,6 +28,8 @@ pub struct Sought<'t> {
     pub header: &'t Header,
     pub lines: &'t [Line],
     pub later: &'t LaterLines,
+    /// Whether what a duty refuses is done if nothing else is left to do.
+    pub forgives: bool,
 }
 
 /// A pass over the lines of a trace.
@@ -52,7 +54,7 @@ impl<'t> Pass<'t> {
         Pass {
             sought,
             choices,
-            progress: Progress::new(alloc, sought.header),
+            progress: Progress::new(alloc, sought.header, sought.forgives),
             outgoing: Outgoing::all(alloc, sought.lines, sought.later),
             copies: Copies::new(alloc),
             calls: Calls::new(alloc),
@@ -66,10 +68,21 @@ impl<'t> Pass<'t> {
         let explained = self.explain_all();
         let place = self.progress.log.place();
         match explained {
-            Ok(()) => Ok(End::Whole),
+            Ok(()) => Ok(self.end_of_lines()),
             Err(Stop::Broken(rule)) => Ok(End::Refused(self.failure(place, rule))),
             Err(Stop::TooManySteps) => Ok(End::TooManySteps { place }),
             Err(Stop::OutOfMemory) => Err(AllocError),
+        }
+    }
+
+    // How a pass ended that explained all lines.
+    fn end_of_lines(&self) -> End {
+        match self.progress.late_at_end() {
+            Some((rule, key)) if self.progress.log.findings.forgiven.is_none() => {
+                let place = self.sought.lines.len();
+                End::Refused(Failure { place, rule, key })
+            }
+            _ => End::Whole,
         }
     }
 

@@ -1,17 +1,23 @@
 //! The world after the steps so far, and these steps. A method that does a step writes it down if it was done.
 
 ghost use Rattle.std.specs.Prelude.{◌<◌, OnOk};
+ghost use Rattle.case_forms.specs.Witnesses.{IsWithinLimits};
 ghost use Rattle.spec_tcp.specs.Bounds.{most_steps};
 
 use crate::key::EndpointKey;
 use crate::stop::{Done, Stop};
+use crate::watching::Watch;
 use case_forms::{
     Answer, Call, Expired, Extras, GREATEST_POSITION, Header, Host, Label, MOST_STEPS, NamedLine,
-    Recovery, SegmentPlan, Span, Step, Steps, TakeChoice, Timer, Wire,
+    Recovery, SegmentPlan, Span, Step, Steps, TakeChoice, TakenLine, Timer, Wire,
 };
+use duties::{Duties, admits_lates, expiry_due, lates_of, view_of};
 use endpoint_state::{Endpoint, StepFault, World};
+use spec_step::apply_hidden;
 use spec_tcp::{Arrived, Emission};
 use std::alloc::Global;
+use verdict::Rule;
+use watched::late_at_end;
 
 /// An added line: a timer expires.
 #[derive(Clone, Copy)]
@@ -30,6 +36,17 @@ pub struct MeantCall {
     pub key: EndpointKey,
 }
 
+/// A step that only a duty refuses, and that was done all the same.
+#[derive(Clone, Copy)]
+pub struct Forgiven {
+    /// How many steps precede it, and how many lines were added before it.
+    pub before: usize,
+    pub added: usize,
+    /// The place of the line at which it was done.
+    pub place: usize,
+    pub rule: Rule,
+}
+
 /// What a pass finds.
 #[derive(Drop)]
 pub struct Findings {
@@ -43,6 +60,8 @@ pub struct Findings {
     pub beyond: Vec<usize>,
     /// The places of arrivals that were processed late.
     pub late: Vec<usize>,
+    /// The first step that a duty refuses. None: no duty refuses any.
+    pub forgiven: Option<Forgiven>,
 }
 
 impl Findings {
@@ -54,14 +73,28 @@ impl Findings {
             meant: Vec::new(alloc),
             beyond: Vec::new(alloc),
             late: Vec::new(alloc),
+            forgiven: None,
         }
     }
 }
 
-/// The world after the steps so far, and these steps.
+/// Whether something else may be done in place of a step.
+#[derive(Clone, Copy, PartialEq, Eq)]
+pub(crate) enum Will {
+    Try,
+    /// Nothing else is left to do. If the step is refused, it is written down: the witness then ends with it.
+    Insist,
+}
+
+/// The world after the steps so far, what its hosts owe, and these steps.
 #[derive(Drop)]
 pub(crate) struct Progress {
     world: World,
+    duties: Duties,
+    /// How late a host may be with what it must do, in microseconds. None: no duty is judged.
+    slack: Option<u64>,
+    /// Whether what duties refuse is done if nothing else is left to do.
+    forgives: bool,
     pub log: Log,
 }
 
@@ -146,6 +179,18 @@ impl Log {
         Ok(())
     }
 
+    // The next step breaks this rule of a duty, if any, and is done all the same.
+    fn forgive(&mut self, broken: Option<Rule>) {
+        if let (Some(rule), None) = (broken, self.findings.forgiven) {
+            self.findings.forgiven = Some(Forgiven {
+                before: self.findings.steps.as_slice().len(),
+                added: self.findings.added.len(),
+                place: self.place,
+                rule,
+            });
+        }
+    }
+
     // Writes down the step of the next line, with these extra numbers. The result is the line's number.
     fn push_line(&mut self, extras: Extras) -> Result<u64, Stop> {
         let number = self.number;
@@ -177,10 +222,13 @@ impl Log {
 }
 
 impl Progress {
-    /// Before the first line.
-    pub(crate) fn new(alloc: Global, header: &Header) -> Progress {
+    /// Before the first line. `forgives`: what duties refuse is done if nothing else is left to do.
+    pub(crate) fn new(alloc: Global, header: &Header, forgives: bool) -> Progress {
         Progress {
             world: World::start(alloc, header),
+            duties: Duties::start(alloc),
+            slack: header.slack,
+            forgives,
             log: Log::new(alloc, header),
         }
     }
@@ -191,6 +239,11 @@ impl Progress {
 
     pub(crate) fn moment(&self) -> u64 {
         self.log.moment
+    }
+
+    /// How late a host may be with what it must do, in microseconds. None: no duty is judged.
+    pub(crate) fn slack(&self) -> Option<u64> {
+        self.slack
     }
 
     /// An endpoint. None: it doesn't exist.
@@ -220,6 +273,53 @@ impl Progress {
         Some((endpoint, read))
     }
 
+    // How duties judge a step that is done now.
+    fn watch(&self, slack: u64, will: Will) -> Watch {
+        Watch {
+            slack,
+            moment: self.log.moment,
+            forgives: self.forgives && will == Will::Insist,
+        }
+    }
+
+    // Does a step that takes a line and that duties judge.
+    fn watch_line(&mut self, slack: u64, line: TakenLine, will: Will) -> Result<(), StepFault>
+        requires { self.old.world.steps < most_steps }
+    {
+        let watch = self.watch(slack, will);
+        let broken = watch.line(&mut self.world, &mut self.duties, line)?;
+        self.log.forgive(broken);
+        Ok(())
+    }
+
+    // Does a step that takes no line.
+    fn do_hidden(&mut self, label: &Label<NamedLine>, will: Will) -> Result<(), StepFault>
+        requires steps { self.old.world.steps < most_steps }
+        requires label { IsWithinLimits label.now }
+    {
+        match self.slack {
+            Some(slack) => {
+                let watch = self.watch(slack, will);
+                let broken = watch.hidden(&mut self.world, &mut self.duties, label)?;
+                self.log.forgive(broken);
+                Ok(())
+            }
+            None => apply_hidden(&mut self.world, self.log.moment, label),
+        }
+    }
+
+    // Does a step that takes no line, and writes it down.
+    fn hidden(&mut self, label: Label<NamedLine>, will: Will) -> Done
+        requires { IsWithinLimits label }
+    {
+        has_room(&self.world)?;
+        let done = self.do_hidden(&label, will);
+        if done.is_ok() || will == Will::Insist {
+            self.log.push_step(label)?;
+        }
+        Ok(done?)
+    }
+
     /// The current line begins a call.
     pub(crate) fn begin(&mut self, thread: u32, call: &Call) -> Result<u64, Stop> {
         has_room(&self.world)?;
@@ -237,95 +337,200 @@ impl Progress {
     /// A host sends a built segment with the current line.
     pub(crate) fn send(&mut self, host: Host, made: u32, wire: &Wire) -> Result<u64, Stop> {
         has_room(&self.world)?;
-        let done = self
-            .world
-            .send(host, self.log.number, made, wire, self.log.moment);
+        let (line, moment) = (self.log.number, self.log.moment);
+        let done = match self.slack {
+            Some(slack) => {
+                let wire = wire.copy()?;
+                self.watch_line(
+                    slack,
+                    TakenLine::Sent {
+                        line,
+                        host,
+                        made,
+                        wire,
+                    },
+                    Will::Insist,
+                )
+            }
+            None => self.world.send(host, line, made, wire, moment),
+        };
         self.log.push_current(Extras::One(made), done)
     }
 
     /// A segment of the host that isn't recorded arrives with the current line.
     pub(crate) fn hear(&mut self, host: Host, wire: &Wire) -> Result<u64, Stop> {
         has_room(&self.world)?;
-        let done = self
-            .world
-            .hear(host, self.log.number, wire, self.log.moment);
+        let (line, moment) = (self.log.number, self.log.moment);
+        let done = match self.slack {
+            Some(slack) => {
+                let wire = wire.copy()?;
+                self.watch_line(slack, TakenLine::Heard { line, host, wire }, Will::Insist)
+            }
+            None => self.world.hear(host, line, wire, moment),
+        };
         self.log.push_current(Extras::Bare, done)
     }
 
     /// A copy of another line's segment arrives with the current line.
     pub(crate) fn arrive(&mut self, host: Host, copied: u64, wire: &Wire) -> Result<u64, Stop> {
         has_room(&self.world)?;
-        let world = &mut self.world;
-        let done = world.arrive(host, self.log.number, copied, wire, self.log.moment);
+        let (line, moment) = (self.log.number, self.log.moment);
+        let done = match self.slack {
+            Some(slack) => {
+                let wire = wire.copy()?;
+                self.watch_line(
+                    slack,
+                    TakenLine::Came {
+                        line,
+                        host,
+                        copied,
+                        wire,
+                    },
+                    Will::Insist,
+                )
+            }
+            None => self.world.arrive(host, line, copied, wire, moment),
+        };
         self.log.push_current(Extras::One(saturated(copied)), done)
+    }
+
+    // A timer expires with the next line.
+    fn expire_by(&mut self, key: EndpointKey, expired: Expired, will: Will) -> Result<(), StepFault>
+        requires { self.old.world.steps < most_steps }
+    {
+        let (host, ports, line) = (key.host(), key.ports(), self.log.number);
+        match self.slack {
+            Some(slack) => {
+                self.watch_line(
+                    slack,
+                    TakenLine::Expired {
+                        line,
+                        host,
+                        ports,
+                        expired,
+                    },
+                    will,
+                )
+            }
+            None => Ok(self.world.expire(host, ports, expired, self.log.moment)?),
+        }
     }
 
     /// A timer expires with the current line.
     pub(crate) fn expire(&mut self, key: EndpointKey, expired: Expired) -> Result<u64, Stop> {
         has_room(&self.world)?;
-        let done = self
-            .world
-            .expire(key.host(), key.ports(), expired, self.log.moment)
-            .map_err(StepFault::Broken);
+        let done = self.expire_by(key, expired, Will::Insist);
         self.log.push_current(extras_of(expired), done)
     }
 
     /// A timer expires with an added line, which precedes the first line that has no step yet.
     pub(crate) fn add_expiry(&mut self, key: EndpointKey, expired: Expired) -> Done {
         has_room(&self.world)?;
-        self.world
-            .expire(key.host(), key.ports(), expired, self.log.moment)
-            .map_err(Stop::Broken)?;
+        self.expire_by(key, expired, Will::Try)?;
         self.log.push_added(key, expired)
     }
 
     /// A thread's open call has its effect, with this answer.
-    pub(crate) fn effect(&mut self, thread: u32, answer: &Answer) -> Done {
+    pub(crate) fn effect(&mut self, thread: u32, answer: &Answer, will: Will) -> Done {
+        if self.slack.is_some() {
+            let answer = answer.copy()?;
+            return self.hidden(Label::D { thread, answer }, will);
+        }
         has_room(&self.world)?;
-        self.world.effect(thread, answer)?;
-        let answer = answer.copy()?;
-        self.log.push_step(Label::D { thread, answer })
+        let done = self.world.effect(thread, answer);
+        if done.is_ok() || will == Will::Insist {
+            let answer = answer.copy()?;
+            self.log.push_step(Label::D { thread, answer })?;
+        }
+        Ok(done?)
     }
 
     /// A host builds a segment. The result is the segment's number.
-    pub(crate) fn make(&mut self, host: Host, plan: SegmentPlan) -> Result<u32, Stop> {
-        has_room(&self.world)?;
+    pub(crate) fn make(&mut self, host: Host, plan: SegmentPlan, will: Will) -> Result<u32, Stop> {
         if plan.pos > GREATEST_POSITION {
             return Err(Stop::OutOfMemory);
         }
-        self.world.make(host, &plan, self.log.moment)?;
-        self.log.push_step(Label::M { host, plan })?;
+        self.hidden(Label::M { host, plan }, will)?;
         Ok(self.world.count())
     }
 
     /// A host processes the segment that arrived with a line.
-    pub(crate) fn take(&mut self, host: Host, line: u64, choice: TakeChoice) -> Done {
-        has_room(&self.world)?;
-        self.world.take(host, line, choice, self.log.moment)?;
-        self.log.push_step(Label::T { host, line, choice })
+    pub(crate) fn take(&mut self, host: Host, line: u64, choice: TakeChoice, will: Will) -> Done {
+        self.hidden(Label::T { host, line, choice }, will)
     }
 
     /// A host drops the segment that arrived with a line.
-    pub(crate) fn drop_arrival(&mut self, host: Host, line: u64) -> Done {
-        has_room(&self.world)?;
-        self.world.drop_arrival(host, line).map_err(Stop::Broken)?;
-        self.log.push_step(Label::K { host, line })
+    pub(crate) fn drop_arrival(&mut self, host: Host, line: u64, will: Will) -> Done {
+        self.hidden(Label::K { host, line }, will)
     }
 
     /// A host answers the segment that arrived with a line by a reset. The result is the reset's number.
     pub(crate) fn reply_with_reset(&mut self, host: Host, line: u64) -> Result<u32, Stop> {
-        has_room(&self.world)?;
-        self.world.reply_with_reset(host, line)?;
-        self.log.push_step(Label::R { host, line })?;
+        self.hidden(Label::R { host, line }, Will::Try)?;
         Ok(self.world.count())
     }
 
     /// An endpoint enters fast recovery.
     pub(crate) fn recover(&mut self, host: Host, recovery: Recovery) -> Done {
-        has_room(&self.world)?;
-        self.world
-            .recover(host, recovery, self.log.moment)
-            .map_err(Stop::Broken)?;
-        self.log.push_step(Label::F { host, recovery })
+        self.hidden(Label::F { host, recovery }, Will::Try)
+    }
+
+    /// Whether an armed retransmission timer has to expire at some moment, if duties are judged.
+    pub(crate) fn has_expiry_due(&self, key: EndpointKey) -> bool {
+        if self.slack.is_none() {
+            return false;
+        }
+        let endpoint = self.endpoint(key);
+        endpoint.is_some_and(|endpoint| expiry_due(&view_of(endpoint), 0).is_some())
+    }
+
+    /// Whether an endpoint sent as many mere acknowledgments as segments came, if duties are judged.
+    pub(crate) fn is_all_answered(&self, key: EndpointKey) -> bool {
+        if self.slack.is_none() {
+            return false;
+        }
+        let place = self.world.body(key.host()).place_of(key.lport, key.rport);
+        place.is_some_and(|place| self.duties.owed_by(key.host(), place).answers == 0)
+    }
+
+    /// Whether the model permits a host to build a segment now.
+    pub(crate) fn admits_making(&self, host: Host, plan: &SegmentPlan) -> bool {
+        let Ok(()) = has_room(&self.world) else {
+            return false;
+        };
+        plan.pos <= GREATEST_POSITION && self.world.admits_making(host, plan).is_ok()
+    }
+
+    /// The rule of a duty that is late after the last line, and the endpoint that owes it, if it's known. None: no duty
+    /// is late.
+    pub(crate) fn late_at_end(&self) -> Option<(Rule, Option<EndpointKey>)> {
+        let (slack, moment) = (self.slack?, self.log.moment);
+        if self.world.steps() > MOST_STEPS {
+            return None;
+        }
+        let (_, rule) = late_at_end(slack, moment, &self.duties, &self.world)?;
+        let zero = self.late_on(Host::Zero, slack, rule);
+        Some((rule, zero.or_else(|| self.late_on(Host::One, slack, rule))))
+    }
+
+    // The first endpoint of a host that breaks this rule after the last line.
+    fn late_on(&self, host: Host, slack: u64, rule: Rule) -> Option<EndpointKey> {
+        let body = self.world.body(host);
+        let count = u32::try_from(body.endpoint_count()).unwrap_or(u32::MAX);
+        let late = (0..count).find(|place| self.is_late(host, *place, slack, rule))?;
+        let endpoint = body.endpoint_at(late)?;
+        Some(EndpointKey::new(host, endpoint.lport, endpoint.rport))
+    }
+
+    // Whether the endpoint of a host at a place breaks this rule after the last line.
+    fn is_late(&self, host: Host, place: u32, slack: u64, rule: Rule) -> bool {
+        let Some(endpoint) = self.world.body(host).endpoint_at(place) else {
+            return false;
+        };
+        let view = view_of(endpoint);
+        let closed = self.duties.listener_closed(host, &view);
+        let owed = self.duties.owed_by(host, place);
+        let lates = lates_of(slack, self.log.moment, &view, closed, &owed);
+        admits_lates(lates).err() == Some(rule)
     }
 }

@@ -51,11 +51,7 @@ pub fn apply_hidden<Taken>(
 }
 
 /// The least rule that a hidden step breaks.
-pub(crate) fn admits_hidden<Taken>(
-    world: &World,
-    moment: u64,
-    label: &Label<Taken>,
-) -> Result<(), Rule>
+pub fn admits_hidden<Taken>(world: &World, moment: u64, label: &Label<Taken>) -> Result<(), Rule>
     requires steps { world.now.steps < most_steps }
     requires label { IsWithinLimits label.now }
     ensures { result_err result ≡ first_broken (asked_rules world.now moment (hidden_step label.now)) }

@@ -91,7 +91,7 @@ pub fn apply_line_owned(world: &mut World, moment: u64, line: TakenLine) -> Resu
 }
 
 /// The least rule broken by a step that takes a line.
-pub(crate) fn admits_line(world: &World, moment: u64, line: &TakenLine) -> Result<(), Rule>
+pub fn admits_line(world: &World, moment: u64, line: &TakenLine) -> Result<(), Rule>
     ensures { result_err result ≡ broken_by world.now moment (line_step line.now) }
 {
     match line {

@@ -144,6 +144,12 @@ fn tell_found<H: Eprint, W: Write>(rt: &H, found: &FoundCase<'_>, w: &mut Counte
     let _ = match found.ending {
         Ending::Whole if tried == 0 => Ok(()),
         Ending::Whole => eprintln!(rt; "every line is explained; other choices tried: {tried}"),
+        Ending::Exhausted { line: 0 } => eprintln!(rt;
+            "no choice that find knows keeps the duties at the end of the trace; other choices tried: {tried}"
+        ),
+        Ending::BudgetSpent { line: 0 } => eprintln!(rt;
+            "a duty is late at the end of the trace, and the budget is spent; other choices tried: {tried}"
+        ),
         Ending::Exhausted { line } => eprintln!(rt;
             "no choice that find knows explains line {line} of the trace; other choices tried: {tried}"
         ),

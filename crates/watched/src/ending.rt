@@ -95,12 +95,7 @@ pub(crate) fn places(world: &World, host: Host) -> u32
 
 /// The least rule that a duty breaks at the end, if the last step was at this moment, with its line: that of a segment
 /// that still waits, else 0. The slack and moments are in microseconds. None: no duty is late.
-pub(crate) fn late_at_end(
-    slack: u64,
-    moment: u64,
-    duties: &Duties,
-    world: &World,
-) -> Option<(u64, Rule)>
+pub fn late_at_end(slack: u64, moment: u64, duties: &Duties, world: &World) -> Option<(u64, Rule)>
     requires { world.now.steps ≤ most_steps }
     ensures { result ≡ late_at_end slack moment duties.now world.now.world }
 {

@@ -18,7 +18,9 @@ mod laws;
 mod sights;
 
 pub use cases::{Case, apply_hidden, apply_line_owned};
+pub use ending::late_at_end;
 pub use laws::{
     case_judged_alike, case_rules_ascend, less_judged_shows_the_same, nothing_discarded_is_seen,
     slack_is_not_read,
 };
+pub use sights::{sight_of_hidden, sight_of_line, view_in};

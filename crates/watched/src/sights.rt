@@ -281,7 +281,7 @@ fn sight_at_ports(world: &World, host: Host, event: Event, ports: Ports) -> Sigh
 }
 
 /// What duties read of the world at a step that takes a line.
-pub(crate) fn sight_of_line(world: &World, moment: u64, line: &TakenLine) -> Sight
+pub fn sight_of_line(world: &World, moment: u64, line: &TakenLine) -> Sight
     ensures { result ≡ sight world.now.header moment world.now.world (line_step line.now) }
 {
     match line {
@@ -298,7 +298,7 @@ pub(crate) fn sight_of_line(world: &World, moment: u64, line: &TakenLine) -> Sig
 }
 
 /// What duties read of the world at a step that takes none.
-pub(crate) fn sight_of_hidden<Taken>(world: &World, moment: u64, label: &Label<Taken>) -> Sight
+pub fn sight_of_hidden<Taken>(world: &World, moment: u64, label: &Label<Taken>) -> Sight
     requires { world.now.steps < most_steps }
     ensures { result ≡ option_map_or (sight world.now.header moment world.now.world) (hidden_step label.now) unseen }
 {
@@ -321,7 +321,7 @@ pub(crate) fn sight_of_hidden<Taken>(world: &World, moment: u64, label: &Label<T
 
 /// The endpoint that a step touched, as it is in this world.
 #[inline(always)]
-pub(crate) fn view_in(world: &World, touched: &Option<Touched>) -> View
+pub fn view_in(world: &World, touched: &Option<Touched>) -> View
     ensures { result ≡ view_in world.now.world touched.now }
 {
     match touched {

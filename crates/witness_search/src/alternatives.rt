@@ -29,6 +29,8 @@ pub(crate) struct Known<'t> {
     pub lines: &'t [Line],
     pub findings: &'t Findings,
     pub failure: Failure,
+    /// For how many microseconds an arrival may wait.
+    pub longest_wait: u64,
 }
 
 // A line that is examined, the first time or the second.
@@ -50,11 +52,16 @@ pub(crate) fn push_candidates(out: &mut Candidates, known: &Known<'_>) -> Result
 
 impl<'t> Known<'t> {
     /// What is known of an attempt's failure. None: it didn't fail.
-    pub(crate) fn of(attempt: &'t Attempt, lines: &'t [Line]) -> Option<Known<'t>> {
+    pub(crate) fn of(
+        attempt: &'t Attempt,
+        lines: &'t [Line],
+        slack: Option<u64>,
+    ) -> Option<Known<'t>> {
         Some(Known {
             lines,
             findings: &attempt.findings,
             failure: attempt.failure()?,
+            longest_wait: slack.unwrap_or(LONGEST_WAIT).min(LONGEST_WAIT),
         })
     }
 
@@ -127,7 +134,12 @@ impl<'t> Known<'t> {
     fn is_timed(&self) -> bool {
         matches!(
             self.failure.rule,
-            Rule::TimerOff | Rule::TimerEarly | Rule::Growth | Rule::OldData
+            Rule::TimerOff
+                | Rule::TimerEarly
+                | Rule::Growth
+                | Rule::OldData
+                | Rule::ExpiryLate
+                | Rule::Resent
         )
     }
 
@@ -154,7 +166,7 @@ impl<'t> Known<'t> {
             return false;
         };
         !matches!(line.event, Event::Came(..))
-            || later.moment.saturating_sub(line.moment) <= LONGEST_WAIT
+            || later.moment.saturating_sub(line.moment) <= self.longest_wait
     }
 
     // The segment of a line was built after one of the lines before it, or something happened before the line.

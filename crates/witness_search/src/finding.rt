@@ -4,7 +4,7 @@ use crate::added_lines::{AddedLines, split_lines};
 use crate::case_text::CaseText;
 use crate::going_back::Retries;
 use case_forms::{Header, Line, OutOfMemory, Steps, Witness};
-use forward_pass::{End, LaterLines, Sought};
+use forward_pass::{End, Findings, LaterLines, Sought};
 use line_fields::TextFault;
 use std::alloc::Global;
 use std::mem::replace;
@@ -18,9 +18,9 @@ pub const USUAL_BUDGET: u64 = 2_000_000;
 pub enum Ending {
     /// All lines are explained.
     Whole,
-    /// No other choice explains this line of the trace.
+    /// No other choice explains this line of the trace. 0: each is explained, but a duty is late at the end.
     Exhausted { line: u64 },
-    /// This line of the trace isn't explained, and the budget is spent.
+    /// This line of the trace isn't explained, and the budget is spent. 0: as in `Exhausted`.
     BudgetSpent { line: u64 },
     /// Explaining this line of the trace would take more steps than a case can have.
     TooManySteps { line: u64 },
@@ -95,6 +95,7 @@ pub fn find_witness(
         header,
         lines,
         later: &later,
+        forgives: false,
     };
     let mut retries = Retries::new(sought, budget);
     let found = found_by(&mut retries);
@@ -108,6 +109,7 @@ fn found_by(retries: &mut Retries<'_>) -> Result<Found, OutOfMemory> {
     retries.run()?;
     let sought = retries.sought;
     let findings = &mut retries.best.findings;
+    end_with_forgiven(sought.alloc, findings)?;
     let mut added = AddedLines::new(sought.alloc);
     added.print(sought.lines, findings.added.as_slice())?;
     let witness = Witness {
@@ -122,10 +124,40 @@ fn found_by(retries: &mut Retries<'_>) -> Result<Found, OutOfMemory> {
     })
 }
 
+// If a step was done that a duty refuses, the witness ends with it.
+fn end_with_forgiven(alloc: Global, findings: &mut Findings) -> Result<(), OutOfMemory> {
+    let Some(forgiven) = findings.forgiven else {
+        return Ok(());
+    };
+    let mut steps = Steps::new(alloc);
+    for step in findings
+        .steps
+        .as_slice()
+        .iter()
+        .take(forgiven.before.saturating_add(1))
+    {
+        steps.push(step.copy()?)?;
+    }
+    findings.steps = steps;
+    findings.added.truncate(forgiven.added);
+    Ok(())
+}
+
 // How a search ended.
 fn ending_of(retries: &Retries<'_>) -> Ending {
     let first = retries.sought.header.first_event_line();
-    let line_at = |place: usize| first.saturating_add(place as u64);
+    let count = retries.sought.lines.len();
+    let line_at = |place: usize| {
+        if place < count {
+            first.saturating_add(place as u64)
+        } else {
+            0
+        }
+    };
+    if let Some(forgiven) = retries.best.findings.forgiven {
+        let line = line_at(forgiven.place);
+        return Ending::Exhausted { line };
+    }
     match retries.best.end {
         End::Whole => Ending::Whole,
         End::TooManySteps { place } => {

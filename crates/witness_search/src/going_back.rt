@@ -11,6 +11,7 @@ use case_forms::OutOfMemory;
 use forward_pass::{Attempt, Choices, Sought};
 use std::collections::BTreeMap;
 use std::mem::swap;
+use verdict::Rule;
 
 // How many times candidates are listed for one line.
 const LISTS: u32 = 3;
@@ -33,6 +34,14 @@ struct Level {
     /// The next candidate, and the first one of another level.
     next: usize,
     stop: usize,
+}
+
+// Whether a line that breaks a rule shows that its host didn't process what came.
+fn shows_what_came(rule: Rule) -> bool {
+    matches!(
+        rule,
+        Rule::BytesDiffer | Rule::CallAnswer | Rule::State | Rule::NoEndpoint
+    )
 }
 
 /// A search that goes back.
@@ -93,7 +102,7 @@ impl<'t> Retries<'t> {
                 break;
             }
         }
-        Ok(())
+        self.forgive()
     }
 
     // How many steps are spent in all, at most.
@@ -146,7 +155,7 @@ impl<'t> Retries<'t> {
 
     // Tries two candidates of the best attempt at once. The result is whether they explain a further line.
     fn try_pairs(&mut self) -> Result<bool, OutOfMemory> {
-        let Some(known) = Known::of(&self.best, self.sought.lines) else {
+        let Some(known) = Known::of(&self.best, self.sought.lines, self.sought.header.slack) else {
             return Ok(false);
         };
         let place = known.failure.place;
@@ -212,7 +221,7 @@ impl<'t> Retries<'t> {
 
     // Puts the level of the last attempt on the path, unless candidates were listed this often for its line.
     fn go_on_from_last(&mut self, lists: u32) -> Done {
-        let Some(known) = Known::of(&self.last, self.sought.lines) else {
+        let Some(known) = Known::of(&self.last, self.sought.lines, self.sought.header.slack) else {
             return Ok(());
         };
         let place = known.failure.place;
@@ -230,6 +239,44 @@ impl<'t> Retries<'t> {
             next,
             stop: self.candidates.len(),
         })?;
+        Ok(())
+    }
+
+    // If no choice explains a line, since its host didn't process what came, one that breaks a duty may do so. The
+    // witness then ends with the step that the duty refuses, which tells more than the line.
+    fn forgive(&mut self) -> Done {
+        let Some(known) = Known::of(&self.best, self.sought.lines, self.sought.header.slack) else {
+            return Ok(());
+        };
+        if self.sought.header.slack.is_none() || !shows_what_came(known.failure.rule) {
+            return Ok(());
+        }
+        let place = known.failure.place;
+        self.pairs.truncate(0);
+        push_candidates(&mut self.pairs, &known)?;
+        self.sought.forgives = true;
+        let cost = self.cost;
+        self.try_forgiving(place)?;
+        self.cost = cost;
+        Ok(())
+    }
+
+    // Tries the choices of the best attempt, then one candidate more, until one explains a place. It spends at most the
+    // budget for one line.
+    fn try_forgiving(&mut self, place: usize) -> Done {
+        let most = self.cost.saturating_add(self.budget).min(self.most());
+        for index in 0..=self.pairs.len() {
+            if self.cost >= most {
+                break;
+            }
+            self.choices.set(&self.chosen)?;
+            if let Some(index) = index.checked_sub(1) {
+                self.choices.push_all(self.pairs.at(index))?;
+            }
+            if self.try_once(place)? {
+                break;
+            }
+        }
         Ok(())
     }
 

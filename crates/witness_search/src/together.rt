@@ -74,11 +74,19 @@ impl Known<'_> {
         self.widen(out)?;
         self.drop_all(out)?;
         match (self.failure.rule, self.failure.key) {
-            (Rule::OldData, Some(at)) => {
+            (Rule::OldData | Rule::Resent, Some(at)) => {
                 self.expire_each(out, at)?;
                 self.measure_less(out, at)
             }
-            (Rule::CallAnswer | Rule::TimerOff, Some(at)) => self.expire_each(out, at),
+            (Rule::ExpiryLate, Some(at)) => {
+                self.expire_in_time(out, at, Remedy::Rto)?;
+                self.expire_each(out, at)?;
+                self.measure_less(out, at)
+            }
+            (Rule::ProbeLate, Some(at)) => self.expire_in_time(out, at, Remedy::Persist),
+            (Rule::CallAnswer | Rule::TimerOff | Rule::ResendLate, Some(at)) => {
+                self.expire_each(out, at)
+            }
             (Rule::TimerEarly, Some(at)) => self.measure_less(out, at),
             _ => Ok(()),
         }
@@ -131,6 +139,25 @@ impl Known<'_> {
             }
         }
         out.end()
+    }
+
+    // The moment of the line at a place, in microseconds.
+    fn moment_at(&self, place: usize) -> u64 {
+        self.lines.get(place).map_or(0, |line| line.moment)
+    }
+
+    // A timer expires before the failure, as early as the slack permits if its segment is sent then.
+    fn expire_in_time(&self, out: &mut Candidates, at: EndpointKey, remedy: Remedy) -> Done {
+        let Some(line) = self.lines.get(self.failure.place) else {
+            return Ok(());
+        };
+        let first = line.moment.saturating_sub(self.longest_wait);
+        let places = (1..=REACH).map_while(|distance| self.place_at(Side::Before, distance));
+        let near = places.take_while(|place| first <= self.moment_at(*place));
+        match near.last() {
+            Some(place) => out.push(place, Deed::Before(at, remedy)),
+            None => Ok(()),
+        }
     }
 
     // The segment with bytes or a FIN that an endpoint sends with the line at a place.

@@ -8,7 +8,7 @@ use crate::choices::Arrival;
 use crate::key::EndpointKey;
 use crate::late::Waiting;
 use crate::outgoing::Shown;
-use crate::progress::saturated;
+use crate::progress::{Will, saturated};
 use crate::stop::{Done, Stop, permitted};
 use case_forms::{Event, Host, TakeChoice, Timer, Wire};
 use endpoint::{greatest_taking, matches_sent, reset_of};
@@ -21,6 +21,9 @@ use verdict::Rule;
 // For how many microseconds an arrival waits for segments that were built before. A capture shows a segment some
 // microseconds before the stack processes it, and longer on a busy machine.
 const LATE: u64 = 20_000;
+
+// For how many microseconds an acknowledgment may be delayed (RFC 9293, 3.8.6.3).
+const DELAY: u64 = 500_000;
 
 // When an arrival is processed.
 #[derive(Clone, Copy)]
@@ -41,11 +44,11 @@ fn acknowledges_next(endpoint: &Endpoint, wire: &Wire) -> bool {
 }
 
 // Whether a segment was built before its sender processes an arrival: it acknowledges less, or contains what the
-// arrival acknowledges. If so, the result is whether the arrival changes what is acknowledged.
-fn built_before(endpoint: &Endpoint, m: &Arrived<'_>, wire: &Wire) -> Option<bool> {
+// arrival acknowledges. If so, the result is whether the arrival changes what is acknowledged. `is_open`: it may do so.
+fn built_before(endpoint: &Endpoint, m: &Arrived<'_>, wire: &Wire, is_open: bool) -> Option<bool> {
     let seg = &wire.seg;
     let end = u128::from(m.pos()) + m.length();
-    let next = m.pos() <= endpoint.rcv_nxt() && u128::from(endpoint.rcv_nxt()) < end;
+    let next = is_open && m.pos() <= endpoint.rcv_nxt() && u128::from(endpoint.rcv_nxt()) < end;
     if next && acknowledges_next(endpoint, wire) {
         return Some(next);
     }
@@ -103,20 +106,25 @@ impl<'t> Pass<'t> {
         }
         match self.earlier(waiting.host, waiting.line) {
             None => Turn::Now,
-            Some((shown, _)) if self.is_soon(shown, waiting) => Turn::Late(key),
+            Some((shown, is_needed)) if self.is_soon(shown, waiting, is_needed) => Turn::Late(key),
             Some(_) => Turn::TooLate,
         }
     }
 
-    // Whether a segment is sent soon after an arrival.
-    fn is_soon(&self, shown: Shown<'_>, waiting: Waiting) -> bool {
-        self.moment_of(shown).saturating_sub(waiting.moment) <= LATE
+    // Whether a segment is sent soon after an arrival. `is_needed`: it shows that the arrival waited.
+    fn is_soon(&self, shown: Shown<'_>, waiting: Waiting, is_needed: bool) -> bool {
+        let longest = match self.progress.slack() {
+            Some(slack) if is_needed => slack,
+            Some(slack) => slack.min(LATE),
+            None => LATE,
+        };
+        self.moment_of(shown).saturating_sub(waiting.moment) <= longest
     }
 
     // Whether the next segment of the receiver of an arrival was built before, and is sent soon after it.
     fn is_late(&self, waiting: Waiting) -> bool {
         let earlier = self.earlier(waiting.host, waiting.line);
-        earlier.is_some_and(|(shown, _)| self.is_soon(shown, waiting))
+        earlier.is_some_and(|(shown, is_needed)| self.is_soon(shown, waiting, is_needed))
     }
 
     // When a segment is sent.
@@ -191,10 +199,20 @@ impl<'t> Pass<'t> {
         sent.last(place).unwrap_or(0)
     }
 
+    // Drops an arrival, unless a duty requires it to be processed.
+    fn try_dropping(&mut self, host: Host, line: u64) -> Result<bool, Stop> {
+        match self.progress.drop_arrival(host, line, Will::Try) {
+            Err(Stop::Broken(Rule::Dropped)) if !self.sought.forgives => return Ok(false),
+            Err(Stop::Broken(_)) => self.progress.drop_arrival(host, line, Will::Insist)?,
+            done => done?,
+        }
+        Ok(true)
+    }
+
     // What was built before an arrival is built, and the arrival is processed, answered or dropped.
     fn resolve_arrival(&mut self, host: Host, line: u64, mut how: Arrival) -> Done {
-        if how.is_dropped {
-            return self.progress.drop_arrival(host, line);
+        if how.is_dropped && self.try_dropping(host, line)? {
+            return Ok(());
         }
         how.is_not_kept |= !self.make_earlier(host, line, how)?;
         self.process(host, line, how)
@@ -205,6 +223,12 @@ impl<'t> Pass<'t> {
         if how.is_widened {
             self.widen(host, line)?;
         }
+        if self.is_unanswered(host, line) {
+            let dropped = self.progress.drop_arrival(host, line, Will::Try);
+            if permitted(dropped)?.is_some() {
+                return Ok(());
+            }
+        }
         if self.try_processing(host, line, how)? {
             return Ok(());
         }
@@ -214,12 +238,53 @@ impl<'t> Pass<'t> {
         self.answer_or_drop(host, line)
     }
 
+    // Whether a SYN that would create an endpoint isn't answered in time, if duties are judged.
+    fn is_unanswered(&self, host: Host, line: u64) -> bool {
+        let slack = self.progress.slack();
+        let (Some(slack), Some((key, m))) = (slack, self.progress.waiting(host, line)) else {
+            return false;
+        };
+        if !m.flags.syn || self.progress.read(key, m).is_some() {
+            return false;
+        }
+        let latest = self
+            .progress
+            .moment()
+            .saturating_add(slack)
+            .saturating_add(DELAY);
+        let next = self.outgoing.next(key);
+        next.is_none_or(|shown| latest < self.moment_of(shown))
+    }
+
     // Answers an arrival by a reset, or drops it.
     fn answer_or_drop(&mut self, host: Host, line: u64) -> Done {
         if self.try_answer(host, line)? {
             return Ok(());
         }
-        self.progress.drop_arrival(host, line)
+        match self.progress.drop_arrival(host, line, Will::Try) {
+            Err(Stop::Broken(_)) => self.resolve_at_last(host, line),
+            done => done,
+        }
+    }
+
+    // An arrival may not be dropped: it is processed with nothing chosen, or answered by a reset that no line shows.
+    fn resolve_at_last(&mut self, host: Host, line: u64) -> Done {
+        let bare = TakeChoice {
+            cwnd: 0,
+            keep: false,
+            sample: false,
+        };
+        let key = self.progress.waiting(host, line).map(|(key, _)| key);
+        if let (Some(key), Some(())) = (
+            key,
+            permitted(self.progress.take(host, line, bare, Will::Try))?,
+        ) {
+            return self.wake_receiver(key);
+        }
+        if permitted(self.progress.reply_with_reset(host, line))?.is_some() {
+            return Ok(());
+        }
+        self.progress.drop_arrival(host, line, Will::Insist)
     }
 
     // Processes an arrival, if that's permitted.
@@ -227,9 +292,20 @@ impl<'t> Pass<'t> {
         let Some((key, choice)) = self.choice(host, line, how) else {
             return Ok(false);
         };
-        self.progress.take(host, line, choice)?;
+        self.take(host, line, choice)?;
         self.wake_receiver(key)?;
         Ok(true)
+    }
+
+    // Processes an arrival. If a duty requires it to be kept, it is.
+    fn take(&mut self, host: Host, line: u64, choice: TakeChoice) -> Done {
+        let keep = match self.progress.take(host, line, choice, Will::Try) {
+            Err(Stop::Broken(Rule::Discarded)) if !self.sought.forgives => true,
+            Err(Stop::Broken(_)) => choice.keep,
+            done => return done,
+        };
+        self.progress
+            .take(host, line, TakeChoice { keep, ..choice }, Will::Insist)
     }
 
     // The endpoint for which an arrival is meant, and the greatest choice with which it may be processed.
@@ -328,13 +404,29 @@ impl<'t> Pass<'t> {
         let (key, m) = self.progress.waiting(host, line)?;
         let shown = self.outgoing.next(key)?;
         let (endpoint, read) = self.progress.read(key, m)?;
-        Some((shown, built_before(endpoint, &read, shown.wire)?))
+        // What meets a closed window is dropped and answered, if duties are judged.
+        let is_open = self.progress.slack().is_none()
+            || 0 < endpoint.receive_window()
+            || endpoint.irs.is_none();
+        Some((shown, built_before(endpoint, &read, shown.wire, is_open)?))
+    }
+
+    // Whether a segment that is built now is sent in time.
+    fn is_in_time(&self, shown: Shown<'_>) -> bool {
+        let Some(slack) = self.progress.slack() else {
+            return true;
+        };
+        let wait = self.moment_of(shown).saturating_sub(self.progress.moment());
+        wait <= slack || self.sought.forgives
     }
 
     // Builds a segment before its line. The result is whether that's permitted.
     fn try_making(&mut self, shown: Shown<'t>) -> Result<bool, Stop> {
+        if !self.is_in_time(shown) {
+            return Ok(false);
+        }
         let plan = self.plan_of(shown.key, shown.wire);
-        let Some(made) = permitted(self.progress.make(shown.key.host(), plan))? else {
+        let Some(made) = permitted(self.progress.make(shown.key.host(), plan, Will::Try))? else {
             return Ok(false);
         };
         self.outgoing.build(shown, made)?;

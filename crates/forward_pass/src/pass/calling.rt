@@ -3,9 +3,9 @@
 use super::Pass;
 use crate::calls::{Meant, Pending, key_of_call, meant_by, supposed};
 use crate::key::EndpointKey;
-use crate::progress::MeantCall;
+use crate::progress::{MeantCall, Will};
 use crate::stop::{Done, Stop, permitted};
-use case_forms::{Answer, Call, Event, Label, State, Timer};
+use case_forms::{Answer, Call, Event, State, Timer};
 
 // How many calls on one endpoint or listener are tried again at once, so that the search stays linear.
 const TRIES: usize = 16;
@@ -118,7 +118,7 @@ impl Pass<'_> {
 
     // The effect of a call that ends here. If it isn't permitted, a timer may have to expire before it.
     fn effect_now(&mut self, thread: u32, answer: &Answer) -> Done {
-        if permitted(self.progress.effect(thread, answer))?.is_some() {
+        if permitted(self.progress.effect(thread, answer, Will::Try))?.is_some() {
             return Ok(());
         }
         let key = key_of_call(self.progress.world(), thread);
@@ -131,12 +131,7 @@ impl Pass<'_> {
         if !self.calls.open.contains_key(&thread) {
             return Ok(());
         }
-        let done = self.progress.effect(thread, answer);
-        if let Err(Stop::Broken(_)) = done {
-            let answer = answer.copy()?;
-            self.progress.log.push_step(Label::D { thread, answer })?;
-        }
-        done
+        self.progress.effect(thread, answer, Will::Insist)
     }
 
     // What is late at an endpoint is processed until the call of a thread has its effect.
@@ -161,7 +156,7 @@ impl Pass<'_> {
 
     // Whether the call of a thread has its effect now, with this answer.
     fn try_effect(&mut self, thread: u32, answer: &Answer) -> Result<bool, Stop> {
-        let is_done = permitted(self.progress.effect(thread, answer))?.is_some();
+        let is_done = permitted(self.progress.effect(thread, answer, Will::Try))?.is_some();
         if is_done {
             self.calls.open.remove(&thread);
         }

@@ -5,8 +5,9 @@ use crate::choices::Unseen;
 use crate::copies::Sending;
 use crate::key::EndpointKey;
 use crate::outgoing::Shown;
+use crate::progress::Will;
 use crate::stop::{Done, Stop};
-use case_forms::{Flags, Host, Label, POSITIONS, SegmentPlan, Timer, Wire};
+use case_forms::{Flags, Host, POSITIONS, SegmentPlan, Timer, Wire};
 use endpoint_state::Endpoint;
 use segment::{Flag, Segment};
 use seqno::{Word, read_near};
@@ -38,6 +39,13 @@ fn shift_of(seg: &Segment) -> Option<u8> {
     seg.scale.map(|shift| shift.min(14))
 }
 
+// Whether a segment contains the oldest position that isn't acknowledged, and was sent before.
+fn holds_oldest(endpoint: &Endpoint, plan: &SegmentPlan) -> bool {
+    let una = endpoint.stream.snd_una;
+    let len = u64::from(plan.len).saturating_add(u64::from(plan.flags.fin));
+    plan.pos <= una && una < plan.pos.saturating_add(len) && una < endpoint.snd_max()
+}
+
 impl<'t> Pass<'t> {
     /// The segment that a line shows, as its endpoint has to build it.
     pub(crate) fn plan_of(&self, key: EndpointKey, wire: &Wire) -> SegmentPlan {
@@ -67,6 +75,7 @@ impl<'t> Pass<'t> {
             Some(made) => made,
             None => self.make_shown(key, wire)?,
         };
+        self.answer_late(key, wire)?;
         let line = self.progress.send(host, made, wire)?;
         let moment = self.progress.moment();
         let sent = self.copies.of(host);
@@ -83,9 +92,10 @@ impl<'t> Pass<'t> {
         if wire.seg.has(Flag::Syn) {
             self.expire_before_syn(key)?;
         }
+        self.expire_before_oldest(key, wire)?;
         for _ in 0..REMEDIES {
             let plan = self.plan_of(key, wire);
-            let made = self.progress.make(host, plan);
+            let made = self.progress.make(host, plan, Will::Try);
             if made.is_ok() && plan.flags.rst {
                 // A reset closes its endpoint, for which calls may wait.
                 self.wake_endpoint(key)?;
@@ -103,11 +113,7 @@ impl<'t> Pass<'t> {
     // Builds the segment that a line shows. If that isn't permitted, the witness ends with this step.
     fn make_at_last(&mut self, key: EndpointKey, wire: &Wire) -> Result<u32, Stop> {
         let (host, plan) = (key.host(), self.plan_of(key, wire));
-        let made = self.progress.make(host, plan);
-        if let Err(Stop::Broken(_)) = made {
-            self.progress.log.push_step(Label::M { host, plan })?;
-        }
-        made
+        self.progress.make(host, plan, Will::Insist)
     }
 
     // Does what may permit a segment that breaks this rule, or processes what is late. The result is whether something
@@ -131,7 +137,7 @@ impl<'t> Pass<'t> {
         match rule {
             // What precedes the segment was built, and no line shows it.
             Rule::OldData if is_after_gap => self.make_unseen(key, Unseen::One, plan.pos),
-            Rule::OldData => self.permit_old_data(key),
+            Rule::OldData | Rule::Resent => self.permit_old_data(key),
             Rule::Offered => self.add_expiry(key, Timer::Persist),
             Rule::State | Rule::NoEndpoint if plan.flags.syn && !plan.flags.ack => self.reopen(key),
             Rule::PayloadRange | Rule::State | Rule::NoEndpoint => self.suppose_at(key),
@@ -155,6 +161,32 @@ impl<'t> Pass<'t> {
         let endpoint = self.progress.endpoint(key);
         if endpoint.is_some_and(|endpoint| endpoint.iss.is_some() && endpoint.snd_max() > 0) {
             self.add_expiry(key, Timer::Rto)?;
+        }
+        Ok(())
+    }
+
+    // After one expiry, or if retransmissions aren't judged, the oldest segment may be sent again without another.
+    // A duty requires one all the same.
+    fn expire_before_oldest(&mut self, key: EndpointKey, wire: &Wire) -> Done {
+        if !self.progress.has_expiry_due(key) {
+            return Ok(());
+        }
+        let plan = self.plan_of(key, wire);
+        let endpoint = self.progress.endpoint(key);
+        let is_oldest = endpoint.is_some_and(|endpoint| holds_oldest(endpoint, &plan));
+        if is_oldest && self.progress.admits_making(key.host(), &plan) {
+            self.add_expiry(key, Timer::Rto)?;
+        }
+        Ok(())
+    }
+
+    // An acknowledgment answers an arrival: if all others are answered, one that is late is processed.
+    fn answer_late(&mut self, key: EndpointKey, wire: &Wire) -> Done {
+        let is_mere = wire.seg.payload.is_empty()
+            && !wire.seg.has(Flag::Syn)
+            && !wire.seg.has(Flag::Fin);
+        if is_mere && self.progress.is_all_answered(key) {
+            self.hurry(key)?;
         }
         Ok(())
     }

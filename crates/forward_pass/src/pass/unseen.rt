@@ -3,6 +3,7 @@
 use super::Pass;
 use crate::choices::Unseen;
 use crate::key::EndpointKey;
+use crate::progress::Will;
 use crate::stop::{Done, Stop, permitted};
 use case_forms::{Flags, Host, SegmentPlan, State};
 use endpoint_state::Endpoint;
@@ -76,7 +77,7 @@ impl Pass<'_> {
     /// Advertises a window that reaches to the end of an arrival, in a segment that no line shows.
     pub(crate) fn widen(&mut self, host: Host, line: u64) -> Done {
         if let Some(plan) = self.widening(host, line) {
-            permitted(self.progress.make(host, plan))?;
+            permitted(self.progress.make(host, plan, Will::Try))?;
         }
         Ok(())
     }
@@ -120,7 +121,7 @@ impl Pass<'_> {
 
     // Builds a segment. The result is whether that's permitted.
     fn try_plan(&mut self, host: Host, plan: SegmentPlan) -> Result<bool, Stop> {
-        Ok(permitted(self.progress.make(host, plan))?.is_some())
+        Ok(permitted(self.progress.make(host, plan, Will::Try))?.is_some())
     }
 
     // The next segment that an endpoint can build. None: it has nothing to send.

@@ -1,0 +1,86 @@
+//! Steps that duties judge, too (version 5 with a slack).
+
+ghost use Rattle.std.specs.Prelude.{◌<◌};
+ghost use Rattle.case_forms.specs.Witnesses.{IsWithinLimits};
+ghost use Rattle.spec_tcp.specs.Bounds.{most_steps};
+
+use case_forms::{Label, TakenLine};
+use duties::Duties;
+use endpoint_state::{StepFault, World};
+use spec_duties::Sight;
+use spec_step::{admits_hidden, admits_line, apply_hidden, apply_line_owned};
+use verdict::Rule;
+use watched::{sight_of_hidden, sight_of_line, view_in};
+
+/// When a step is done, and how duties judge it.
+#[derive(Clone, Copy)]
+pub(crate) struct Watch {
+    /// How late a host may be with what it must do, in microseconds.
+    pub slack: u64,
+    /// The moment of the step, in microseconds.
+    pub moment: u64,
+    /// Whether a step that only a duty refuses is done all the same.
+    pub forgives: bool,
+}
+
+impl Watch {
+    // The rule of a duty that a step breaks. None: it breaks none.
+    fn broken(self, world: &World, duties: &Duties, sight: &Sight) -> Option<Rule> {
+        duties
+            .admits(world.header(), self.slack, self.moment, sight)
+            .err()
+    }
+
+    // Whether a step is done that breaks this rule of a duty. `admitted`: whether the model permits it.
+    fn permits(self, broken: Rule, admitted: Result<(), Rule>) -> Result<(), Rule> {
+        admitted?;
+        if self.forgives { Ok(()) } else { Err(broken) }
+    }
+
+    // What hosts owe after a step.
+    fn note(self, world: &World, duties: &mut Duties, sight: &Sight) -> Result<(), StepFault> {
+        let now = view_in(world, &sight.touched);
+        duties.note(self.moment, sight, &now)?;
+        Ok(())
+    }
+
+    /// Does a step that takes a line. The result is the rule of a duty that it breaks, if that is forgiven. A step that
+    /// breaks a rule isn't done; a rule of the model comes first.
+    pub(crate) fn line(
+        self,
+        world: &mut World,
+        duties: &mut Duties,
+        line: TakenLine,
+    ) -> Result<Option<Rule>, StepFault>
+        requires { world.old.steps < most_steps }
+    {
+        let sight = sight_of_line(world, self.moment, &line);
+        let broken = self.broken(world, duties, &sight);
+        if let Some(rule) = broken {
+            self.permits(rule, admits_line(world, self.moment, &line))?;
+        }
+        apply_line_owned(world, self.moment, line)?;
+        self.note(world, duties, &sight)?;
+        Ok(broken)
+    }
+
+    /// Does a step that takes none, in the same way.
+    pub(crate) fn hidden<Taken>(
+        self,
+        world: &mut World,
+        duties: &mut Duties,
+        label: &Label<Taken>,
+    ) -> Result<Option<Rule>, StepFault>
+        requires steps { world.old.steps < most_steps }
+        requires label { IsWithinLimits label.now }
+    {
+        let sight = sight_of_hidden(world, self.moment, label);
+        let broken = self.broken(world, duties, &sight);
+        if let Some(rule) = broken {
+            self.permits(rule, admits_hidden(world, self.moment, label))?;
+        }
+        apply_hidden(world, self.moment, label)?;
+        self.note(world, duties, &sight)?;
+        Ok(broken)
+    }
+}
