@@ -100,7 +100,8 @@ func (t *Trace) event(moment uint64, thread uint32, format string, what ...any) 
 // Header writes the header. Call it first. skew: 0 if one clock stamps everything. msl: the maximum segment lifetime, half of the length of
 // TIME-WAIT. grain: the tick of the timers' clock. minrto: the minimum retransmission timeout. These are in microseconds. extra: how many children a
 // queue holds beyond its backlog. initial: 5681 or 6928, the RFC of the initial window; not written in version 1. If in doubt, a smaller minrto and
-// a larger grain and extra are less strict. In version 5, Judged follows.
+// a larger grain and extra are less strict. In version 5, Judged follows; an expiry may also be too late, so a minrto that is too small needs more
+// slack.
 func (t *Trace) Header(skew, msl, grain, minrto uint64, extra uint32, initial int) {
 	t.mu.Lock()
 	defer t.mu.Unlock()

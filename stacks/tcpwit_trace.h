@@ -121,7 +121,7 @@ static inline void tcpwit_header_line(struct tcpwit *t, const char *word, uint64
 /* skew: 0 if one clock stamps everything. msl: the maximum segment lifetime, half of the length of TIME-WAIT. grain: the tick of the timers'
  * clock. minrto: the minimum retransmission timeout. These are in microseconds. extra: how many children a queue holds beyond its backlog.
  * initial: 5681 or 6928, the RFC of the initial window; not written in version 1. If in doubt, a smaller minrto and a larger grain and extra
- * are less strict. In version 5, tcpwit_judged follows. */
+ * are less strict. In version 5, tcpwit_judged follows; an expiry may also be too late, so a minrto that is too small needs more slack. */
 static inline void tcpwit_header(struct tcpwit *t, uint64_t skew, uint64_t msl, uint64_t grain, uint64_t minrto, uint32_t extra, unsigned initial)
 {
     tcpwit_header_line(t, "trace ", (uint64_t)t->version);

@@ -24,7 +24,8 @@
 use std::fmt;
 use std::io::{self, Write};
 
-/// The header's numbers; times in microseconds. If in doubt, a smaller `minrto` and a larger `grain` and `extra` are less strict.
+/// The header's numbers; times in microseconds. If in doubt, a smaller `minrto` and a larger `grain` and `extra` are less strict. In version 5, an expiry
+/// may also be too late, so a `minrto` that is too small needs more slack.
 #[derive(Clone, Debug)]
 pub struct Header {
     /// 0 if one clock stamps everything.
