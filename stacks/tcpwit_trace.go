@@ -1,19 +1,22 @@
 // Package tcpwit writes the lines of a trace and of a witness from the hooks of a stack (docs/reference/formats.md,
 // docs/how-to/embedding.md).
 //
-//	trace := tcpwit.New(file, 2)
+//	trace := tcpwit.New(file, 5)
 //	trace.Header(0, 60000000, 1000, 200000, 0, 5681)
+//	trace.Judged(2, tcpwit.Full, 20000)
 //	trace.BeginSend(now, thread, socket, bytes)   // before the call does anything
 //	trace.EndNumber(now, thread, taken)           // after it: the number of accepted bytes
 //	trace.Out(now, 90+host, host, header, payload)
+//	trace.Finish(now)                             // when the recording stops
 //
 // Arguments of all methods:
 //
 //   - moment: microseconds on one clock for both hosts, from any start. A moment that goes back is written as the previous one.
 //   - thread: a number for each calling thread, and different ones, for each host, for segments received, segments sent and timers. The
 //     lines of one thread keep their order, and a thread has at most one open call. Goroutines have no number: count them yourself.
-//   - host: 0 or 1. Always 0 if only host 0 is recorded (version 3).
-//   - socket: numbers that you choose: use each one only once in a trace, for a listener or an opened or accepted connection.
+//     LastThread is taken.
+//   - host: 0 or 1. Always 0 if only host 0 is recorded (version 3, or version 5 with hosts 1).
+//   - socket: numbers from 1 that you choose: use each one only once in a trace, for a listener or an opened or accepted connection.
 //   - a segment: from the first byte of the TCP header to the last of the payload, without IP, in any number of parts.
 //
 // Each method that writes a line of a trace returns its number. A witness refers to lines by these numbers. Goroutines may share a trace:
@@ -24,6 +27,7 @@ import (
 	"encoding/hex"
 	"fmt"
 	"io"
+	"math"
 	"strings"
 	"sync"
 )
@@ -38,7 +42,7 @@ type Trace struct {
 	moment  uint64
 }
 
-// New returns a writer of format version 1, 2 or 3.
+// New returns a writer of format version 1, 2, 3 or 5.
 func New(to io.Writer, version int) *Trace { return &Trace{to: to, version: version} }
 
 // Answers without a number or bytes.
@@ -63,6 +67,19 @@ const (
 	GiveUp  = "giveup"
 )
 
+// How much of congestion control is judged, from strict to lax.
+const (
+	Full     = "full"
+	Recovery = "recovery"
+	None     = "none"
+)
+
+// Any is a slack with which no duty and no limit is judged.
+const Any = math.MaxUint64
+
+// LastThread is the thread of Finish.
+const LastThread = math.MaxUint32
+
 func (t *Trace) write(format string, what ...any) uint32 {
 	if t.Err == nil {
 		_, t.Err = fmt.Fprintf(t.to, format+"\n", what...)
@@ -83,7 +100,8 @@ func (t *Trace) event(moment uint64, thread uint32, format string, what ...any) 
 // Header writes the header. Call it first. skew: 0 if one clock stamps everything. msl: the maximum segment lifetime, half of the length of
 // TIME-WAIT. grain: the tick of the timers' clock. minrto: the minimum retransmission timeout. These are in microseconds. extra: how many children a
 // queue holds beyond its backlog. initial: 5681 or 6928, the RFC of the initial window; not written in version 1. If in doubt, a smaller minrto and
-// a larger grain and extra are less strict.
+// a larger grain and extra are less strict. In version 5, Judged follows; an expiry may also be too late, so a minrto that is too small needs more
+// slack.
 func (t *Trace) Header(skew, msl, grain, minrto uint64, extra uint32, initial int) {
 	t.mu.Lock()
 	defer t.mu.Unlock()
@@ -96,8 +114,23 @@ func (t *Trace) Header(skew, msl, grain, minrto uint64, extra uint32, initial in
 	if t.version > 1 {
 		t.write("initial %d", initial)
 	}
-	if t.version > 2 {
+	if t.version == 3 {
 		t.write("half 0")
+	}
+}
+
+// Judged writes the rest of the header of version 5: what is judged. hosts: 2, or 1 if only host 0 is recorded. congestion: Full, Recovery or None.
+// slack: by how many microseconds a host may be late with what it has to do, such as an acknowledgment or a retransmission; Any if that isn't judged.
+// On a simulated clock, 20,000 is enough. Add the tick of your stack's slowest timer, and on a real clock how long it may wait until it runs.
+func (t *Trace) Judged(hosts int, congestion string, slack uint64) {
+	t.mu.Lock()
+	defer t.mu.Unlock()
+	t.write("hosts %d", hosts)
+	t.write("congestion %s", congestion)
+	if slack == Any {
+		t.write("slack any")
+	} else {
+		t.write("slack %d", slack)
 	}
 }
 
@@ -195,6 +228,13 @@ func (t *Trace) Expired(moment uint64, thread uint32, host int, local, remote ui
 	return t.event(moment, thread, "T %d %d %d %s", host, local, remote, timer)
 }
 
+// Finish records that the recording stops: a call that changes nothing shows how long it lasted, without which nothing is late after the last event.
+// Write no line after it. It is on a thread of its own, and about socket 0, which must not exist. It returns the number of its second line.
+func (t *Trace) Finish(moment uint64) uint32 {
+	t.BeginStatus(moment, LastThread, 0)
+	return t.End(moment, LastThread, BadSocket)
+}
+
 // ---- A witness, if your stack knows more than a trace shows. Write it to a separate place, and append it to the trace at the end ----
 
 func (t *Trace) step(moment uint64, format string, what ...any) {
@@ -214,7 +254,7 @@ func (t *Trace) Witness() {
 }
 
 // StepLine places a line of the trace, with its numbers: none for B, E, and timers except rto; for an O line, the number of the made segment, counted
-// from 1 over both hosts; for an I line, the O line that it copies, or none in version 3; for rto, cwnd and ssthresh after it.
+// from 1 over both hosts; for an I line, the O line that it copies, or none if only host 0 is recorded; for rto, cwnd and ssthresh after it.
 func (t *Trace) StepLine(moment uint64, line uint32, numbers ...uint32) {
 	text := ""
 	for _, number := range numbers {
@@ -226,6 +266,13 @@ func (t *Trace) StepLine(moment uint64, line uint32, numbers ...uint32) {
 // StepEffect is the effect of a thread's open call, with its answer in the words of a trace: "ok 5", "data 6869", "state LISTEN".
 func (t *Trace) StepEffect(moment uint64, thread uint32, answer string) {
 	t.step(moment, "D %d %s", thread, answer)
+}
+
+// StepFinish writes the steps of Finish, whose second line has this number.
+func (t *Trace) StepFinish(moment uint64, line uint32) {
+	t.StepLine(moment, line-1)
+	t.StepEffect(moment, LastThread, BadSocket)
+	t.StepLine(moment, line)
 }
 
 // Made is a segment in a witness.

@@ -5,18 +5,20 @@
  * that function, so if threads share a trace, hold a lock around each function of this file.
  *
  *     static void put(void *file, const char *bytes, size_t count) { fwrite(bytes, 1, count, file); }
- *     struct tcpwit trace = { put, file, 2 };
+ *     struct tcpwit trace = { put, file, 5 };
  *     tcpwit_header(&trace, 0, 60000000, 1000, 200000, 0, 5681);
+ *     tcpwit_judged(&trace, 2, TCPWIT_FULL, 20000);
  *     tcpwit_begin_send(&trace, now, thread, socket, bytes, count);   before the call does anything
  *     tcpwit_end_number(&trace, now, thread, taken);                  after it: the number of accepted bytes
  *     tcpwit_out(&trace, now, 90 + host, host, header, 20, payload, n);
+ *     tcpwit_finish(&trace, now);                                     when the recording stops
  *
  * Arguments of all functions:
  *   moment   microseconds on one clock for both hosts, from any start. A moment that goes back is written as the previous one.
  *   thread   a number for each calling thread, and different ones, for each host, for segments received, segments sent and timers.
- *            The lines of one thread keep their order, and a thread has at most one open call.
- *   host     0 or 1. Always 0 if only host 0 is recorded (version 3).
- *   socket   numbers that you choose: use each one only once in a trace, for a listener or an opened or accepted connection.
+ *            The lines of one thread keep their order, and a thread has at most one open call. TCPWIT_LAST_THREAD is taken.
+ *   host     0 or 1. Always 0 if only host 0 is recorded (version 3, or version 5 with hosts 1).
+ *   socket   numbers from 1 that you choose: use each one only once in a trace, for a listener or an opened or accepted connection.
  *   segment  from the first byte of the TCP header to the last of the payload, without IP; in two parts, because stacks keep headers
  *            and payloads apart. The second part may be empty.
  * Each function of a trace returns the number of the line that it wrote. A witness refers to lines by these numbers.
@@ -30,7 +32,7 @@
 struct tcpwit {
     void (*put)(void *to, const char *bytes, size_t count);
     void *to;
-    int version;      /* of the format: 1, 2 or 3 */
+    int version;      /* of the format: 1, 2, 3 or 5 */
     uint32_t line;    /* the last line that was written; 0 at first */
     uint64_t moment;  /* the last moment; 0 at first */
 };
@@ -46,6 +48,14 @@ enum tcpwit_state {
 };
 
 enum tcpwit_timer { TCPWIT_RTO, TCPWIT_PERSIST, TCPWIT_2MSL, TCPWIT_GIVEUP };
+
+/* How much of congestion control is judged, from strict to lax. */
+enum tcpwit_level { TCPWIT_FULL, TCPWIT_RECOVERY, TCPWIT_NONE };
+
+/* A slack with which no duty and no limit is judged. */
+#define TCPWIT_ANY UINT64_MAX
+/* The thread of tcpwit_finish. */
+#define TCPWIT_LAST_THREAD UINT32_MAX
 
 /* ---- Pieces of a line ---- */
 
@@ -111,7 +121,7 @@ static inline void tcpwit_header_line(struct tcpwit *t, const char *word, uint64
 /* skew: 0 if one clock stamps everything. msl: the maximum segment lifetime, half of the length of TIME-WAIT. grain: the tick of the timers'
  * clock. minrto: the minimum retransmission timeout. These are in microseconds. extra: how many children a queue holds beyond its backlog.
  * initial: 5681 or 6928, the RFC of the initial window; not written in version 1. If in doubt, a smaller minrto and a larger grain and extra
- * are less strict. */
+ * are less strict. In version 5, tcpwit_judged follows; an expiry may also be too late, so a minrto that is too small needs more slack. */
 static inline void tcpwit_header(struct tcpwit *t, uint64_t skew, uint64_t msl, uint64_t grain, uint64_t minrto, uint32_t extra, unsigned initial)
 {
     tcpwit_header_line(t, "trace ", (uint64_t)t->version);
@@ -121,7 +131,24 @@ static inline void tcpwit_header(struct tcpwit *t, uint64_t skew, uint64_t msl, 
     tcpwit_header_line(t, "minrto ", minrto);
     tcpwit_header_line(t, "extra ", extra);
     if (t->version > 1) tcpwit_header_line(t, "initial ", initial);
-    if (t->version > 2) tcpwit_header_line(t, "half ", 0);
+    if (t->version == 3) tcpwit_header_line(t, "half ", 0);
+}
+
+/* The rest of the header of version 5: what is judged. hosts: 2, or 1 if only host 0 is recorded. slack: by how many microseconds a host may be
+ * late with what it has to do, such as an acknowledgment or a retransmission; TCPWIT_ANY if that isn't judged. On a simulated
+ * clock, 20,000 is enough. Add the tick of your stack's slowest timer, and on a real clock how long it may wait until it runs. */
+static inline void tcpwit_judged(struct tcpwit *t, int hosts, enum tcpwit_level level, uint64_t slack)
+{
+    static const char *const names[] = { "congestion full", "congestion recovery", "congestion none" };
+    tcpwit_header_line(t, "hosts ", (uint64_t)hosts);
+    tcpwit_text(t, names[level]);
+    (void)tcpwit_end_line(t);
+    if (slack != TCPWIT_ANY) {
+        tcpwit_header_line(t, "slack ", slack);
+        return;
+    }
+    tcpwit_text(t, "slack any");
+    (void)tcpwit_end_line(t);
 }
 
 /* ---- Calls begin: before the stack does anything for them ---- */
@@ -293,6 +320,14 @@ static inline uint32_t tcpwit_expired(struct tcpwit *t, uint64_t moment, uint32_
     return tcpwit_end_line(t);
 }
 
+/* The recording stops: a call that changes nothing shows how long it lasted, without which nothing is late after the last event. Write no line
+ * after it. It is on a thread of its own, and about socket 0, which must not exist. Returns the number of its second line. */
+static inline uint32_t tcpwit_finish(struct tcpwit *t, uint64_t moment)
+{
+    (void)tcpwit_begin_status(t, moment, TCPWIT_LAST_THREAD, 0);
+    return tcpwit_end(t, moment, TCPWIT_LAST_THREAD, TCPWIT_BADSOCKET);
+}
+
 /* ---- A witness, if your stack knows more than a trace shows. Write it to a separate place, and append it to the trace at the end ---- */
 
 /* The first line. Write the others as things happen; each line of the trace needs a step of its own. */
@@ -306,7 +341,7 @@ static inline void tcpwit_step(struct tcpwit *t, uint64_t moment, const char *wo
 }
 
 /* Places line `line` of the trace, with `count` numbers (0 to 2): none for B, E, and timers except rto; for an O line, the number of the made
- * segment, counted from 1 over both hosts; for an I line, the O line that it copies, or none in version 3; for rto, cwnd and ssthresh after it. */
+ * segment, counted from 1 over both hosts; for an I line, the O line that it copies, or none if only host 0 is recorded; for rto, cwnd and ssthresh after it. */
 static inline void tcpwit_step_line(struct tcpwit *t, uint64_t moment, uint32_t line, int count, uint32_t first, uint32_t second)
 {
     tcpwit_step(t, moment, " L");
@@ -324,6 +359,14 @@ static inline void tcpwit_step_effect(struct tcpwit *t, uint64_t moment, uint32_
     tcpwit_text(t, " ");
     tcpwit_text(t, answer);
     (void)tcpwit_end_line(t);
+}
+
+/* The steps of tcpwit_finish, whose second line has this number. */
+static inline void tcpwit_step_finish(struct tcpwit *t, uint64_t moment, uint32_t line)
+{
+    tcpwit_step_line(t, moment, line - 1, 0, 0, 0);
+    tcpwit_step_effect(t, moment, TCPWIT_LAST_THREAD, "badsocket");
+    tcpwit_step_line(t, moment, line, 0, 0, 0);
 }
 
 /* A segment is made: its ports; the position of its first sequence number, 0 for the SYN, 1 for the first byte; its length; its flags, letters of

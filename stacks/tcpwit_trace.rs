@@ -1,19 +1,21 @@
 //! Writes the lines of a trace and of a witness from the hooks of a stack (docs/reference/formats.md,
 //! docs/how-to/embedding.md). Needs only `std`.
 //!
-//!     let mut trace = Trace::new(file, 2);
+//!     let mut trace = Trace::new(file, 5);
 //!     trace.header(&Header { msl: 60_000_000, grain: 1_000, minrto: 200_000, ..Header::default() })?;
+//!     trace.judged(2, Level::Full, Some(20_000))?;
 //!     trace.begin_send(now, thread, socket, bytes)?;   // before the call does anything
 //!     trace.end_number(now, thread, taken)?;           // after it: the number of accepted bytes
 //!     trace.out(now, 90 + host, host, &[header, payload])?;
+//!     trace.finish(now)?;                              // when the recording stops
 //!
 //! Arguments of all functions:
 //!
 //! - `moment`: microseconds on one clock for both hosts, from any start. A moment that goes back is written as the previous one.
 //! - `thread`: a number for each calling thread, and different ones, for each host, for segments received, segments sent and timers. The
-//!   lines of one thread keep their order, and a thread has at most one open call.
-//! - `host`: 0 or 1. Always 0 if only host 0 is recorded (version 3).
-//! - `socket`: numbers that you choose: use each one only once in a trace, for a listener or an opened or accepted connection.
+//!   lines of one thread keep their order, and a thread has at most one open call. `LAST_THREAD` is taken.
+//! - `host`: 0 or 1. Always 0 if only host 0 is recorded (version 3, or version 5 with hosts 1).
+//! - `socket`: numbers from 1 that you choose: use each one only once in a trace, for a listener or an opened or accepted connection.
 //! - a segment: from the first byte of the TCP header to the last of the payload, without IP, in any number of parts.
 //!
 //! Each function of a trace returns the number of the line that it wrote. A witness refers to lines by these numbers. To share a trace
@@ -22,7 +24,8 @@
 use std::fmt;
 use std::io::{self, Write};
 
-/// The header's numbers; times in microseconds. If in doubt, a smaller `minrto` and a larger `grain` and `extra` are less strict.
+/// The header's numbers; times in microseconds. If in doubt, a smaller `minrto` and a larger `grain` and `extra` are less strict. In version 5, an expiry
+/// may also be too late, so a `minrto` that is too small needs more slack.
 #[derive(Clone, Debug)]
 pub struct Header {
     /// 0 if one clock stamps everything.
@@ -44,6 +47,27 @@ impl Default for Header {
         Header { skew: 0, msl: 120_000_000, grain: 1_000, minrto: 1_000_000, extra: 0, initial: 5681 }
     }
 }
+
+/// How much of congestion control is judged, from strict to lax.
+#[derive(Clone, Copy, Debug, PartialEq, Eq)]
+pub enum Level {
+    Full,
+    Recovery,
+    None,
+}
+
+impl fmt::Display for Level {
+    fn fmt(&self, f: &mut fmt::Formatter<'_>) -> fmt::Result {
+        f.write_str(match self {
+            Level::Full => "full",
+            Level::Recovery => "recovery",
+            Level::None => "none",
+        })
+    }
+}
+
+/// The thread of `Trace::finish`.
+pub const LAST_THREAD: u32 = u32::MAX;
 
 /// An answer without a number or bytes.
 #[derive(Clone, Copy, Debug, PartialEq, Eq)]
@@ -142,7 +166,7 @@ pub struct Trace<W: Write> {
 }
 
 impl<W: Write> Trace<W> {
-    /// A writer of format version 1, 2 or 3.
+    /// A writer of format version 1, 2, 3 or 5.
     pub fn new(to: W, version: u8) -> Trace<W> {
         Trace { to, version, line: 0, moment: 0 }
     }
@@ -164,7 +188,7 @@ impl<W: Write> Trace<W> {
         self.write(format_args!("{moment} {thread} {text}"))
     }
 
-    /// The header. Call it first.
+    /// The header. Call it first. In version 5, `judged` follows.
     pub fn header(&mut self, header: &Header) -> io::Result<()> {
         let version = self.version;
         self.write(format_args!("trace {version}"))?;
@@ -176,10 +200,23 @@ impl<W: Write> Trace<W> {
         if version > 1 {
             self.write(format_args!("initial {}", header.initial))?;
         }
-        if version > 2 {
+        if version == 3 {
             self.write(format_args!("half 0"))?;
         }
         Ok(())
+    }
+
+    /// The rest of the header of version 5: what is judged. `hosts`: 2, or 1 if only host 0 is recorded. `slack`: by how many microseconds a host may
+    /// be late with what it has to do, such as an acknowledgment or a retransmission; `None` if that isn't judged. On a simulated
+    /// clock, 20,000 is enough. Add the tick of your stack's slowest timer, and on a real clock how long it may wait until it runs.
+    pub fn judged(&mut self, hosts: u8, congestion: Level, slack: Option<u64>) -> io::Result<()> {
+        self.write(format_args!("hosts {hosts}"))?;
+        self.write(format_args!("congestion {congestion}"))?;
+        match slack {
+            Some(slack) => self.write(format_args!("slack {slack}")),
+            None => self.write(format_args!("slack any")),
+        }
+        .map(|_| ())
     }
 
     // ---- Calls begin: before the stack does anything for them ----
@@ -268,6 +305,13 @@ impl<W: Write> Trace<W> {
         self.event(moment, thread, format_args!("T {host} {local} {remote} {timer}"))
     }
 
+    /// The recording stops: a call that changes nothing shows how long it lasted, without which nothing is late after the last event. Write no line
+    /// after it. It is on a thread of its own, and about socket 0, which must not exist. Returns the number of its second line.
+    pub fn finish(&mut self, moment: u64) -> io::Result<u32> {
+        self.begin_status(moment, LAST_THREAD, 0)?;
+        self.end(moment, LAST_THREAD, Answer::BadSocket)
+    }
+
     // ---- A witness, if your stack knows more than a trace shows. Write it to a separate place, and append it to the trace at the end ----
 
     fn step(&mut self, moment: u64, text: fmt::Arguments<'_>) -> io::Result<()> {
@@ -283,7 +327,7 @@ impl<W: Write> Trace<W> {
     }
 
     /// Places a line of the trace, with its numbers: none for B, E, and timers except rto; for an O line, the number of the made segment, counted from 1
-    /// over both hosts; for an I line, the O line that it copies, or none in version 3; for rto, cwnd and ssthresh after it.
+    /// over both hosts; for an I line, the O line that it copies, or none if only host 0 is recorded; for rto, cwnd and ssthresh after it.
     pub fn step_line(&mut self, moment: u64, line: u32, numbers: &[u32]) -> io::Result<()> {
         self.step(moment, format_args!("L {line}{}", Numbers(numbers)))
     }
@@ -291,6 +335,13 @@ impl<W: Write> Trace<W> {
     /// The effect of a thread's open call, with its answer in the words of a trace: `ok 5`, `data 6869`, `state LISTEN`.
     pub fn step_effect(&mut self, moment: u64, thread: u32, answer: &str) -> io::Result<()> {
         self.step(moment, format_args!("D {thread} {answer}"))
+    }
+
+    /// The steps of `finish`, whose second line has this number.
+    pub fn step_finish(&mut self, moment: u64, line: u32) -> io::Result<()> {
+        self.step_line(moment, line - 1, &[])?;
+        self.step_effect(moment, LAST_THREAD, "badsocket")?;
+        self.step_line(moment, line, &[])
     }
 
     pub fn step_make(&mut self, moment: u64, made: &Made<'_>) -> io::Result<()> {

@@ -380,7 +380,9 @@ func (h *host) fresh(port int) (*socket, tcpip.Error) {
 func (h *host) listen(port, backlog int) string {
 	s, err := h.fresh(port)
 	if err == nil {
-		err = s.ep.Listen(backlog)
+		// As gVisor's own system call does, for which a queue may hold one connection more (extra 1). With a queue of one, this stack would
+		// answer each SYN with a cookie, and never retransmit its SYN ACK.
+		err = s.ep.Listen(backlog + 1)
 	}
 	if err != nil {
 		return word(err)

@@ -262,8 +262,8 @@ long stack_start(const struct stack_config *wanted)
     return STACK_OK;
 }
 
-/* Sends delayed acknowledgments at once. lwIP grows its window by two segments for an acknowledgment of two (RFC 3465), which format
- * versions 1 to 3 don't permit; for an acknowledgment of one segment, it grows by one. */
+/* Sends delayed acknowledgments at once. lwIP grows its window by two segments for an acknowledgment of two (RFC 3465), which RFC 5681, 3.1,
+ * doesn't permit; for an acknowledgment of one segment, it grows by one. */
 static void acknowledge(void)
 {
     for (struct tcp_pcb *pcb = tcp_active_pcbs; pcb; pcb = pcb->next)

@@ -11,11 +11,13 @@ from texts import shown
 # The levels: how much of congestion control is judged, the strictest first.
 LEVELS = ("full", "recovery", "none")
 FULL = LEVELS[0]
-# The format versions; only this module chooses them. A case that is judged in full uses a version below 4.
-BOTH_HOSTS, ONE_HOST, BY_LEVEL = 2, 3, 4
+# The format version; only this module chooses it.
+VERSION = 5
 HEADER = ("msl", "grain", "minrto", "extra", "initial")
-# The values of a stack if its profile has none.
-USUAL = {"name": "a stack", "msl": "120000000", "grain": "1000", "minrto": "0", "extra": "65535", "initial": "5681", "options": ""}
+# The values of a stack if its profile has none. The clock is simulated, so a slack of 20 ms is enough for a stack whose timers are on time.
+USUAL = {"name": "a stack", "msl": "120000000", "grain": "1000", "minrto": "0", "extra": "65535", "initial": "5681", "slack": "20000", "options": ""}
+# How the values are written.
+NUMBER, SLACK = "[0-9]+", "[0-9]+|any"
 # The command that explains a no. The segments came over a simulated wire, so no capture can have changed them.
 EXPLAIN = ["explain", "--simulated"]
 REMARK = ["remark"]
@@ -77,17 +79,17 @@ def profile(text, path="profile"):
             if word not in values:
                 raise ValueError(f"{path}: {word} isn't a word of a profile")
             values[word] = value.strip()
-            if word in HEADER and not re.fullmatch("[0-9]+", values[word]):
+            if word in HEADER and not re.fullmatch(NUMBER, values[word]):
                 raise ValueError(f"{path}: {word} {values[word]!r} isn't a number")
+            if word == "slack" and not re.fullmatch(SLACK, values[word]):
+                raise ValueError(f"{path}: slack {values[word]!r} is neither a number nor any")
     return values
 
 
 def header_of(values, half, level=FULL):
     """The lines of a trace's header. `half`: only host 0 is recorded; `level`: how much of congestion control is judged."""
-    lines = ["skew 0", *(f"{name} {values[name]}" for name in HEADER)]
-    if level != FULL:
-        return [f"trace {BY_LEVEL}", *lines, f"hosts {1 if half else 2}", f"congestion {level}"]
-    return [f"trace {ONE_HOST}", *lines, "half 0"] if half else [f"trace {BOTH_HOSTS}", *lines]
+    lines = [f"{name} {values[name]}" for name in HEADER]
+    return [f"trace {VERSION}", "skew 0", *lines, f"hosts {1 if half else 2}", f"congestion {level}", f"slack {values['slack']}"]
 
 
 def trace_of(values, half, lines, level=FULL):
@@ -122,9 +124,9 @@ class Judge:
         return shown(told.strip())
 
     def unfit(self):
-        """The program that is older than the suite, which needs format version 4 and `explain --simulated`; empty if none is."""
+        """The program that is older than the suite, which needs format version 5 and `explain --simulated`; empty if none is."""
         case, _ = self.call(self.lab, self.find, trace_of(USUAL, False, [], LEVELS[-1]))
-        if not case.startswith(f"trace {BY_LEVEL}\n") or any(self.call(self.lab, words, case)[0].startswith("bad usage") for words in (EXPLAIN, REMARK)):
+        if not case.startswith(f"trace {VERSION}\n") or any(self.call(self.lab, words, case)[0].startswith("bad usage") for words in (EXPLAIN, REMARK)):
             return " ".join(self.lab)
         return "" if self.answer(case).startswith("yes") else " ".join(self.check)
 

@@ -13,6 +13,8 @@ from segments import RST, SYN, read, stream
 FAULTS = ("refused", "reset", "timeout")
 # Threads of the lines that no call writes, for host 0 and host 1.
 OUT_THREAD, IN_THREAD, TIMER_THREAD = 90, 92, 94
+# The thread of the call that ends the recording. It is about a socket that doesn't exist, so it changes nothing.
+LAST_THREAD, NO_SOCKET = 96, 0
 LONGEST_CALL = 60000
 # A storm: how many acknowledgments count as much as one other segment, and how many of its lines are judged.
 WEIGHT, KEPT = 20, 100
@@ -362,6 +364,7 @@ class Run:
         self.storm = storm(self.lines)
         if self.storm is not None:
             del self.lines[self.storm + KEPT:]
+            self.now = int(self.lines[-1].split(" ", 1)[0])
 
     def start(self):
         for number in (0,) if self.peer else (0, 1):
@@ -382,11 +385,19 @@ class Run:
             while self.step(self.scenario.until if over is None else over):
                 if self.is_over() and over is None:
                     over = min(self.now + self.scenario.linger, self.scenario.until)
+            self.finish(self.scenario.until if over is None else over)
         finally:
             for host in self.hosts:
                 host.end()
         if self.peer:
             self.peer.finish()
+
+    def finish(self, limit):
+        """Ends the recording with a call at the last moment that was simulated, so that the trace shows how long nothing happened."""
+        if not self.early:
+            self.now = max(self.now, limit)
+        self.say(LAST_THREAD, f"B status {NO_SOCKET}")
+        self.say(LAST_THREAD, "E badsocket")
 
     # ---- results that aren't in the trace ----
 

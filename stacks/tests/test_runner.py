@@ -246,6 +246,51 @@ class Again(unittest.TestCase):
         self.assertFalse(sent.is_again(1, segment(syn, 2**31 + 9)))
 
 
+class TheEnd(unittest.TestCase):
+    """The call that ends a recording."""
+    LINES = ["B status 0", "E badsocket"]
+
+    def lines(self, steps, whole="", events=1000):
+        """The event lines of a run of this thread with an adapter that sends nothing."""
+        watch = SimpleNamespace(left=lambda where: None, limits=SimpleNamespace(events=events))
+        run = simulation.Run(language.read("x", f"{HEAD}{whole}thread 1 host 0\n{steps}"), ["true"], watch)
+        with mock.patch.object(simulation, "Host", Silent):
+            run.run()
+        return run.lines
+
+    def test_it_shows_how_long_the_run_lasted(self):
+        """The run ends `linger` after the last step, or at `until` if a call still waits."""
+        step = "  wait 3\n  listen 80 as door\n"
+        for steps, whole, moment in ((step, "", 5_001_000), (step, "linger 10\n", 13_001_000), (step, "until 4\n", 4_000_000),
+                                     ("  open 4000 80 as c\n  await c\n", "", 300_000_000)):
+            self.assertEqual(self.lines(steps, whole)[-2:], [f"{moment} {simulation.LAST_THREAD} {line}" for line in self.LINES])
+
+    def test_its_thread_and_socket_are_no_others(self):
+        lines = self.lines("  open 4000 80 as c\n")
+        self.assertEqual([line for line in lines[:-2] if f" {simulation.LAST_THREAD} " in line or " 0" == line[-2:]], [])
+        self.assertNotIn(simulation.LAST_THREAD, range(simulation.TIMER_THREAD + 2))
+
+    def test_a_run_that_is_ended_early_lasts_until_then(self):
+        self.assertEqual(self.lines("  wait 3\n  wait 3\n  wait 3\n", "", 2)[-2:], [f"3001000 {simulation.LAST_THREAD} {line}" for line in self.LINES])
+
+
+class Silent:
+    """A stack that answers each call at once, sends nothing, and needs no timer."""
+    next = None
+
+    def __init__(self, number, *settings):
+        self.number = number
+
+    def hello(self, seed, options):
+        pass
+
+    def end(self):
+        pass
+
+    def ask(self, call, command):
+        return {"open": "ok 0", "await": "again"}.get(call, "ok"), []
+
+
 class Storms(unittest.TestCase):
     def lines(self, *kinds):
         made = {"ack": segment(segments.ACK), "data": segment(segments.ACK, payload=b"x"), "fin": segment(segments.ACK | segments.FIN)}
@@ -267,17 +312,20 @@ class Profiles(unittest.TestCase):
         self.assertEqual((values["name"], values["msl"], values["grain"]), ("A stack", "30000000", "1000"))
         self.assertRaises(ValueError, judging.profile, "mls 5")
 
-    def test_the_version_goes_by_the_hosts(self):
-        self.assertEqual(judging.trace_of(judging.USUAL, False, ["1 1 B status 5"]).split("\n")[0], "trace 2")
-        self.assertEqual(judging.trace_of(judging.USUAL, True, []).split("\n")[-2], "half 0")
-
-    def test_less_of_congestion_control_is_version_4(self):
+    def test_the_header(self):
         for half, hosts in ((False, "hosts 2"), (True, "hosts 1")):
-            for word in judging.LEVELS[1:]:
-                lines = judging.header_of(judging.USUAL, half, word)
-                self.assertEqual((lines[0], lines[1:7], lines[7:]),
-                                 ("trace 4", judging.header_of(judging.USUAL, half)[1:7], [hosts, f"congestion {word}"]))
-        self.assertEqual(judging.header_of(judging.USUAL, False, "full")[0], "trace 2")
+            for word in judging.LEVELS:
+                self.assertEqual(judging.header_of(judging.USUAL, half, word),
+                                 ["trace 5", "skew 0", "msl 120000000", "grain 1000", "minrto 0", "extra 65535", "initial 5681", hosts,
+                                  f"congestion {word}", "slack 20000"])
+        self.assertEqual(judging.trace_of(judging.USUAL, True, ["1 1 B status 5"]).split("\n")[-3:], ["slack 20000", "1 1 B status 5", ""])
+
+    def test_the_slack_is_the_profiles(self):
+        for text in ("0", "250000", "any"):
+            self.assertEqual(judging.header_of(judging.profile(f"slack {text}\n"), False)[-1], f"slack {text}")
+        for text in ("none", "", "-1", "1.5", "any 5"):
+            with self.assertRaisesRegex(ValueError, "is neither a number nor any"):
+                judging.profile(f"slack {text}\n")
 
     def test_missing_bytes_are_no_good(self):
         outcome = judging.Outcome(SimpleNamespace(keeps=True), "yes 1 1", "full", missing=3)
@@ -294,8 +342,7 @@ class StandIn(judging.Judge):
         self.yes, self.fault = judging.LEVELS[judging.LEVELS.index(strictest):] if strictest else (), fault
 
     def answer(self, case):
-        word = re.search(r"congestion (\w+)", case)
-        return "yes 5 3" if (word[1] if word else "full") in self.yes else self.fault
+        return "yes 5 3" if re.search(r"congestion (\w+)", case)[1] in self.yes else self.fault
 
     def outcome(self):
         """The outcome and cases of an empty run."""
@@ -305,7 +352,7 @@ class StandIn(judging.Judge):
     def call(self, program, words, text):
         """Reads the arguments of `tcpwit` or `tcpwit_lab`, and fails for any others."""
         if words == ["remark"]:
-            return f"line 7: of {text.split()[1]}\nat the end: x\n", 1
+            return f"line 7: of {re.search(r'congestion (.*)', text)[1]}\nat the end: x\n", 1
         if words not in (["check"], ["find"], ["explain", "--simulated"]):
             raise AssertionError(words)
         return text, 0
@@ -317,9 +364,9 @@ class TheStrictestWord(unittest.TestCase):
             outcome, cases = StandIn(word).outcome()
             self.assertEqual((outcome.strictest, outcome.verdict), (word, verdict))
             self.assertEqual(list(cases), list(dict.fromkeys(each for each in ("full", word) if each)))
-            self.assertEqual(cases["full"][:8], "trace 2\n")
+            self.assertEqual(cases["full"][:8], "trace 5\n")
             self.assertEqual([outcome.is_good(least) for least in judging.LEVELS], [bool(word) and word in judging.LEVELS[:n] for n in (1, 2, 3)])
-            self.assertEqual(outcome.remarks, ["line 7: of " + ("4" if word in ("recovery", "none") else "2"), "at the end: x"])
+            self.assertEqual(outcome.remarks, [f"line 7: of {word or 'full'}", "at the end: x"])
 
     def test_a_fault_is_judged_once(self):
         outcome, cases = StandIn("none", "bad trace 7 0 9 header").outcome()
@@ -756,11 +803,13 @@ for line in sys.stdin:
         scenario = self.scenario("  listen 80 as door\n  wait 100\n", "delay 0.001\n")
         status, out, _ = self.run_it(stack, scenario, "--events", "400", "--out", self.folder, *self.programs())
         self.assertEqual((status, "1 yes, but" in out), (1, True), out)
-        self.assertIn("run: ended after 400 events: a storm of acknowledgments from line 11 of the trace on, of which 100 lines are kept", out)
-        self.assertIn(f"line 11: 2000 93 I 1 {ack}", out)
+        self.assertIn("run: ended after 400 events: a storm of acknowledgments from line 14 of the trace on, of which 100 lines are kept", out)
+        self.assertIn(f"line 14: 2000 93 I 1 {ack}", out)
         with open(f"{self.folder}/own.trace") as file:
             lines = file.read().split("\n")
-        self.assertEqual((lines[10], len(lines)), (f"2000 93 I 1 {ack}", 10 + 100 + 1))
+        self.assertEqual((lines[13], len(lines)), (f"2000 93 I 1 {ack}", 13 + 100 + 2 + 1))
+        last = lines[-4].split()[0]
+        self.assertEqual(lines[-3:], [f"{last} 96 B status 0", f"{last} 96 E badsocket", ""])
 
     def test_a_program_that_takes_too_long(self):
         with self.assertRaises(limits.Broken) as caught:

@@ -58,6 +58,18 @@ class Toy(unittest.TestCase):
             self.assertIn(" T 0 4000 80 rto\n", file.read())
         self.assertIn("thread 3 waits", self.run_it("data-slower-later", defect="no-retransmission").stdout)
 
+    def test_the_slack_of_the_profile_decides(self):
+        """With the defect ack-late, an acknowledgment takes 0.6 s; the RFC's limit is 0.5 s."""
+        with open(os.path.join(TOY, "profile")) as file:
+            usual = file.read()
+        for slack, word in (("99999", "no"), ("100000", "yes"), ("any", "yes")):
+            path = os.path.join(self.folder.name, "profile")
+            with open(path, "w") as file:
+                file.write(f"{usual}slack {slack}\n")
+            out = self.run_it("hostile-ack-in-time", "--profile", path, defect="ack-late").stdout
+            self.assertEqual(re.search("^hostile-ack-in-time +(.*?) +", out, re.M)[1], word, out)
+            self.assertEqual(" ack-late " in out, word == "no", out)
+
     def test_an_outcome_of_a_defect_is_no_plain_yes(self):
         self.assertEqual([outcome for _, _, outcome in rows() if re.search(r": yes \[", outcome)], [])
 

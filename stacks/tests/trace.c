@@ -1,6 +1,8 @@
-/* Writes crates/test_cases/data/examples/handshake_and_five_bytes.case, a handshake and the five bytes of `hello`, with tcpwit_trace.h. */
+/* Writes cases with tcpwit_trace.h: crates/test_cases/data/examples/handshake_and_five_bytes.case, a handshake and the five bytes of `hello`.
+ * With the argument `unanswered`: unanswered.case, a SYN that is never retransmitted. With `any`: the end of a header without duties. */
 #include "../tcpwit_trace.h"
 #include <stdio.h>
+#include <string.h>
 
 static void put(void *file, const char *bytes, size_t count) { fwrite(bytes, 1, count, file); }
 
@@ -72,11 +74,35 @@ static void write_data(struct tcpwit *w)
     tcpwit_step_line(w, 131, 24, 0, 0, 0);
 }
 
-int main(void)
+static void write_unanswered(struct tcpwit *t, struct tcpwit *w)
 {
-    struct tcpwit trace = { put, stdout, 1, 0, 0 }, witness = { put, stdout, 1, 0, 0 };
-    write_trace(&trace);
-    write_handshake(&witness);
-    write_data(&witness);
+    static const unsigned char first[] = { 0x0f, 0xa0, 0, 0x50, 0, 0, 0, 99, 0, 0, 0, 0, 0x50, 0x02, 0xff, 0xff, 0, 0, 0, 0 };
+    tcpwit_header(t, 0, 120000000, 1000, 1000000, 0, 5681);
+    tcpwit_judged(t, 1, TCPWIT_FULL, 20000);
+    uint32_t begin = tcpwit_begin_open(t, 0, 1, 0, 4000, 80), end = tcpwit_end_number(t, 1, 1, 2);
+    uint32_t syn_line = tcpwit_out(t, 10, 9, 0, first, sizeof first, NULL, 0), last = tcpwit_finish(t, 3020011);
+    tcpwit_witness(w);
+    tcpwit_step_line(w, 0, begin, 0, 0, 0);
+    tcpwit_step_effect(w, 0, 1, "ok 2");
+    tcpwit_step_line(w, 1, end, 0, 0, 0);
+    tcpwit_step_make(w, 10, 0, 4000, 80, 0, 0, "S", 65535, 99, -1);
+    tcpwit_step_line(w, 10, syn_line, 1, 1, 0);
+    tcpwit_step_finish(w, 3020011, last);
+}
+
+int main(int count, char **words)
+{
+    const char *what = count > 1 ? words[1] : "";
+    int version = *what ? 5 : 1;
+    struct tcpwit trace = { put, stdout, version, 0, 0 }, witness = { put, stdout, version, 0, 0 };
+    if (!strcmp(what, "any")) {
+        tcpwit_judged(&trace, 2, TCPWIT_RECOVERY, TCPWIT_ANY);
+    } else if (*what) {
+        write_unanswered(&trace, &witness);
+    } else {
+        write_trace(&trace);
+        write_handshake(&witness);
+        write_data(&witness);
+    }
     return 0;
 }

@@ -1,11 +1,12 @@
-//! Writes crates/test_cases/data/examples/handshake_and_five_bytes.case, a handshake and the five bytes of `hello`, with tcpwit_trace.rs.
+//! Writes cases with tcpwit_trace.rs: crates/test_cases/data/examples/handshake_and_five_bytes.case, a handshake and the five bytes of `hello`.
+//! With the argument `unanswered`: unanswered.case, a SYN that is never retransmitted. With `any`: the end of a header without duties.
 #![allow(dead_code)]
 
 #[path = "../tcpwit_trace.rs"]
 mod tcpwit_trace;
 
 use std::io::{self, Write};
-use tcpwit_trace::{Header, Made, Trace};
+use tcpwit_trace::{Header, LAST_THREAD, Level, Made, Trace};
 
 const SYN: &[u8] = &[0x0f, 0xa0, 0, 0x50, 0xff, 0xff, 0xff, 0xfe, 0, 0, 0, 0, 0x50, 0x02, 0xff, 0xff, 0, 0, 0, 0];
 const SYN_ACK: &[u8] = &[0, 0x50, 0x0f, 0xa0, 0, 0, 0, 0x64, 0xff, 0xff, 0xff, 0xff, 0x50, 0x12, 0xff, 0xff, 0, 0, 0, 0];
@@ -76,8 +77,35 @@ fn witness(out: &mut dyn Write) -> io::Result<()> {
     w.step_line(131, 24, &[])
 }
 
+const FIRST: &[u8] = &[0x0f, 0xa0, 0, 0x50, 0, 0, 0, 99, 0, 0, 0, 0, 0x50, 0x02, 0xff, 0xff, 0, 0, 0, 0];
+
+fn unanswered(out: &mut dyn Write) -> io::Result<()> {
+    let mut t = Trace::new(&mut *out, 5);
+    t.header(&Header::default())?;
+    t.judged(1, Level::Full, Some(20_000))?;
+    let begin = t.begin_open(0, 1, 0, 4000, 80)?;
+    let end = t.end_number(1, 1, 2)?;
+    let syn = t.out(10, 9, 0, &[FIRST])?;
+    let last = t.finish(3_020_011)?;
+    assert_eq!(LAST_THREAD, 4294967295);
+    let mut w = Trace::new(out, 5);
+    w.witness()?;
+    w.step_line(0, begin, &[])?;
+    w.step_effect(0, 1, "ok 2")?;
+    w.step_line(1, end, &[])?;
+    w.step_make(10, &made(0, 0, 0, "S", &[99]))?;
+    w.step_line(10, syn, &[1])?;
+    w.step_finish(3_020_011, last)
+}
+
 fn main() -> io::Result<()> {
     let mut out = io::stdout().lock();
-    trace(&mut out)?;
-    witness(&mut out)
+    match std::env::args().nth(1).as_deref() {
+        Some("any") => Trace::new(out, 5).judged(2, Level::Recovery, None),
+        Some(_) => unanswered(&mut out),
+        None => {
+            trace(&mut out)?;
+            witness(&mut out)
+        }
+    }
 }

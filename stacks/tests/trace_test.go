@@ -1,4 +1,5 @@
-// Writes crates/test_cases/data/examples/handshake_and_five_bytes.case, a handshake and the five bytes of `hello`, with tcpwit_trace.go.
+// Writes cases with tcpwit_trace.go: crates/test_cases/data/examples/handshake_and_five_bytes.case, a handshake and the five bytes of `hello`;
+// unanswered.case, a SYN that is never retransmitted; and the end of a header without duties.
 package tcpwit
 
 import (
@@ -79,15 +80,51 @@ func writeWitness(w *Trace) {
 	w.StepLine(131, 24)
 }
 
-func TestHandshake(t *testing.T) {
-	wanted, err := os.ReadFile(os.Getenv("WANTED"))
+func writeUnanswered(t, w *Trace) {
+	first := []byte{0x0f, 0xa0, 0, 0x50, 0, 0, 0, 99, 0, 0, 0, 0, 0x50, 0x02, 0xff, 0xff, 0, 0, 0, 0}
+	t.Header(0, 120000000, 1000, 1000000, 0, 5681)
+	t.Judged(1, Full, 20000)
+	begin := t.BeginOpen(0, 1, 0, 4000, 80)
+	end := t.EndNumber(1, 1, 2)
+	line := t.Out(10, 9, 0, first)
+	last := t.Finish(3020011)
+	w.Witness()
+	w.StepLine(0, begin)
+	w.StepEffect(0, 1, "ok 2")
+	w.StepLine(1, end)
+	w.StepMake(10, made(0, 0, 0, "S", 99))
+	w.StepLine(10, line, 1)
+	w.StepFinish(3020011, last)
+}
+
+// compare compares a text with the file that this variable names.
+func compare(t *testing.T, text *bytes.Buffer, variable string) {
+	wanted, err := os.ReadFile(os.Getenv(variable))
 	if err != nil {
 		t.Fatal(err)
 	}
+	if !bytes.Equal(text.Bytes(), wanted) {
+		t.Fatalf("the case differs:\n%s", text.String())
+	}
+}
+
+func TestHandshake(t *testing.T) {
 	var text bytes.Buffer
 	writeTrace(New(&text, 1))
 	writeWitness(New(&text, 1))
-	if !bytes.Equal(text.Bytes(), wanted) {
-		t.Fatalf("the case differs:\n%s", text.String())
+	compare(t, &text, "WANTED")
+}
+
+func TestUnanswered(t *testing.T) {
+	var text bytes.Buffer
+	writeUnanswered(New(&text, 5), New(&text, 5))
+	compare(t, &text, "UNANSWERED")
+}
+
+func TestWithoutDuties(t *testing.T) {
+	var text bytes.Buffer
+	New(&text, 5).Judged(2, Recovery, Any)
+	if text.String() != "hosts 2\ncongestion recovery\nslack any\n" {
+		t.Fatalf("the header differs:\n%s", text.String())
 	}
 }
