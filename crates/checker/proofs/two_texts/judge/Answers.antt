@@ -5,7 +5,7 @@ use Rattle.checker.proofs.two_texts.judge.Goals as goal
 
 pub returns-clause-tells : goal.returns-clause-tells
 returns-clause-tells g c =
-    c.judge_in.ensures.tells c.args.header.now (left_ahead g.A.Read.remaining c.args.lines.now) (steps_left g.B.Read.remaining c.args.steps.now)
+    c.judge_in-verdict.ensures.tells c.args.header.now (left_ahead g.A.Read.remaining c.args.lines.now) (steps_left g.B.Read.remaining c.args.steps.now)
     (starts c.args.header.now (left_ahead g.A.Read.remaining c.args.lines.now)
     (steps_left g.B.Read.remaining c.args.steps.now) c.new-window.result c.start-world.result
     c.new-window.ensures c.start-world.ensures)
