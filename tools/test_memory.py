@@ -64,7 +64,7 @@ class Memory(unittest.TestCase):
         end = int(lines[-1].split()[0]) + 10_000_000
         with open(self.trace, "w", encoding="ascii") as file:
             file.writelines([*lines, f"{end} 9 B status 0\n", f"{end} 9 E badsocket\n"])
-        self.assertLess(self.peak(NO, "judge", "--case", self.case), 3)
+        self.assertLess(self.peak(NO, "judge", "--case", self.case, "--budget", "0"), 3)
 
     def test_find(self):
         self.assertLess(self.peak(DONE, "find"), 3)
