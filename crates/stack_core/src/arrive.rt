@@ -173,8 +173,9 @@ impl HostCore {
         ensures err { OnErr result (self.new ≡ self.old) }
     {
         let host = self.me();
-        if self.admits(&Label::R { host, line }) {
-            self.add(Label::R { host, line }, Affected::Nobody)?;
+        let reset = Label::R { host, line };
+        if self.admits(&reset) {
+            self.add(reset, Affected::Nobody)?;
             return Ok(());
         }
         self.add(Label::K { host, line }, Affected::Nobody)?;

@@ -322,25 +322,14 @@ fn ask(recording: &Recording, moment: u64, ports: Ports, expired: Expired) -> Op
     ensures same { IfSome result (λ due. due ≡ record { ports = ports; expired = expired }) }
     ensures none { IfNone result (IsNotDueAt recording.now moment ports expired) }
 {
-    if may_expire(recording, moment, ports, expired) {
-        return Some(Due { ports, expired });
-    }
-    None
-}
-
-// Whether it may.
-fn may_expire(recording: &Recording, moment: u64, ports: Ports, expired: Expired) -> bool
-    requires steps { steps_in recording.now.entries < most_steps }
-    ensures yes { result ≡ true → IsDueAt recording.now moment ports expired }
-    ensures no { result ≡ false → IsNotDueAt recording.now moment ports expired }
-{
-    let label = Label::L(TakenLine::Expired {
+    let line = TakenLine::Expired {
         line: 0,
         host: recording.me(),
         ports,
         expired,
-    });
-    let admitted = recording.admits(moment, &label);
-    drop(label);
-    admitted.is_ok()
+    };
+    match recording.admits(moment, &Label::L(line)) {
+        Ok(()) => Some(Due { ports, expired }),
+        Err(_) => None,
+    }
 }
