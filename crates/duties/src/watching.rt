@@ -2,10 +2,10 @@
 
 ghost use Rattle.std.specs.Prelude.{◌≡◌, false, OnOk};
 ghost use Rattle.std.specs.Map.{lookup};
-ghost use Rattle.std.specs.Option.{option_map_or};
+ghost use Rattle.std.specs.Option.{option_map, option_map_or};
 ghost use Rattle.std.specs.Result.{result_err};
 ghost use Rattle.verdict.specs.Rules.{first_broken};
-ghost use Rattle.spec_network.specs.Tables.{on, pick};
+ghost use Rattle.spec_network.specs.Tables.{on, pick, waiting};
 ghost use Rattle.spec_duties.specs.Watching.{built_after, built_by, builds_mere_ack, closed_at, counts_for, counts_now};
 ghost use Rattle.spec_duties.specs.Watching.{drops_needed, duties_after, duty_rules, inbox_after, is_needed, is_spared};
 ghost use Rattle.spec_duties.specs.Watching.{joined, leaves_late, left, limit_rules, listener_closed, listening_after};
@@ -107,6 +107,26 @@ impl Duties {
         ensures { result.now ≡ self.now.inbox }
     {
         self.inbox.entries()
+    }
+
+    /// Since when the segment of a line waits in an inbox, in microseconds. None: it doesn't.
+    pub fn waiting_since(&self, line: u64) -> Option<u64>
+        ensures { result ≡ waiting line self.now.inbox }
+    {
+        match self.inbox.get(line) {
+            Some(since) => *since,
+            None => None,
+        }
+    }
+
+    /// When the segment of a number was built, in microseconds. None: it was sent, or there is none.
+    pub fn built_since(&self, number: u32) -> Option<u64>
+        ensures { result ≡ option_map (λ b. b.since) (waiting number self.now.built) }
+    {
+        match self.built.get(u64::from(number)) {
+            Some(Some(built)) => Some(built.since),
+            Some(None) | None => None,
+        }
     }
 
     #[inline(always)]

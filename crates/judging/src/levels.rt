@@ -13,8 +13,6 @@ pub(crate) struct Level {
     pub verdict: Verdict,
     /// What the verdict refuses. None: it is yes.
     pub refused: Option<Refused>,
-    /// When a late duty is refused, in microseconds. None: it isn't one that the verdict refuses.
-    pub late_at: Option<u64>,
     /// The verdict at this level if duties aren't judged. None: that wasn't tried.
     pub without_duties: Option<Verdict>,
 }
@@ -30,7 +28,7 @@ impl Level {
         facts: Facts,
     ) -> Result<Level, JudgeFault> {
         let is_asked = match facts.refused {
-            Some(refused) => duty_rule_of(refused.rule).is_some()
+            Some(refused) => is_of_duties(refused.rule)
                 && !is_yes_without_duties(stricter),
             None => false,
         };
@@ -44,7 +42,6 @@ impl Level {
             judged,
             verdict: facts.verdict,
             refused: facts.refused,
-            late_at: facts.late_at,
             without_duties,
         })
     }
@@ -55,32 +52,22 @@ pub(crate) fn is_yes_without_duties(levels: &[Level]) -> bool {
     levels.iter().any(|level| matches!(level.without_duties, Some(Verdict::Yes { .. })))
 }
 
-/// What a rule of duties and limits is about.
-#[derive(Clone, Copy)]
-pub(crate) enum DutyRule {
-    /// By when something has to be done.
-    Deadline,
-    /// What may be dropped or discarded, and how often something may be done.
-    Limit,
-}
-
-/// What a rule is about, if it is one that version 5 adds, and that `slack any` leaves out.
-pub(crate) fn duty_rule_of(rule: Rule) -> Option<DutyRule> {
+// Whether a rule is one that version 5 adds, and that `slack any` leaves out.
+fn is_of_duties(rule: Rule) -> bool {
     match rule {
-        Rule::LineRange | Rule::LineAgain | Rule::ThreadOrder | Rule::MomentFalls => None,
-        Rule::MomentOff | Rule::Overdue | Rule::ThreadBusy | Rule::NoCall => None,
-        Rule::DoneTwice | Rule::AnswerDiffers | Rule::Socket | Rule::CallAnswer => None,
-        Rule::NoEndpoint | Rule::State | Rule::Iss | Rule::BytesDiffer => None,
-        Rule::NotMade | Rule::PayloadRange | Rule::AckField | Rule::OldData => None,
-        Rule::Offered | Rule::Congestion | Rule::Size | Rule::NoEmission => None,
-        Rule::CopyDiffers | Rule::Lifetime | Rule::Inbox | Rule::NotPeer => None,
-        Rule::Number | Rule::Unacceptable | Rule::AckRange | Rule::QueueFull => None,
-        Rule::Growth | Rule::Sample | Rule::TimerOff | Rule::TimerEarly => None,
-        Rule::Recovery | Rule::ScaleUnread | Rule::Unplaced => None,
-        Rule::Dropped | Rule::Discarded => Some(DutyRule::Limit),
-        Rule::ProcessLate | Rule::SendLate | Rule::AckLate => Some(DutyRule::Deadline),
-        Rule::ExpiryLate | Rule::ResendLate | Rule::ProbeLate => Some(DutyRule::Deadline),
-        Rule::StartLate | Rule::ResetLate => Some(DutyRule::Deadline),
-        Rule::Resent | Rule::ResentBeyond | Rule::AckExcess => Some(DutyRule::Limit),
+        Rule::LineRange | Rule::LineAgain | Rule::ThreadOrder | Rule::MomentFalls => false,
+        Rule::MomentOff | Rule::Overdue | Rule::ThreadBusy | Rule::NoCall => false,
+        Rule::DoneTwice | Rule::AnswerDiffers | Rule::Socket | Rule::CallAnswer => false,
+        Rule::NoEndpoint | Rule::State | Rule::Iss | Rule::BytesDiffer => false,
+        Rule::NotMade | Rule::PayloadRange | Rule::AckField | Rule::OldData => false,
+        Rule::Offered | Rule::Congestion | Rule::Size | Rule::NoEmission => false,
+        Rule::CopyDiffers | Rule::Lifetime | Rule::Inbox | Rule::NotPeer => false,
+        Rule::Number | Rule::Unacceptable | Rule::AckRange | Rule::QueueFull => false,
+        Rule::Growth | Rule::Sample | Rule::TimerOff | Rule::TimerEarly => false,
+        Rule::Recovery | Rule::ScaleUnread | Rule::Unplaced => false,
+        Rule::Dropped | Rule::Discarded | Rule::ProcessLate | Rule::SendLate => true,
+        Rule::AckLate | Rule::ExpiryLate | Rule::ResendLate | Rule::ProbeLate => true,
+        Rule::StartLate | Rule::ResetLate | Rule::Resent | Rule::ResentBeyond => true,
+        Rule::AckExcess => true,
     }
 }

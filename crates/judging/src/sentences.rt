@@ -7,10 +7,10 @@ use crate::trying::{Question, Tried};
 use case_forms::{Judged, OutOfMemory};
 use itoa::Buffer;
 use plain_words::{about, word_if};
-use replayed::{Reason, Refused};
+use replayed::{Late, Reason, Refused};
 use std::alloc::Global;
 use std::fmt;
-use verdict::Verdict;
+use verdict::{Rule, Verdict};
 use witness_search::Ending;
 
 fn level_name(level: Judged) -> &'static str {
@@ -188,24 +188,25 @@ fn sentence(alloc: Global, slack: Option<u64>, level: &Level) -> Result<String, 
             0 => out.push_str("after the last step")?,
             line => write!(out, "line {line}")?,
         }
-        say_reason(&mut out, &refused)?;
-        say_late(&mut out, slack, level.late_at)?;
+        say_reason(&mut out, slack, &refused)?;
         out.push_str(".")?;
     }
     Ok(out)
 }
 
-// When a late duty is refused, at a moment in microseconds, as the end of a sentence.
-fn say_late(out: &mut String, slack: Option<u64>, at: Option<u64>) -> Result<(), OutOfMemory> {
-    match (slack, at) {
-        (Some(slack), Some(at)) => {
-            write!(out, "; at {at}, the slack of {} was over", Time(slack))
-        }
-        (None, _) | (_, None) => Ok(()),
+// By when something was due that is late, as the end of a sentence. The slack and moments are in microseconds.
+fn say_late(out: &mut String, slack: Option<u64>, late: &Late) -> Result<(), OutOfMemory> {
+    let Late { since, due, at } = late;
+    if *due == u128::from(*since) {
+        write!(out, "; due at {due}")?;
+    } else {
+        write!(out, "; owed since {since}, due by {due}")?;
     }
+    let latest = due.saturating_add(u128::from(slack.unwrap_or(0)));
+    write!(out, ", with the slack by {latest}, and late at {at}")
 }
 
-fn say_reason(out: &mut String, refused: &Refused) -> Result<(), OutOfMemory> {
+fn say_reason(out: &mut String, slack: Option<u64>, refused: &Refused) -> Result<(), OutOfMemory> {
     match refused.reason {
         Reason::Beyond { bytes, cwnd } => {
             let (s, bytes) = (word_if(bytes != 1, "s"), Grouped(bytes));
@@ -228,11 +229,16 @@ fn say_reason(out: &mut String, refused: &Refused) -> Result<(), OutOfMemory> {
             write!(out, " retransmits data without a timeout, fast recovery")?;
             write!(out, " or a reopened window (old-data)")
         }
-        Reason::Other => {
-            let rule = refused.rule;
-            write!(out, ": {} ({rule})", about(rule).refused)
+        Reason::Late(late) => {
+            say_rule(out, refused.rule)?;
+            say_late(out, slack, &late)
         }
+        Reason::Other => say_rule(out, refused.rule),
     }
+}
+
+fn say_rule(out: &mut String, rule: Rule) -> Result<(), OutOfMemory> {
+    write!(out, ": {} ({rule})", about(rule).refused)
 }
 
 // A number with a comma before each three digits.

@@ -2,7 +2,6 @@
 
 use crate::case_lines::{CaseLines, case_lines};
 use crate::connections::{Connections, Explained, connections_of};
-use crate::levels::{DutyRule, duty_rule_of};
 use crate::rewriting::{events_of, header_text, judged_by};
 use case_forms::{Header, Judged, OutOfMemory};
 use checker::{CaseFault, check_streams};
@@ -12,7 +11,6 @@ use std::alloc::{AllocError, Global};
 use thiserror::Error;
 use trace_reader::{Counted, read_trace};
 use verdict::Verdict;
-use witness::StepReader;
 use witness_search::{CaseText, Ending, Found, find_witness};
 
 /// Why a trace can't be judged.
@@ -96,8 +94,6 @@ pub(crate) struct Facts {
     pub verdict: Verdict,
     /// What the verdict refuses. None: it is yes.
     pub refused: Option<Refused>,
-    /// When a late duty is refused, in microseconds. None: it isn't one that the verdict refuses.
-    pub late_at: Option<u64>,
     pub lines: CaseLines,
     pub connections: Connections,
 }
@@ -171,47 +167,7 @@ fn judged(
     Ok(Facts {
         verdict,
         refused,
-        late_at: late_at(alloc, header, case, verdict)?,
         lines: case_lines(events, case).ok_or(JudgeFault::Altered)?,
         connections,
     })
-}
-
-// The moment of the step at which a duty is late, or of the last step if it's late at the end. None: the verdict
-// refuses no late duty.
-fn late_at(
-    alloc: Global,
-    header: &Header,
-    case: &CaseText<'_>,
-    verdict: Verdict,
-) -> Result<Option<u64>, ReplayFault> {
-    match verdict {
-        Verdict::No {
-            witness_line,
-            rule,
-            ..
-        } if matches!(duty_rule_of(rule), Some(DutyRule::Deadline)) => {
-            moment_in(alloc, header, case, witness_line)
-        }
-        Verdict::Yes { .. } | Verdict::No { .. } => Ok(None),
-    }
-}
-
-// The moment of the step in this line of the witness; for line 0, that of the last step. None: it has no step.
-fn moment_in(
-    alloc: Global,
-    header: &Header,
-    case: &CaseText<'_>,
-    line: u64,
-) -> Result<Option<u64>, ReplayFault> {
-    let mut steps = StepReader::new(alloc, header.version, Counted::new(case.witness()));
-    let last = if line == 0 { u64::MAX } else { line };
-    let mut moment = None;
-    for _ in 2..=last {
-        let Some(step) = steps.next()? else {
-            break;
-        };
-        moment = Some(step.moment);
-    }
-    Ok(moment)
 }

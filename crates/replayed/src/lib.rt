@@ -25,7 +25,7 @@ mod unused_lines;
 
 pub use calls::socket_of;
 pub use case::{Case, Refusal};
-pub use owing::{Debt, Debtor, debts_of};
+pub use owing::{Debt, Debtor, Late, debts_of};
 pub use reasons::{Reason, beyond, end_of, misplaced};
 pub use refusal::{Refused, refused_by};
 pub use replay::{Replay, ReplayFault, has_room};

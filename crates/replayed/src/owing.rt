@@ -99,52 +99,91 @@ pub struct Debtor {
     pub debt: Debt,
 }
 
+/// When a late duty was due. Moments are microseconds.
+#[derive(Clone, Copy)]
+pub struct Late {
+    /// Since when it is owed.
+    pub since: u64,
+    /// By when it was due, without the slack.
+    pub due: u128,
+    /// The moment of the refused step; after the last step, that of the last one.
+    pub at: u64,
+}
+
+impl Late {
+    /// A debt that is late at a moment.
+    pub(crate) fn of(debt: Debt, at: u64) -> Late {
+        let Debt { since, due, .. } = debt;
+        Late { since, due, at }
+    }
+
+    /// Something that was due at once since a moment, if there is one, and is late at another.
+    pub(crate) fn at_once(since: Option<u64>, at: u64) -> Option<Late> {
+        let since = since?;
+        let due = u128::from(since);
+        Some(Late { since, due, at })
+    }
+}
+
 impl Replay<'_> {
     /// The endpoint whose duty is late where the case is refused, once the steps before that were done. After the last
     /// step it is the first one, in the order of hosts and of creation. None: the rule is none of 44 to 49.
     pub fn debtor(&self) -> Option<Debtor> {
         match self.case().refusal() {
-            Refusal::At { step, rule } => self.late_at(self.touched(step)?, rule, step.moment),
+            Refusal::At { step, rule } => {
+                debtor_at(&self.watched, self.touched(step)?, rule, step.moment)
+            }
             Refusal::Late { rule, .. } => {
-                let zero = self.debtor_of(Host::Zero, rule);
-                zero.or_else(|| self.debtor_of(Host::One, rule))
+                let last = self.case().steps_before_refusal().last();
+                debtor_after(&self.watched, rule, last.map_or(0, |step| step.moment))
             }
             Refusal::Nowhere | Refusal::Unplaced(_) => None,
         }
     }
+}
 
-    // The first endpoint of a host whose duty is late after the last step.
-    fn debtor_of(&self, host: Host, rule: Rule) -> Option<Debtor> {
-        let last = self.case().steps_before_refusal().last();
-        let moment = last.map_or(0, |step| step.moment);
-        let count = u32::try_from(self.world().body(host).endpoint_count()).unwrap_or(u32::MAX);
-        for number in 0..count {
-            let late = self.late_at(EndpointId { host, number }, rule, moment);
-            if late.is_some() {
-                return late;
-            }
-        }
-        None
-    }
+/// The first endpoint, in the order of hosts and of creation, whose duty is late after the last step, which had this
+/// moment, and which breaks this rule. None: there is none.
+pub(crate) fn debtor_after(watched: &watched::Case, rule: Rule, moment: u64) -> Option<Debtor> {
+    let zero = debtor_of(watched, Host::Zero, rule, moment);
+    zero.or_else(|| debtor_of(watched, Host::One, rule, moment))
+}
 
-    // An endpoint, if this is the first rule that it breaks at a moment by a duty that is late.
-    fn late_at(&self, id: EndpointId, rule: Rule, moment: u64) -> Option<Debtor> {
-        let slack = self.world().header().slack?;
-        let endpoint = self.world().body(id.host).endpoint_at(id.number)?;
-        let (view, owed) = (view_of(endpoint), self.duties().owed_by(id.host, id.number));
-        let closed = self.duties().listener_closed(id.host, &view);
-        let lates = lates_of(slack, moment, &view, closed, &owed);
-        if admits_lates(lates).err() != Some(rule) {
-            return None;
+// The first one of a host.
+fn debtor_of(watched: &watched::Case, host: Host, rule: Rule, moment: u64) -> Option<Debtor> {
+    let count = watched.world().body(host).endpoint_count();
+    for number in 0..u32::try_from(count).unwrap_or(u32::MAX) {
+        let late = debtor_at(watched, EndpointId { host, number }, rule, moment);
+        if late.is_some() {
+            return late;
         }
-        for debt in debts_of(self.duties(), id, endpoint) {
-            if let Some(debt) = debt
-                && debt.rule == rule
-                && debt.may_be_late(slack, moment)
-            {
-                return Some(Debtor { id, debt });
-            }
-        }
-        None
     }
+    None
+}
+
+/// An endpoint, if this is the first rule that it breaks at a moment by a duty that is late.
+pub(crate) fn debtor_at(
+    watched: &watched::Case,
+    id: EndpointId,
+    rule: Rule,
+    moment: u64,
+) -> Option<Debtor> {
+    let (world, duties) = (watched.world(), watched.duties());
+    let slack = world.header().slack?;
+    let endpoint = world.body(id.host).endpoint_at(id.number)?;
+    let (view, owed) = (view_of(endpoint), duties.owed_by(id.host, id.number));
+    let closed = duties.listener_closed(id.host, &view);
+    let lates = lates_of(slack, moment, &view, closed, &owed);
+    if admits_lates(lates).err() != Some(rule) {
+        return None;
+    }
+    for debt in debts_of(duties, id, endpoint) {
+        if let Some(debt) = debt
+            && debt.rule == rule
+            && debt.may_be_late(slack, moment)
+        {
+            return Some(Debtor { id, debt });
+        }
+    }
+    None
 }

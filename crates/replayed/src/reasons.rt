@@ -1,9 +1,10 @@
 //! What the rules `congestion` and `old-data` compare: how much is sent, and what is retransmitted.
 
+use crate::owing::Late;
 use case_forms::{POSITIONS, SegmentPlan};
 use endpoint_state::Endpoint;
 
-/// Why a step is refused, for the rules `congestion` and `old-data`.
+/// Why a case is refused, for the rules `congestion` and `old-data` and for duties that are late.
 #[derive(Clone, Copy)]
 pub enum Reason {
     /// `congestion`: new data ends this many bytes beyond the congestion edge.
@@ -30,6 +31,8 @@ pub enum Reason {
         /// It is a SYN.
         syn: bool,
     },
+    /// Rules 42 to 49: a duty is late.
+    Late(Late),
     /// Any other rule.
     Other,
 }

@@ -1,10 +1,13 @@
 //! What a verdict refuses, as values.
 
+use crate::owing::{Late, debtor_after, debtor_at};
 use crate::reasons::{Reason, beyond, misplaced};
 use crate::replay::{ReplayFault, apply_other, apply_taken};
+use crate::touched::{touched_by_line, touched_by_other};
 use crate::unused_lines::UnusedLines;
-use case_forms::{Header, Label, Step};
+use case_forms::{Extras, Header, Label, NamedLine, Step};
 use endpoint_state::World;
+use spec_tcp::EndpointId;
 use std::alloc::Global;
 use std::io::BufRead;
 use trace_reader::Counted;
@@ -23,9 +26,12 @@ pub struct Refused {
     pub reason: Reason,
 }
 
-// A step that a verdict refuses: its line in the text of the witness, and the rule that it breaks.
+// What a no says.
 #[derive(Clone, Copy)]
-struct RefusedStep {
+struct No {
+    /// The line of the refused step in the text of the witness. None: the case is refused after the last step.
+    step_line: Option<u64>,
+    /// The line of the trace that it names.
     line: u64,
     rule: Rule,
 }
@@ -43,23 +49,28 @@ pub fn refused_by<A: BufRead + Drop, B: BufRead + Drop>(
     match verdict {
         Verdict::Yes { .. } => Ok(None),
         Verdict::No {
-            witness_line: 0,
             trace_line: line,
-            rule,
+            rule: Rule::Unplaced,
+            ..
         } => Ok(Some(Refused {
             line,
-            rule,
+            rule: Rule::Unplaced,
             reason: Reason::Other,
         })),
         Verdict::No {
-            witness_line: line,
+            witness_line,
+            trace_line: line,
             rule,
-            ..
         } => {
             let mut lines = UnusedLines::of(alloc, header, events);
             let mut steps = StepReader::new(alloc, header.version, witness);
-            let step = RefusedStep { line, rule };
-            Ok(Some(refused_at(alloc, header, &mut lines, &mut steps, step)?))
+            let step_line = (witness_line != 0).then_some(witness_line);
+            let no = No {
+                step_line,
+                line,
+                rule,
+            };
+            Ok(Some(refused_at(alloc, header, &mut lines, &mut steps, no)?))
         }
     }
 }
@@ -69,41 +80,37 @@ fn refused_at<A: BufRead, B: BufRead>(
     header: &Header,
     lines: &mut UnusedLines<A>,
     steps: &mut StepReader<B>,
-    step: RefusedStep,
+    no: No,
 ) -> Result<Refused, ReplayFault> {
     let mut watched = Case::start(alloc, header);
-    let refused = replay_to(header, &mut watched, lines, steps, step);
+    let refused = replay_to(header, &mut watched, lines, steps, no);
     drop(watched);
     refused
 }
 
-// Does the steps before the refused one.
+// Does the steps before the refused one, or all of them.
 fn replay_to<A: BufRead, B: BufRead>(
     header: &Header,
     watched: &mut Case,
     lines: &mut UnusedLines<A>,
     steps: &mut StepReader<B>,
-    refused: RefusedStep,
+    no: No,
 ) -> Result<Refused, ReplayFault> {
-    let (rule, mut after) = (refused.rule, header.first_event_line());
-    for number in 2..=refused.line {
+    let (mut after, mut moment) = (header.first_event_line(), 0);
+    for number in 2..=u64::MAX {
         let Some(step) = steps.next()? else {
             break;
         };
-        if number == refused.line {
-            return Ok(refused_now(watched.world(), &step, rule, after));
+        if no.step_line == Some(number) {
+            return refused_now(watched, lines, &step, no.rule, after);
         }
         if let Label::L(named) = &step.label {
             after = named.number.saturating_add(1);
         }
+        moment = step.moment;
         apply_read(watched, lines, &step)?;
     }
-    // The witness has the step, since it was judged.
-    Ok(Refused {
-        line: after,
-        rule,
-        reason: Reason::Other,
-    })
+    Ok(refused_after(watched, moment, no))
 }
 
 // Does a step. If it uses a line, that is read, and it isn't copied.
@@ -121,13 +128,76 @@ fn apply_read<A: BufRead>(
     }
 }
 
+// What is refused after the last step, which had this moment.
+fn refused_after(watched: &Case, moment: u64, no: No) -> Refused {
+    let (line, rule) = (no.line, no.rule);
+    let late = if rule == Rule::ProcessLate {
+        Late::at_once(watched.duties().waiting_since(line), moment)
+    } else {
+        debtor_after(watched, rule, moment).map(|debtor| Late::of(debtor.debt, moment))
+    };
+    let reason = late.map_or(Reason::Other, Reason::Late);
+    Refused { line, rule, reason }
+}
+
 // What is refused at a step. `after` is the line after the last one used.
-fn refused_now(world: &World, step: &Step, rule: Rule, after: u64) -> Refused {
-    Refused {
-        line: line_of(step, after),
-        rule,
-        reason: reason_of(world, step, rule),
+fn refused_now<A: BufRead>(
+    watched: &Case,
+    lines: &mut UnusedLines<A>,
+    step: &Step,
+    rule: Rule,
+    after: u64,
+) -> Result<Refused, ReplayFault> {
+    let line = line_of(step, after);
+    let reason = match late_at(watched, lines, step, rule)? {
+        Some(late) => Reason::Late(late),
+        None => reason_of(watched.world(), step, rule),
+    };
+    Ok(Refused { line, rule, reason })
+}
+
+// The duty that is late at a step. None: the rule isn't about one.
+fn late_at<A: BufRead>(
+    watched: &Case,
+    lines: &mut UnusedLines<A>,
+    step: &Step,
+    rule: Rule,
+) -> Result<Option<Late>, ReplayFault> {
+    let (duties, at) = (watched.duties(), step.moment);
+    if rule == Rule::ProcessLate {
+        return Ok(Late::at_once(duties.waiting_since(line_of(step, 0)), at));
     }
+    if rule == Rule::SendLate {
+        return Ok(Late::at_once(duties.built_since(built_by(step)), at));
+    }
+    let touched = touched_at(watched.world(), lines, step)?;
+    let debtor = touched.and_then(|id| debtor_at(watched, id, rule, at));
+    Ok(debtor.map(|debtor| Late::of(debtor.debt, at)))
+}
+
+// The number of the segment that a step sends; 0 if it sends none.
+fn built_by(step: &Step) -> u32 {
+    match &step.label {
+        Label::L(NamedLine {
+            extras: Extras::One(number),
+            ..
+        }) => *number,
+        _ => 0,
+    }
+}
+
+// The endpoint that a step touches, whose line is read.
+fn touched_at<A: BufRead>(
+    world: &World,
+    lines: &mut UnusedLines<A>,
+    step: &Step,
+) -> Result<Option<EndpointId>, ReplayFault> {
+    let Label::L(named) = &step.label else {
+        return Ok(touched_by_other(world, step));
+    };
+    let line = lines.remove(named.number)?;
+    let taken = line.and_then(|line| line.taken(named.extras));
+    Ok(taken.and_then(|taken| touched_by_line(world, step.moment, &taken)))
 }
 
 // The line for `Refused`. `after` is the line after the last one used.

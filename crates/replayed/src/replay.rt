@@ -53,7 +53,7 @@ impl<T: Drop> From<AllocFailed<T>> for ReplayFault {
 #[derive(Drop)]
 pub struct Replay<'c> {
     case: &'c Case<'c>,
-    watched: watched::Case,
+    pub(crate) watched: watched::Case,
 }
 
 impl<'c> Replay<'c> {
@@ -149,8 +149,8 @@ fn may_go_on(watched: &watched::Case) -> bool
     watched.steps() < MOST_STEPS
 }
 
-// Whether the position that a label names is within limits; no witness that can be read has another.
-fn is_within_limits(label: &Label<NamedLine>) -> bool
+/// Whether the position that a label names is within limits; no witness that can be read has another.
+pub(crate) fn is_within_limits(label: &Label<NamedLine>) -> bool
     ensures { IsTrue result → IsWithinLimits label.now }
 {
     match label {

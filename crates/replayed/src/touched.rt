@@ -1,70 +1,48 @@
 //! The endpoint that a step touches, whose duties it compares.
 
-use crate::calls::socket_of;
-use crate::replay::Replay;
-use case_forms::{Call, Event, Extras, Host, Label, NamedLine, Step};
+use crate::replay::{Replay, has_room, is_within_limits};
+use case_forms::{Label, Step, TakenLine};
 use endpoint_state::World;
-use spec_tcp::{EndpointId, SocketTarget};
+use spec_duties::Touched;
+use spec_tcp::EndpointId;
+use watched::{sight_of_hidden, sight_of_line};
 
 impl Replay<'_> {
     /// The endpoint that a step touches, as it is before the step. None: it touches none, or creates one.
     pub fn touched(&self, step: &Step) -> Option<EndpointId> {
-        let world = self.world();
         match &step.label {
-            Label::L(named) => self.touched_by_line(*named),
-            Label::D { thread, .. } => touched_by_call(world, world.pending_call(*thread)?),
-            Label::M { host, plan } => with_ports(world, *host, plan.lport, plan.rport),
-            Label::T { host, line, .. } | Label::K { host, line } => target(world, *host, *line),
-            Label::F { host, recovery } => {
-                with_ports(world, *host, recovery.lport, recovery.rport)
+            Label::L(named) => {
+                let line = self.case().line(named.number)?.copy().ok()?;
+                let taken = line.taken(named.extras)?;
+                touched_by_line(self.world(), step.moment, &taken)
             }
-            Label::R { .. } => None,
-        }
-    }
-
-    // The sender of a segment, except of a reset in answer, or the endpoint of a timer.
-    fn touched_by_line(&self, named: NamedLine) -> Option<EndpointId> {
-        match (&self.case().line(named.number)?.event, named.extras) {
-            (Event::Sent(host, _), Extras::One(made)) => {
-                let m = self.world().made(*host, made)?.emission();
-                (!m.is_reset_reply).then_some(m.sender)
-            }
-            (Event::Expired(host, lport, rport, _), _) => {
-                with_ports(self.world(), *host, *lport, *rport)
-            }
-            _ => None,
+            _ => touched_by_other(self.world(), step),
         }
     }
 }
 
-fn with_ports(world: &World, host: Host, lport: u16, rport: u16) -> Option<EndpointId> {
-    let number = world.body(host).place_of(lport, rport)?;
-    Some(EndpointId { host, number })
-}
-
-// The endpoint that processes or drops the segment of a line. None: a listener does, or nobody.
-fn target(world: &World, host: Host, line: u64) -> Option<EndpointId> {
-    let m = world.waiting(host, line)?;
-    let id = with_ports(world, host, m.rport, m.lport)?;
-    let endpoint = world.body(host).endpoint_at(id.number)?;
-    (!endpoint.state.is_closed()).then_some(id)
-}
-
-// The endpoint whose socket number a call names, unless the call only reads.
-fn touched_by_call(world: &World, call: &Call) -> Option<EndpointId> {
-    match call {
-        Call::Send(..) | Call::Shut(_) | Call::Close(_) | Call::Abort(_) => {
-            let socket = socket_of(call)?;
-            of_socket(world, Host::Zero, socket).or(of_socket(world, Host::One, socket))
-        }
-        Call::Listen(..) | Call::Connect(..) | Call::Await(_) | Call::Accept(_) => None,
-        Call::Recv(..) | Call::Status(_) => None,
+/// The endpoint that a line touches. None: it touches none.
+pub(crate) fn touched_by_line(world: &World, moment: u64, line: &TakenLine) -> Option<EndpointId> {
+    if !has_room(world) {
+        return None;
     }
+    born(world, sight_of_line(world, moment, line).touched)
 }
 
-fn of_socket(world: &World, host: Host, socket: u32) -> Option<EndpointId> {
-    match world.body(host).thing(socket)? {
-        SocketTarget::EndpointAt(number) => Some(EndpointId { host, number }),
-        SocketTarget::ListenerAt(_) => None,
+/// The endpoint that a step touches which uses no line. None: it touches none, or creates one.
+pub(crate) fn touched_by_other(world: &World, step: &Step) -> Option<EndpointId> {
+    if !has_room(world) || !is_within_limits(&step.label) {
+        return None;
     }
+    born(world, sight_of_hidden(world, step.moment, &step.label).touched)
+}
+
+// What is touched, if it exists before the step.
+fn born(world: &World, touched: Option<Touched>) -> Option<EndpointId> {
+    let Touched { host, place, .. } = touched?;
+    world.body(host).endpoint_at(place)?;
+    Some(EndpointId {
+        host,
+        number: place,
+    })
 }

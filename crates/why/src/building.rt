@@ -65,7 +65,7 @@ pub(crate) fn old_data(
             write!(out, ": below SND.UNA {una}, so it is acknowledged; ")?;
             out.push_str("an empty segment may begin one below\n")
         }
-        Reason::Again { .. } | Reason::Beyond { .. } | Reason::Other => {
+        Reason::Again { .. } | Reason::Beyond { .. } | Reason::Late(_) | Reason::Other => {
             write!(out, "; sent up to {sent}, may be retransmitted up to ")?;
             writeln!(out, "{recover} (raised by an expiry or fast recovery)")?;
             timer_due(out, endpoint, moment)

@@ -125,10 +125,11 @@ fn describe_at(out: &mut String, scene: &Scene, host: Host, number: u32) -> Done
 
 /// The host that returned a socket number. None: neither did.
 pub(crate) fn giver(world: &World, socket: u32) -> Option<Host> {
-    let hosts = [Host::Zero, Host::One];
-    hosts
-        .into_iter()
-        .find(|host| world.body(*host).is_given(socket))
+    if world.body(Host::Zero).is_given(socket) {
+        Some(Host::Zero)
+    } else {
+        world.body(Host::One).is_given(socket).then_some(Host::One)
+    }
 }
 
 // Writes what a socket number names at the host that returned it.

@@ -35,12 +35,11 @@ pub(crate) fn describe_touched(out: &mut String, scene: &Scene) -> Done {
 /// Since when the segment waits in the inbox, and when it was due.
 pub(crate) fn waiting(out: &mut String, scene: &Scene) -> Done {
     let line = waiting_line(scene);
-    let mut inbox = scene.duties().inbox().iter();
-    let Some((_, Some(since))) = inbox.find(|(number, _)| *number == line) else {
+    let Some(since) = scene.duties().waiting_since(line) else {
         return Ok(());
     };
     write!(out, "the segment of line {line} has waited since {since}; ")?;
-    say_due(out, scene, "it", u128::from(*since))
+    say_due(out, scene, "it", u128::from(since))
 }
 
 // The line of the segment that waits; 0 if none does.
@@ -55,21 +54,11 @@ fn waiting_line(scene: &Scene) -> u64 {
 /// When the segment was built that the step sends, and when it was due.
 pub(crate) fn built(out: &mut String, scene: &Scene, number: u32) -> Done {
     describe_touched(out, scene)?;
-    let Some(since) = built_at(scene, number) else {
+    let Some(since) = scene.duties().built_since(number) else {
         return Ok(());
     };
     write!(out, "segment {number} was built at {since}; ")?;
     say_due(out, scene, "it", u128::from(since))
-}
-
-// When a segment was built: each `M` and `R` step builds one, and they are numbered from 1.
-fn built_at(scene: &Scene, number: u32) -> Option<u64> {
-    let place = usize::try_from(number).ok()?.checked_sub(1)?;
-    let mut building = scene.before.iter().filter(|step| matches!(
-        step.label,
-        Label::M { .. } | Label::R { .. }
-    ));
-    building.nth(place).map(|step| step.moment)
 }
 
 /// What an endpoint owes, and when it was due.
