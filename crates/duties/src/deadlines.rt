@@ -9,7 +9,7 @@ ghost use Rattle.spec_duties.specs.Deadlines.{due_within, is_late, is_past};
 pub(crate) fn is_past(slack: u64, moment: u64, deadline: u128) -> bool
     ensures { result ≡ is_past slack moment deadline }
 {
-    deadline < moment as u128 && (slack as u128) < moment as u128 - deadline
+    deadline < moment as u128 && slack < moment - deadline as u64
 }
 
 /// Whether a duty with this deadline is late.

@@ -129,7 +129,54 @@ pub fn admits_lates(lates: Lates) -> Result<(), Rule>
 }
 
 #[inline(always)]
-fn owed_open(
+fn admits_open(slack: u64, moment: u64, v: &View, owed: &Owed, reset: bool) -> Result<(), Rule>
+    ensures { result_err result ≡ first_broken (late_rules (lates_of_open slack moment v.now owed.now reset)) }
+{
+    if is_late(slack, moment, acknowledge_due(owed.acknowledge)) {
+        return Err(Rule::AckLate);
+    }
+    if is_late(slack, moment, expiry_due(v, owed.opened)) {
+        return Err(Rule::ExpiryLate);
+    }
+    if is_late_at_once(slack, moment, owed.retransmit)
+        || is_late_at_once(slack, moment, owed.probe)
+    {
+        return Err(Rule::ResendLate);
+    }
+    if is_late(slack, moment, probing_due(v, owed.probing)) {
+        return Err(Rule::ProbeLate);
+    }
+    if is_late(slack, moment, start_due(owed.start)) {
+        return Err(Rule::StartLate);
+    }
+    if reset {
+        return Err(Rule::ResetLate);
+    }
+    Ok(())
+}
+
+/// Whether an endpoint is late with none of what it owes. The error is the first broken rule.
+#[inline(always)]
+pub(crate) fn admits_owed(
+    slack: u64,
+    moment: u64,
+    v: &View,
+    listener_closed: Option<u64>,
+    owed: &Owed,
+) -> Result<(), Rule>
+    ensures { result_err result ≡ first_broken (late_rules (lates_of slack moment v.now listener_closed owed.now)) }
+{
+    let since = reset_since(v, listener_closed, owed.reset);
+    let reset = is_late_at_once(slack, moment, since);
+    if v.state.is_closed() {
+        admits_lates(none_late(reset))
+    } else {
+        admits_open(slack, moment, v, owed, reset)
+    }
+}
+
+#[inline(always)]
+pub(crate) fn owed_open(
     touched: &Touched,
     after: &View,
     moment: u64,

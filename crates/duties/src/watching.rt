@@ -1,11 +1,13 @@
 //! The rules of duties at a step, and what is kept after it.
 
-ghost use Rattle.std.specs.Prelude.{◌≡◌, false, OnOk};
+ghost use Rattle.std.specs.Prelude.{◌≡◌, ◌++◌, false, nat_eq, unwrap_or, IfOk, OnOk};
 ghost use Rattle.std.specs.Map.{lookup};
-ghost use Rattle.std.specs.Option.{option_map, option_map_or};
+ghost use Rattle.std.specs.Option.{option_map, option_map_or, IfNone};
 ghost use Rattle.std.specs.Result.{result_err};
+ghost use Rattle.indexmap.specs.IndexMap.{insert_entry};
 ghost use Rattle.verdict.specs.Rules.{first_broken};
 ghost use Rattle.spec_network.specs.Tables.{on, pick, waiting};
+ghost use Rattle.spec_duties.specs.Owed.{late_rules, lates_of, nothing, owed_after};
 ghost use Rattle.spec_duties.specs.Watching.{built_after, built_by, builds_mere_ack, closed_at, counts_for, counts_now};
 ghost use Rattle.spec_duties.specs.Watching.{drops_needed, duties_after, duty_rules, inbox_after, is_needed, is_spared};
 ghost use Rattle.spec_duties.specs.Watching.{joined, leaves_late, left, limit_rules, listener_closed, listening_after};
@@ -14,7 +16,7 @@ ghost use Rattle.spec_duties.specs.Watching.{queued, sent_late, start, touched_r
 
 use crate::deadlines::is_late_at_once;
 use crate::excess::{is_excess, is_mere_ack, one_more};
-use crate::owed::{admits_lates, lates_of, nothing, owed_after};
+use crate::owed::{admits_owed, nothing, owed_after, owed_open};
 use crate::resent::{is_resent, is_resent_beyond};
 use case_forms::{Header, Host, OutOfMemory};
 use spec_duties::{
@@ -74,10 +76,7 @@ impl Duties {
             Host::Zero => &self.owed_0,
             Host::One => &self.owed_1,
         };
-        match table.get(u64::from(place)) {
-            Some(owed) => *owed,
-            None => nothing(),
-        }
+        owed_in(table, u64::from(place))
     }
 
     #[inline(always)]
@@ -196,10 +195,15 @@ impl Duties {
     ) -> Result<(), Rule>
         ensures { result_err result ≡ first_broken (touched_rules header.now slack moment self.now counts touched.now) }
     {
-        let owed = self.owed_by(touched.host, touched.place);
         let closed = self.listener_closed(touched.host, &touched.before);
-        admits_lates(lates_of(slack, moment, &touched.before, closed, &owed))?;
-        admits_limits(header, touched, counts, &owed)
+        let table = match touched.host {
+            Host::Zero => &self.owed_0,
+            Host::One => &self.owed_1,
+        };
+        match table.get(u64::from(touched.place)) {
+            Some(owed) => admits_endpoint(header, slack, moment, closed, counts, touched, owed),
+            None => admits_endpoint(header, slack, moment, closed, counts, touched, &nothing()),
+        }
     }
 
     /// Whether no duty refuses a step, with this slack in microseconds. The error is the first broken rule.
@@ -287,6 +291,27 @@ fn admits_limits(header: &Header, touched: &Touched, counts: bool, owed: &Owed) 
         return Err(Rule::AckExcess);
     }
     Ok(())
+}
+
+// Whether a step is neither late nor too much at an endpoint that owes this.
+#[inline(always)]
+fn admits_endpoint(
+    header: &Header,
+    slack: u64,
+    moment: u64,
+    listener_closed: Option<u64>,
+    counts: bool,
+    touched: &Touched,
+    owed: &Owed,
+) -> Result<(), Rule>
+    ensures { result_err result ≡ first_broken
+        (late_rules (lates_of slack moment touched.now.before listener_closed owed.now)
+        ++ limit_rules header.now touched.now counts owed.now) }
+{
+    match admits_owed(slack, moment, &touched.before, listener_closed, owed) {
+        Ok(()) => admits_limits(header, touched, counts, owed),
+        Err(rule) => Err(rule),
+    }
 }
 
 // The listener for which an endpoint counts.
@@ -398,6 +423,43 @@ fn note_post(
     }
 }
 
+#[inline(always)]
+fn owed_in(table: &Table<Owed>, number: u64) -> Owed
+    ensures { result ≡ unwrap_or (lookup (nat_eq number) table.now.entries) nothing }
+{
+    match table.get(number) {
+        Some(owed) => *owed,
+        None => nothing(),
+    }
+}
+
+// What the endpoint owes that a step touches. If it has an entry and isn't CLOSED, as most do, no value of the entry is
+// copied before it is needed.
+#[inline(always)]
+fn note_in(
+    table: &mut Table<Owed>,
+    moment: u64,
+    listener_closed: Option<u64>,
+    counts: bool,
+    touched: &Touched,
+    after: &View,
+) -> Result<(), OutOfMemory>
+    ensures { OnOk result (table.new.entries ≡ insert_entry nat_eq table.old.entries touched.now.place
+        (owed_after touched.now.event touched.now.before after.now moment listener_closed counts
+        (unwrap_or (lookup (nat_eq touched.now.place) table.old.entries) nothing))) }
+{
+    let number = u64::from(touched.place);
+    if !after.state.is_closed() {
+        if let Some(owed) = table.get(number) {
+            let next = owed_open(touched, after, moment, listener_closed, counts, owed);
+            return table.insert(number, next);
+        }
+    }
+    let owed = owed_in(table, number);
+    let next = owed_after(touched, after, moment, listener_closed, counts, &owed);
+    table.insert(number, next)
+}
+
 impl Duties {
     // What the endpoint owes that the step touches.
     #[inline(always)]
@@ -411,12 +473,10 @@ impl Duties {
         ensures { OnOk result (self.new
             ≡ record self.old { owed = owed_table_after after.now moment counts self.old touched.now }) }
     {
-        let owed = self.owed_by(touched.host, touched.place);
         let closed = self.listener_closed(touched.host, &touched.before);
-        let next = owed_after(touched, after, moment, closed, counts, &owed);
         match touched.host {
-            Host::Zero => self.owed_0.insert(u64::from(touched.place), next),
-            Host::One => self.owed_1.insert(u64::from(touched.place), next),
+            Host::Zero => note_in(&mut self.owed_0, moment, closed, counts, touched, after),
+            Host::One => note_in(&mut self.owed_1, moment, closed, counts, touched, after),
         }
     }
 
@@ -465,5 +525,26 @@ impl Duties {
         self.note_queueing(moment, sight.queueing)?;
         note_mail(&mut self.inbox, moment, sight.mail)?;
         note_post(&mut self.built, moment, sight, after)
+    }
+
+    /// Judges a step, with this slack in microseconds, and notes it if no duty refuses it. The result is the first broken
+    /// rule. If memory runs out, the duties are of no use any more.
+    #[inline(always)]
+    pub fn watch(
+        &mut self,
+        header: &Header,
+        slack: u64,
+        moment: u64,
+        sight: &Sight,
+        after: &View,
+    ) -> Result<Option<Rule>, OutOfMemory>
+        ensures rule { IfOk result (λ rule. rule ≡ first_broken (duty_rules header.now slack moment self.old sight.now)) }
+        ensures noted { IfOk result (λ rule. IfNone rule (self.new ≡ duties_after after.now moment sight.now self.old)) }
+    {
+        if let Err(rule) = self.admits(header, slack, moment, sight) {
+            return Ok(Some(rule));
+        }
+        self.note(moment, sight, after)?;
+        Ok(None)
     }
 }

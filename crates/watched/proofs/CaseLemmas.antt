@@ -1,5 +1,5 @@
 -- A step of a case: the rules of the model and of duties, and the case after it.
-use Rattle.std.proofs.Common.{◌≡◌, ℕ, suc, Bool, List, [], ◌++◌, Option, None, Some, Result, Ok, Err, refl, sym, ap, subst, ◌∙◌, append-nil}
+use Rattle.std.proofs.Common.{◌≡◌, ℕ, suc, Bool, List, [], ◌++◌, Option, None, Some, Result, Ok, Err, refl, sym, ap, subst, ◌∙◌, append-nil, inl, inr}
 use Rattle.std.specs.Prelude.{OnOk, IfErr}
 use Rattle.std.specs.Option.{option_map_or}
 use Rattle.case_forms.specs.declared.trace.Header.{Header}
@@ -22,7 +22,7 @@ use Rattle.spec_duties.specs.Sights.{sight, unseen, view_in}
 use Rattle.spec_duties.specs.Watching.{Duties, duty_rules, duties_after}
 use Rattle.spec_duties.specs.Cases.{Known, Watched, after, asked_after, asked_rules, forget, case_rules, judged_rules, known_after, noted_by, watch_rules}
 use Rattle.spec_duties.specs.declared.sights.Sight.{Sight}
-use Rattle.watched.specs.Watched.{case_of, noted}
+use Rattle.watched.specs.Watched.{IsPlain, case_of, noted}
 use Rattle.watched.proofs.ForgetLemmas.{sight-forget, view_in-forget}
 
 -- what may be discarded isn't noted
@@ -146,6 +146,18 @@ abbrev pub IsJudged : Header → (moment : ℕ) → Known → Option (Step tcp_s
 IsJudged h moment k asked o =
     o ≡ first_broken (judged_rules h moment k.duties (option_map_or (sight h moment k.model) asked unseen))
 
+header_stays : (p : Progress) (moment : ℕ) (asked : Option (Step tcp_shape)) → (plain.asked_after p moment asked).header ≡ p.header
+header_stays p moment None = refl
+header_stays p moment (Some step) = refl
+
+-- it may be judged once the model did the step
+pub judged_later : (p u : Progress) (d : Duties) (moment : ℕ) (asked : Option (Step tcp_shape)) (s : Sight)
+    → u ≡ plain.asked_after p moment asked → s ≡ option_map_or (sight p.header moment p.world) asked unseen
+    → IsJudged p.header moment (record { model = p.world; duties = d }) asked (first_broken (judged_rules u.header moment d s))
+judged_later p u d moment asked s is sees =
+    ap (λ (h : Header). first_broken (judged_rules h moment d s)) (ap (λ (u : Progress). u.header) is ∙ header_stays p moment asked)
+    ∙ ap (λ (s : Sight). first_broken (judged_rules p.header moment d s)) sees
+
 pub asked_breaks : {A : Type 0} (r : Result A StepFault) (h : Header) (moment : ℕ) (k : Known) (steps : ℕ) (asked : Option (Step tcp_shape)) (o : Option Rule)
     → first_broken (plain.asked_rules (record { header = h; world = k.model; steps = steps }) moment asked) ≡ None
     → IsJudged h moment k asked o
@@ -225,3 +237,17 @@ plain_is (Ok x) p u d moment (Some step) any is =
 
     wrap : Duties → Watched
     wrap d = record { header = p.header; world = record { model = forgetting.forget now; duties = d }; steps = suc p.steps }
+
+-- ---- of a step of which duties judge nothing
+
+pub plain_line_admits : {A : Type 0} (r : Result A StepFault) (p : Progress) (d : Duties) (moment : ℕ) (step : Step tcp_shape)
+    → IsPlain p.header step
+    → OnOk r (first_broken (plain.asked_rules p moment (Some step)) ≡ None) → OnOk r (first_broken (asked_rules (case_of p d) moment (Some step)) ≡ None)
+plain_line_admits r p d moment step (inl any) e = plain_admits r p d moment (Some step) any e
+plain_line_admits r p d moment step (inr sees) e = unseen_admits r p d moment step (sees moment p.world) e
+
+pub plain_line_is : {A : Type 0} (r : Result A StepFault) (p u : Progress) (d : Duties) (moment : ℕ) (step : Step tcp_shape)
+    → IsPlain p.header step
+    → OnOk r (u ≡ plain.asked_after p moment (Some step)) → OnOk r (case_of u d ≡ asked_after (case_of p d) moment (Some step))
+plain_line_is r p u d moment step (inl any) is = plain_is r p u d moment (Some step) any is
+plain_line_is r p u d moment step (inr sees) is = unseen_is r p u d moment step (sees moment p.world) is

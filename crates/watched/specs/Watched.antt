@@ -1,5 +1,9 @@
 -- A case in its parts, and what is noted of a step in them.
-use Rattle.std.specs.Prelude.{ℕ}
+use Rattle.std.specs.Prelude.{◌≡◌, ℕ, ◌⊎◌, None}
+use Rattle.case_forms.specs.declared.trace.Header.{Header}
+use Rattle.spec_network.specs.Hosts.{Step, World}
+use Rattle.spec_tcp.specs.Machine.{tcp_shape}
+use Rattle.spec_duties.specs.Sights.{sight, unseen}
 use Rattle.endpoint_state.specs.Worlds.{Progress}
 use Rattle.spec_duties.specs.declared.sights.Sight.{Sight}
 use Rattle.spec_duties.specs.Watching.{Duties}
@@ -15,3 +19,7 @@ noted moment s p =
     record p {
       world = record p.world { duties = noted_by p.header moment p.world.model s p.world.duties };
     }
+
+-- duties judge nothing of a step: the header says `any`, or the step shows nothing
+abbrev pub IsPlain : Header → Step tcp_shape → Type 0
+IsPlain h step = (h.slack ≡ None) ⊎ ((moment : ℕ) (w : World tcp_shape) → sight h moment w step ≡ unseen)

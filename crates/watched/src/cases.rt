@@ -1,8 +1,7 @@
 //! The model of a case with its duties.
 
-ghost use Rattle.std.specs.Prelude.{◌≡◌, ◌<◌, ◌≤◌, Some, None, OnOk, IfErr};
+ghost use Rattle.std.specs.Prelude.{◌≡◌, ◌<◌, ◌≤◌, IsTrue, Some, None, OnOk, IfErr};
 ghost use Rattle.std.specs.Option.{option_map_or};
-ghost use Rattle.std.specs.Result.{result_err};
 ghost use Rattle.case_forms.specs.Witnesses.{IsWithinLimits};
 ghost use Rattle.verdict.specs.Rules.{first_broken};
 ghost use Rattle.spec_step.specs.Faults.{IfBroken};
@@ -12,7 +11,7 @@ ghost use Rattle.spec_duties.specs.Cases.{after, asked_after, asked_rules, broke
 ghost use Rattle.spec_duties.specs.Cases.{noted_by};
 ghost use Rattle.spec_duties.specs.Cases.{start};
 ghost use Rattle.spec_duties.specs.Sights.{sight, unseen};
-ghost use Rattle.watched.specs.Watched.{case_of, noted};
+ghost use Rattle.watched.specs.Watched.{IsPlain, case_of, noted};
 
 use crate::calls::sight_of_effect;
 use crate::ending;
@@ -100,38 +99,22 @@ impl Case {
     }
 }
 
-// Whether no duty refuses a step. The error is the first broken rule.
+// Judges a step that the model did, and notes it if no duty refuses it.
 #[inline(always)]
-fn judged(world: &World, duties: &Duties, moment: u64, sight: &Sight) -> Result<(), Rule>
-    ensures { result_err result ≡ first_broken (judged_rules world.now.header moment duties.now sight.now) }
-{
-    match world.header().slack {
-        Some(slack) => duties.admits(world.header(), slack, moment, sight),
-        None => Ok(()),
-    }
-}
-
-// Notes a step that the model permits, if no duty refuses it.
-#[inline(always)]
-fn note(
-    world: &World,
-    duties: &mut Duties,
-    moment: u64,
-    sight: &Sight,
-    judged: Result<(), Rule>,
-) -> Result<(), StepFault>
+fn watch(world: &World, duties: &mut Duties, moment: u64, sight: &Sight) -> Result<(), StepFault>
     ensures ok { OnOk result (case_of world.now duties.new ≡ noted moment sight.now (case_of world.now duties.old)) }
-    ensures none { OnOk result (result_err judged ≡ None) }
-    ensures broken { IfErr result (λ fault. IfBroken fault (λ rule. result_err judged ≡ Some rule)) }
+    ensures admitted { OnOk result (first_broken (judged_rules world.now.header moment duties.old sight.now) ≡ None) }
+    ensures broken { IfErr result (λ fault. IfBroken fault
+        (λ rule. first_broken (judged_rules world.now.header moment duties.old sight.now) ≡ Some rule)) }
 {
-    if let Err(rule) = judged {
-        return Err(StepFault::Broken(rule));
+    let Some(slack) = world.header().slack else {
+        return Ok(());
+    };
+    let now = view_in(world, &sight.touched);
+    match duties.watch(world.header(), slack, moment, sight, &now)? {
+        None => Ok(()),
+        Some(rule) => Err(StepFault::Broken(rule)),
     }
-    if world.header().slack.is_some() {
-        let now = view_in(world, &sight.touched);
-        duties.note(moment, sight, &now)?;
-    }
-    Ok(())
 }
 
 // Does a step that takes a line, in the world and for the duties, which see this of it. It is inlined for each kind of
@@ -152,33 +135,30 @@ fn watch_line(
     ensures broken { IfErr result (λ fault. IfBroken fault
         (λ rule. broken_by (case_of world.old duties.old) moment (line_step line) ≡ Some rule)) }
 {
-    let judged = judged(world, duties, moment, seen);
     match spec_step::apply_line_owned(world, moment, line) {
-        Ok(()) => note(world, duties, moment, seen, judged),
+        Ok(()) => watch(world, duties, moment, seen),
         Err(fault) => Err(fault),
     }
 }
 
-// Does one of which they see nothing.
-#[tactic(auto, using(crate::proofs::CaseLemmas::unseen_is, crate::proofs::CaseLemmas::unseen_admits))]
-fn pass_line(
-    world: &mut World,
-    duties: &mut Duties,
-    moment: u64,
-    line: TakenLine,
-) -> Result<(), StepFault>
-    requires steps { world.old.steps < most_steps }
-    requires unseen { sight world.old.header moment world.old.world (line_step line) ≡ unseen }
-    ensures ok { OnOk result
-        (case_of world.new duties.new ≡ after (case_of world.old duties.old) moment (line_step line)) }
-    ensures admitted { OnOk result (broken_by (case_of world.old duties.old) moment (line_step line) ≡ None) }
-    ensures broken { IfErr result (λ fault. IfBroken fault
-        (λ rule. broken_by (case_of world.old duties.old) moment (line_step line) ≡ Some rule)) }
+// Whether duties judge nothing of a step that takes a line: the header says `any`, or a call begins or ends.
+#[inline(always)]
+fn is_plain(header: &Header, line: &TakenLine) -> bool
+    ensures { IsTrue result → IsPlain header.now (line_step line.now) }
 {
-    spec_step::apply_line_owned(world, moment, line)
+    if header.slack.is_none() {
+        return true;
+    }
+    match line {
+        TakenLine::CallBegin { .. } | TakenLine::CallEnd { .. } => true,
+        TakenLine::Sent { .. }
+        | TakenLine::Came { .. }
+        | TakenLine::Heard { .. }
+        | TakenLine::Expired { .. } => false,
+    }
 }
 
-// Does one, if duties are judged. They see nothing of the beginning and the end of a call.
+// Does one, and judges it.
 #[inline(never)]
 fn judge_line(
     world: &mut World,
@@ -194,22 +174,23 @@ fn judge_line(
         (λ rule. broken_by (case_of world.old duties.old) moment (line_step line) ≡ Some rule)) }
 {
     match line {
-        TakenLine::CallBegin { .. } | TakenLine::CallEnd { .. } => {
-            pass_line(world, duties, moment, line)
-        }
         TakenLine::Sent { host, made, .. } => {
             let sight = sight_of_sending(world, host, made);
             watch_line(world, duties, moment, line, &sight)
         }
-        TakenLine::Came { .. } | TakenLine::Heard { .. } | TakenLine::Expired { .. } => {
+        TakenLine::CallBegin { .. }
+        | TakenLine::CallEnd { .. }
+        | TakenLine::Came { .. }
+        | TakenLine::Heard { .. }
+        | TakenLine::Expired { .. } => {
             let sight = sight_of_line(world, moment, &line);
             watch_line(world, duties, moment, line, &sight)
         }
     }
 }
 
-// Does one; the model alone does it if no duty is judged.
-#[tactic(auto, using(crate::proofs::CaseLemmas::plain_is, crate::proofs::CaseLemmas::plain_admits, crate::proofs::CaseLemmas::plain_breaks))]
+// Does one. The model alone does it if duties judge nothing of it.
+#[tactic(auto, using(crate::proofs::CaseLemmas::plain_line_is, crate::proofs::CaseLemmas::plain_line_admits))]
 fn do_line(
     world: &mut World,
     duties: &mut Duties,
@@ -223,9 +204,10 @@ fn do_line(
     ensures broken { IfErr result (λ fault. IfBroken fault
         (λ rule. broken_by (case_of world.old duties.old) moment (line_step line) ≡ Some rule)) }
 {
-    match world.header().slack {
-        Some(_) => judge_line(world, duties, moment, line),
-        None => spec_step::apply_line_owned(world, moment, line),
+    if is_plain(world.header(), &line) {
+        spec_step::apply_line_owned(world, moment, line)
+    } else {
+        judge_line(world, duties, moment, line)
     }
 }
 
@@ -249,9 +231,8 @@ fn watch_hidden<Taken>(
     ensures broken { IfErr result (λ fault. IfBroken fault (λ rule.
         first_broken (asked_rules (case_of world.old duties.old) moment (hidden_step label.now)) ≡ Some rule)) }
 {
-    let judged = judged(world, duties, moment, seen);
     match spec_step::apply_hidden(world, moment, label) {
-        Ok(()) => note(world, duties, moment, seen, judged),
+        Ok(()) => watch(world, duties, moment, seen),
         Err(fault) => Err(fault),
     }
 }

@@ -1,30 +1,28 @@
-use Rattle.std.proofs.Common.{◌∙◌, ap}
-use Rattle.std.specs.Result.{result_err}
 use Rattle.verdict.specs.Rules.{first_broken}
 use Rattle.spec_tcp.specs.Steps.{hidden_step}
 use Rattle.spec_duties.specs.Cases.{judged_rules}
 use Rattle.watched.specs.Watched.{case_of}
-use Rattle.watched.proofs.CaseLemmas.{model_breaks_asked, asked_breaks, asked_admits, note_is}
+use Rattle.watched.proofs.CaseLemmas.{model_breaks_asked, asked_breaks, asked_admits, judged_later, note_is}
 use Rattle.watched.proofs.cases.watch_hidden.Goals as goal
 
 pub returns-in-Ok-clause-ok : goal.returns-in-Ok-clause-ok
 returns-in-Ok-clause-ok g c =
-    note_is c.note.result (case_of c.apply_hidden.new.world c.note.new.duties) c.args.world.now c.apply_hidden.new.world c.args.duties.now c.args.moment
-    (hidden_step c.args.label.now) c.args.seen.now c.in-Ok.ensures.ok c.requires.seen c.note.ensures.ok
+    note_is c.watch.result (case_of c.apply_hidden.new.world c.watch.new.duties) c.args.world.now c.apply_hidden.new.world c.args.duties.now c.args.moment
+    (hidden_step c.args.label.now) c.args.seen.now c.in-Ok.ensures.ok c.requires.seen c.watch.ensures.ok
 
 pub returns-in-Ok-clause-admitted : goal.returns-in-Ok-clause-admitted
 returns-in-Ok-clause-admitted g c =
-    asked_admits c.note.result c.args.world.now.header c.args.moment (record { model = c.args.world.now.world; duties = c.args.duties.now })
-    c.args.world.now.steps (hidden_step c.args.label.now) (result_err c.judged-judged.result) c.in-Ok.ensures.admitted
-    (c.judged-judged.ensures ∙ ap (λ s. first_broken (judged_rules c.args.world.now.header c.args.moment c.args.duties.now s)) c.requires.seen)
-    c.note.ensures.none
+    asked_admits c.watch.result c.args.world.now.header c.args.moment (record { model = c.args.world.now.world; duties = c.args.duties.now })
+    c.args.world.now.steps (hidden_step c.args.label.now) (first_broken (judged_rules c.apply_hidden.new.world.header c.args.moment c.args.duties.now c.args.seen.now)) c.in-Ok.ensures.admitted
+    (judged_later c.args.world.now c.apply_hidden.new.world c.args.duties.now c.args.moment (hidden_step c.args.label.now) c.args.seen.now c.in-Ok.ensures.ok c.requires.seen)
+    c.watch.ensures.admitted
 
 pub returns-in-Ok-clause-broken : goal.returns-in-Ok-clause-broken
 returns-in-Ok-clause-broken g c =
-    asked_breaks c.note.result c.args.world.now.header c.args.moment (record { model = c.args.world.now.world; duties = c.args.duties.now })
-    c.args.world.now.steps (hidden_step c.args.label.now) (result_err c.judged-judged.result) c.in-Ok.ensures.admitted
-    (c.judged-judged.ensures ∙ ap (λ s. first_broken (judged_rules c.args.world.now.header c.args.moment c.args.duties.now s)) c.requires.seen)
-    c.note.ensures.broken
+    asked_breaks c.watch.result c.args.world.now.header c.args.moment (record { model = c.args.world.now.world; duties = c.args.duties.now })
+    c.args.world.now.steps (hidden_step c.args.label.now) (first_broken (judged_rules c.apply_hidden.new.world.header c.args.moment c.args.duties.now c.args.seen.now)) c.in-Ok.ensures.admitted
+    (judged_later c.args.world.now c.apply_hidden.new.world c.args.duties.now c.args.moment (hidden_step c.args.label.now) c.args.seen.now c.in-Ok.ensures.ok c.requires.seen)
+    c.watch.ensures.broken
 
 pub returns-in-Err-clause-broken : goal.returns-in-Err-clause-broken
 returns-in-Err-clause-broken g c =
