@@ -4,7 +4,7 @@ use Rattle.std.proofs.Common.{append_assoc, length, length-append}
 use Rattle.case_forms.specs.declared.trace.Line.{Line}
 use Rattle.line_fields.specs.declared.fault.TextFault.{TextFault}
 use Rattle.line_fields.specs.Reading.{◌>>=◌}
-use Rattle.line_fields.specs.Left.{Yields}
+use Rattle.line_fields.specs.Left.{in_front, Yields}
 use Rattle.checker.specs.declared.case.CaseFault.{CaseFault}
 use Rattle.checker.specs.declared.case.CaseFault.TheVariants as faults
 use Rattle.std.specs.List.{enumerate_from}
@@ -19,7 +19,7 @@ use Rattle.std.proofs.lemmas.List.Folds.{list_any-append}
 use Rattle.verdict.specs.declared.rule.Rule.{Rule}
 use Rattle.interval_order.specs.Later.{is_among, late_by}
 use Rattle.checker.specs.Streaming.{Between, IsLate, IsWhole}
-use Rattle.checker.specs.Ahead.{Passes, Skips, IsAll, TraceFails, WitnessFails, Follows, IsInStep}
+use Rattle.checker.specs.Ahead.{left_with, Passes, Skips, IsAll, TraceFails, WitnessFails, Follows, IsInStep}
 
 -- ---- items that are passed
 
@@ -44,6 +44,25 @@ module _ {A : Type 0} where
   all_passed (Some l) None c items p y = absurd p
   all_passed (Some l) (Some r) None items p y = absurd y
   all_passed (Some l) (Some r) (Some s) items p y = p ∙ ap (λ (s : Result (List A) TextFault). s >>= λ more. Ok (items ++ more)) y.0
+
+  pub skips : (more : Bool) (a b : Option (Result (List A) TextFault)) → (more ≡ true → (item : A) × Yields a b (Some item))
+      → (more ≡ false → Yields a b None) → Skips more a b
+  skips true a b some none = some refl
+  skips false a b some none = none refl
+
+  -- what is left with an item that was read ahead
+  pub all_ahead : (item : A) (left : Option (Result (List A) TextFault)) (items : List A) → IsAll left items
+      → IsAll (left_with (Some item) left) (item ∷ items)
+  all_ahead item None items is = tt
+  all_ahead item (Some read) items is = ap (in_front item) is
+
+  pub fails_ahead : (item : A) (left : Option (Result (List A) TextFault)) (e : CaseFault) → TraceFails e left
+      → TraceFails e (left_with (Some item) left)
+  fails_ahead item None (faults.Trace f) fails = tt
+  fails_ahead item (Some read) (faults.Trace f) fails = ap (in_front item) fails
+  fails_ahead item left (faults.Witness f) fails = absurd fails
+  fails_ahead item left faults.Read fails = tt
+  fails_ahead item left faults.OutOfMemory fails = tt
 
   pub skipped : (a b c : Option (Result (List A) TextFault)) (items : List A) → Passes a b items → Skips true b c → (more : List A) × Passes a c more
   skipped a b c items p s = (items ++ s.0 ∷ [], one_passed a b c items s.0 p s.1)

@@ -1,6 +1,6 @@
 //! A trace that is read one line ahead, so that the checker knows when the next line is reached.
 
-ghost use Rattle.std.specs.Prelude.{◌≡◌, ◌≢◌, ◌<◌, List, Err, IfOk, IfErr, IfSome, IsSome, OnOk, None, nat_le, true};
+ghost use Rattle.std.specs.Prelude.{◌≡◌, ◌≢◌, ◌≤◌, ◌+◌, List, Err, IfOk, IfErr, IfSome, IsSome, OnOk, None, nat_le, true};
 ghost use Rattle.std.specs.Prelude.{false};
 ghost use Rattle.std.specs.Option.{option_map, option_map_or};
 ghost use Rattle.case_forms.specs.declared.trace.Line.{Line};
@@ -12,12 +12,12 @@ ghost use Rattle.trace_reader.specs.TraceLeft.{place_of, fault_of, reader_failur
 ghost use Rattle.trace_reader.specs.TraceLeft.{Begins, StandsAt};
 ghost use Rattle.checker.specs.Ahead.{source_ahead, line_ahead, left_ahead, trace_ahead, IsUnread, IsAhead, Skips};
 ghost use Rattle.interval_order.specs.Orders.{with_line};
-ghost use Rattle.checker.specs.Ahead.{IsAll, IsInStep, TraceFails, Follows, lines_after};
+ghost use Rattle.checker.specs.Ahead.{IsAll, IsInStep, TraceFails, Follows};
 
 use crate::case::{CaseFault, trace_fault};
 use case_forms::{Header, Line};
 use counted::Counted;
-use interval_order::Window;
+use interval_order::{Window, is_reached};
 use line_fields::SourceFault;
 use std::alloc::Global;
 use std::io::BufRead;
@@ -55,7 +55,7 @@ impl<A> Ahead<A> {
         ensures { result ≡ option_map_or (λ line. nat_le line.moment moment) (line_ahead self.now) false }
     {
         match &self.line {
-            Some(line) => line.moment <= moment,
+            Some(line) => is_reached(line, moment),
             None => false,
         }
     }
@@ -137,23 +137,6 @@ impl<A: BufRead> Ahead<A> {
         read_next(&mut self.reader, &mut self.line)
     }
 
-    // Skips the line that was read ahead. False if there is none.
-    fn skip(&mut self) -> Result<bool, CaseFault>
-        requires { IsAhead self.old }
-        ensures ahead { IfOk result (λ more. IsAhead self.new) }
-        ensures next { IfOk result (λ more. Skips more (left_ahead A.remaining self.old)
-            (left_ahead A.remaining self.new)) }
-        ensures fewer { result ≡ Ok true → lines_after (line_ahead self.new) < lines_after (line_ahead self.old) }
-        ensures fault { IfErr result (λ e. TraceFails e (left_ahead A.remaining self.old)) }
-        ensures read { result ≡ Err CaseFault.Read
-            → failures_of (source_ahead self.new) ≡ one_more (failures_of (source_ahead self.old)) }
-        ensures same { result ≢ Err CaseFault.Read
-            → failures_of (source_ahead self.new) ≡ failures_of (source_ahead self.old) }
-    {
-        let item = self.next()?;
-        Ok(item.is_some())
-    }
-
     /// Reads on to the end of the trace.
     pub(crate) fn drain(&mut self) -> Result<(), CaseFault>
         requires { IsAhead self.old }
@@ -164,8 +147,10 @@ impl<A: BufRead> Ahead<A> {
         ensures same { result ≢ Err CaseFault.Read
             → failures_of (source_ahead self.new) ≡ failures_of (source_ahead self.old) }
     {
-        while self.skip()? {}
-        Ok(())
+        match &self.line {
+            Some(_) => drain_lines(&mut self.reader),
+            None => Ok(()),
+        }
     }
 }
 
@@ -189,6 +174,40 @@ fn read_next<A: BufRead>(
 {
     match reader.next_into(item) {
         Ok(()) => Ok(()),
+        Err(SourceFault::Text(fault)) => Err(trace_fault(fault)),
+        Err(SourceFault::Read) => Err(CaseFault::Read),
+    }
+}
+
+// Reads on to the end of a trace whose header was read.
+fn drain_lines<A: BufRead>(reader: &mut TraceReader<A>) -> Result<(), CaseFault>
+    requires working { fault_of reader.old ≡ None }
+    requires begun { IsBegun reader.old }
+    ensures all { IfOk result (λ u. (items : List Line) × IsAll (lines_left A.remaining reader.old) items) }
+    ensures fault { IfErr result (λ e. TraceFails e (lines_left A.remaining reader.old)) }
+    ensures read { result ≡ Err CaseFault.Read → reader_failures reader.new ≡ one_more (reader_failures reader.old) }
+    ensures same { result ≢ Err CaseFault.Read → reader_failures reader.new ≡ reader_failures reader.old }
+{
+    while skip_line(reader)? {}
+    Ok(())
+}
+
+// Skips an event line. False if there is none.
+fn skip_line<A: BufRead>(reader: &mut TraceReader<A>) -> Result<bool, CaseFault>
+    requires working { fault_of reader.old ≡ None }
+    requires begun { IsBegun reader.old }
+    ensures next { IfOk result (λ more. Skips more (lines_left A.remaining reader.old)
+        (lines_left A.remaining reader.new)) }
+    ensures place { result ≡ Ok true → ((place_of reader.new).1 ≡ (place_of reader.old).1 + 1)
+        × ((place_of reader.old).1 ≤ 10000000) }
+    ensures working { IfOk result (λ more. fault_of reader.new ≡ None) }
+    ensures begun { IsBegun reader.new }
+    ensures fault { IfErr result (λ e. TraceFails e (lines_left A.remaining reader.old)) }
+    ensures read { result ≡ Err CaseFault.Read → reader_failures reader.new ≡ one_more (reader_failures reader.old) }
+    ensures same { result ≢ Err CaseFault.Read → reader_failures reader.new ≡ reader_failures reader.old }
+{
+    match reader.skip() {
+        Ok(more) => Ok(more),
         Err(SourceFault::Text(fault)) => Err(trace_fault(fault)),
         Err(SourceFault::Read) => Err(CaseFault::Read),
     }

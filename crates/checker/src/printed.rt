@@ -13,7 +13,7 @@ ghost use Rattle.checker.specs.Explains.{Explains, IsYes};
 use case_forms::{OutOfMemory, Trace, Witness};
 use std::alloc::Global;
 use trace_reader::print_trace;
-use witness::print_witness;
+use witness::push_witness;
 
 /// A trace and its witness as one text: the trace's lines, and after them the witness's, each ended by LF.
 ///
@@ -30,7 +30,6 @@ pub fn print_case(alloc: Global, trace: &Trace, witness: &Witness) -> Result<Vec
         → IfOk result (λ text. (v : Verdict) × (case_result text.items ≡ Ok v) × IsYes v) }
 {
     let mut text = print_trace(alloc, trace)?;
-    let behind = print_witness(alloc, witness)?;
-    text.extend_from_slice(behind.as_slice())?;
+    push_witness(&mut text, witness)?;
     Ok(text)
 }

@@ -27,10 +27,11 @@ ghost use Rattle.checker.specs.Consequences.{AllStatesFollow, NoPositionFalls};
 use crate::laws::{explained_follows, receives_begin_sends};
 use case_forms::{Header, Label, Line, NamedLine, OutOfMemory, Step, TakenLine, Trace, Witness};
 use endpoint_state::StepFault;
-use interval_order::Window;
+use interval_order::{Window, left_over};
 use std::alloc::{AllocError, Global};
 use verdict::{Rule, Verdict};
 use watched::{Case, apply_hidden, apply_line_owned};
+use witness::step_line;
 
 /// The verdict on a witness for a trace of its version, if both have texts.
 ///
@@ -110,18 +111,14 @@ fn replay_all(window: &mut Window, world: &mut Case, steps: &[Step]) -> Result<V
     for (place, step) in steps.iter().enumerate() {
         if let Some(rule) = replay(window, world, step)? {
             return Ok(Verdict::No {
-                witness_line: place as u64 + 2,
+                witness_line: step_line(place as u64),
                 trace_line: line_named(&step.label),
                 rule,
             });
         }
     }
     Ok(match window.first_left() {
-        Some(number) => Verdict::No {
-            witness_line: 0,
-            trace_line: number,
-            rule: Rule::Unplaced,
-        },
+        Some(number) => left_over(number),
         None => at_end(world, window.last_moment(), steps),
     })
 }

@@ -34,12 +34,12 @@ use crate::steps::drain_steps;
 use crate::turns::{ReplayOutcome, StepCounts, replay_steps};
 use case_forms::Header;
 use counted::Counted;
-use interval_order::Window;
+use interval_order::{Window, left_over};
 use std::alloc::Global;
 use std::io::BufRead;
-use verdict::{Rule, Verdict};
+use verdict::Verdict;
 use watched::Case;
-use witness::StepReader;
+use witness::{StepReader, step_line};
 
 /// The trace's fault, else the witness's, else the verdict on the case, however the bytes of both come in pieces. The
 /// fault is `Read` only if a reader's `failures()` grew in the call, which then ends at once. Both readers are
@@ -178,7 +178,7 @@ fn judge_in<A: BufRead, B: BufRead>(
             lines.drain()?;
             drain_steps(steps)?;
             Ok(Verdict::No {
-                witness_line: place + 2,
+                witness_line: step_line(place),
                 trace_line: named,
                 rule,
             })
@@ -211,11 +211,7 @@ fn end_of_witness<A: BufRead>(
     let left = first_left(window, lines);
     lines.drain()?;
     Ok(match left {
-        Some(number) => Verdict::No {
-            witness_line: 0,
-            trace_line: number,
-            rule: Rule::Unplaced,
-        },
+        Some(number) => left_over(number),
         None => at_end(world, window.last_moment(), tally),
     })
 }

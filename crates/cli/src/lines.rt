@@ -5,6 +5,7 @@ ghost use Rattle.std.specs.Io.KnownBytes.{Appends};
 ghost use Rattle.counted.specs.Counting.{left_of, failures_of};
 ghost use Rattle.cli.specs.Output.{fault_text, line_of, status_of};
 
+use answers::exit_status;
 use case_forms::OutOfMemory;
 use checker::CaseFault;
 use counted::Counted;
@@ -13,10 +14,8 @@ use std::alloc::Global;
 use std::io::Write;
 use verdict::{Verdict, print_verdict};
 
-/// The steps explain the trace, or a segment is printed.
+/// A segment is printed, or no case has a greater status.
 pub(crate) const YES: u8 = 0;
-/// The steps don't explain the trace.
-pub(crate) const NO: u8 = 1;
 /// A text or a segment is refused.
 pub(crate) const REFUSED: u8 = 2;
 /// The words are no command of the program.
@@ -31,8 +30,8 @@ pub(crate) fn status_of(answer: &Result<Verdict, CaseFault>) -> u8
     ensures { result ≡ status_of answer.now }
 {
     match answer {
-        Ok(Verdict::Yes { .. }) => YES,
-        Ok(Verdict::No { .. }) => NO,
+        Ok(Verdict::Yes { .. }) => exit_status(true),
+        Ok(Verdict::No { .. }) => exit_status(false),
         Err(CaseFault::Trace(_) | CaseFault::Witness(_)) => REFUSED,
         Err(CaseFault::Read) => DEVICE,
         Err(CaseFault::OutOfMemory) => MEMORY,

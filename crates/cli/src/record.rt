@@ -12,8 +12,9 @@ ghost use Rattle.two_hosts.specs.declared.plan.Plan.{Plan};
 ghost use Rattle.cli.specs.Recorded.{EndsRecord};
 
 use crate::files::answer_bad_device;
-use crate::lines::{NO, YES, say};
+use crate::lines::say;
 use crate::running::answer_bad_memory;
+use answers::exit_status;
 use checker::print_case;
 use counted::Counted;
 use std::alloc::Global;
@@ -61,7 +62,7 @@ fn print<W: Write>(alloc: Global, recording: &Recording, w: &mut Counted<W>) -> 
         ..
     } = recording;
     match print_case(alloc, &recorded.trace, &recorded.witness) {
-        Ok(text) => say(w, text.as_slice(), if *ended { YES } else { NO }),
+        Ok(text) => say(w, text.as_slice(), exit_status(*ended)),
         Err(_) => answer_bad_memory(w),
     }
 }

@@ -5,12 +5,15 @@
 //! `specs/Waits` has the invariant of a window. The model above this crate defines everything else that a step does.
 //!
 //! - `window`: the lines that wait for their step, and the steps that may use them
+//! - `lines`: when a line is to be offered, and the verdict if one is left over
 //! - `laws`: which later lines matter to a step, and how many lines wait; each law is the contract of a call that does
 //!   nothing
 #![tactic(auto)]
 
 mod laws;
+mod lines;
 mod window;
 
 pub use laws::{few_lines_wait, late_lines_are_refused, later_lines_dont_matter};
+pub use lines::{is_reached, left_over};
 pub use window::Window;

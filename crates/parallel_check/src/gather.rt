@@ -6,6 +6,7 @@ ghost use Rattle.parallel_check.specs.Answers.{AnswersEach, AreSlots, IsAnswer, 
 
 use crate::plain::CaseResult;
 use crate::work::{Cases, Done, Gate, check_one};
+use answers::put_at;
 use case_forms::OutOfMemory;
 use std::alloc::Global;
 
@@ -55,7 +56,7 @@ fn put<C: Cases>(slots: &mut Vec<Option<CaseResult>>, done: Done<C>)
         answer,
         of: _,
     } = done;
-    slots[index] = Some(answer);
+    put_at(slots.as_mut_slice(), index, answer);
 }
 
 // Takes the answers out of their slots, and checks the cases that have none.

@@ -1,6 +1,7 @@
 //! The reader of a trace whose lines are read on request.
 
-ghost use Rattle.std.specs.Prelude.{◌≡◌, ◌≢◌, IfOk, OnOk, IfSome, Some, None, Err};
+ghost use Rattle.std.specs.Prelude.{◌≡◌, ◌≢◌, ◌≤◌, ◌+◌, IfOk, OnOk, IfSome, Some, None, Ok, Err, true, false};
+ghost use Rattle.case_forms.specs.declared.trace.Line.{Line};
 ghost use Rattle.counted.specs.Counting.{one_more};
 ghost use Rattle.line_fields.specs.declared.fault.TextFault.{TextFault};
 ghost use Rattle.line_fields.specs.declared.fault.SourceFault.{SourceFault};
@@ -159,6 +160,35 @@ impl<A: BufRead> TraceReader<A> {
         }
         let read = self.read_into(item);
         self.keep_fault(read)
+    }
+
+    /// Reads over the next event line. False at the end of the text. The header must have been read. The error is the
+    /// first fault, or a failed read.
+    #[inline(always)]
+    pub fn skip(&mut self) -> Result<bool, SourceFault>
+        requires { IsBegun self.old }
+        ensures next { fault_of self.old ≡ None → result ≡ Ok true → (line : Line)
+            × Yields (lines_left A.remaining self.old) (lines_left A.remaining self.new) (Some line) }
+        ensures end { fault_of self.old ≡ None → result ≡ Ok false
+            → Yields (lines_left A.remaining self.old) (lines_left A.remaining self.new) None }
+        ensures place { result ≡ Ok true → ((place_of self.new).1 ≡ (place_of self.old).1 + 1)
+            × ((place_of self.old).1 ≤ 10000000) }
+        ensures fault { (e : TextFault) → fault_of self.old ≡ None → result ≡ Err (SourceFault.Text e)
+            → FailsLeft e (lines_left A.remaining self.old) }
+        ensures again { (f : SourceFault) → fault_of self.old ≡ Some f → result ≡ Err f }
+        ensures stays { (f : SourceFault) → fault_of self.old ≡ Some f → self.new ≡ self.old }
+        ensures kept { (f : SourceFault) → result ≡ Err f → fault_of self.new ≡ Some f }
+        ensures open { IfOk result (λ more. fault_of self.new ≡ None) }
+        ensures begun { IsBegun self.new }
+        ensures version { version_of self.new ≡ version_of self.old }
+        ensures read { fault_of self.old ≡ None → result ≡ Err SourceFault.Read
+            → reader_failures self.new ≡ one_more (reader_failures self.old) }
+        ensures same { result ≢ Err SourceFault.Read → reader_failures self.new ≡ reader_failures self.old }
+    {
+        match self.next()? {
+            Some(_) => Ok(true),
+            None => Ok(false),
+        }
     }
 
     // Reads the next event line into the item, if no fault was met.

@@ -1,6 +1,6 @@
 //! The reader of a witness whose steps are read on request.
 
-ghost use Rattle.std.specs.Prelude.{◌≡◌, ◌≢◌, IfOk, OnOk, IfSome, Some, None, Err};
+ghost use Rattle.std.specs.Prelude.{◌≡◌, ◌≢◌, ◌+◌, ◌<◌, ◌^◌, IfOk, OnOk, IfSome, Some, None, Err};
 ghost use Rattle.counted.specs.Counting.{left_of, failures_of, one_more};
 ghost use Rattle.line_fields.specs.declared.fault.TextFault.{TextFault};
 ghost use Rattle.line_fields.specs.declared.fault.SourceFault.{SourceFault};
@@ -20,6 +20,15 @@ use std::io::BufRead;
 
 // The number of the line of the first step.
 const FIRST_STEP: u64 = 2;
+
+/// The number of the line of the step after this many others.
+#[inline(always)]
+pub fn step_line(place: u64) -> u64
+    requires { place + 2 < 2 ^ 64 }
+    ensures { result ≡ place + 2 }
+{
+    place + FIRST_STEP
+}
 
 /// A witness of some version, whose steps are read on request. Only one line of the text is kept in memory. After a
 /// fault, each later call returns that fault.

@@ -17,7 +17,7 @@ returns-in-Some c = λ lines offered.
     subst (λ (s : Step). c.in_ok-rule.field-0
     ≡ kept_broken c.loop-place.world.header c.loop-place.window c.loop-place.world.world s) at
     c.in_ok-rule.ensures.rule in
-    rw c.line_named.ensures
+    rw (c.step_line.ensures, c.line_named.ensures)
     (ap (λ (s : Step). No (c.loop-place.place + 2) (line_named s.label) c.in-Some.rule) at
     ∙ sym (turn_no c.args.world.now.header lines c.args.steps.now c.loop-place.place _ c.loop-place.window
     c.loop-place.world c.in_ok-rule.field-0 c.loop-place-test.true
@@ -54,7 +54,8 @@ loop-place-preserved c =
 
 pub returns-in-Some-first_left : goal.returns-in-Some-first_left
 returns-in-Some-first_left c = λ lines offered.
-    sym (left_some c.loop-place.window.held _ c.args.steps.now c.first_left.result c.in-Some-first_left.number c.first_left.ensures c.in-Some-first_left.is)
+    c.left_over.ensures
+    ∙ sym (left_some c.loop-place.window.held _ c.args.steps.now c.first_left.result c.in-Some-first_left.number c.first_left.ensures c.in-Some-first_left.is)
     ∙ sym (turn_end c.args.world.now.header lines c.args.steps.now c.loop-place.place c.loop-place.window
     c.loop-place.world c.loop-place-test.false (c.loop-place.invariant.come lines offered))
     ∙ c.loop-place.invariant.told lines offered

@@ -12,7 +12,8 @@ returns-in-Some-clause-tells g c = λ header t s offered earlier ahead next f y 
     ends_when header t (left_ahead g.A.Read.remaining c.args.lines.now) s ahead next c.args.window.now c.args.world.now offered earlier all.0 _ f y all.1
     (λ left. some_left c.args.window.now.held c.args.window.now.next (line_ahead c.args.lines.now)
     (lines_left g.A.Read.remaining c.args.lines.now.reader) all.0 c.in-Some.number _ earlier
-    (sym c.first_left-left.ensures ∙ c.in-Some.is) (next_number c.args.window.now (line_ahead c.args.lines.now) c.requires.in_step) left)
+    (sym c.first_left-left.ensures ∙ c.in-Some.is) (next_number c.args.window.now (line_ahead c.args.lines.now) c.requires.in_step) left
+    ∙ sym c.left_over.ensures)
 
 pub returns-in-None-clause-tells : goal.returns-in-None-clause-tells
 returns-in-None-clause-tells g c = λ header t s offered earlier ahead next f y counts.

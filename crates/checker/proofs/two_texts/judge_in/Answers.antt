@@ -37,5 +37,5 @@ returns-in_ok-drain_steps-in-Refused-clause-tells g c = λ header t s begun.
     let broken = rw c.in-Refused.is at (c.in_ok-tally.ensures.tells header t s begun) in
     let all = c.in_ok-drain-in-Refused.ensures.all in
     let rest = c.in_ok-drain_steps-in-Refused.ensures.all in
-    refused_ends header t (left_ahead g.A.Read.remaining c.replay_steps.new.lines) s
-    (steps_left g.B.Read.remaining c.replay_steps.new.steps) _ _ _ all.0 rest.0 broken all.1 rest.1
+    rw c.step_line.ensures (refused_ends header t (left_ahead g.A.Read.remaining c.replay_steps.new.lines) s
+    (steps_left g.B.Read.remaining c.replay_steps.new.steps) _ _ _ all.0 rest.0 broken all.1 rest.1)
