@@ -1,6 +1,5 @@
 //! A trace at one level.
 
-use crate::case_lines::{CaseLines, case_lines};
 use crate::connections::{Connections, Explained, connections_of};
 use crate::levels::{DutyRule, duty_rule_of};
 use crate::rewriting::{events_of, header_text, judged_by};
@@ -13,7 +12,7 @@ use thiserror::Error;
 use trace_reader::{Counted, read_trace};
 use verdict::Verdict;
 use witness::StepReader;
-use witness_search::{CaseText, Ending, Found, find_witness};
+use witness_search::{CaseLines, CaseText, Ending, Found, case_lines, find_witness};
 
 /// Why a trace can't be judged.
 #[derive(Clone, Copy, Debug, Error)]

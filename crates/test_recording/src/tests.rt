@@ -6,6 +6,7 @@
 //! - `endings`: a close at both ends at once, a window of 0 that is probed, a loss that fast recovery mends
 //! - `chances`: talks whose fates are drawn at random
 //! - `fates`: what becomes of segments
+//! - `held_back`: segments that are lost, or held back until further ones were sent
 //! - `kinds`: what appears in recordings
 //! - `wires`: segments that are sent twice, and one that is delayed for long
 //! - `profile`: what both hosts' first segments carry, and the threads of lines
@@ -15,6 +16,7 @@
 mod chances;
 mod endings;
 mod fates;
+mod held_back;
 mod kinds;
 mod looks;
 mod pair;

@@ -8,7 +8,6 @@ use case_forms::{Event, Header, Host, Initial, Line, Trace, Version};
 use segment::{Flag, Segment};
 use std::alloc::Global;
 use std::sync::Wait;
-use std::test::Fail;
 use std::thread::Threads;
 use two_hosts::{Plan, record};
 
@@ -171,7 +170,6 @@ fn told_in_both<R: Threads + Wait + Sync>(rt: &R, alloc: Global) -> (&'static st
 }
 
 #[test]
-fn hosts_tell_their_numbers_and_options(rt: HostRuntime) -> Result<(), Fail> {
+fn hosts_tell_their_numbers_and_options(rt: HostRuntime) {
     assert_eq!(rt; told_in_both(&rt, rt.alloc()), ("yes", "yes"));
-    Ok(())
 }

@@ -12,7 +12,6 @@ use std::alloc::Global;
 use std::marker::Brand;
 use std::sync::Wait;
 use std::sync::ledger::Blank;
-use std::test::Fail;
 
 // Whether a recorder was returned with one seat, because another is missing.
 fn lacks_a_seat<L: Site>(unfinished: &Unfinished<L>) -> bool {
@@ -113,7 +112,6 @@ fn finished<R: Wait>(rt: &R, alloc: Global) -> Option<bool> {
 }
 
 #[test]
-fn a_recording_ends_with_all_seats_alone(rt: HostRuntime) -> Result<(), Fail> {
+fn a_recording_ends_with_all_seats_alone(rt: HostRuntime) {
     assert_eq!(rt; finished(&rt, rt.alloc()), Some(true));
-    Ok(())
 }

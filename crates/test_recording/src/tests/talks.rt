@@ -10,7 +10,6 @@ use recorder::{Fate, LoseEach, WireFate, merge, receipt_stands};
 use std::alloc::{AllocError, Global};
 use std::ops::Range;
 use std::sync::Wait;
-use std::test::Fail;
 use std::thread::Threads;
 use two_hosts::{Books, Plan, RecordFault, Recording, Talk, Wire, record, record_books};
 
@@ -268,21 +267,18 @@ fn ways<R: Threads + Wait + Sync>(rt: &R, alloc: Global) -> (&'static str, &'sta
 }
 
 #[test]
-fn drawn_fates_are_explained(rt: HostRuntime) -> Result<(), Fail> {
+fn drawn_fates_are_explained(rt: HostRuntime) {
     assert_eq!(rt; draws(&rt, rt.alloc(), 0..100), (0, "yes"));
-    Ok(())
 }
 
 #[test]
-fn further_drawn_fates_are_explained(rt: HostRuntime) -> Result<(), Fail> {
+fn further_drawn_fates_are_explained(rt: HostRuntime) {
     assert_eq!(rt; draws(&rt, rt.alloc(), 100..200), (0, "yes"));
-    Ok(())
 }
 
 #[test]
-fn rounds_with_losses_are_explained(rt: HostRuntime) -> Result<(), Fail> {
+fn rounds_with_losses_are_explained(rt: HostRuntime) {
     assert_eq!(rt; ways(&rt, rt.alloc()), ("none", "yes"));
-    Ok(())
 }
 
 // What is wrong with a talk whose rounds must not end; `yes` if nothing is.
@@ -298,14 +294,12 @@ fn unended<R: Threads + Wait + Sync>(rt: &R, alloc: Global, way: &Way) -> &'stat
 }
 
 #[test]
-fn a_recording_that_does_not_end_is_explained(rt: HostRuntime) -> Result<(), Fail> {
+fn a_recording_that_does_not_end_is_explained(rt: HostRuntime) {
     let said = unended(&rt, rt.alloc(), &Way::Losing(1));
     assert_eq!(rt; said, "yes", "all segments lost");
-    Ok(())
 }
 
 #[test]
-fn a_channel_that_closes_ends_all(rt: HostRuntime) -> Result<(), Fail> {
+fn a_channel_that_closes_ends_all(rt: HostRuntime) {
     assert_eq!(rt; unended(&rt, rt.alloc(), &Way::Closing), "yes");
-    Ok(())
 }

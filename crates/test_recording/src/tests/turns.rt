@@ -14,7 +14,6 @@ use std::alloc::Global;
 use std::marker::Brand;
 use std::sync::Wait;
 use std::sync::ledger::Blank;
-use std::test::Fail;
 
 // What happens.
 #[derive(Drop)]
@@ -205,18 +204,16 @@ fn first_wrong<R: Wait>(rt: &R, alloc: Global) -> (&'static str, &'static str) {
 }
 
 #[test]
-fn scenes_are_explained(rt: HostRuntime) -> Result<(), Fail> {
+fn scenes_are_explained(rt: HostRuntime) {
     assert_eq!(rt; first_wrong(&rt, rt.alloc()), ("none", "yes"));
-    Ok(())
 }
 
 // If there is no memory for a copy, its segment is sent once, and all else is as it was
 // (`tools/refused_memory/copies.py`).
 #[test]
-fn segments_sent_twice_are_explained(rt: HostRuntime) -> Result<(), Fail> {
+fn segments_sent_twice_are_explained(rt: HostRuntime) {
     let said = seen(&rt, rt.alloc(), &Scene::Twice, &mut Kinds::none());
     assert_eq!(rt; said, "yes");
-    Ok(())
 }
 
 // The first seed of a random talk with which something is wrong, and what; else which kind appeared in none.
@@ -232,9 +229,8 @@ fn first_wrong_talk<R: Wait>(rt: &R, alloc: Global) -> (u32, &'static str) {
 }
 
 #[test]
-fn talks_by_chance_are_explained(rt: HostRuntime) -> Result<(), Fail> {
+fn talks_by_chance_are_explained(rt: HostRuntime) {
     assert_eq!(rt; first_wrong_talk(&rt, rt.alloc()), (40, "yes"));
-    Ok(())
 }
 
 // The line of the first stranger of two books.
@@ -266,7 +262,6 @@ fn stranger<R: Wait>(rt: &R, alloc: Global) -> Option<u64> {
 
 // Host 0's lines are the call, its answer, the SYN that is sent, and then what arrives.
 #[test]
-fn books_of_two_runs_are_strangers(rt: HostRuntime) -> Result<(), Fail> {
+fn books_of_two_runs_are_strangers(rt: HostRuntime) {
     assert_eq!(rt; stranger(&rt, rt.alloc()), Some(10));
-    Ok(())
 }
