@@ -2,16 +2,22 @@
 
 use checker::{CaseFault, check_case, print_case};
 use recorder::Recorded;
-use std::alloc::{AllocError, Global};
+use std::alloc::Global;
 use verdict::Verdict;
 
-/// What `check_case` says about the printed case: `yes`, `no` or `refused`. The error is that memory ran out.
-pub fn answer(alloc: Global, recorded: &Recorded) -> Result<&'static str, AllocError> {
-    let text = print_case(alloc, &recorded.trace, &recorded.witness)?;
-    Ok(match check_case(alloc, text.as_slice()) {
+/// What `check_case` says about the printed case: `yes`, `no` or `refused`, or that memory ran out.
+pub fn answer(alloc: Global, recorded: &Recorded) -> &'static str {
+    match print_case(alloc, &recorded.trace, &recorded.witness) {
+        Ok(text) => word(check_case(alloc, text.as_slice())),
+        Err(_) => "out of memory",
+    }
+}
+
+fn word(answer: Result<Verdict, CaseFault>) -> &'static str {
+    match answer {
         Ok(Verdict::Yes { .. }) => "yes",
         Ok(Verdict::No { .. }) => "no",
-        Err(CaseFault::OutOfMemory) => return Err(AllocError),
+        Err(CaseFault::OutOfMemory) => "out of memory",
         Err(_) => "refused",
-    })
+    }
 }
