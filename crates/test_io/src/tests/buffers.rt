@@ -3,19 +3,14 @@
 use std::alloc::{AllocError, Global};
 use streams::{ReceiveBuffer, Transmissions};
 
-// Keeps a byte if it may be kept.
-fn keep(buffer: &mut ReceiveBuffer, position: u64) -> Result<(), AllocError> {
-    let next = buffer.next();
-    if next == 0 || position < next || position > 1_000_000 {
-        return Ok(());
-    }
-    buffer.keep(position, b"x", false)
-}
-
-// Keeps 200,000 bytes, from the last to the first.
+// Keeps 200,000 bytes, from the last to the first, as long as they may be kept.
 fn keep_all(buffer: &mut ReceiveBuffer) -> Result<(), AllocError> {
     for left in 0..200_000u64 {
-        keep(buffer, 200_000 - left)?;
+        let (next, position) = (buffer.next(), 200_000 - left);
+        if next == 0 || position < next {
+            return Ok(());
+        }
+        buffer.keep(position, b"x", false)?;
     }
     Ok(())
 }

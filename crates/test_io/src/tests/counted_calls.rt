@@ -38,20 +38,16 @@ fn pieces(told: &mut Vec<u8>, fails_at: u32) {
     let mut reader = Counted::new(&mut source);
     tell(told, "pieces ");
     for _ in 0..5 {
-        let answer = reader.append_piece(told);
-        tell(told, piece_word(answer));
+        let word = match reader.append_piece(told) {
+            Ok(true) => "end ",
+            Ok(false) => " ",
+            Err(ReadFault::Read) => "x ",
+            Err(ReadFault::OutOfMemory) => "memory ",
+        };
+        tell(told, word);
     }
     let failures = reader.failures();
     tell_counts(told, failures, source.calls);
-}
-
-fn piece_word(answer: Result<bool, ReadFault>) -> &'static str {
-    match answer {
-        Ok(true) => "end ",
-        Ok(false) => " ",
-        Err(ReadFault::Read) => "x ",
-        Err(ReadFault::OutOfMemory) => "memory ",
-    }
 }
 
 // One call that reads all that is left.
@@ -110,16 +106,6 @@ fn done(alloc: Global, told: &mut Vec<u8>, fails_at: u32) {
     flushes(told, &mut Sink::new(alloc, fails_at));
 }
 
-// The whole text: no call fails, then the first, and so on. Last, three writes to a writer that takes nothing.
-fn tell_all(alloc: Global, told: &mut Vec<u8>) {
-    for fails_at in 0..=4 {
-        done(alloc, told, fails_at);
-    }
-    let mut nothing = Sink::new(alloc, 0);
-    nothing.size = 0;
-    writes(told, &mut nothing, b"a");
-}
-
 const TOLD: &str = "\
 read 2 2 1 0 0 of 4
 pieces ab cd e end end 0 of 5
@@ -159,10 +145,16 @@ flush o o o 0 of 3
 write x x x 3 of 3
 ";
 
-// What isn't told as it should be.
+// What isn't told as it should be. No call fails, then the first, and so on; last, there are three writes to a writer
+// that takes nothing.
 fn told(alloc: Global) -> &'static str {
     let mut told = Vec::new(alloc);
-    tell_all(alloc, &mut told);
+    for fails_at in 0..=4 {
+        done(alloc, &mut told, fails_at);
+    }
+    let mut nothing = Sink::new(alloc, 0);
+    nothing.size = 0;
+    writes(&mut told, &mut nothing, b"a");
     untold(told.as_slice(), TOLD)
 }
 

@@ -3,7 +3,7 @@
 
 use crate::tests::segments::is_encoded;
 use crate::tests::texts::is_printed;
-use segment::{Flag, Segment, decode};
+use segment::{Flag, decode};
 use std::alloc::Global;
 use trace_reader::{print_trace, read_trace};
 use witness::{print_witness, read_witness};
@@ -43,16 +43,15 @@ const SEGMENT: &[u8] =
 // The page of `segment`: whether the segment is read and written.
 fn is_segment_written(alloc: Global) -> bool {
     match decode(alloc, SEGMENT) {
-        Ok(segment) => is_read(&segment) && is_encoded(alloc, &segment, SEGMENT),
+        Ok(segment) => {
+            segment.src == 80
+                && segment.has(Flag::Syn)
+                && segment.mss == Some(1000)
+                && segment.payload.as_slice() == b"hi".as_slice()
+                && is_encoded(alloc, &segment, SEGMENT)
+        }
         Err(_) => false,
     }
-}
-
-fn is_read(segment: &Segment) -> bool {
-    segment.src == 80
-        && segment.has(Flag::Syn)
-        && segment.mss == Some(1000)
-        && segment.payload.as_slice() == b"hi".as_slice()
 }
 
 #[test]

@@ -62,17 +62,13 @@ fn tell_run<H: Threads + Wait + Sync>(
     tell(told, "|\n");
 }
 
-fn tell_all<H: Threads + Wait + Sync>(rt: &H, alloc: Global, told: &mut Vec<u8>) {
-    for (words, read_fails, write_fails) in &RUNS {
-        let mut sink = Sink::new(alloc, *write_fails);
-        tell_run(rt, alloc, told, words, *read_fails, &mut sink);
-    }
-}
-
 // What isn't told as it should be.
 fn told<H: Threads + Wait + Sync>(rt: &H, alloc: Global) -> &'static str {
     let mut told = Vec::new(alloc);
-    tell_all(rt, alloc, &mut told);
+    for (words, read_fails, write_fails) in &RUNS {
+        let mut sink = Sink::new(alloc, *write_fails);
+        tell_run(rt, alloc, &mut told, words, *read_fails, &mut sink);
+    }
     untold(told.as_slice(), TOLD)
 }
 

@@ -51,15 +51,10 @@ fn is_written(
 // Whether a segment is written, and read again the same.
 fn is_read_again(alloc: Global, segment: &Segment) -> bool {
     match encode(alloc, segment) {
-        Ok(bytes) => is_decoded(alloc, segment, bytes.as_slice()),
-        Err(_) => false,
-    }
-}
-
-// Whether bytes are read as this segment.
-fn is_decoded(alloc: Global, segment: &Segment, bytes: &[u8]) -> bool {
-    match decode(alloc, bytes) {
-        Ok(read) => read == *segment,
+        Ok(bytes) => match decode(alloc, bytes.as_slice()) {
+            Ok(read) => read == *segment,
+            Err(_) => false,
+        },
         Err(_) => false,
     }
 }

@@ -1,6 +1,6 @@
 //! Traces and witnesses whose lines are read as they are requested: in pieces, and up to the call that fails.
 
-ghost use Rattle.trace_reader.specs.TraceLeft.{IsBegun, IsFresh};
+ghost use Rattle.trace_reader.specs.TraceLeft.{IsBegun};
 
 use crate::tests::ends::Source;
 use crate::tests::telling::{tell, tell_counts, untold};
@@ -73,10 +73,10 @@ pub(crate) fn is_printed(printed: Result<Vec<u8>, OutOfMemory>, text: &str) -> b
     }
 }
 
-// Whether what a reader reads is printed as this trace.
-fn is_trace(alloc: Global, reader: &mut TraceReader<Source<'_>>, text: &str) -> bool
-    requires { IsFresh reader.old }
-{
+// Whether the trace is the same if so many bytes are read in each call.
+fn is_same_trace(alloc: Global, size: usize) -> bool {
+    let source = Counted::new(Source::new(TRACE.as_bytes(), size, 0));
+    let mut reader = TraceReader::new(alloc, source);
     let Ok(header) = reader.header() else {
         return false;
     };
@@ -84,15 +84,8 @@ fn is_trace(alloc: Global, reader: &mut TraceReader<Source<'_>>, text: &str) -> 
         header,
         lines: Lines::new(alloc),
     };
-    let is_read = read_lines(reader, &mut trace.lines);
-    is_printed(print_trace(alloc, &trace), text) && is_read
-}
-
-// Whether the trace is the same if so many bytes are read in each call.
-fn is_same_trace(alloc: Global, size: usize) -> bool {
-    let source = Counted::new(Source::new(TRACE.as_bytes(), size, 0));
-    let mut reader = TraceReader::new(alloc, source);
-    is_trace(alloc, &mut reader, TRACE)
+    let is_read = read_lines(&mut reader, &mut trace.lines);
+    is_printed(print_trace(alloc, &trace), TRACE) && is_read
 }
 
 // Whether all steps are read, of which there are at most a hundred.
@@ -149,41 +142,31 @@ fn word<T>(read: &Result<Option<T>, SourceFault>) -> &'static str {
     }
 }
 
-// Words for the header and two lines.
-fn trace_words(reader: &mut TraceReader<&mut Source<'_>>) -> [&'static str; 3]
-    requires { IsFresh reader.old }
-{
-    let header = if reader.header().is_ok() {
-        "header "
-    } else {
-        "x "
-    };
-    let first = word(&reader.next());
-    let second = word(&reader.next());
-    [header, first, second]
-}
-
-// What is read from this trace, then how many of the calls failed.
+// The header and two lines that are read from this trace, then how many of the calls failed.
 fn tell_trace(alloc: Global, told: &mut Vec<u8>, text: &str, fails_at: u32) {
     let mut source = Source::new(text.as_bytes(), 4096, fails_at);
     let mut reader = TraceReader::new(alloc, Counted::new(&mut source));
-    let words = trace_words(&mut reader);
+    tell(
+        told,
+        if reader.header().is_ok() {
+            "header "
+        } else {
+            "x "
+        },
+    );
+    tell(told, word(&reader.next()));
+    tell(told, word(&reader.next()));
     let failures = reader.into_source().failures();
-    for word in words {
-        tell(told, word);
-    }
     tell_counts(told, failures, source.calls);
 }
 
-// What is read from this witness of version 1, then how many of the calls failed.
+// The same of this witness of version 1, and two steps.
 fn tell_witness(alloc: Global, told: &mut Vec<u8>, text: &str, fails_at: u32) {
     let mut source = Source::new(text.as_bytes(), 4096, fails_at);
     let mut reader = StepReader::new(alloc, Version::One, Counted::new(&mut source));
-    let words = [word(&reader.next()), word(&reader.next())];
+    tell(told, word(&reader.next()));
+    tell(told, word(&reader.next()));
     let failures = reader.into_source().failures();
-    for word in words {
-        tell(told, word);
-    }
     tell_counts(told, failures, source.calls);
 }
 
@@ -196,23 +179,6 @@ const LINE_AFTER_FAULT: &str =
 const STEP: &str = "witness 1\n10 L 7\n";
 
 const STEP_AFTER_FAULT: &str = "witness 1\n10 L x\n10 L 7\n";
-
-// Six calls read the header, one a line, and one the end. One call reads the first line of a witness, one a step, and
-// one the end. Nothing is read ahead, and after a failure or a fault nothing at all.
-fn tell_all(alloc: Global, told: &mut Vec<u8>) {
-    for fails_at in [1, 6, 7, 8, 9] {
-        tell_trace(alloc, told, LINE, fails_at);
-    }
-    tell_trace(alloc, told, LINE_AFTER_FAULT, 9);
-    tell_steps(alloc, told);
-}
-
-fn tell_steps(alloc: Global, told: &mut Vec<u8>) {
-    for fails_at in [1, 2, 3, 4] {
-        tell_witness(alloc, told, STEP, fails_at);
-    }
-    tell_witness(alloc, told, STEP_AFTER_FAULT, 4);
-}
 
 const TOLD: &str = "\
 x x x 1 of 1
@@ -228,10 +194,22 @@ line end 0 of 3
 fault fault 0 of 2
 ";
 
-// What isn't told as it should be.
+fn tell_traces(alloc: Global, told: &mut Vec<u8>) {
+    for fails_at in [1, 6, 7, 8, 9] {
+        tell_trace(alloc, told, LINE, fails_at);
+    }
+    tell_trace(alloc, told, LINE_AFTER_FAULT, 9);
+}
+
+// What isn't told as it should be. Six calls read the header, one a line, and one the end. One call reads the first
+// line of a witness, one a step, and one the end. Nothing is read ahead, and after a failure or a fault nothing at all.
 fn told(alloc: Global) -> &'static str {
     let mut told = Vec::new(alloc);
-    tell_all(alloc, &mut told);
+    tell_traces(alloc, &mut told);
+    for fails_at in [1, 2, 3, 4] {
+        tell_witness(alloc, &mut told, STEP, fails_at);
+    }
+    tell_witness(alloc, &mut told, STEP_AFTER_FAULT, 4);
     untold(told.as_slice(), TOLD)
 }
 

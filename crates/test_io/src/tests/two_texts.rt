@@ -104,18 +104,13 @@ fn tell_judged(
     tell_answer(told, &answer, (trace.failures(), witness.failures()));
 }
 
-// Whether this is the answer if that call of one of the readers fails.
-fn is_answer(alloc: Global, is_witness: bool, call: u32, wanted: &str) -> bool {
-    let fails = if is_witness { (0, call) } else { (call, 0) };
-    let mut told = Vec::new(alloc);
-    tell_judged(alloc, &mut told, (TRACE, WITNESS), 4096, fails);
-    told.as_slice() == wanted.as_bytes()
-}
-
-// The first of these calls whose failure has another answer; 0 if none has.
+// The first of these calls of one of the readers whose failure has another answer; 0 if none has.
 fn first_other(alloc: Global, is_witness: bool, calls: Range<u32>, wanted: &str) -> u32 {
     for call in calls {
-        if !is_answer(alloc, is_witness, call, wanted) {
+        let fails = if is_witness { (0, call) } else { (call, 0) };
+        let mut told = Vec::new(alloc);
+        tell_judged(alloc, &mut told, (TRACE, WITNESS), 4096, fails);
+        if told.as_slice() != wanted.as_bytes() {
             return call;
         }
     }
@@ -177,10 +172,6 @@ impl Handed {
         self.ahead.set(self.ahead.get().max(ahead));
         self.witness.set(self.witness.get().saturating_add(1));
     }
-
-    fn note_line(&self) {
-        self.trace.set(self.trace.get().saturating_add(1));
-    }
 }
 
 // A reader that returns one line per call, and notes it.
@@ -207,7 +198,8 @@ impl BufRead for ByLines<'_, '_> {
             if self.is_witness {
                 self.handed.note_step();
             } else {
-                self.handed.note_line();
+                let lines = &self.handed.trace;
+                lines.set(lines.get().saturating_add(1));
             }
         }
         Ok(&self.left[..count])
@@ -244,44 +236,37 @@ fn witness_of(alloc: Global, calls: u32) -> String {
     witness
 }
 
-// Tells the answer to these texts, then how many lines of the trace were returned, and whether at most two ahead of the
-// steps.
-fn tell_by_lines(alloc: Global, told: &mut Vec<u8>, trace: &[u8], witness: &[u8]) {
+// What isn't told as it should be of 100,000 calls: the answer, then how many lines of the trace were returned, and
+// whether at most two ahead of the steps.
+fn told_by_lines(alloc: Global) -> &'static str {
+    let mut told = Vec::new(alloc);
+    let (trace, witness) = (trace_of(alloc, 100_000), witness_of(alloc, 100_000));
     let handed = Handed {
         trace: Cell::new(0),
         witness: Cell::new(0),
         ahead: Cell::new(0),
     };
-    let (answer, trace, witness) = check_streams(
-        alloc,
-        Counted::new(ByLines {
-            left: trace,
-            handed: &handed,
-            is_witness: false,
-        }),
-        Counted::new(ByLines {
-            left: witness,
-            handed: &handed,
-            is_witness: true,
-        }),
-    );
-    tell_answer(told, &answer, (trace.failures(), witness.failures()));
-    tell_number(told, handed.trace.get());
+    let trace = ByLines {
+        left: trace.as_bytes(),
+        handed: &handed,
+        is_witness: false,
+    };
+    let witness = ByLines {
+        left: witness.as_bytes(),
+        handed: &handed,
+        is_witness: true,
+    };
+    let (answer, trace, witness) = check_streams(alloc, Counted::new(trace), Counted::new(witness));
+    tell_answer(&mut told, &answer, (trace.failures(), witness.failures()));
+    tell_number(&mut told, handed.trace.get());
     tell(
-        told,
+        &mut told,
         if handed.ahead.get() <= 2 {
             "bounded"
         } else {
             "ahead"
         },
     );
-}
-
-// What isn't told as it should be of 100,000 calls.
-fn told_by_lines(alloc: Global) -> &'static str {
-    let mut told = Vec::new(alloc);
-    let (trace, witness) = (trace_of(alloc, 100_000), witness_of(alloc, 100_000));
-    tell_by_lines(alloc, &mut told, trace.as_bytes(), witness.as_bytes());
     untold(told.as_slice(), "yes 200000 100000 0 0 200006 bounded")
 }
 

@@ -38,15 +38,6 @@ struct Holds {
 }
 
 impl Holds {
-    fn new(held: usize, until: usize) -> Holds {
-        Holds {
-            held,
-            until,
-            turns: AtomicU64::new(0),
-            calls: [AtomicU64::new(0), AtomicU64::new(0), AtomicU64::new(0)],
-        }
-    }
-
     // Adds to the calls of a case, and far more if they weren't as many as they should be.
     fn count(&self, case: usize, due: u64, more: u64) {
         if case < 3 {
@@ -90,19 +81,14 @@ impl Gate for Holds {
     }
 }
 
-// A text of a trace and a witness.
-fn text(alloc: Global, witness: &str) -> Vec<u8> {
-    let mut bytes = Vec::new(alloc);
-    let _ = bytes.extend_from_slice(TRACE.as_bytes());
-    let _ = bytes.extend_from_slice(witness.as_bytes());
-    bytes
-}
-
 // A case of each status. If memory ran out, one is missing or cut, and the answers aren't those below.
 fn three_cases(alloc: Global) -> Vec<Vec<u8>> {
     let mut cases = Vec::new(alloc);
     for witness in [EXPLAINED, NOT_EXPLAINED, CUT] {
-        let _ = cases.push(text(alloc, witness));
+        let mut text = Vec::new(alloc);
+        let _ = text.extend_from_slice(TRACE.as_bytes());
+        let _ = text.extend_from_slice(witness.as_bytes());
+        let _ = cases.push(text);
     }
     cases
 }
@@ -155,7 +141,12 @@ fn wrong_if_held<H: Threads + Wait + Sync>(
     held: usize,
     until: usize,
 ) -> &'static str {
-    let gate = Holds::new(held, until);
+    let gate = Holds {
+        held,
+        until,
+        turns: AtomicU64::new(0),
+        calls: [AtomicU64::new(0), AtomicU64::new(0), AtomicU64::new(0)],
+    };
     if are_right(check_many(rt, alloc, cases, 2, &gate)) {
         gate.wrong()
     } else {

@@ -22,31 +22,23 @@ impl WireFate for Fates {
             Fates::Each(fate) => *fate,
             Fates::InTurn(turn) => {
                 *turn = *turn % 5 + 1;
-                in_turn(*turn)
+                match *turn {
+                    1 => Fate::Twice,
+                    2 => Fate::Hold(2),
+                    3 => Fate::Lose,
+                    _ => Fate::Pass,
+                }
             }
             Fates::Drawn(state) => {
                 *state = state.wrapping_mul(1_664_525).wrapping_add(1_013_904_223);
-                drawn(*state >> 28)
+                match *state >> 28 {
+                    0 | 1 => Fate::Lose,
+                    2 | 3 => Fate::Twice,
+                    4 => Fate::Hold(1),
+                    5 => Fate::Hold(3),
+                    _ => Fate::Pass,
+                }
             }
         }
-    }
-}
-
-fn in_turn(turn: u8) -> Fate {
-    match turn {
-        1 => Fate::Twice,
-        2 => Fate::Hold(2),
-        3 => Fate::Lose,
-        _ => Fate::Pass,
-    }
-}
-
-fn drawn(number: u32) -> Fate {
-    match number {
-        0 | 1 => Fate::Lose,
-        2 | 3 => Fate::Twice,
-        4 => Fate::Hold(1),
-        5 => Fate::Hold(3),
-        _ => Fate::Pass,
     }
 }

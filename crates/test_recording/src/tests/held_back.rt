@@ -33,16 +33,6 @@ fn none_is_lost(rt: HostRuntime) {
     assert_eq!(rt; fates(0), ['.', '.', '.', '.', '.']);
 }
 
-// Pumps this segment, and holds it back if it is among these, each with how many further ones must be pumped.
-fn pump(held: &mut HeldBack<u64>, segment: u64, holds: &[(u64, u32)]) {
-    held.count();
-    for (number, further) in holds {
-        if *number == segment {
-            let _ = held.hold(*further, segment);
-        }
-    }
-}
-
 // Adds which segments are sent late in this turn.
 fn add_due(held: &mut HeldBack<u64>, turn: u64, gone: &mut Vec<(u64, u64)>) {
     for _ in 0..held.len() {
@@ -52,13 +42,18 @@ fn add_due(held: &mut HeldBack<u64>, turn: u64, gone: &mut Vec<(u64, u64)>) {
     }
 }
 
-// Whether these segments are sent late, each after its turn. Segments have the numbers 1 to 6; those in `holds` are
-// held back until that many further ones were pumped.
-fn are_late(alloc: Global, holds: &[(u64, u32)], wanted: &[(u64, u64)]) -> bool {
+// Whether these segments are sent late, each after its turn. Six segments have the numbers 1 to 6; each is held back
+// until so many further ones were pumped, if it isn't 0.
+fn are_late(alloc: Global, holds: [u32; 6], wanted: &[(u64, u64)]) -> bool {
     let mut held = HeldBack::new(alloc);
     let mut gone = Vec::new(alloc);
-    for turn in 1..7u64 {
-        pump(&mut held, turn, holds);
+    let mut turn = 0u64;
+    for further in holds {
+        turn = turn.saturating_add(1);
+        held.count();
+        if further != 0 {
+            let _ = held.hold(further, turn);
+        }
         add_due(&mut held, turn, &mut gone);
     }
     gone.as_slice() == wanted
@@ -66,16 +61,16 @@ fn are_late(alloc: Global, holds: &[(u64, u32)], wanted: &[(u64, u64)]) -> bool 
 
 #[test]
 fn goes_out_behind_two_further_ones(rt: HostRuntime) {
-    assert!(rt; are_late(rt.alloc(), &[(1, 2)], &[(3, 1)]));
+    assert!(rt; are_late(rt.alloc(), [2, 0, 0, 0, 0, 0], &[(3, 1)]));
 }
 
 #[test]
 fn two_are_held_each_for_itself(rt: HostRuntime) {
     let wanted = [(3, 2), (4, 1), (4, 3)];
-    assert!(rt; are_late(rt.alloc(), &[(1, 3), (2, 1), (3, 1)], &wanted));
+    assert!(rt; are_late(rt.alloc(), [3, 1, 1, 0, 0, 0], &wanted));
 }
 
 #[test]
 fn never_goes_out_where_the_loop_ends_first(rt: HostRuntime) {
-    assert!(rt; are_late(rt.alloc(), &[(1, 9), (6, 1)], &[]));
+    assert!(rt; are_late(rt.alloc(), [9, 0, 0, 0, 0, 1], &[]));
 }

@@ -1,8 +1,5 @@
 //! Whole recordings.
 
-ghost use Rattle.std.specs.Prelude.{◌≡◌, false};
-ghost use Rattle.case_forms.specs.Versions.{is_half};
-
 use crate::tests::fates::{Fates, NONE_LOST};
 use crate::tests::verdicts::answer;
 use case_forms::{Answer, Event, Line, Version};
@@ -110,29 +107,8 @@ const WAYS: [(&str, u16, Way); 9] = [
 // The other host closes its end after host 0's third segment.
 const CLOSING: Way = Way::Fated(NONE_LOST, NONE_LOST, 3);
 
-// The recording that was made. It ended only if both books count as many answers as there are receipts.
-fn merged(alloc: Global, books: Books) -> Result<Recording, RecordFault> {
-    let Books {
-        zero,
-        one,
-        ended,
-        receipts,
-    } = books;
-    let answers = zero.total().saturating_add(one.total());
-    match merge(alloc, zero, one) {
-        Ok(recorded) => Ok(Recording {
-            recorded,
-            ended: ended && answers == receipts.len() as u64,
-            receipts,
-        }),
-        Err(fault) => {
-            drop(receipts);
-            Err(RecordFault::from(fault))
-        }
-    }
-}
-
-// The recording of so many rounds in version 1, with these fates there and back. Host 1 receives so many segments.
+// The recording of so many rounds in version 1, with these fates there and back. Host 1 receives so many segments. The
+// rounds ended only if both books count as many answers as there are receipts.
 fn fated<R: Threads + Wait + Sync>(
     rt: &R,
     alloc: Global,
@@ -149,25 +125,24 @@ fn fated<R: Threads + Wait + Sync>(
         there,
         back,
     };
-    merged(alloc, record_books(rt, alloc, Version::One, talk)?)
-}
-
-// The recording of so many rounds in this version.
-fn planned<R: Threads + Wait + Sync>(
-    rt: &R,
-    alloc: Global,
-    rounds: u16,
-    lose: u32,
-    version: Version,
-) -> Result<Recording, RecordFault>
-    requires { is_half version ≡ false }
-{
-    let plan = Plan {
-        rounds,
-        lose,
-        version,
-    };
-    record(rt, alloc, plan)
+    let Books {
+        zero,
+        one,
+        ended,
+        receipts,
+    } = record_books(rt, alloc, Version::One, talk)?;
+    let answers = zero.total().saturating_add(one.total());
+    match merge(alloc, zero, one) {
+        Ok(recorded) => Ok(Recording {
+            recorded,
+            ended: ended && answers == receipts.len() as u64,
+            receipts,
+        }),
+        Err(fault) => {
+            drop(receipts);
+            Err(RecordFault::from(fault))
+        }
+    }
 }
 
 // The recording of so many rounds.
@@ -178,8 +153,30 @@ fn recording_of<R: Threads + Wait + Sync>(
     way: Way,
 ) -> Result<Recording, RecordFault> {
     match way {
-        Way::Losing(lose) => planned(rt, alloc, rounds, lose, Version::One),
-        Way::LosingScaled(lose) => planned(rt, alloc, rounds, lose, Version::Two),
+        Way::Losing(lose) => {
+            let version = Version::One;
+            record(
+                rt,
+                alloc,
+                Plan {
+                    rounds,
+                    lose,
+                    version,
+                },
+            )
+        }
+        Way::LosingScaled(lose) => {
+            let version = Version::Two;
+            record(
+                rt,
+                alloc,
+                Plan {
+                    rounds,
+                    lose,
+                    version,
+                },
+            )
+        }
         Way::Fated(fate, back, taken) => fated(rt, alloc, rounds, Wire { fate, taken }, back),
     }
 }

@@ -7,14 +7,10 @@ use verdict::Verdict;
 
 /// What `check_case` says about the printed case: `yes`, `no` or `refused`, or that memory ran out.
 pub fn answer(alloc: Global, recorded: &Recorded) -> &'static str {
-    match print_case(alloc, &recorded.trace, &recorded.witness) {
-        Ok(text) => word(check_case(alloc, text.as_slice())),
-        Err(_) => "out of memory",
-    }
-}
-
-fn word(answer: Result<Verdict, CaseFault>) -> &'static str {
-    match answer {
+    let Ok(text) = print_case(alloc, &recorded.trace, &recorded.witness) else {
+        return "out of memory";
+    };
+    match check_case(alloc, text.as_slice()) {
         Ok(Verdict::Yes { .. }) => "yes",
         Ok(Verdict::No { .. }) => "no",
         Err(CaseFault::OutOfMemory) => "out of memory",
