@@ -17,10 +17,13 @@ fn keep_all(buffer: &mut ReceiveBuffer) -> Result<(), AllocError> {
 
 // How many bytes are read next, and delivered.
 fn deliver(alloc: Global, buffer: &mut ReceiveBuffer) -> Option<usize> {
-    let bytes = buffer.read(alloc, 300_000).ok()?;
-    let count = bytes.len();
-    buffer.deliver(count);
-    Some(count)
+    match buffer.read(alloc, 300_000) {
+        Ok(bytes) => {
+            buffer.deliver(bytes.len());
+            Some(bytes.len())
+        }
+        Err(_) => None,
+    }
 }
 
 // The next position, and how many bytes are read, once these bytes were kept.

@@ -1,6 +1,6 @@
 //! Traces and witnesses whose lines are read as they are requested: in pieces, and up to the call that fails.
 
-ghost use Rattle.trace_reader.specs.TraceLeft.{IsBegun};
+ghost use Rattle.trace_reader.specs.TraceLeft.{IsBegun, IsFresh};
 
 use crate::tests::ends::Source;
 use crate::tests::telling::{tell, tell_counts, untold};
@@ -142,21 +142,29 @@ fn word<T>(read: &Result<Option<T>, SourceFault>) -> &'static str {
     }
 }
 
-// The header and two lines that are read from this trace, then how many of the calls failed.
+// Words for the header and two lines.
+fn trace_words(reader: &mut TraceReader<&mut Source<'_>>) -> [&'static str; 3]
+    requires { IsFresh reader.old }
+{
+    let header = if reader.header().is_ok() {
+        "header "
+    } else {
+        "x "
+    };
+    let first = word(&reader.next());
+    let second = word(&reader.next());
+    [header, first, second]
+}
+
+// What is read from this trace, then how many of the calls failed.
 fn tell_trace(alloc: Global, told: &mut Vec<u8>, text: &str, fails_at: u32) {
     let mut source = Source::new(text.as_bytes(), 4096, fails_at);
     let mut reader = TraceReader::new(alloc, Counted::new(&mut source));
-    tell(
-        told,
-        if reader.header().is_ok() {
-            "header "
-        } else {
-            "x "
-        },
-    );
-    tell(told, word(&reader.next()));
-    tell(told, word(&reader.next()));
+    let [header, first, second] = trace_words(&mut reader);
     let failures = reader.into_source().failures();
+    tell(told, header);
+    tell(told, first);
+    tell(told, second);
     tell_counts(told, failures, source.calls);
 }
 
@@ -164,9 +172,10 @@ fn tell_trace(alloc: Global, told: &mut Vec<u8>, text: &str, fails_at: u32) {
 fn tell_witness(alloc: Global, told: &mut Vec<u8>, text: &str, fails_at: u32) {
     let mut source = Source::new(text.as_bytes(), 4096, fails_at);
     let mut reader = StepReader::new(alloc, Version::One, Counted::new(&mut source));
-    tell(told, word(&reader.next()));
-    tell(told, word(&reader.next()));
+    let (first, second) = (word(&reader.next()), word(&reader.next()));
     let failures = reader.into_source().failures();
+    tell(told, first);
+    tell(told, second);
     tell_counts(told, failures, source.calls);
 }
 
