@@ -28,12 +28,12 @@ pub(crate) fn untold<'a>(told: &[u8], wanted: &'a str) -> &'a str {
     if told == wanted.as_bytes() {
         return "all";
     }
-    let mut same = 0;
+    let mut same: usize = 0;
     for (byte, other) in told.iter().zip(wanted.as_bytes()) {
         if byte != other {
             break;
         }
-        same += 1;
+        same = same.saturating_add(1);
     }
     wanted.get(same..).unwrap_or(wanted)
 }
