@@ -81,7 +81,8 @@ fn look_and_ask<L: Site + Send + Sync, M: Site + Send + Sync, R: Threads + Wait 
     requires headers { (L.header ≡ test_header) × (M.header ≡ test_header) }
 {
     let mut pair: Pair<'_, L, M, R> = Pair::new(rt, alloc, first, second, 0)?;
-    Some(is_answered_meanwhile(rt, &pair.zero.recorder, &mut pair.one))
+    let Pair { zero, one, .. } = &mut pair;
+    Some(is_answered_meanwhile(rt, &zero.recorder, one))
 }
 
 // The same, for two hosts of a run.
