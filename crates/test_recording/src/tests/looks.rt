@@ -52,6 +52,7 @@ fn is_answered_meanwhile<L: Site + Send + Sync, M: Site + Send + Sync, R: Thread
     let held = AtomicBool::new(false);
     let answered = AtomicBool::new(false);
     let (held, answered) = (&held, &answered);
+    let one = &mut *one;
     thread::scope(thread::scope_env(), rt, |scope| {
         let asks = scope
             .spawn(move || ask_meanwhile(rt, one, held, answered))
