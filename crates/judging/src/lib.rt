@@ -17,19 +17,15 @@
 //! - `rewriting`: a trace in version 5
 //! - `trying`: one level: the case that is found, and its verdict
 //! - `levels`: what is known of each level, and whether duties alone refuse it
-//! - `case_lines`: whether that case has every line of the trace
 //! - `connections`: how many connections it has, and how many were established
 //! - `sentences`: what a yes says, and what a no refuses
 #![tactic(auto)]
 
 mod asking;
-mod case_lines;
 mod connections;
 mod levels;
 mod rewriting;
 mod sentences;
-#[cfg(test)]
-mod tests;
 mod trying;
 
 pub use asking::{Judgement, judge};

@@ -1,6 +1,5 @@
 //! What a yes says, and what a no refuses, in a sentence.
 
-use crate::case_lines::CaseLines;
 use crate::connections::Connections;
 use crate::levels::{Level, is_yes_without_duties};
 use crate::trying::{Question, Tried};
@@ -11,7 +10,7 @@ use replayed::{Late, Reason, Refused};
 use std::alloc::Global;
 use std::fmt;
 use verdict::{Rule, Verdict};
-use witness_search::Ending;
+use witness_search::{CaseLines, Ending};
 
 fn level_name(level: Judged) -> &'static str {
     match level {

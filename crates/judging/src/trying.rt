@@ -1,6 +1,5 @@
 //! A trace at one level.
 
-use crate::case_lines::{CaseLines, case_lines};
 use crate::connections::{Connections, Explained, connections_of};
 use crate::rewriting::{events_of, header_text, judged_by};
 use case_forms::{Header, Judged, OutOfMemory};
@@ -11,7 +10,7 @@ use std::alloc::{AllocError, Global};
 use thiserror::Error;
 use trace_reader::{Counted, read_trace};
 use verdict::Verdict;
-use witness_search::{CaseText, Ending, Found, find_witness};
+use witness_search::{CaseLines, CaseText, Ending, Found, case_lines, find_witness};
 
 /// Why a trace can't be judged.
 #[derive(Clone, Copy, Debug, Error)]

@@ -7,6 +7,7 @@
 //! - `two_texts`: a case in two texts, judged in pieces, up to a call that fails, and with no more of it read than a
 //!   step needs
 //! - `runs`: what the program answers, and that it flushes
+//! - `telling`: what happened, as a text that is compared once
 //! - `workers`: cases under gates that hold them, with several numbers of workers
 
 mod buffers;
@@ -16,6 +17,7 @@ mod first_pages;
 mod line_order;
 mod runs;
 mod segments;
+mod telling;
 mod texts;
 mod two_texts;
 mod workers;

@@ -3,59 +3,65 @@
 use std::alloc::{AllocError, Global};
 use streams::{ReceiveBuffer, Transmissions};
 
-// A buffer that has taken the SYN.
-fn met(alloc: Global) -> ReceiveBuffer {
+// Keeps 200,000 bytes, from the last to the first, as long as they may be kept.
+fn keep_all(buffer: &mut ReceiveBuffer) -> Result<(), AllocError> {
+    for left in 0..200_000u64 {
+        let (next, position) = (buffer.next(), 200_000 - left);
+        if next == 0 || position < next {
+            return Ok(());
+        }
+        buffer.keep(position, b"x", false)?;
+    }
+    Ok(())
+}
+
+// How many bytes are read next, and delivered.
+fn deliver(alloc: Global, buffer: &mut ReceiveBuffer) -> Option<usize> {
+    match buffer.read(alloc, 300_000) {
+        Ok(bytes) => {
+            buffer.deliver(bytes.len());
+            Some(bytes.len())
+        }
+        Err(_) => None,
+    }
+}
+
+// The next position, and how many bytes are read, once these bytes were kept.
+fn kept(alloc: Global) -> (u64, Option<usize>) {
     let mut buffer = ReceiveBuffer::new(alloc);
     buffer.take_syn();
-    buffer
-}
-
-// Keeps these bytes if they may be kept; the result is the next position then.
-fn keep(
-    buffer: &mut ReceiveBuffer,
-    position: u64,
-    bytes: &[u8],
-    fin: bool,
-) -> Result<u64, AllocError> {
+    let _ = keep_all(&mut buffer);
     let next = buffer.next();
-    if next == 0 || position < next || position > 1_000_000 || bytes.len() > 1_000_000 {
-        return Ok(0);
-    }
-    buffer.keep(position, bytes, fin)?;
-    Ok(buffer.next())
-}
-
-// Reads the next bytes and delivers them.
-fn deliver(alloc: Global, buffer: &mut ReceiveBuffer, most: usize) -> Result<Vec<u8>, AllocError> {
-    let bytes = buffer.read(alloc, most)?;
-    buffer.deliver(bytes.len());
-    Ok(bytes)
+    (next, deliver(alloc, &mut buffer))
 }
 
 // The time for a byte doesn't grow with the number of those that wait.
 #[test]
-fn bytes_come_from_the_last_to_the_first(rt: HostRuntime) -> Result<(), AllocError> {
-    let mut buffer = met(rt.alloc());
-    for left in 0..200_000u64 {
-        keep(&mut buffer, 200_000 - left, b"x", false)?;
-    }
-    let next = buffer.next();
-    let bytes = deliver(rt.alloc(), &mut buffer, 300_000)?;
-    assert!(rt; next == 200_001 && bytes.len() == 200_000);
-    Ok(())
+fn bytes_come_from_the_last_to_the_first(rt: HostRuntime) {
+    assert_eq!(rt; kept(rt.alloc()), (200_001, Some(200_000)));
 }
 
-// The time to make a segment doesn't grow with the number made before.
-#[test]
-fn segments_are_made_over_and_over(rt: HostRuntime) -> Result<(), AllocError> {
-    let mut transmissions = Transmissions::new(rt.alloc());
+// Makes 200,000 segments of a byte each, and then one of the first two bytes as often.
+fn make_all(transmissions: &mut Transmissions) -> Result<(), AllocError> {
     for moment in 0..200_000u64 {
         transmissions.make(moment, 1, moment)?;
     }
     for moment in 200_000..400_000u64 {
         transmissions.make(0, 2, moment)?;
     }
-    let again = transmissions.is_retransmitted(0, 2) && !transmissions.is_retransmitted(2, 200_000);
-    assert!(rt; again && transmissions.end() == 200_000 && transmissions.moment(1) == Some(1));
     Ok(())
+}
+
+// Whether exactly the first two bytes are retransmitted; where the last ends, and when the second was first made.
+fn made(alloc: Global) -> (bool, u64, Option<u64>) {
+    let mut transmissions = Transmissions::new(alloc);
+    let _ = make_all(&mut transmissions);
+    let again = transmissions.is_retransmitted(0, 2) && !transmissions.is_retransmitted(2, 200_000);
+    (again, transmissions.end(), transmissions.moment(1))
+}
+
+// The time to make a segment doesn't grow with the number made before.
+#[test]
+fn segments_are_made_over_and_over(rt: HostRuntime) {
+    assert_eq!(rt; made(rt.alloc()), (true, 200_000, Some(1)));
 }

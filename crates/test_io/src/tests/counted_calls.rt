@@ -1,171 +1,109 @@
 //! Each call of a `Counted` makes one call of its end, fails if that fails, and at no other; loops go on to the last
 //! piece, or up to the call that fails.
 //!
-//! All that happens is one text, which is compared once: an assertion costs seconds of proof. A line has what was done,
-//! the answer of each call or `x` for a failure, how many calls failed, and how many came to the end.
+//! A line has what was done, the answer of each call or `x` for a failure, how many calls failed, and how many came to
+//! the end.
 
 use crate::tests::ends::{Sink, Source};
-use case_forms::OutOfMemory;
+use crate::tests::telling::{tell, tell_counts, tell_number, untold};
 use counted::{Counted, ReadFault};
-use line_fields::{push_number, push_word};
 use std::alloc::Global;
+use std::io;
 use std::io::{Read, Write};
-use std::test::Fail;
 
-/// Appends how many calls failed, and how many came to the end.
-pub(crate) fn push_counts(
-    told: &mut Vec<u8>,
-    failures: u64,
-    calls: u32,
-) -> Result<(), OutOfMemory> {
-    push_number(told, failures)?;
-    push_word(told, " of ")?;
-    push_number(told, u64::from(calls))?;
-    push_word(told, "\n")
+// Appends how many bytes a call gave or took.
+fn tell_count(told: &mut Vec<u8>, answer: io::Result<usize>) {
+    match answer {
+        Ok(count) => tell_number(told, count as u64),
+        Err(_) => tell(told, "x "),
+    }
 }
 
 // Four reads.
-fn reads(told: &mut Vec<u8>, fails_at: u32) -> Result<(), OutOfMemory> {
+fn reads(told: &mut Vec<u8>, fails_at: u32) {
     let mut source = Source::new(b"abcde", 2, fails_at);
     let mut reader = Counted::new(&mut source);
-    push_word(told, "read ")?;
+    tell(told, "read ");
     for _ in 0..4 {
         let mut bytes = [0u8; 4];
-        match reader.read(&mut bytes) {
-            Ok(count) => push_number(told, count as u64)?,
-            Err(_) => push_word(told, "x")?,
-        }
-        push_word(told, " ")?;
+        tell_count(told, reader.read(&mut bytes));
     }
     let failures = reader.failures();
-    push_counts(told, failures, source.calls)
+    tell_counts(told, failures, source.calls);
 }
 
 // Five pieces, each of which follows what was there before.
-fn pieces(told: &mut Vec<u8>, fails_at: u32) -> Result<(), OutOfMemory> {
+fn pieces(told: &mut Vec<u8>, fails_at: u32) {
     let mut source = Source::new(b"abcde", 2, fails_at);
     let mut reader = Counted::new(&mut source);
-    push_word(told, "pieces ")?;
+    tell(told, "pieces ");
     for _ in 0..5 {
-        let answer = reader.append_piece(told);
-        push_word(told, piece_word(answer))?;
+        let word = match reader.append_piece(told) {
+            Ok(true) => "end ",
+            Ok(false) => " ",
+            Err(ReadFault::Read) => "x ",
+            Err(ReadFault::OutOfMemory) => "memory ",
+        };
+        tell(told, word);
     }
     let failures = reader.failures();
-    push_counts(told, failures, source.calls)
+    tell_counts(told, failures, source.calls);
 }
 
-fn piece_word(answer: Result<bool, ReadFault>) -> &'static str {
-    match answer {
-        Ok(true) => "end ",
-        Ok(false) => " ",
-        Err(ReadFault::Read) => "x ",
-        Err(ReadFault::OutOfMemory) => "memory ",
-    }
+// One call that reads all that is left.
+fn all_read(told: &mut Vec<u8>, source: &mut Source<'_>) {
+    let mut reader = Counted::new(&mut *source);
+    tell(told, "all ");
+    let answer = reader.append_all(told);
+    tell(told, if answer.is_ok() { " " } else { "x " });
+    let failures = reader.failures();
+    tell_counts(told, failures, source.calls);
 }
 
-// One call that reads all, and once more: four calls for the pieces and the end.
-fn all_read(told: &mut Vec<u8>, fails_at: u32) -> Result<(), OutOfMemory> {
-    let mut source = Source::new(b"abcde", 2, fails_at);
-    for _ in 0..2 {
-        let mut reader = Counted::new(&mut source);
-        push_word(told, "all ")?;
-        let answer = reader.append_all(told);
-        push_word(told, if answer.is_ok() { " " } else { "x " })?;
-        let failures = reader.failures();
-        push_counts(told, failures, source.calls)?;
-    }
-    Ok(())
-}
-
-// What is done at a writer.
-#[derive(Clone, Copy)]
-enum Writing<'a> {
-    // Three writes of these bytes.
-    Each(&'a [u8]),
-    // One call that writes all.
-    All,
-    // Three flushes.
-    Flushes,
-}
-
-// Three writes.
-fn writes(told: &mut Vec<u8>, sink: &mut Sink, bytes: &[u8]) -> Result<(), OutOfMemory> {
+// Three writes of these bytes.
+fn writes(told: &mut Vec<u8>, sink: &mut Sink, bytes: &[u8]) {
     let mut writer = Counted::new(&mut *sink);
-    push_word(told, "write ")?;
+    tell(told, "write ");
     for _ in 0..3 {
-        match writer.write(bytes) {
-            Ok(count) => push_number(told, count as u64)?,
-            Err(_) => push_word(told, "x")?,
-        }
-        push_word(told, " ")?;
+        tell_count(told, writer.write(bytes));
     }
     let failures = writer.failures();
-    push_counts(told, failures, sink.calls)
+    tell_counts(told, failures, sink.calls);
 }
 
 // One call that writes all, for which three calls are needed.
-fn all_written(told: &mut Vec<u8>, sink: &mut Sink) -> Result<(), OutOfMemory> {
+fn all_written(told: &mut Vec<u8>, sink: &mut Sink) {
     let mut writer = Counted::new(&mut *sink);
     let is_written = writer.write_all(b"abcde").is_ok();
     let failures = writer.failures();
-    push_word(told, "write all ")?;
-    told.extend_from_slice(sink.taken.as_slice())?;
-    push_word(told, if is_written { " " } else { "x " })?;
-    push_counts(told, failures, sink.calls)
+    tell(told, "write all ");
+    let _ = told.extend_from_slice(sink.taken.as_slice());
+    tell(told, if is_written { " " } else { "x " });
+    tell_counts(told, failures, sink.calls);
 }
 
 // Three flushes.
-fn flushes(told: &mut Vec<u8>, sink: &mut Sink) -> Result<(), OutOfMemory> {
+fn flushes(told: &mut Vec<u8>, sink: &mut Sink) {
     let mut writer = Counted::new(&mut *sink);
-    push_word(told, "flush ")?;
+    tell(told, "flush ");
     for _ in 0..3 {
-        push_word(told, if writer.flush().is_ok() { "o " } else { "x " })?;
+        tell(told, if writer.flush().is_ok() { "o " } else { "x " });
     }
     let failures = writer.failures();
-    push_counts(told, failures, sink.flushes)
+    tell_counts(told, failures, sink.flushes);
 }
 
-fn do_writing(
-    told: &mut Vec<u8>,
-    sink: &mut Sink,
-    writing: Writing<'_>,
-) -> Result<(), OutOfMemory> {
-    match writing {
-        Writing::Each(bytes) => writes(told, sink, bytes),
-        Writing::All => all_written(told, sink),
-        Writing::Flushes => flushes(told, sink),
-    }
-}
-
-// The same with a new writer that takes so many bytes a call.
-fn written(
-    alloc: Global,
-    told: &mut Vec<u8>,
-    size: usize,
-    fails_at: u32,
-    writing: Writing<'_>,
-) -> Result<(), OutOfMemory> {
-    let mut sink = Sink::new(alloc, fails_at);
-    sink.size = size;
-    do_writing(told, &mut sink, writing)
-}
-
-// All that is done if this call fails, or none does.
-fn done(alloc: Global, told: &mut Vec<u8>, fails_at: u32) -> Result<(), OutOfMemory> {
-    reads(told, fails_at)?;
-    pieces(told, fails_at)?;
-    all_read(told, fails_at)?;
-    written(alloc, told, 2, fails_at, Writing::Each(b"abc"))?;
-    written(alloc, told, 2, fails_at, Writing::All)?;
-    written(alloc, told, 2, fails_at, Writing::Flushes)
-}
-
-// The whole text: no call fails, then the first, and so on. Last, three writes to a writer that takes nothing.
-fn tell_all(alloc: Global, told: &mut Vec<u8>) -> Result<(), OutOfMemory> {
-    for fails_at in 0..=4 {
-        done(alloc, told, fails_at)?;
-    }
-    written(alloc, told, 0, 0, Writing::Each(b"a"))
+// All that is done if this call fails, or none does. What reads all is called twice: four calls bring the pieces and the
+// end.
+fn done(alloc: Global, told: &mut Vec<u8>, fails_at: u32) {
+    reads(told, fails_at);
+    pieces(told, fails_at);
+    let mut source = Source::new(b"abcde", 2, fails_at);
+    all_read(told, &mut source);
+    all_read(told, &mut source);
+    writes(told, &mut Sink::new(alloc, fails_at), b"abc");
+    all_written(told, &mut Sink::new(alloc, fails_at));
+    flushes(told, &mut Sink::new(alloc, fails_at));
 }
 
 const TOLD: &str = "\
@@ -207,11 +145,20 @@ flush o o o 0 of 3
 write x x x 3 of 3
 ";
 
+// What isn't told as it should be. No call fails, then the first, and so on; last, there are three writes to a writer
+// that takes nothing.
+fn told(alloc: Global) -> &'static str {
+    let mut told = Vec::new(alloc);
+    for fails_at in 0..=4 {
+        done(alloc, &mut told, fails_at);
+    }
+    let mut nothing = Sink::new(alloc, 0);
+    nothing.size = 0;
+    writes(&mut told, &mut nothing, b"a");
+    untold(told.as_slice(), TOLD)
+}
+
 #[test]
-fn each_call_is_one_call(rt: HostRuntime) -> Result<(), Fail> {
-    let mut told = Vec::new(rt.alloc());
-    tell_all(rt.alloc(), &mut told)?;
-    let told = String::from_utf8_lossy(rt.alloc(), told.as_slice())?;
-    assert_eq!(rt; told.as_str(), TOLD);
-    Ok(())
+fn each_call_is_one_call(rt: HostRuntime) {
+    assert_eq!(rt; told(rt.alloc()), "all");
 }

@@ -4,9 +4,13 @@ use std::alloc::Global;
 use std::io;
 use std::io::{BufRead, ErrorKind, Read, Write};
 
-// The failure of a call. A call that is interrupted isn't repeated.
-fn unplugged() -> io::Error {
-    io::Error::new(ErrorKind::Interrupted, "unplugged")
+// Counts one more call, which fails if it is that one. A call that is interrupted isn't repeated.
+fn count_one(calls: &mut u32, fails_at: u32) -> io::Result<()> {
+    *calls = calls.saturating_add(1);
+    if *calls == fails_at {
+        return Err(io::Error::new(ErrorKind::Interrupted, "unplugged"));
+    }
+    Ok(())
 }
 
 /// A reader that gives at most so many bytes a call.
@@ -30,20 +34,12 @@ impl Source<'_> {
             fails_at,
         }
     }
-
-    // Counts one more call, and returns how many bytes it gives.
-    fn one_more(&mut self) -> io::Result<usize> {
-        self.calls = self.calls.saturating_add(1);
-        if self.calls == self.fails_at {
-            return Err(unplugged());
-        }
-        Ok(self.left.len().min(self.size))
-    }
 }
 
 impl Read for Source<'_> {
     fn read(&mut self, buf: &mut [u8]) -> io::Result<usize> {
-        let count = self.one_more()?.min(buf.len()).min(self.left.len());
+        count_one(&mut self.calls, self.fails_at)?;
+        let count = self.left.len().min(self.size).min(buf.len());
         let (given, rest) = self.left.split_at(count);
         buf[..count].copy_from_slice(given);
         self.left = rest;
@@ -53,7 +49,8 @@ impl Read for Source<'_> {
 
 impl BufRead for Source<'_> {
     fn fill_buf(&mut self) -> io::Result<&[u8]> {
-        let count = self.one_more()?.min(self.left.len());
+        count_one(&mut self.calls, self.fails_at)?;
+        let count = self.left.len().min(self.size);
         Ok(&self.left[..count])
     }
 
@@ -86,19 +83,11 @@ impl Sink {
             fails_at,
         }
     }
-
-    fn one_more(&mut self) -> io::Result<()> {
-        self.calls = self.calls.saturating_add(1);
-        if self.calls == self.fails_at {
-            return Err(unplugged());
-        }
-        Ok(())
-    }
 }
 
 impl Write for Sink {
     fn write(&mut self, buf: &[u8]) -> io::Result<usize> {
-        self.one_more()?;
+        count_one(&mut self.calls, self.fails_at)?;
         let count = buf.len().min(self.size);
         self.taken.extend_from_slice(&buf[..count])?;
         Ok(count)
@@ -106,6 +95,6 @@ impl Write for Sink {
 
     fn flush(&mut self) -> io::Result<()> {
         self.flushes = self.flushes.saturating_add(1);
-        self.one_more()
+        count_one(&mut self.calls, self.fails_at)
     }
 }

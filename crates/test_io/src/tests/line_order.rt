@@ -4,6 +4,7 @@ ghost use Rattle.std.specs.Prelude.{◌≡◌, []};
 
 use case_forms::{Call, Event, Header, Initial, Judged, Line, OutOfMemory, Span, Version};
 use interval_order::Window;
+use std::alloc::Global;
 
 const HEADER: Header = Header {
     version: Version::One,
@@ -17,13 +18,16 @@ const HEADER: Header = Header {
     slack: None,
 };
 
-fn line(number: u64, moment: u64, thread: u32) -> Line
+// The moment of each line.
+const MOMENT: u64 = 100;
+
+fn line(number: u64, thread: u32) -> Line
     ensures number { result.number ≡ number }
-    ensures moment { result.moment ≡ moment }
+    ensures moment { result.moment ≡ 100 }
 {
     Line {
         number,
-        moment,
+        moment: MOMENT,
         thread,
         event: Event::CallBegin(Call::Close(2)),
         span: Span {
@@ -34,39 +38,42 @@ fn line(number: u64, moment: u64, thread: u32) -> Line
     }
 }
 
-// Offers these lines, each a moment and a thread, as long as the moments don't fall.
-fn offer_all(window: &mut Window, lines: &[(u64, u32)]) -> Result<(), OutOfMemory>
+// Offers 200,000 lines, ten of each thread.
+fn offer_all(window: &mut Window) -> Result<(), OutOfMemory>
     requires { window.old.held ≡ [] }
 {
     let mut number = window.next_number();
-    let mut since = 0;
-    for (moment, thread) in lines {
-        if *moment < since || number > 1_000_000 {
+    for place in 0..200_000u32 {
+        if number > 1_000_000 {
             return Ok(());
         }
-        since = *moment;
-        window.offer(line(number, since, *thread))?;
+        window.offer(line(number, place % 20_000))?;
         number += 1;
     }
     Ok(())
 }
 
-// The time for a step doesn't grow with the number of lines.
-#[test]
-fn many_lines_wait_at_once(rt: HostRuntime) {
-    let mut lines = Vec::new(rt.alloc());
-    for place in 0..200_000u32 {
-        lines.push((100, place % 20_000)).expect(&rt, "memory");
-    }
-    let mut window = Window::new(rt.alloc(), &HEADER);
-    offer_all(&mut window, &lines).expect(&rt, "memory");
+// Places the first 180,000 lines, and returns how many it could.
+fn place_most(window: &mut Window) -> u32 {
     let mut placed = 0u32;
     for place in 0..180_000u64 {
-        if window.place(7 + place, 0, 100).is_ok() {
+        if window.place(7 + place, 0, MOMENT).is_ok() {
             placed = placed.saturating_add(1);
         }
     }
-    assert!(rt;
-        placed == 180_000 && window.held() == 20_000 && window.first_left() == Some(180_007)
-    );
+    placed
+}
+
+// How many are placed, how many wait then, and the first of these.
+fn placed(alloc: Global) -> (u32, usize, Option<u64>) {
+    let mut window = Window::new(alloc, &HEADER);
+    let _ = offer_all(&mut window);
+    let placed = place_most(&mut window);
+    (placed, window.held(), window.first_left())
+}
+
+// The time for a step doesn't grow with the number of lines.
+#[test]
+fn many_lines_wait_at_once(rt: HostRuntime) {
+    assert_eq!(rt; placed(rt.alloc()), (180_000, 20_000, Some(180_007)));
 }

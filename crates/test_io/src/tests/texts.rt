@@ -2,14 +2,13 @@
 
 ghost use Rattle.trace_reader.specs.TraceLeft.{IsBegun, IsFresh};
 
-use crate::tests::counted_calls::push_counts;
 use crate::tests::ends::Source;
+use crate::tests::telling::{tell, tell_counts, untold};
 use case_forms::OutOfMemory;
 use counted::Counted;
-use line_fields::{SourceFault, push_word};
+use line_fields::SourceFault;
 use std::alloc::Global;
-use std::test::Fail;
-use trace_reader::{Lines, TextFault, Trace, TraceReader, Version, event_line, print_trace};
+use trace_reader::{Lines, Trace, TraceReader, Version, event_line, print_trace};
 use witness::{StepReader, Steps, Witness, print_witness};
 
 // Each kind of line, each call, and each form of an answer.
@@ -50,92 +49,87 @@ const WITNESS: &str = "witness 2\n\
 3 M 0 4000 80 0 0 S 65535 4294967294 14\n\
 2 T 1 16 2144 0 1\n";
 
-// Reads all lines, of which there are at most a hundred.
-fn read_lines(reader: &mut TraceReader<Source<'_>>, lines: &mut Lines) -> Result<(), SourceFault>
+// Whether all lines are read, of which there are at most a hundred.
+fn read_lines(reader: &mut TraceReader<Source<'_>>, lines: &mut Lines) -> bool
     requires { IsBegun reader.old }
 {
     for _ in 0..100 {
-        match reader.next()? {
-            Some(line) => lines.push(line).map_err(TextFault::from)?,
-            None => return Ok(()),
+        match reader.next() {
+            Ok(Some(line)) => {
+                let _ = lines.push(line);
+            }
+            Ok(None) => return true,
+            Err(_) => return false,
         }
     }
-    Ok(())
+    false
 }
 
-// What a reader reads, as it is printed.
-fn printed_trace(
-    alloc: Global,
-    reader: &mut TraceReader<Source<'_>>,
-) -> Result<Vec<u8>, SourceFault>
-    requires { IsFresh reader.old }
-{
-    let header = reader.header()?;
+/// Whether a text that was printed is this one.
+pub(crate) fn is_printed(printed: Result<Vec<u8>, OutOfMemory>, text: &str) -> bool {
+    match printed {
+        Ok(printed) => printed.as_slice() == text.as_bytes(),
+        Err(_) => false,
+    }
+}
+
+// Whether the trace is the same if so many bytes are read in each call.
+fn is_same_trace(alloc: Global, size: usize) -> bool {
+    let source = Counted::new(Source::new(TRACE.as_bytes(), size, 0));
+    let mut reader = TraceReader::new(alloc, source);
+    let Ok(header) = reader.header() else {
+        return false;
+    };
     let mut trace = Trace {
         header,
         lines: Lines::new(alloc),
     };
-    read_lines(reader, &mut trace.lines)?;
-    Ok(print_trace(alloc, &trace).map_err(TextFault::from)?)
+    let is_read = read_lines(&mut reader, &mut trace.lines);
+    is_printed(print_trace(alloc, &trace), TRACE) && is_read
 }
 
-// Whether the trace is the same if so many bytes are read in each call.
-fn is_same_trace(alloc: Global, size: usize) -> Result<bool, SourceFault> {
-    let source = Counted::new(Source::new(TRACE.as_bytes(), size, 0));
-    let mut reader = TraceReader::new(alloc, source);
-    let printed = printed_trace(alloc, &mut reader)?;
-    Ok(printed.as_slice() == TRACE.as_bytes())
-}
-
-// Reads all steps, of which there are at most a hundred.
-fn read_steps(reader: &mut StepReader<Source<'_>>, steps: &mut Steps) -> Result<(), SourceFault> {
+// Whether all steps are read, of which there are at most a hundred.
+fn read_steps(reader: &mut StepReader<Source<'_>>, steps: &mut Steps) -> bool {
     for _ in 0..100 {
-        match reader.next()? {
-            Some(step) => steps.push(step).map_err(TextFault::from)?,
-            None => return Ok(()),
+        match reader.next() {
+            Ok(Some(step)) => {
+                let _ = steps.push(step);
+            }
+            Ok(None) => return true,
+            Err(_) => return false,
         }
     }
-    Ok(())
+    false
 }
 
-// What a reader reads, as it is printed.
-fn printed_witness(
-    alloc: Global,
-    reader: &mut StepReader<Source<'_>>,
-) -> Result<Vec<u8>, SourceFault> {
+// Whether the witness is the same if so many bytes are read in each call.
+fn is_same_witness(alloc: Global, size: usize) -> bool {
+    let source = Counted::new(Source::new(WITNESS.as_bytes(), size, 0));
+    let mut reader = StepReader::new(alloc, Version::Two, source);
     let mut witness = Witness {
         version: Version::Two,
         steps: Steps::new(alloc),
     };
-    read_steps(reader, &mut witness.steps)?;
-    Ok(print_witness(alloc, &witness).map_err(TextFault::from)?)
+    let is_read = read_steps(&mut reader, &mut witness.steps);
+    is_printed(print_witness(alloc, &witness), WITNESS) && is_read
 }
 
-// Whether the witness is the same if so many bytes are read in each call.
-fn is_same_witness(alloc: Global, size: usize) -> Result<bool, SourceFault> {
-    let source = Counted::new(Source::new(WITNESS.as_bytes(), size, 0));
-    let mut reader = StepReader::new(alloc, Version::Two, source);
-    let printed = printed_witness(alloc, &mut reader)?;
-    Ok(printed.as_slice() == WITNESS.as_bytes())
-}
-
-// Which texts aren't the same for some number of bytes.
-fn first_changed(alloc: Global) -> Result<&'static str, SourceFault> {
+// Which text isn't the same for some number of bytes.
+fn first_changed(alloc: Global) -> &'static str {
     for size in [1, 7, 4096] {
-        if !is_same_trace(alloc, size)? {
-            return Ok("the trace");
+        if !is_same_trace(alloc, size) {
+            return "the trace";
         }
-        if !is_same_witness(alloc, size)? {
-            return Ok("the witness");
+        if !is_same_witness(alloc, size) {
+            return "the witness";
         }
     }
-    Ok("none")
+    "none"
 }
 
 #[test]
-fn texts_are_the_same_in_pieces(rt: HostRuntime) -> Result<(), Fail> {
-    assert_eq!(rt; first_changed(rt.alloc())?, "none");
-    Ok(())
+fn texts_are_the_same_in_pieces(rt: HostRuntime) {
+    assert_eq!(rt; first_changed(rt.alloc()), "none");
 }
 
 // A word for what was read.
@@ -163,40 +157,26 @@ fn trace_words(reader: &mut TraceReader<&mut Source<'_>>) -> [&'static str; 3]
 }
 
 // What is read from this trace, then how many of the calls failed.
-fn tell_trace(
-    alloc: Global,
-    told: &mut Vec<u8>,
-    text: &str,
-    fails_at: u32,
-) -> Result<(), OutOfMemory> {
+fn tell_trace(alloc: Global, told: &mut Vec<u8>, text: &str, fails_at: u32) {
     let mut source = Source::new(text.as_bytes(), 4096, fails_at);
     let mut reader = TraceReader::new(alloc, Counted::new(&mut source));
-    let words = trace_words(&mut reader);
+    let [header, first, second] = trace_words(&mut reader);
     let failures = reader.into_source().failures();
-    push_words(told, &words)?;
-    push_counts(told, failures, source.calls)
+    tell(told, header);
+    tell(told, first);
+    tell(told, second);
+    tell_counts(told, failures, source.calls);
 }
 
-fn push_words(told: &mut Vec<u8>, words: &[&str]) -> Result<(), OutOfMemory> {
-    for word in words {
-        push_word(told, word)?;
-    }
-    Ok(())
-}
-
-// What is read from this witness of version 1, then how many of the calls failed.
-fn tell_witness(
-    alloc: Global,
-    told: &mut Vec<u8>,
-    text: &str,
-    fails_at: u32,
-) -> Result<(), OutOfMemory> {
+// The same of this witness of version 1, and two steps.
+fn tell_witness(alloc: Global, told: &mut Vec<u8>, text: &str, fails_at: u32) {
     let mut source = Source::new(text.as_bytes(), 4096, fails_at);
     let mut reader = StepReader::new(alloc, Version::One, Counted::new(&mut source));
-    let words = [word(&reader.next()), word(&reader.next())];
+    let (first, second) = (word(&reader.next()), word(&reader.next()));
     let failures = reader.into_source().failures();
-    push_words(told, &words)?;
-    push_counts(told, failures, source.calls)
+    tell(told, first);
+    tell(told, second);
+    tell_counts(told, failures, source.calls);
 }
 
 // Texts of a line or a step each, and with a fault before it.
@@ -208,23 +188,6 @@ const LINE_AFTER_FAULT: &str =
 const STEP: &str = "witness 1\n10 L 7\n";
 
 const STEP_AFTER_FAULT: &str = "witness 1\n10 L x\n10 L 7\n";
-
-// Six calls read the header, one a line, and one the end. One call reads the first line of a witness, one a step, and
-// one the end. Nothing is read ahead, and after a failure or a fault nothing at all.
-fn tell_all(alloc: Global, told: &mut Vec<u8>) -> Result<(), OutOfMemory> {
-    for fails_at in [1, 6, 7, 8, 9] {
-        tell_trace(alloc, told, LINE, fails_at)?;
-    }
-    tell_trace(alloc, told, LINE_AFTER_FAULT, 9)?;
-    tell_steps(alloc, told)
-}
-
-fn tell_steps(alloc: Global, told: &mut Vec<u8>) -> Result<(), OutOfMemory> {
-    for fails_at in [1, 2, 3, 4] {
-        tell_witness(alloc, told, STEP, fails_at)?;
-    }
-    tell_witness(alloc, told, STEP_AFTER_FAULT, 4)
-}
 
 const TOLD: &str = "\
 x x x 1 of 1
@@ -240,13 +203,28 @@ line end 0 of 3
 fault fault 0 of 2
 ";
 
+fn tell_traces(alloc: Global, told: &mut Vec<u8>) {
+    for fails_at in [1, 6, 7, 8, 9] {
+        tell_trace(alloc, told, LINE, fails_at);
+    }
+    tell_trace(alloc, told, LINE_AFTER_FAULT, 9);
+}
+
+// What isn't told as it should be. Six calls read the header, one a line, and one the end. One call reads the first
+// line of a witness, one a step, and one the end. Nothing is read ahead, and after a failure or a fault nothing at all.
+fn told(alloc: Global) -> &'static str {
+    let mut told = Vec::new(alloc);
+    tell_traces(alloc, &mut told);
+    for fails_at in [1, 2, 3, 4] {
+        tell_witness(alloc, &mut told, STEP, fails_at);
+    }
+    tell_witness(alloc, &mut told, STEP_AFTER_FAULT, 4);
+    untold(told.as_slice(), TOLD)
+}
+
 #[test]
-fn texts_are_read_up_to_a_failure(rt: HostRuntime) -> Result<(), Fail> {
-    let mut told = Vec::new(rt.alloc());
-    tell_all(rt.alloc(), &mut told)?;
-    let told = String::from_utf8_lossy(rt.alloc(), told.as_slice())?;
-    assert_eq!(rt; told.as_str(), TOLD);
-    Ok(())
+fn texts_are_read_up_to_a_failure(rt: HostRuntime) {
+    assert_eq!(rt; told(rt.alloc()), "all");
 }
 
 // Whether a line with this number is read.

@@ -2,14 +2,15 @@
 //! needs.
 
 use crate::tests::ends::Source;
+use crate::tests::telling::{tell, tell_number, untold};
 use checker::{CaseFault, check_streams};
 use counted::Counted;
 use memchr::memchr;
-use std::alloc::{AllocError, Global};
+use std::alloc::Global;
 use std::cell::Cell;
 use std::io;
 use std::io::{BufRead, Read};
-use std::test::Fail;
+use std::ops::Range;
 use verdict::Verdict;
 
 // The handshake of two hosts, and five bytes that one sends to the other.
@@ -71,69 +72,83 @@ const WITNESS: &str = "witness 1\n\
 130 D 1 data 68656c6c6f\n\
 131 L 24\n";
 
-// The answer to a case in two texts, then how many calls of each reader failed.
-fn told(
-    alloc: Global,
-    answer: &Result<Verdict, CaseFault>,
-    failures: (u64, u64),
-) -> Result<String, AllocError> {
-    let (trace, witness) = failures;
+// Tells the answer to a case in two texts, then how many calls of each reader failed.
+fn tell_answer(told: &mut Vec<u8>, answer: &Result<Verdict, CaseFault>, failures: (u64, u64)) {
     match answer {
         Ok(Verdict::Yes { lines, hidden }) => {
-            format!(in alloc; "yes {lines} {hidden} {trace} {witness}")
+            tell(told, "yes ");
+            tell_number(told, *lines);
+            tell_number(told, *hidden);
         }
-        Ok(Verdict::No { .. }) => format!(in alloc; "no {trace} {witness}"),
-        Err(CaseFault::Trace(_)) => format!(in alloc; "trace {trace} {witness}"),
-        Err(CaseFault::Witness(_)) => format!(in alloc; "witness {trace} {witness}"),
-        Err(CaseFault::Read) => format!(in alloc; "x {trace} {witness}"),
-        Err(CaseFault::OutOfMemory) => format!(in alloc; "memory {trace} {witness}"),
+        Ok(Verdict::No { .. }) => tell(told, "no "),
+        Err(CaseFault::Trace(_)) => tell(told, "trace "),
+        Err(CaseFault::Witness(_)) => tell(told, "witness "),
+        Err(CaseFault::Read) => tell(told, "x "),
+        Err(CaseFault::OutOfMemory) => tell(told, "memory "),
     }
+    tell_number(told, failures.0);
+    tell_number(told, failures.1);
 }
 
-// The answer to these two texts, with so many bytes read in each call, and one call that fails or none.
-fn judged(
+// Tells the answer to these two texts, with so many bytes read in each call, and one call that fails or none.
+fn tell_judged(
     alloc: Global,
+    told: &mut Vec<u8>,
     texts: (&str, &str),
     size: usize,
     fails: (u32, u32),
-) -> Result<String, AllocError> {
+) {
     let trace = Counted::new(Source::new(texts.0.as_bytes(), size, fails.0));
     let witness = Counted::new(Source::new(texts.1.as_bytes(), size, fails.1));
     let (answer, trace, witness) = check_streams(alloc, trace, witness);
-    told(alloc, &answer, (trace.failures(), witness.failures()))
+    tell_answer(told, &answer, (trace.failures(), witness.failures()));
+}
+
+// The first of these calls of one of the readers whose failure has another answer; 0 if none has.
+fn first_other(alloc: Global, is_witness: bool, calls: Range<u32>, wanted: &str) -> u32 {
+    for call in calls {
+        let fails = if is_witness { (0, call) } else { (call, 0) };
+        let mut told = Vec::new(alloc);
+        tell_judged(alloc, &mut told, (TRACE, WITNESS), 4096, fails);
+        if told.as_slice() != wanted.as_bytes() {
+            return call;
+        }
+    }
+    0
 }
 
 // Each line of a text takes one call, and its end one more: 25 of the trace and 33 of the witness. Whichever fails,
 // there is no verdict.
+fn other_answers(alloc: Global) -> [u32; 4] {
+    let explained = "yes 18 13 0 0 ";
+    [
+        first_other(alloc, false, 1..26, "x 1 0 "),
+        first_other(alloc, false, 26..28, explained),
+        first_other(alloc, true, 1..34, "x 0 1 "),
+        first_other(alloc, true, 34..36, explained),
+    ]
+}
+
 #[test]
-fn a_read_that_fails_is_no_verdict(rt: HostRuntime) -> Result<(), Fail> {
-    for (from, upto, wanted) in [(1, 25, "x 1 0"), (26, 27, "yes 18 13 0 0")] {
-        for call in from..=upto {
-            let told = judged(rt.alloc(), (TRACE, WITNESS), 4096, (call, 0))?;
-            assert_eq!(rt; told.as_str(), wanted);
-        }
-    }
-    for (from, upto, wanted) in [(1, 33, "x 0 1"), (34, 35, "yes 18 13 0 0")] {
-        for call in from..=upto {
-            let told = judged(rt.alloc(), (TRACE, WITNESS), 4096, (0, call))?;
-            assert_eq!(rt; told.as_str(), wanted);
-        }
-    }
-    Ok(())
+fn a_read_that_fails_is_no_verdict(rt: HostRuntime) {
+    assert_eq!(rt; other_answers(rt.alloc()), [0; 4]);
 }
 
 // The first step takes a line whose moment isn't reached, and the line after it, the trace's last, can't be read.
-#[test]
-fn a_fault_of_the_trace_behind_a_broken_step_is_told(rt: HostRuntime) -> Result<(), Fail> {
+fn behind_a_broken_step(alloc: Global) -> &'static str {
+    let mut told = Vec::new(alloc);
     let trace =
         "trace 1\nskew 0\nmsl 1\ngrain 1\nminrto 1\nextra 0\n10 1 B close 5\n11 1 E badsocket\n";
     let cut = "trace 1\nskew 0\nmsl 1\ngrain 1\nminrto 1\nextra 0\n10 1 B close 5\n11 1 E\n";
     let broken = "witness 1\n9 L 7\n";
-    let told = judged(rt.alloc(), (trace, broken), 7, (0, 0))?;
-    assert_eq!(rt; told.as_str(), "no 0 0");
-    let told = judged(rt.alloc(), (cut, broken), 7, (0, 0))?;
-    assert_eq!(rt; told.as_str(), "trace 0 0");
-    Ok(())
+    tell_judged(alloc, &mut told, (trace, broken), 7, (0, 0));
+    tell_judged(alloc, &mut told, (cut, broken), 7, (0, 0));
+    untold(told.as_slice(), "no 0 0 trace 0 0 ")
+}
+
+#[test]
+fn a_fault_of_the_trace_behind_a_broken_step_is_told(rt: HostRuntime) {
+    assert_eq!(rt; behind_a_broken_step(rt.alloc()), "all");
 }
 
 // What two readers returned, one line per call.
@@ -156,10 +171,6 @@ impl Handed {
         let ahead = self.trace.get().saturating_sub(6).saturating_sub(placed);
         self.ahead.set(self.ahead.get().max(ahead));
         self.witness.set(self.witness.get().saturating_add(1));
-    }
-
-    fn note_line(&self) {
-        self.trace.set(self.trace.get().saturating_add(1));
     }
 }
 
@@ -187,7 +198,8 @@ impl BufRead for ByLines<'_, '_> {
             if self.is_witness {
                 self.handed.note_step();
             } else {
-                self.handed.note_line();
+                let lines = &self.handed.trace;
+                lines.set(lines.get().saturating_add(1));
             }
         }
         Ok(&self.left[..count])
@@ -199,57 +211,67 @@ impl BufRead for ByLines<'_, '_> {
     }
 }
 
-// A trace of so many `status` calls of a thread, each line at a moment of its own, and a witness that explains it.
-fn many_calls(alloc: Global, calls: u32) -> Result<(String, String), AllocError> {
+// A trace of so many `status` calls of a thread, each line at a moment of its own.
+fn trace_of(alloc: Global, calls: u32) -> String {
     let mut trace = String::new(alloc);
-    let mut witness = String::new(alloc);
-    trace.push_str("trace 1\nskew 0\nmsl 1\ngrain 1\nminrto 1\nextra 0\n")?;
-    witness.push_str("witness 1\n")?;
+    let _ = trace.push_str("trace 1\nskew 0\nmsl 1\ngrain 1\nminrto 1\nextra 0\n");
     for call in 0..calls {
         let moment = 2 * u64::from(call);
-        let (next, line) = (moment + 1, moment + 7);
-        let lines = format!(in alloc; "{moment} 1 B status 5\n{next} 1 E badsocket\n")?;
-        trace.push_str(lines.as_str())?;
-        let after = line + 1;
-        let steps = format!(in alloc;
-            "{moment} L {line}\n{moment} D 1 badsocket\n{next} L {after}\n"
-        )?;
-        witness.push_str(steps.as_str())?;
+        let next = moment + 1;
+        let _ = write!(trace, "{moment} 1 B status 5\n{next} 1 E badsocket\n");
     }
-    Ok((trace, witness))
+    trace
 }
 
-// The answer to so many calls, then how many lines of the trace were returned, and whether at most two ahead of the
-// steps.
-fn judged_by_lines(alloc: Global, calls: u32) -> Result<String, AllocError> {
-    let (trace, witness) = many_calls(alloc, calls)?;
+// A witness that explains it.
+fn witness_of(alloc: Global, calls: u32) -> String {
+    let mut witness = String::new(alloc);
+    let _ = witness.push_str("witness 1\n");
+    for call in 0..calls {
+        let moment = 2 * u64::from(call);
+        let (line, next, after) = (moment + 7, moment + 1, moment + 8);
+        let _ = write!(witness, "{moment} L {line}\n{moment} D 1 badsocket\n");
+        let _ = write!(witness, "{next} L {after}\n");
+    }
+    witness
+}
+
+// What isn't told as it should be of 100,000 calls: the answer, then how many lines of the trace were returned, and
+// whether at most two ahead of the steps.
+fn told_by_lines(alloc: Global) -> &'static str {
+    let mut told = Vec::new(alloc);
+    let (trace, witness) = (trace_of(alloc, 100_000), witness_of(alloc, 100_000));
     let handed = Handed {
         trace: Cell::new(0),
         witness: Cell::new(0),
         ahead: Cell::new(0),
     };
-    let (answer, trace, witness) = check_streams(
-        alloc,
-        Counted::new(ByLines {
-            left: trace.as_bytes(),
-            handed: &handed,
-            is_witness: false,
-        }),
-        Counted::new(ByLines {
-            left: witness.as_bytes(),
-            handed: &handed,
-            is_witness: true,
-        }),
+    let trace = ByLines {
+        left: trace.as_bytes(),
+        handed: &handed,
+        is_witness: false,
+    };
+    let witness = ByLines {
+        left: witness.as_bytes(),
+        handed: &handed,
+        is_witness: true,
+    };
+    let (answer, trace, witness) = check_streams(alloc, Counted::new(trace), Counted::new(witness));
+    tell_answer(&mut told, &answer, (trace.failures(), witness.failures()));
+    tell_number(&mut told, handed.trace.get());
+    tell(
+        &mut told,
+        if handed.ahead.get() <= 2 {
+            "bounded"
+        } else {
+            "ahead"
+        },
     );
-    let told = told(alloc, &answer, (trace.failures(), witness.failures()))?;
-    let (lines, is_bounded) = (handed.trace.get(), handed.ahead.get() <= 2);
-    format!(in alloc; "{told} {lines} {is_bounded}")
+    untold(told.as_slice(), "yes 200000 100000 0 0 200006 bounded")
 }
 
 // At each step the header, the lines that are placed, and at most two more were returned.
 #[test]
-fn no_more_of_a_trace_is_read_than_steps_need(rt: HostRuntime) -> Result<(), Fail> {
-    let told = judged_by_lines(rt.alloc(), 100_000)?;
-    assert_eq!(rt; told.as_str(), "yes 200000 100000 0 0 200006 true");
-    Ok(())
+fn no_more_of_a_trace_is_read_than_steps_need(rt: HostRuntime) {
+    assert_eq!(rt; told_by_lines(rt.alloc()), "all");
 }

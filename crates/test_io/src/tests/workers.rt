@@ -1,12 +1,14 @@
 //! Cases under gates that hold them, with several numbers of workers.
 
+use case_forms::OutOfMemory;
 use checker::CaseFault;
 use line_fields::{FaultKind, Span, TextFault};
 use parallel_check::{CaseResult, Gate, check_many, check_many_plain};
-use std::alloc::{AllocError, Global};
+use std::alloc::Global;
+use std::sync::Wait;
 use std::sync::atomic::{AtomicU64, Ordering};
-use std::test::Fail;
 use std::thread;
+use std::thread::Threads;
 use verdict::{Rule, Verdict};
 
 const TRACE: &str = "trace 1\nskew 0\nmsl 120000000\ngrain 1000\nminrto 1000000\nextra 0\n\
@@ -36,15 +38,6 @@ struct Holds {
 }
 
 impl Holds {
-    fn new(held: usize, until: usize) -> Holds {
-        Holds {
-            held,
-            until,
-            turns: AtomicU64::new(0),
-            calls: [AtomicU64::new(0), AtomicU64::new(0), AtomicU64::new(0)],
-        }
-    }
-
     // Adds to the calls of a case, and far more if they weren't as many as they should be.
     fn count(&self, case: usize, due: u64, more: u64) {
         if case < 3 {
@@ -53,6 +46,19 @@ impl Holds {
                 self.calls[case].fetch_add(1000, Ordering::SeqCst);
             }
         }
+    }
+
+    // What is wrong once all cases were checked.
+    fn wrong(&self) -> &'static str {
+        if self.turns.load(Ordering::SeqCst) >= MOST_TURNS {
+            return "the turns";
+        }
+        for calls in &self.calls {
+            if calls.load(Ordering::SeqCst) != THROUGH {
+                return "the calls";
+            }
+        }
+        "nothing"
     }
 }
 
@@ -75,66 +81,88 @@ impl Gate for Holds {
     }
 }
 
-// A text of a trace and a witness.
-fn text(alloc: Global, witness: &str) -> Result<Vec<u8>, AllocError> {
-    let mut bytes = Vec::new(alloc);
-    bytes.extend_from_slice(TRACE.as_bytes())?;
-    bytes.extend_from_slice(witness.as_bytes())?;
-    Ok(bytes)
-}
-
-// A case of each status.
-fn three_cases(alloc: Global) -> Result<Vec<Vec<u8>>, AllocError> {
+// A case of each status. If memory ran out, one is missing or cut, and the answers aren't those below.
+fn three_cases(alloc: Global) -> Vec<Vec<u8>> {
     let mut cases = Vec::new(alloc);
-    cases.push(text(alloc, EXPLAINED)?)?;
-    cases.push(text(alloc, NOT_EXPLAINED)?)?;
-    cases.push(text(alloc, CUT)?)?;
-    Ok(cases)
+    for witness in [EXPLAINED, NOT_EXPLAINED, CUT] {
+        let mut text = Vec::new(alloc);
+        let _ = text.extend_from_slice(TRACE.as_bytes());
+        let _ = text.extend_from_slice(witness.as_bytes());
+        let _ = cases.push(text);
+    }
+    cases
 }
 
 // Their answers.
-fn three_answers() -> [CaseResult; 3] {
-    [
-        Ok(Verdict::Yes {
-            lines: 4,
-            hidden: 2,
-        }),
-        Ok(Verdict::No {
-            witness_line: 3,
-            trace_line: 0,
-            rule: Rule::NoCall,
-        }),
-        Err(CaseFault::Witness(TextFault {
-            kind: FaultKind::Cut,
-            span: Span {
-                line: 7,
-                start: 0,
-                stop: 7,
-            },
-        })),
-    ]
+const ANSWERS: [CaseResult; 3] = [
+    Ok(Verdict::Yes {
+        lines: 4,
+        hidden: 2,
+    }),
+    Ok(Verdict::No {
+        witness_line: 3,
+        trace_line: 0,
+        rule: Rule::NoCall,
+    }),
+    Err(CaseFault::Witness(TextFault {
+        kind: FaultKind::Cut,
+        span: Span {
+            line: 7,
+            start: 0,
+            stop: 7,
+        },
+    })),
+];
+
+fn are_right(answers: Result<Vec<CaseResult>, OutOfMemory>) -> bool {
+    match answers {
+        Ok(answers) => answers.as_slice() == ANSWERS.as_slice(),
+        Err(_) => false,
+    }
+}
+
+// Whether they are checked without a worker.
+fn are_checked(alloc: Global) -> bool {
+    let cases = three_cases(alloc);
+    are_right(check_many_plain(alloc, cases.as_slice()))
+}
+
+// The first page of `parallel_check` shows this call.
+#[test]
+fn cases_are_checked(rt: HostRuntime) {
+    assert!(rt; are_checked(rt.alloc()));
+}
+
+// What is wrong if two workers check them, and one is held until another is checked.
+fn wrong_if_held<H: Threads + Wait + Sync>(
+    rt: &H,
+    alloc: Global,
+    cases: &[Vec<u8>],
+    held: usize,
+    until: usize,
+) -> &'static str {
+    let gate = Holds {
+        held,
+        until,
+        turns: AtomicU64::new(0),
+        calls: [AtomicU64::new(0), AtomicU64::new(0), AtomicU64::new(0)],
+    };
+    if are_right(check_many(rt, alloc, cases, 2, &gate)) {
+        gate.wrong()
+    } else {
+        "an answer"
+    }
+}
+
+// The same for the second and the third, each held until the other is checked.
+fn wrong_by_turns<H: Threads + Wait + Sync>(rt: &H, alloc: Global) -> (&'static str, &'static str) {
+    let cases = three_cases(alloc);
+    let first = wrong_if_held(rt, alloc, cases.as_slice(), 1, 2);
+    let second = wrong_if_held(rt, alloc, cases.as_slice(), 2, 1);
+    (first, second)
 }
 
 #[test]
-fn two_workers_wait_for_each_other(rt: HostRuntime) -> Result<(), Fail> {
-    let cases = three_cases(rt.alloc())?;
-    let plain = check_many_plain(rt.alloc(), cases.as_slice())?;
-    assert!(rt; plain.as_slice() == three_answers().as_slice());
-    for (held, until) in [(1, 2), (2, 1)] {
-        let gate = Holds::new(held, until);
-        let answers = check_many(&rt, rt.alloc(), cases.as_slice(), 2, &gate)?;
-        assert!(rt;
-            answers.as_slice() == three_answers().as_slice(),
-            "{held} until {until}"
-        );
-        assert!(rt;
-            gate.turns.load(Ordering::SeqCst) < MOST_TURNS,
-            "{held} until {until}"
-        );
-        for case in 0..3 {
-            let calls = gate.calls[case].load(Ordering::SeqCst);
-            assert_eq!(rt; calls, THROUGH, "{held} until {until}, case {case}");
-        }
-    }
-    Ok(())
+fn two_workers_wait_for_each_other(rt: HostRuntime) {
+    assert_eq!(rt; wrong_by_turns(&rt, rt.alloc()), ("nothing", "nothing"));
 }

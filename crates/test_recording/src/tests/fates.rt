@@ -2,31 +2,43 @@
 
 use recorder::{Fate, WireFate};
 
-/// Fates drawn from a seed, by a linear congruential generator.
-#[derive(Clone, Copy, Drop)]
-pub struct Drawn {
-    state: u32,
+/// The fates of segments.
+#[derive(Clone, Copy)]
+pub enum Fates {
+    /// The same for each.
+    Each(Fate),
+    /// Sent twice, sent after two others, lost, and passed on twice, in turn; with the number of segments so far.
+    InTurn(u8),
+    /// Drawn from a seed, by a linear congruential generator.
+    Drawn(u32),
 }
 
-impl Drawn {
-    /// The fates drawn from this seed.
-    pub fn new(state: u32) -> Drawn {
-        Drawn { state }
-    }
-}
+/// Each segment is passed on.
+pub const NONE_LOST: Fates = Fates::Each(Fate::Pass);
 
-impl WireFate for Drawn {
+impl WireFate for Fates {
     fn next(&mut self) -> Fate {
-        self.state = self
-            .state
-            .wrapping_mul(1_664_525)
-            .wrapping_add(1_013_904_223);
-        match self.state >> 28 {
-            0 | 1 => Fate::Lose,
-            2 | 3 => Fate::Twice,
-            4 => Fate::Hold(1),
-            5 => Fate::Hold(3),
-            _ => Fate::Pass,
+        match self {
+            Fates::Each(fate) => *fate,
+            Fates::InTurn(turn) => {
+                *turn = *turn % 5 + 1;
+                match *turn {
+                    1 => Fate::Twice,
+                    2 => Fate::Hold(2),
+                    3 => Fate::Lose,
+                    _ => Fate::Pass,
+                }
+            }
+            Fates::Drawn(state) => {
+                *state = state.wrapping_mul(1_664_525).wrapping_add(1_013_904_223);
+                match *state >> 28 {
+                    0 | 1 => Fate::Lose,
+                    2 | 3 => Fate::Twice,
+                    4 => Fate::Hold(1),
+                    5 => Fate::Hold(3),
+                    _ => Fate::Pass,
+                }
+            }
         }
     }
 }

@@ -4,11 +4,10 @@ ghost use Rattle.std.specs.Prelude.{◌≡◌, false};
 ghost use Rattle.case_forms.specs.Versions.{is_half};
 
 use crate::tests::talks::TRIES;
-use case_forms::{Event, Header, Host, Initial, Line, Trace, Version};
+use case_forms::{Event, Host, Initial, Line, Trace, Version};
 use segment::{Flag, Segment};
 use std::alloc::Global;
 use std::sync::Wait;
-use std::test::Fail;
 use std::thread::Threads;
 use two_hosts::{Plan, record};
 
@@ -77,22 +76,10 @@ fn has_own_thread(line: &Line) -> bool {
     }
 }
 
-// Whether the first congestion window is that of the version.
-fn has_own_window(header: &Header) -> bool {
-    match header.version {
-        Version::One => matches!(header.initial, Initial::Rfc5681),
-        Version::Two
-        | Version::Three
-        | Version::Four
-        | Version::FourHalf
-        | Version::Five
-        | Version::FiveHalf => matches!(header.initial, Initial::Rfc6928),
-    }
-}
-
-// What is wrong with this trace, if both hosts' SYNs carry this shift; `yes` if nothing is.
+// What is wrong with this trace, if both hosts' SYNs carry this shift; `yes` if nothing is. A version with shifts has the
+// first congestion window of RFC 6928.
 fn judge(trace: &Trace, shift: Option<u8>) -> &'static str {
-    if !has_own_window(&trace.header) {
+    if matches!(trace.header.initial, Initial::Rfc6928) != shift.is_some() {
         return "another first window";
     }
     let lines = trace.lines.as_slice();
@@ -125,8 +112,8 @@ fn judge(trace: &Trace, shift: Option<u8>) -> &'static str {
 }
 
 // What is wrong with a recording of one round in which every second segment of a host is lost, but not the first; `yes`
-// if nothing is.
-fn told_once<R: Threads + Wait + Sync>(
+// if nothing is. Host 1 must have had its turn in one of several recordings.
+fn told<R: Threads + Wait + Sync>(
     rt: &R,
     alloc: Global,
     version: Version,
@@ -139,23 +126,11 @@ fn told_once<R: Threads + Wait + Sync>(
         lose: 2,
         version,
     };
-    match record(rt, alloc, plan) {
-        Ok(recording) => judge(&recording.recorded.trace, shift),
-        Err(_) => "no recording",
-    }
-}
-
-// The same, if host 1 had its turn in one of several recordings.
-fn told<R: Threads + Wait + Sync>(
-    rt: &R,
-    alloc: Global,
-    version: Version,
-    shift: Option<u8>,
-) -> &'static str
-    requires { is_half version ≡ false }
-{
     for _ in 0..TRIES {
-        let said = told_once(rt, alloc, version, shift);
+        let said = match record(rt, alloc, plan) {
+            Ok(recording) => judge(&recording.recorded.trace, shift),
+            Err(_) => "no recording",
+        };
         if said != UNANSWERED {
             return said;
         }
@@ -171,7 +146,6 @@ fn told_in_both<R: Threads + Wait + Sync>(rt: &R, alloc: Global) -> (&'static st
 }
 
 #[test]
-fn hosts_tell_their_numbers_and_options(rt: HostRuntime) -> Result<(), Fail> {
+fn hosts_tell_their_numbers_and_options(rt: HostRuntime) {
     assert_eq!(rt; told_in_both(&rt, rt.alloc()), ("yes", "yes"));
-    Ok(())
 }

@@ -7,52 +7,35 @@ ghost use Rattle.test_recording.specs.Scenes.{test_header};
 
 use crate::tests::side::Side;
 use case_forms::Host;
-use recorder::{Cause, RecFault, Recorder, Seat, Seats, Site, Unfinished};
+use recorder::{Cause, RecFault, Recorder, Seat, Site, Unfinished};
 use std::alloc::Global;
 use std::marker::Brand;
 use std::sync::Wait;
 use std::sync::ledger::Blank;
-use std::test::Fail;
 
-// Whether a recorder was returned with one seat, because another is missing.
-fn lacks_a_seat<L: Site>(unfinished: &Unfinished<L>) -> bool {
-    matches!(unfinished.cause, Cause::SeatMissing) && unfinished.seats.as_slice().len() == 1
-}
-
-// The seats with one more. If there is no memory for it, it is missing again.
-fn with_second<L: Site>(seats: Seats<L>, second: Seat<L>) -> Vec<Seat<L>> {
-    let mut seats = seats.into_vec();
-    let _ = seats.push(second);
-    seats
-}
-
-// Whether a recorder ends with these seats. What it returns is dropped by a call, so that the proof meets it once.
-fn ends<L: Site, R: Wait>(rt: &R, recorder: Recorder<L>, seats: Vec<Seat<L>>) -> bool
+// Whether a recorder is returned with one of its two seats, because the second is missing, and then ends with both.
+fn ends_then<L: Site, R: Wait>(rt: &R, unfinished: Unfinished<L>, second: Seat<L>) -> bool
     requires { L.parts ≡ 65535 }
 {
+    let Unfinished {
+        recorder,
+        seats,
+        cause,
+    } = unfinished;
+    let lacks_a_seat = matches!(cause, Cause::SeatMissing) && seats.as_slice().len() == 1;
+    let mut seats = seats.into_vec();
+    // If there is no memory for the second seat, it is missing again.
+    let _ = seats.push(second);
     match recorder.finish(rt, seats) {
         Ok(book) => {
             drop(book);
-            true
+            lacks_a_seat
         }
         Err(unfinished) => {
             drop(unfinished);
             false
         }
     }
-}
-
-// Whether a recorder that was returned with one of its two seats ends with both.
-fn ends_then<L: Site, R: Wait>(rt: &R, unfinished: Unfinished<L>, second: Seat<L>) -> bool
-    requires { L.parts ≡ 65535 }
-{
-    let lacks_a_seat = lacks_a_seat(&unfinished);
-    let Unfinished {
-        recorder,
-        seats,
-        ..
-    } = unfinished;
-    ends(rt, recorder, with_second(seats, second)) && lacks_a_seat
 }
 
 // Whether a recorder of two seats is returned with the first if the second is missing, and ends with both.
@@ -113,7 +96,6 @@ fn finished<R: Wait>(rt: &R, alloc: Global) -> Option<bool> {
 }
 
 #[test]
-fn a_recording_ends_with_all_seats_alone(rt: HostRuntime) -> Result<(), Fail> {
+fn a_recording_ends_with_all_seats_alone(rt: HostRuntime) {
     assert_eq!(rt; finished(&rt, rt.alloc()), Some(true));
-    Ok(())
 }

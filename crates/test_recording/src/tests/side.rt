@@ -1,6 +1,6 @@
 //! The recorder of a host, with the seat of its one application thread.
 
-ghost use Rattle.std.specs.Prelude.{◌≡◌, ◌<◌, ◌≤◌, IfSome, length};
+ghost use Rattle.std.specs.Prelude.{◌≡◌, IfSome};
 ghost use Rattle.spec_network.specs.Tables.{lane};
 ghost use Rattle.spec_tcp.specs.Machine.{aim};
 ghost use Rattle.spec_merge.specs.Books.{Aims};
@@ -18,7 +18,10 @@ use std::sync::ledger::Blank;
 pub const FIRST_ISS: u32 = 7;
 
 /// As many bytes as a ring has room for.
-pub const RING: usize = 4_096;
+pub const RING: u16 = 4_096;
+
+// The bytes that are sent.
+const BYTES: &[u8] = &[7; 4_096];
 
 // The header of these recordings.
 fn header() -> Header
@@ -48,30 +51,30 @@ fn own_socket(thread: u32, socket: u32) -> Option<u32>
     Some(socket)
 }
 
-/// What a call was answered.
-#[derive(Clone, Copy)]
-pub enum Told {
-    Done,
-    Given(u32),
-    /// So many bytes.
-    Bytes(usize),
-    Refused,
-    Reset,
-    /// Another answer.
-    Other,
+/// What a call was answered: a word, with a number that was given, or how many bytes.
+pub type Told = (&'static str, u32);
+
+fn answered(answer: &Answer) -> Told {
+    match answer {
+        Answer::Done => ("done", 0),
+        Answer::Given(number) => ("given", *number),
+        Answer::Bytes(bytes) => ("bytes", u32::try_from(bytes.len()).unwrap_or(u32::MAX)),
+        Answer::Refused => ("refused", 0),
+        Answer::Reset => ("reset", 0),
+        _ => ("other", 0),
+    }
 }
 
-impl Told {
-    fn of(answer: &Answer) -> Told {
-        match answer {
-            Answer::Done => Told::Done,
-            Answer::Given(number) => Told::Given(*number),
-            Answer::Bytes(bytes) => Told::Bytes(bytes.len()),
-            Answer::Refused => Told::Refused,
-            Answer::Reset => Told::Reset,
-            _ => Told::Other,
-        }
-    }
+/// A call on a connection.
+#[derive(Clone, Copy)]
+pub enum Deed {
+    Await,
+    /// So many bytes are sent, at most a ring.
+    Send(u16),
+    /// So many bytes are received at most.
+    Recv(u16),
+    Close,
+    Abort,
 }
 
 /// The recorder of a host, with the seat of its one application thread.
@@ -98,7 +101,7 @@ impl<L: Site> Side<L> {
     {
         let config = CoreConfig {
             mss: 536,
-            ring: RING as u16,
+            ring: RING,
             first_iss: FIRST_ISS,
             shift: None,
         };
@@ -119,7 +122,7 @@ impl<L: Site> Side<L> {
     {
         let Side { recorder, seat, .. } = self;
         match recorder.call(rt, seat, call) {
-            Ok(receipt) => Some(Told::of(receipt.answered.answer())),
+            Ok(receipt) => Some(answered(receipt.answered.answer())),
             Err(_) => None,
         }
     }
@@ -131,34 +134,39 @@ impl<L: Site> Side<L> {
         ensures { IfSome result (λ n. lane n ≡ L.host) }
     {
         match self.call(rt, call)? {
-            Told::Given(socket) => own_socket(self.seat.thread(), socket),
+            ("given", socket) => own_socket(self.seat.thread(), socket),
             _ => None,
         }
     }
 
-    /// Sends so many bytes. None: the call was refused, or memory ran out.
-    pub fn send<R: Wait>(
-        &mut self,
-        rt: &R,
-        alloc: Global,
-        socket: u32,
-        count: usize,
-    ) -> Option<Told>
-        requires own { lane socket ≡ L.host }
-        requires count { (0 < count) × (count ≤ 4096) }
+    // The call on this socket number. None: it has no byte or too many, or memory ran out.
+    fn call_on(&self, alloc: Global, socket: u32, deed: Deed) -> Option<Call>
+        requires { lane socket ≡ L.host }
+        ensures aims { IfSome result (λ c. Aims L.host (aim c)) }
+        ensures within { IfSome result IsCallWithin }
     {
-        let bytes = Bytes::from_slice(alloc, &[7; RING][..count]).ok()?;
-        self.call(rt, Call::Send(socket, bytes))
+        match deed {
+            Deed::Await => Some(Call::Await(socket)),
+            Deed::Send(count) => {
+                let bytes = BYTES.get(..usize::from(count))?;
+                if bytes.is_empty() {
+                    return None;
+                }
+                Some(Call::Send(socket, Bytes::from_slice(alloc, bytes).ok()?))
+            }
+            Deed::Recv(0) => None,
+            Deed::Recv(most) => Some(Call::Recv(socket, most)),
+            Deed::Close => Some(Call::Close(socket)),
+            Deed::Abort => Some(Call::Abort(socket)),
+        }
     }
 
-    /// How many bytes a read of at most a ring returned. None: it returned none, it was refused, or memory ran out.
-    pub fn read<R: Wait>(&mut self, rt: &R, socket: u32) -> Option<usize>
+    /// Makes a call on this socket number, and returns the answer. None: the call was refused, or memory ran out.
+    pub fn make<R: Wait>(&mut self, rt: &R, alloc: Global, socket: u32, deed: Deed) -> Option<Told>
         requires { lane socket ≡ L.host }
     {
-        match self.call(rt, Call::Recv(socket, RING as u16))? {
-            Told::Bytes(count) => Some(count),
-            _ => None,
-        }
+        let call = self.call_on(alloc, socket, deed)?;
+        self.call(rt, call)
     }
 
     /// The book, at the end.

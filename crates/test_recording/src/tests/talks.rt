@@ -1,85 +1,87 @@
 //! Whole recordings.
 
-ghost use Rattle.std.specs.Prelude.{◌≡◌, false};
-ghost use Rattle.case_forms.specs.Versions.{is_half};
-
-use crate::tests::fates::Drawn;
+use crate::tests::fates::{Fates, NONE_LOST};
 use crate::tests::verdicts::answer;
 use case_forms::{Answer, Event, Line, Version};
-use recorder::{Fate, LoseEach, WireFate, merge, receipt_stands};
-use std::alloc::{AllocError, Global};
+use recorder::{Receipt, Recorded, merge, receipt_stands};
+use std::alloc::Global;
 use std::ops::Range;
 use std::sync::Wait;
-use std::test::Fail;
 use std::thread::Threads;
 use two_hosts::{Books, Plan, RecordFault, Recording, Talk, Wire, record, record_books};
 
 // How many segments a host receives at most.
 const MOST: u64 = 2_000_000;
 
-// The bytes that a thread received, joined.
-fn bytes_told(alloc: Global, lines: &[Line], thread: u32) -> Result<Vec<u8>, AllocError> {
-    let mut told = Vec::new(alloc);
+// The place after these bytes, if they are those of the rounds from this place on. Each round has 64.
+fn place_after(bytes: &[u8], from: usize) -> Option<usize> {
+    let mut place = from;
+    for byte in bytes {
+        if usize::from(*byte) != place / 64 % 256 {
+            return None;
+        }
+        place = place.checked_add(1)?;
+    }
+    Some(place)
+}
+
+// Whether the thread of host 1 received the bytes of so many rounds.
+fn are_rounds(lines: &[Line], rounds: u16) -> bool {
+    let mut place = 0;
     for line in lines {
-        if line.thread == thread {
-            if let Event::CallEnd(Answer::Bytes(bytes)) = &line.event {
-                told.extend_from_slice(bytes.as_slice())?;
+        if line.thread == 3
+            && let Event::CallEnd(Answer::Bytes(bytes)) = &line.event
+        {
+            match place_after(bytes.as_slice(), place) {
+                Some(after) => place = after,
+                None => return false,
             }
         }
     }
-    Ok(told)
-}
-
-// Whether they are the bytes of so many rounds.
-fn are_rounds(told: &[u8], rounds: u16) -> bool {
-    told.len() == usize::from(rounds) * 64
-        && told
-            .iter()
-            .enumerate()
-            .all(|(place, byte)| usize::from(*byte) == place / 64 % 256)
+    place == usize::from(rounds) * 64
 }
 
 // The word for a recording whose rounds didn't end and which the checker explains.
 const UNENDED: &str = "a limit was met";
 
 // What is wrong with a recording of so many rounds; `yes` if nothing is.
-fn judge(alloc: Global, recording: &Recording, rounds: u16) -> Result<&'static str, AllocError> {
+fn judge(alloc: Global, recording: &Recording, rounds: u16) -> &'static str {
     let recorded = &recording.recorded;
-    let said = answer(alloc, recorded)?;
+    let said = answer(alloc, recorded);
     if said != "yes" {
-        return Ok(said);
+        return said;
     }
-    if !recording
-        .receipts
-        .iter()
-        .all(|receipt| receipt_stands(recorded, receipt))
-    {
-        return Ok("a receipt does not stand");
+    if !do_stand(recorded, recording.receipts.as_slice()) {
+        return "a receipt does not stand";
     }
     if !recording.ended {
-        return Ok(UNENDED);
+        return UNENDED;
     }
-    let told = bytes_told(alloc, recorded.trace.lines.as_slice(), 3)?;
-    Ok(if are_rounds(told.as_slice(), rounds) {
+    if are_rounds(recorded.trace.lines.as_slice(), rounds) {
         "yes"
     } else {
         "other bytes"
-    })
+    }
+}
+
+fn do_stand(recorded: &Recorded, receipts: &[Receipt]) -> bool {
+    for receipt in receipts {
+        if !receipt_stands(recorded, receipt) {
+            return false;
+        }
+    }
+    true
 }
 
 // What becomes of the segments of two hosts that talk.
-#[derive(Drop)]
+#[derive(Clone, Copy)]
 enum Way {
     // Every segment with this count is lost; none if it is 0.
     Losing(u32),
     // The same, in version 2.
     LosingScaled(u32),
-    // Fates in turn.
-    InTurn,
-    // Fates drawn from a seed.
-    Drawn(u32),
-    // The other host closes its end after host 0's third segment.
-    Closing,
+    // The fates there and back, in version 1, and how many segments host 1 receives until it closes its end.
+    Fated(Fates, Fates, u64),
 }
 
 const WAYS: [(&str, u16, Way); 9] = [
@@ -95,33 +97,34 @@ const WAYS: [(&str, u16, Way); 9] = [
         1_000,
         Way::LosingScaled(50),
     ),
-    ("in turn", 20, Way::InTurn),
+    (
+        "in turn",
+        20,
+        Way::Fated(Fates::InTurn(0), Fates::InTurn(0), MOST),
+    ),
 ];
 
-// Sent twice, sent after two others, lost, and passed on twice, in turn.
-#[derive(Clone, Copy, Drop)]
-struct InTurn {
-    turn: u8,
-}
+// The other host closes its end after host 0's third segment.
+const CLOSING: Way = Way::Fated(NONE_LOST, NONE_LOST, 3);
 
-impl WireFate for InTurn {
-    fn next(&mut self) -> Fate {
-        self.turn = self.turn % 5 + 1;
-        match self.turn {
-            1 => Fate::Twice,
-            2 => Fate::Hold(2),
-            3 => Fate::Lose,
-            _ => Fate::Pass,
-        }
-    }
-}
-
-// The recording of a talk in version 1. It ended only if both books count as many answers as there are receipts.
-fn talked<F: WireFate + Send + Drop, G: WireFate + Send + Drop, R: Threads + Wait + Sync>(
+// The recording of so many rounds in version 1, with these fates there and back. Host 1 receives so many segments. The
+// rounds ended only if both books count as many answers as there are receipts.
+fn fated<R: Threads + Wait + Sync>(
     rt: &R,
     alloc: Global,
-    talk: Talk<F, G>,
+    rounds: u16,
+    there: Wire<Fates>,
+    back: Fates,
 ) -> Result<Recording, RecordFault> {
+    let back = Wire {
+        fate: back,
+        taken: MOST,
+    };
+    let talk = Talk {
+        rounds,
+        there,
+        back,
+    };
     let Books {
         zero,
         one,
@@ -142,73 +145,39 @@ fn talked<F: WireFate + Send + Drop, G: WireFate + Send + Drop, R: Threads + Wai
     }
 }
 
-// The recording of so many rounds in version 1, with these fates in both directions.
-fn fated<F: WireFate + Send + Drop, R: Threads + Wait + Sync>(
-    rt: &R,
-    alloc: Global,
-    rounds: u16,
-    there: F,
-    back: F,
-) -> Result<Recording, RecordFault> {
-    let talk = Talk {
-        rounds,
-        there: Wire {
-            fate: there,
-            taken: MOST,
-        },
-        back: Wire {
-            fate: back,
-            taken: MOST,
-        },
-    };
-    talked(rt, alloc, talk)
-}
-
-// The recording of so many rounds with a channel that closes.
-fn closing<R: Threads + Wait + Sync>(
-    rt: &R,
-    alloc: Global,
-    rounds: u16,
-) -> Result<Recording, RecordFault> {
-    let talk = Talk {
-        rounds,
-        there: Wire::losing(0, 3),
-        back: Wire::losing(0, MOST),
-    };
-    talked::<LoseEach, LoseEach, R>(rt, alloc, talk)
-}
-
-// The recording of so many rounds in this version.
-fn planned<R: Threads + Wait + Sync>(
-    rt: &R,
-    alloc: Global,
-    rounds: u16,
-    lose: u32,
-    version: Version,
-) -> Result<Recording, RecordFault>
-    requires { is_half version ≡ false }
-{
-    let plan = Plan {
-        rounds,
-        lose,
-        version,
-    };
-    record(rt, alloc, plan)
-}
-
 // The recording of so many rounds.
 fn recording_of<R: Threads + Wait + Sync>(
     rt: &R,
     alloc: Global,
     rounds: u16,
-    way: &Way,
+    way: Way,
 ) -> Result<Recording, RecordFault> {
     match way {
-        Way::Losing(lose) => planned(rt, alloc, rounds, *lose, Version::One),
-        Way::LosingScaled(lose) => planned(rt, alloc, rounds, *lose, Version::Two),
-        Way::InTurn => fated(rt, alloc, rounds, InTurn { turn: 0 }, InTurn { turn: 0 }),
-        Way::Drawn(seed) => fated(rt, alloc, rounds, Drawn::new(*seed), Drawn::new(!*seed)),
-        Way::Closing => closing(rt, alloc, rounds),
+        Way::Losing(lose) => {
+            let version = Version::One;
+            record(
+                rt,
+                alloc,
+                Plan {
+                    rounds,
+                    lose,
+                    version,
+                },
+            )
+        }
+        Way::LosingScaled(lose) => {
+            let version = Version::Two;
+            record(
+                rt,
+                alloc,
+                Plan {
+                    rounds,
+                    lose,
+                    version,
+                },
+            )
+        }
+        Way::Fated(fate, back, taken) => fated(rt, alloc, rounds, Wire { fate, taken }, back),
     }
 }
 
@@ -217,10 +186,10 @@ fn said_once<R: Threads + Wait + Sync>(
     rt: &R,
     alloc: Global,
     rounds: u16,
-    way: &Way,
+    way: Way,
 ) -> &'static str {
     match recording_of(rt, alloc, rounds, way) {
-        Ok(recording) => judge(alloc, &recording, rounds).unwrap_or("out of memory"),
+        Ok(recording) => judge(alloc, &recording, rounds),
         Err(_) => "no recording",
     }
 }
@@ -230,7 +199,7 @@ fn said_once<R: Threads + Wait + Sync>(
 pub const TRIES: u32 = 5;
 
 // The same, if its rounds end in one of several recordings. Each recording is explained, even if its rounds didn't end.
-fn said<R: Threads + Wait + Sync>(rt: &R, alloc: Global, rounds: u16, way: &Way) -> &'static str {
+fn said<R: Threads + Wait + Sync>(rt: &R, alloc: Global, rounds: u16, way: Way) -> &'static str {
     for _ in 0..TRIES {
         let said = said_once(rt, alloc, rounds, way);
         if said != UNENDED {
@@ -248,7 +217,12 @@ fn draws<R: Threads + Wait + Sync>(
     seeds: Range<u32>,
 ) -> (u32, &'static str) {
     for seed in seeds {
-        let said = said(rt, alloc, 2, &Way::Drawn(seed));
+        let said = said(
+            rt,
+            alloc,
+            2,
+            Way::Fated(Fates::Drawn(seed), Fates::Drawn(!seed), MOST),
+        );
         if said != "yes" {
             return (seed, said);
         }
@@ -259,7 +233,7 @@ fn draws<R: Threads + Wait + Sync>(
 // The first way in which something is wrong, and what.
 fn ways<R: Threads + Wait + Sync>(rt: &R, alloc: Global) -> (&'static str, &'static str) {
     for (name, rounds, way) in &WAYS {
-        let said = said(rt, alloc, *rounds, way);
+        let said = said(rt, alloc, *rounds, *way);
         if said != "yes" {
             return (name, said);
         }
@@ -268,25 +242,22 @@ fn ways<R: Threads + Wait + Sync>(rt: &R, alloc: Global) -> (&'static str, &'sta
 }
 
 #[test]
-fn drawn_fates_are_explained(rt: HostRuntime) -> Result<(), Fail> {
+fn drawn_fates_are_explained(rt: HostRuntime) {
     assert_eq!(rt; draws(&rt, rt.alloc(), 0..100), (0, "yes"));
-    Ok(())
 }
 
 #[test]
-fn further_drawn_fates_are_explained(rt: HostRuntime) -> Result<(), Fail> {
+fn further_drawn_fates_are_explained(rt: HostRuntime) {
     assert_eq!(rt; draws(&rt, rt.alloc(), 100..200), (0, "yes"));
-    Ok(())
 }
 
 #[test]
-fn rounds_with_losses_are_explained(rt: HostRuntime) -> Result<(), Fail> {
+fn rounds_with_losses_are_explained(rt: HostRuntime) {
     assert_eq!(rt; ways(&rt, rt.alloc()), ("none", "yes"));
-    Ok(())
 }
 
 // What is wrong with a talk whose rounds must not end; `yes` if nothing is.
-fn unended<R: Threads + Wait + Sync>(rt: &R, alloc: Global, way: &Way) -> &'static str {
+fn unended<R: Threads + Wait + Sync>(rt: &R, alloc: Global, way: Way) -> &'static str {
     let said = said_once(rt, alloc, 20, way);
     if said == UNENDED {
         return "yes";
@@ -298,14 +269,12 @@ fn unended<R: Threads + Wait + Sync>(rt: &R, alloc: Global, way: &Way) -> &'stat
 }
 
 #[test]
-fn a_recording_that_does_not_end_is_explained(rt: HostRuntime) -> Result<(), Fail> {
-    let said = unended(&rt, rt.alloc(), &Way::Losing(1));
+fn a_recording_that_does_not_end_is_explained(rt: HostRuntime) {
+    let said = unended(&rt, rt.alloc(), Way::Losing(1));
     assert_eq!(rt; said, "yes", "all segments lost");
-    Ok(())
 }
 
 #[test]
-fn a_channel_that_closes_ends_all(rt: HostRuntime) -> Result<(), Fail> {
-    assert_eq!(rt; unended(&rt, rt.alloc(), &Way::Closing), "yes");
-    Ok(())
+fn a_channel_that_closes_ends_all(rt: HostRuntime) {
+    assert_eq!(rt; unended(&rt, rt.alloc(), CLOSING), "yes");
 }

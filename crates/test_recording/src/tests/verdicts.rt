@@ -2,16 +2,18 @@
 
 use checker::{CaseFault, check_case, print_case};
 use recorder::Recorded;
-use std::alloc::{AllocError, Global};
+use std::alloc::Global;
 use verdict::Verdict;
 
-/// What `check_case` says about the printed case: `yes`, `no` or `refused`. The error is that memory ran out.
-pub fn answer(alloc: Global, recorded: &Recorded) -> Result<&'static str, AllocError> {
-    let text = print_case(alloc, &recorded.trace, &recorded.witness)?;
-    Ok(match check_case(alloc, text.as_slice()) {
+/// What `check_case` says about the printed case: `yes`, `no` or `refused`, or that memory ran out.
+pub fn answer(alloc: Global, recorded: &Recorded) -> &'static str {
+    let Ok(text) = print_case(alloc, &recorded.trace, &recorded.witness) else {
+        return "out of memory";
+    };
+    match check_case(alloc, text.as_slice()) {
         Ok(Verdict::Yes { .. }) => "yes",
         Ok(Verdict::No { .. }) => "no",
-        Err(CaseFault::OutOfMemory) => return Err(AllocError),
+        Err(CaseFault::OutOfMemory) => "out of memory",
         Err(_) => "refused",
-    })
+    }
 }

@@ -1,11 +1,11 @@
 //! The event lines of a case that was found, beside those of its trace.
 
+use crate::case_text::CaseText;
 use bstr::{ByteSlice, LinesWithTerminator};
-use witness_search::CaseText;
 
 /// The event lines of a case. All of its trace's are among them, in their order.
 #[derive(Clone, Copy)]
-pub(crate) struct CaseLines {
+pub struct CaseLines {
     /// How many the trace has.
     pub kept: u64,
     /// How many were added. Each shows a timeout.
@@ -14,7 +14,7 @@ pub(crate) struct CaseLines {
 
 /// A trace with which the event lines of a case are compared, one piece after the other.
 #[derive(Drop)]
-pub(crate) struct Comparison<'t> {
+pub struct Comparison<'t> {
     lines: CaseLines,
     /// The next line of the trace, and those after it.
     next: Option<&'t [u8]>,
@@ -25,7 +25,7 @@ pub(crate) struct Comparison<'t> {
 
 impl<'t> Comparison<'t> {
     /// Nothing was compared with these event lines of a trace.
-    pub(crate) fn new(trace: &'t [u8]) -> Comparison<'t> {
+    pub fn new(trace: &'t [u8]) -> Comparison<'t> {
         let mut left = trace.lines_with_terminator();
         Comparison {
             lines: CaseLines { kept: 0, added: 0 },
@@ -36,7 +36,7 @@ impl<'t> Comparison<'t> {
     }
 
     /// Compares the next event lines of the case.
-    pub(crate) fn pass(&mut self, case: &[u8]) {
+    pub fn pass(&mut self, case: &[u8]) {
         for line in case.lines_with_terminator() {
             if self.next == Some(line) {
                 self.lines.kept = self.lines.kept.saturating_add(1);
@@ -51,14 +51,14 @@ impl<'t> Comparison<'t> {
 
     /// The event lines of the case. None: it lacks one of the trace's, has them in another order, or has one more that
     /// doesn't show a timeout.
-    pub(crate) fn result(&self) -> Option<CaseLines> {
+    pub fn result(&self) -> Option<CaseLines> {
         (!self.is_altered && self.next.is_none()).then_some(self.lines)
     }
 }
 
 /// The event lines of a case, which are compared with those of its trace. None: they differ in more than added
 /// timeouts.
-pub(crate) fn case_lines(trace: &[u8], case: &CaseText<'_>) -> Option<CaseLines> {
+pub fn case_lines(trace: &[u8], case: &CaseText<'_>) -> Option<CaseLines> {
     let mut comparison = Comparison::new(trace);
     // The first piece is the header.
     for index in 1..case.trace_pieces() {
