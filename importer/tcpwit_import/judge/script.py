@@ -1,0 +1,80 @@
+"""The inferred calls of a connection, and its trace. Each line of a call is before or after the line of a segment, at its moment."""
+from itertools import count
+
+from ..calls.host_trace import Action, Endpoint
+from ..cases import LAST_CALL, Line, Writer
+from ..large import Flow
+
+BEFORE, AFTER = 0, 1
+
+
+class Script:
+    """The calls of a connection's hosts. A place is a segment's line, by its letter, its host and the packet, and a side of it."""
+
+    def __init__(self):
+        self.endpoints, self.lines, self.orders = [], {}, count()
+
+    def endpoint(self, role, host, local, connection, place):
+        """A new listener, or an end that was opened or accepted."""
+        endpoint = Endpoint(role, host, local, place, connection)
+        self.endpoints.append(endpoint)
+        return endpoint
+
+    def call(self, begin, end, thread, verb, endpoint, words=(), answer=("ok",)):
+        """A call that begins at a place and ends there or at a later one."""
+        order = next(self.orders)
+        action = Action(0, 0, (endpoint.host, thread), verb, endpoint, words, answer, order, (order, 0))
+        self.lines.setdefault(begin, []).append((action, True))
+        self.lines.setdefault(end, []).append((action, False))
+
+
+class InferredCase:
+    """A connection and its inferred calls, for a writer."""
+
+    def __init__(self, connection, endpoints):
+        self.name, self.connections, self.endpoints = str(connection), [connection], endpoints
+
+
+class InferredWriter(Writer):
+    """Writes the trace of a connection whose calls were inferred. `streams` has the bytes of each end."""
+
+    def __init__(self, connection, script, streams, captures, clock, end, notes):
+        super().__init__(InferredCase(connection, script.endpoints), captures, clock, end, notes)
+        self.script, self.streams = script, streams
+
+    def lines(self):
+        """All lines in order, with numbers and threads."""
+        for endpoint in self.case.endpoints:
+            self.numbers[id(endpoint)] = len(self.numbers) + 1
+        start, last = None, 0
+        for line in self.in_order():
+            start, last = line.moment - 10**9 if start is None else start, line.moment
+            yield f"{(line.moment - start) // 1000} {self.thread(line.thread)} {line.text}\n"
+        for text in LAST_CALL if start is not None else ():
+            yield f"{(max(last, self.end) - start) // 1000} {self.thread(LAST_CALL)} {text}\n"
+
+    def in_order(self):
+        """The lines of segments, each between those of calls."""
+        flows = {id(connection): Flow(connection, self.notes, self.both) for connection in self.case.connections}
+        for line, connection, packet in self.ordered():
+            letter, host, moment = line
+            yield from self.calls_at((letter, host, id(packet), BEFORE), moment)
+            yield from self.pieces(flows[id(connection)], line, packet)
+            yield from self.calls_at((letter, host, id(packet), AFTER), moment)
+
+    def calls_at(self, place, moment):
+        """The lines of the calls at a place."""
+        for action, begins in self.script.lines.get(place, ()):
+            yield Line(moment, action.thread, self.begin_text(action) if begins else self.end_text(action))
+
+    def begin_text(self, action):
+        """The words of a call's beginning. In a simultaneous open, the second end opens, too."""
+        endpoint = action.endpoint
+        if action.verb == "open":
+            own = endpoint.local
+            return f"B open {endpoint.host} {own[1]} {endpoint.connection.other(own)[1]}"
+        return super().begin_text(action)
+
+    def bytes_of(self, data, connection):
+        """The bytes of a call."""
+        return self.streams[data.end].bytes_of(data.offset, data.length)
