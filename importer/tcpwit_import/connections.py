@@ -170,8 +170,8 @@ def _size_option(segment):
     return None
 
 
-def connections_of(captures):
-    """The connections of all captures, in the order in which they begin. `captures` maps names to lists of packets."""
+def connections_of(captures, kind=Connection):
+    """The connections of all captures, in the order in which they begin. `captures` maps names to packets."""
     found = {}
     for name, packets in captures.items():
         current = {}
@@ -180,11 +180,11 @@ def connections_of(captures):
             connection = current.get(pair)
             if packet.is_syn and (connection is None or not connection.whole or _is_new(connection, packet)):
                 key = (packet.source, packet.target, packet.number)
-                connection = found.setdefault(key, Connection(packet.source, packet.target, packet.moment))
+                connection = found.setdefault(key, kind(packet.source, packet.target, packet.moment))
                 current[pair] = connection
             elif connection is None:
                 key = (pair, name)
-                connection = found.setdefault(key, Connection(*_ends(packet), packet.moment))
+                connection = found.setdefault(key, kind(*_ends(packet), packet.moment))
                 connection.whole = False
                 current[pair] = connection
             connection.add(name, packet)

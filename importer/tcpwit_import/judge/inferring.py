@@ -125,7 +125,8 @@ class Calls:
     def send_bytes(self, packet, offset):
         """The program sent the new bytes of a segment, and ended sending before a FIN."""
         end, before = offset + packet.size, self.at(packet, BEFORE)
-        if end > self.sent and (offset - self.sent <= GAP or self.own.has(self.sent, offset)) and self.usable(before, packet):
+        # After its FIN, an end has nothing to send: what comes then has no call.
+        if packet.size and end > self.sent and not self.shut and (offset - self.sent <= GAP or self.own.has(self.sent, offset)) and self.usable(before, packet):
             for start in range(self.sent, end, LONGEST):
                 length = min(LONGEST, end - start)
                 self.call(before, "send", (Data(b"", self.socket, start, length, True),), ("ok", length))

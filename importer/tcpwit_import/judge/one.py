@@ -1,0 +1,158 @@
+"""Judges one connection: reads its packets, infers its calls, and runs `tcpwit_lab judge` on the trace."""
+import os
+import re
+import subprocess
+from dataclasses import dataclass, field
+from typing import Any
+
+from .. import judging
+from ..captures import shown
+from ..connections import refuse_gaps
+from ..files import write_file
+from ..problem import Notes, Problem, decoded
+from .conversion import lines_of
+from .hosts import Undecided
+
+ROW = re.compile(r"^(full|recovery|none) +((yes|no) .*)$")
+
+
+@dataclass
+class Result:
+    """What was found out about a connection: `answer` is that of `judge` at the last level tried, with `sentence` after a no; without an answer,
+    `reason` says why the connection wasn't judged."""
+    client: str
+    server: str
+    begun: int
+    segments: int
+    level: str = ""
+    answer: str = ""
+    sentence: str = ""
+    reason: str = ""
+    hosts: int = 0
+    status: int = 0
+    said: list = field(default_factory=list)
+    files: list = field(default_factory=list)
+    notes: Any = None
+
+    @property
+    def name(self):
+        """The connection in the output."""
+        return f"{self.client} -> {self.server}"
+
+    @property
+    def line(self):
+        """Its verdict, or why it has none."""
+        if not self.answer:
+            return f"not judged: {self.reason}"
+        return f"{self.level:<10}{self.answer}" + (f"   {self.sentence}" if self.sentence else "")
+
+
+class Judge:
+    """Judges connections with the same options. `captures` has the captures by their names, `roles` finds their hosts."""
+
+    def __init__(self, program, captures, roles, options, chosen):
+        self.program, self.captures, self.roles, self.options, self.chosen = program, captures, roles, options, chosen
+        self.files = {name: capture.file for name, capture in captures.items()}
+        self.layouts = {name: capture.layout for name, capture in captures.items()}
+        self.last = {name: capture.last for name, capture in captures.items()}
+        self.clock = roles.clock()
+
+    def result(self, number, indexed):
+        """The result of a connection, which is the one with this number."""
+        found = Result(shown(indexed.client), shown(indexed.server), indexed.begun, indexed.count, notes=Notes())
+        try:
+            if not indexed.whole:
+                raise Undecided(f"it began before the capture ({counted(indexed.count, 'segment')})")
+            self.refuse_fragments(indexed)
+            self.judge(number, indexed, found)
+        except Undecided as reason:
+            found.reason = str(reason)
+        except Problem as problem:
+            found.reason, found.status = problem.cause, 2
+        return found
+
+    def refuse_fragments(self, indexed):
+        """A connection can't be judged if segments between its addresses came in fragments."""
+        for name in indexed.places:
+            if frozenset((indexed.client[0], indexed.server[0])) in self.layouts[name].fragmented:
+                raise Problem(f"{name} has fragments of segments between its hosts", "record with a smaller MTU")
+
+    def judge(self, number, indexed, found):
+        """Judges a connection that is captured from its beginning."""
+        captures = self.roles.assign(indexed)
+        connection = indexed.read(self.files, self.layouts)
+        connection.hosts = indexed.hosts
+        if not self.options.keep_gaps:
+            refuse_gaps([connection])
+        found.hosts = 1 if list(captures) == [0] else 2
+        last = {host: self.last[name] for host, name in captures.items()}
+        lines = lines_of(connection, captures, last, self.chosen, found.notes, self.clock)
+        folder = self.options.report
+        trace = os.path.join(folder, file_name(number, found)) if folder else None
+        read(found, *(self.report(trace, lines, found) if folder else self.run(lines)))
+
+    def words(self):
+        """The options of `judge`."""
+        options = self.options
+        words = ["judge", "--least", options.level]
+        words += ["--slack", str(options.slack)] if options.slack is not None else []
+        return words + (["--budget", str(options.budget)] if options.budget is not None else [])
+
+    def run(self, lines):
+        """What `judge` prints about a trace that isn't kept, on both outputs, and its status."""
+        try:
+            process = subprocess.Popen([self.program, *self.words()], stdin=subprocess.PIPE, stdout=subprocess.PIPE, stderr=subprocess.PIPE)
+        except OSError as error:
+            raise Problem(f"{self.program}: {error.strerror}", judging.NAME_IT) from error
+        with process:
+            try:
+                process.stdin.writelines(map(str.encode, lines))
+            except BrokenPipeError:
+                # It has ended: its output says why.
+                pass
+            except BaseException:
+                process.kill()
+                raise
+            out, error = process.communicate()
+        return out, error, process.returncode
+
+    def report(self, trace, lines, found):
+        """Judges a trace that is kept, with its case, its picture and the explanation."""
+        write_file(trace, map(str.encode, lines))
+        case = judging.case_of(trace)
+        done = judging.on_file([self.program, *self.words(), "--case", "./" + os.path.basename(case)], trace, os.path.dirname(trace) or ".")
+        found.files = [trace]
+        if done.returncode in (judging.YES, judging.NO):
+            judging.draw(self.program, trace)
+            explained = judging.on_file([self.program, "explain"], case)
+            write_file(text_of(trace), [done.stdout, b"\n", explained.stdout])
+            found.files += [name for name in (case, trace.removesuffix(".trace") + ".svg", text_of(trace)) if os.path.exists(name)]
+        return done.stdout, done.stderr, done.returncode
+
+
+def read(found, out, error, status):
+    """Reads what `judge` printed into a result."""
+    if status not in (judging.YES, judging.NO):
+        said = "; ".join(decoded(out).splitlines()[:1] + decoded(error).splitlines()[-1:])
+        raise Problem(said or judging.ended(status), "")
+    found.said, found.status = decoded(out).splitlines(), status
+    rows = [row for line in found.said if (row := ROW.match(line))]
+    found.level, found.answer = rows[-1][1], rows[-1][2]
+    if rows[-1][3] == "no":
+        start = f"Under {found.level}: "
+        found.sentence = next((line.removeprefix(start) for line in found.said if line.startswith(start)), "")
+
+
+def text_of(trace):
+    """The file of a trace's explanation."""
+    return trace.removesuffix(".trace") + ".txt"
+
+
+def file_name(number, found):
+    """The file of a connection's trace."""
+    return f"{number}-{found.client}-{found.server}.trace".replace(":", "_").replace("[", "").replace("]", "")
+
+
+def counted(count, what):
+    """A count with its noun."""
+    return f"{count} {what}" if count == 1 else f"{count} {what}s"
