@@ -103,8 +103,14 @@ def packets_of(name, file, notes, layout=None, whole=False):
     except (Ended, EOFError) as error:
         raise Problem(f"{name}: ends within packet {layout.frames + 1}", "stop tcpdump with SIGINT or SIGTERM and wait until it has ended") from error
     except (Damaged, zlib.error, OSError) as error:
-        cause = error.strerror if isinstance(error, OSError) and error.strerror else error
-        raise Problem(f"{name}: {cause} after packet {layout.frames}", "copy the file again, or record again") from error
+        raise Problem(f"{name}: {_said(error)} after packet {layout.frames}", "copy the file again, or record again") from error
+
+
+def _said(error):
+    """An error in words; an error of the system has its text without a number."""
+    if isinstance(error, zlib.error):
+        return "compressed data that is damaged"
+    return getattr(error, "strerror", None) or error
 
 
 def packet_at(name, file, layout, offset, count=0):

@@ -82,7 +82,10 @@ def frame_at(name, file, layout, offset):
     file.seek(offset)
     if section.head:
         return _pcap_frame(file, section, file.read(section.head), offset)
-    return _pcapng_frame(name, section, *_block(file, section, file.read(8)), offset)
+    frame = _pcapng_frame(name, section, *_block(file, section, file.read(8)), offset)
+    if frame is None:
+        raise Damaged("a block without a packet")
+    return frame
 
 
 def _exactly(file, length):
