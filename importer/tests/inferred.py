@@ -1,8 +1,10 @@
 """Converts captures without a log into the trace of a connection."""
 import unittest
+from unittest import mock
 
 from tcpwit_import.captures import shown
 from tcpwit_import.connections import connections_of
+from tcpwit_import.judge import inferring
 from tcpwit_import.judge.conversion import lines_of
 from tcpwit_import.problem import Notes
 
@@ -20,6 +22,10 @@ def calls_of(lines):
 
 
 class Inferring(unittest.TestCase):
+    def setUp(self):
+        # Calls then begin just before the segments that they permit.
+        self.enterContext(mock.patch.object(inferring, "WIDTH", 0))
+
     def trace(self, talk, captures=None, hosts=(0, 1), chosen=None):
         """The lines of a connection's trace. `hosts` are those of the client and the server."""
         captures = {0: "c0", 1: "c1"} if captures is None else captures

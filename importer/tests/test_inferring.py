@@ -149,6 +149,45 @@ class Calls(inferred.Inferring):
         self.assertEqual(calls[-1], "O 0")
 
 
+class Early(inferred.Inferring):
+    """A capture may show a segment some time after its host built it."""
+
+    def setUp(self):
+        """Leaves the time as it is."""
+
+    def test_calls_begin_before_their_segments(self):
+        talk = Talk()
+        talk.at += 10**8
+        talk.send(0, payload=b"ab")
+        talk.at += 10**8
+        talk.send(0, FIN | ACK)
+        lines = [line.split(" ", 2) for line in self.trace(talk, captures={0: "c0"})[10:]]
+        moments = {text.strip(): int(moment) for moment, _, text in lines}
+        self.assertEqual([moments[call] - moments["B open 0 4000 80"] for call in ("B send 1 6162", "E ok 2", "B shut 1", "E ok")],
+                         [106000, 116000, 208000, 218000])
+
+    def test_bytes_may_be_sent_before_an_arrival(self):
+        talk = Talk()
+        talk.send(0, payload=b"a")
+        talk.send(1)
+        talk.send(0, payload=b"b")
+        calls = self.calls(talk, captures={0: "c0"})
+        self.assertEqual(calls[4:], ["B send 1 61", "O 0", "E ok 1", "O 0", "B send 1 62", "I 0", "E ok 1", "O 0"])
+
+    def test_an_end_is_not_before_an_arrival(self):
+        talk = Talk()
+        talk.send(1, FIN | ACK)
+        talk.send(0, FIN | ACK)
+        calls = self.calls(talk, captures={0: "c0"})
+        self.assertEqual(calls[5:], ["I 0", "B shut 1", "E ok", "O 0", "B recv 1 65535", "E eof", "B close 1", "E ok"])
+
+    def test_a_child_is_accepted_before_it_sends(self):
+        talk = Talk()
+        talk.send(1, payload=b"ab")
+        calls = self.calls(talk, captures={0: "c1"}, hosts=(1, 0))
+        self.assertEqual(calls[3:], ["I 0", "O 0", "I 0", "E ok 2", "B send 2 6162", "E ok 2", "O 0"])
+
+
 class Cut(inferred.Inferring):
     """Captures with a snap length."""
 

@@ -2,6 +2,7 @@
 from .. import header as headers
 from ..cases import seen_once
 from ..clocks import SAME, bounds_of, clock_of
+from ..copies import without_copies
 from .inferring import Calls
 from .script import InferredWriter, Script
 from .streams import complete, streams_of
@@ -13,7 +14,7 @@ ROOM = 65535
 def lines_of(connection, captures, last, chosen, notes, clock=SAME):
     """The lines of a connection's trace. `captures` maps the recorded hosts to the names of their captures, or None to the one of both hosts;
     `last` has the moment of each capture's last packet. `clock` counts if the connection alone doesn't show how the clocks differ."""
-    put_in_order(connection, captures)
+    put_in_order(connection, captures, notes)
     if len(captures) == 2:
         above, below = bounds_of([connection], captures)
         clock = clock_of(above, below) if above and below else clock
@@ -31,11 +32,12 @@ def lines_of(connection, captures, last, chosen, notes, clock=SAME):
     yield from InferredWriter(connection, script, streams, captures, clock, end, notes).lines()
 
 
-def put_in_order(connection, captures):
-    """Leaves out what a capture of all interfaces has twice, and sorts the packets by time."""
+def put_in_order(connection, captures, notes):
+    """Leaves out what a capture has twice, and sorts the packets by time."""
     for host, name in captures.items():
         own = {end for end, owner in connection.hosts.items() if owner == host}
-        connection.seen[name] = sorted(seen_once(connection.seen.get(name, []), own), key=lambda packet: packet.moment)
+        packets = seen_once(without_copies(connection.seen.get(name, []), notes), own)
+        connection.seen[name] = sorted(packets, key=lambda packet: packet.moment)
 
 
 def leave_out_unsent(connection, captures, last, clock):

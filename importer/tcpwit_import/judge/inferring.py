@@ -1,9 +1,10 @@
 """Infers the calls of a host from its segments.
 
-Each call has its effect just before the first segment that needs it, or just after the segment that shows it; what a program received is what
-its host acknowledged. So no verdict depends on the order of the calls.
+A call that permits a segment ends before it and begins a little earlier, since a capture may show a segment later than its host built it. What a
+program received is what its host acknowledged, just before. So no verdict depends on the order of the calls.
 """
 import heapq
+from itertools import islice
 
 from ..calls.host_trace import LONGEST, Data
 from ..connections import ACK, FIN, RST, SYN
@@ -11,6 +12,8 @@ from .script import AFTER, BEFORE
 
 # The most bytes before a segment that count as sent although no capture has them.
 GAP = 1 << 20
+# How long before a segment the call begins that permits it, in nanoseconds.
+WIDTH = 10**7
 # A host may drop a SYN for which its queue has no room. With this backlog, it may drop any SYN.
 BACKLOG = 0
 
@@ -44,25 +47,41 @@ class Calls:
         self.arrived, self.wrong = Arrived(), set()
         self.listener = self.socket = self.listened = None
         self.sent = self.received = 0
+        # The place of the packet at hand, and that of the packet after which the next call may begin; the latter is -1 at first.
+        self.now, self.free = 0, -1
         self.answered = self.is_open = self.shut = self.gone = self.at_end = False
 
     def infer(self):
         """Adds the calls to the script."""
-        for place, packet in enumerate(self.packets):
+        for self.now, packet in enumerate(self.packets):
             if packet.source == self.end:
                 self.left -= not packet.flags & RST
                 self.send(packet)
             else:
-                self.arrive(place, packet)
+                self.arrive(packet)
         self.finish()
 
     def at(self, packet, side):
         """A place of the script."""
         return "O" if packet.source == self.end else "I", self.host, id(packet), side
 
-    def call(self, place, verb, words=(), answer=("ok",)):
-        """A call on the connection's socket."""
-        self.script.call(place, place, "socket", verb, self.socket, words, answer)
+    def early(self, packet, since):
+        """Where a call begins that permits this packet, the one at hand: a little before it, but after the one at a place."""
+        if since >= self.now:
+            return self.at(packet, BEFORE)
+        place, earliest = self.now, packet.moment - WIDTH
+        while place - 1 > since and self.packets[place - 1].moment >= earliest:
+            place -= 1
+        if place < self.now:
+            return self.at(self.packets[place], BEFORE)
+        if since >= 0 and self.packets[since].moment >= earliest:
+            return self.at(self.packets[since], AFTER)
+        return self.script.moment(self.host, earliest)
+
+    def call(self, begin, end, verb, words=(), answer=("ok",)):
+        """A call on the connection's socket that sends or ends something. The next one doesn't begin before the packet at hand."""
+        self.script.call(begin, end, "sends", verb, self.socket, words, answer)
+        self.free = self.now
 
     def endpoint(self, role, packet):
         """A new listener or end."""
@@ -70,10 +89,10 @@ class Calls:
 
     # What arrives.
 
-    def arrive(self, place, packet):
+    def arrive(self, packet):
         """A segment arrives: it may need a listener, or complete the handshake."""
         if packet.is_syn and not self.opens:
-            self.listen(place, packet)
+            self.listen(packet)
         if packet.flags & (ACK | RST) == ACK and self.own:
             self.see_acknowledgment(packet)
         if self.peer and not packet.flags & RST and (packet.size or packet.flags & FIN) and (offset := self.peer.offset(packet)) >= 0:
@@ -82,13 +101,14 @@ class Calls:
     def see_acknowledgment(self, packet):
         """A segment acknowledges the SYN, or something that wasn't sent."""
         if 0 <= self.own.acknowledged(packet) <= self.sent + 1:
-            self.is_open = self.is_open or bool(packet.flags & SYN) == self.opens
+            if not self.is_open and bool(packet.flags & SYN) == self.opens:
+                self.is_open, self.free = True, self.now
         elif not self.is_open:
             self.wrong.add(packet.acknowledgment)
 
-    def listen(self, place, packet):
+    def listen(self, packet):
         """A SYN arrives: its host listens, unless it answers by a reset."""
-        refuses = self.refuses(place, packet)
+        refuses = self.refuses(packet)
         if self.listener and refuses and not self.answered:
             self.script.call(self.at(packet, BEFORE), self.at(packet, BEFORE), "listener", "close", self.listener)
             self.listener = None
@@ -96,9 +116,9 @@ class Calls:
             self.listener, self.listened = self.endpoint("listener", packet), self.at(packet, BEFORE)
             self.script.call(self.listened, self.listened, "listener", "listen", self.listener, (BACKLOG,), ("ok", self.listener))
 
-    def refuses(self, place, syn):
-        """Whether the next segment that the host sends is a reset that answers a SYN."""
-        for packet in self.packets[place + 1:]:
+    def refuses(self, syn):
+        """Whether the next segment that the host sends is a reset that answers the SYN at hand."""
+        for packet in islice(self.packets, self.now + 1, None):
             if packet.source == self.end:
                 return bool(packet.flags & RST) and packet.acknowledgment == (syn.number + 1 + syn.size) % (1 << 32)
             if packet.is_syn:
@@ -116,7 +136,8 @@ class Calls:
             self.answered = True
             if self.opens and not self.socket:
                 self.socket = self.endpoint("open", packet)
-                self.call(self.at(packet, BEFORE), "open", (), ("ok", self.socket))
+                place = self.early(packet, self.free)
+                self.call(place, place, "open", (), ("ok", self.socket))
         if self.own and (offset := self.own.offset(packet)) >= 0:
             self.send_bytes(packet, offset)
         if packet.flags & ACK and self.peer:
@@ -125,15 +146,25 @@ class Calls:
     def send_bytes(self, packet, offset):
         """The program sent the new bytes of a segment, and ended sending before a FIN."""
         end, before = offset + packet.size, self.at(packet, BEFORE)
+        begin = self.early(packet, self.free)
         # After its FIN, an end has nothing to send: what comes then has no call.
-        if packet.size and end > self.sent and not self.shut and (offset - self.sent <= GAP or self.own.has(self.sent, offset)) and self.usable(before, packet):
+        if packet.size and end > self.sent and not self.shut and (offset - self.sent <= GAP or self.own.has(self.sent, offset)) \
+                and self.usable(begin, packet):
             for start in range(self.sent, end, LONGEST):
                 length = min(LONGEST, end - start)
-                self.call(before, "send", (Data(b"", self.socket, start, length, True),), ("ok", length))
+                data = Data(b"", self.socket, start, length, True)
+                self.call(begin, before if start + length == end else begin, "send", (data,), ("ok", length))
             self.sent = end
         if packet.flags & FIN and not self.shut and self.usable(before, packet):
             self.shut = True
-            self.call(before, "shut")
+            self.call(self.early(packet, max(self.free, self.last_arrival())), before, "shut")
+
+    def last_arrival(self):
+        """The place of the last packet that arrived, -1 if none did. What the program ended before it would be another state then."""
+        place = self.now
+        while place >= 0 and self.packets[place].source == self.end:
+            place -= 1
+        return place
 
     def receive(self, packet, acknowledged):
         """The program received what its host acknowledges."""
@@ -142,17 +173,18 @@ class Calls:
         if stop > self.received and self.usable(after, packet):
             for start in range(self.received, stop, LONGEST):
                 data = Data(b"", self.socket, start, min(LONGEST, stop - start), False)
-                self.call(after, "recv", (LONGEST,), ("data", data))
+                self.script.call(after, after, "receives", "recv", self.socket, (LONGEST,), ("data", data))
             self.received = stop
         if not self.at_end and self.received == self.arrived.last and acknowledged == self.received + 1 and self.usable(after, packet):
             self.at_end = True
-            self.call(after, "recv", (LONGEST,), ("eof",))
+            self.script.call(after, after, "receives", "recv", self.socket, (LONGEST,), ("eof",))
 
     def usable(self, place, packet):
         """Whether calls on the connection are possible. A child is accepted before its first call."""
         if not self.socket and self.listener and self.is_open:
             self.socket = self.endpoint("child", packet)
-            self.script.call(self.listened, place, "accept", "accept", self.listener, (), ("ok", self.socket))
+            self.script.call(self.listened, place, "accepts", "accept", self.listener, (), ("ok", self.socket))
+            self.free = self.now
         return self.socket is not None and not self.gone
 
     def reset(self, packet):
@@ -161,7 +193,7 @@ class Calls:
         if self.left or self.gone or (not self.is_open and packet.number in self.wrong):
             return
         if self.is_open and self.usable(before, packet):
-            self.call(before, "close" if self.shut else "abort")
+            self.call(before, before, "close" if self.shut else "abort")
             self.gone = True
         elif not self.opens and self.listener and self.answered:
             self.script.call(before, before, "listener", "close", self.listener)
@@ -173,4 +205,4 @@ class Calls:
             return
         last = self.packets[-1]
         if self.shut or (not self.is_open and last.source == self.end):
-            self.call(self.at(last, AFTER), "close")
+            self.call(self.at(last, AFTER), self.at(last, AFTER), "close")

@@ -1,4 +1,7 @@
-"""The inferred calls of a connection, and its trace. Each line of a call is before or after the line of a segment, at its moment."""
+"""The inferred calls of a connection, and its trace.
+
+Each line of a call has a place: before or after the line of a segment, at its moment; or a moment of its own.
+"""
 from itertools import count
 
 from ..calls.host_trace import Action, Endpoint
@@ -9,10 +12,17 @@ BEFORE, AFTER = 0, 1
 
 
 class Script:
-    """The calls of a connection's hosts. A place is a segment's line, by its letter, its host and the packet, and a side of it."""
+    """The calls of a connection's hosts. A place is a side of a segment's line, which has a letter, a host and a packet; or a host and a moment."""
 
     def __init__(self):
-        self.endpoints, self.lines, self.orders = [], {}, count()
+        self.endpoints, self.lines, self.moments, self.orders = [], {}, [], count()
+
+    def moment(self, host, moment):
+        """A place that is a moment of a host's clock."""
+        if (place := (host, moment)) not in self.lines:
+            self.lines[place] = []
+            self.moments.append(place)
+        return place
 
     def endpoint(self, role, host, local, connection, place):
         """A new listener, or an end that was opened or accepted."""
@@ -56,8 +66,12 @@ class InferredWriter(Writer):
     def in_order(self):
         """The lines of segments, each between those of calls."""
         flows = {id(connection): Flow(connection, self.notes, self.both) for connection in self.case.connections}
+        moments = sorted(((self.moment(*place), place) for place in self.script.moments), reverse=True)
         for line, connection, packet in self.ordered():
             letter, host, moment = line
+            while moments and moments[-1][0] <= moment:
+                earlier, place = moments.pop()
+                yield from self.calls_at(place, earlier)
             yield from self.calls_at((letter, host, id(packet), BEFORE), moment)
             yield from self.pieces(flows[id(connection)], line, packet)
             yield from self.calls_at((letter, host, id(packet), AFTER), moment)
