@@ -2,6 +2,8 @@
 import argparse
 import contextlib
 import os
+import signal
+import sys
 from ipaddress import ip_address
 
 from .. import header as headers
@@ -12,15 +14,17 @@ from ..progress import Part
 from ..remedies import NOTHING_SENT
 from .hosts import BOTH, CLIENT, SERVER, OneCapture, TwoCaptures
 from .index import Capture, indexed, plain
+from .live import Pool, Reader, Stream, watch
 from .one import Judge
 from .output import Output
 from .workers import results
 
-COMMAND = "tcpwit-judge"
+COMMAND, STANDARD_INPUT = "tcpwit-judge", "-"
 DESCRIPTION = """Judges the TCP connections of captures, without a log of the programs' calls.
 
 FILE is what tcpdump -w or Wireshark wrote: pcap or pcapng, also compressed with gzip. Give one capture, or two that were made at the same time,
-one at each host. The calls of the programs are inferred from the segments; so neither their answers are judged, nor how soon a host sends what
+one at each host. With - as the only FILE, standard input is a capture that goes on, such as that of tcpdump -U -w -; each connection is judged
+once it has ended and was silent for --idle seconds, or at the end. The calls of the programs are inferred from the segments; so neither their answers are judged, nor how soon a host sends what
 its program gave it (rule start-late).
 
 Each connection has a line: its level and the answer of tcpwit_lab judge, or why it isn't judged.
@@ -45,6 +49,11 @@ def parser():
     words.add_argument("--json", action="store_true", help="print a JSON object for each connection")
     words.add_argument("--jobs", type=number_within(1, 1024), default=os.cpu_count() or 1, metavar="N",
                        help="how many connections are judged at once (default: one for each processor)")
+    words.add_argument("--idle", type=number_within(1, 86_400), metavar="SECONDS",
+                       help="with -: after how many seconds of silence a connection that has ended is judged (default: twice the msl)")
+    words.add_argument("--memory", type=number_within(1, 10**6), default=256, metavar="MB",
+                       help="with -: how much memory the packets may need; if it's too little, the largest connection is judged as far as it was captured "
+                       "(default: 256)")
     words.add_argument("--keep-gaps", action="store_true", help="judge connections of which a capture lost packets")
     words.add_argument("--lab", type=named_file, metavar="PATH", help="the program tcpwit_lab, which judges traces")
     words.add_argument("--quiet", action="store_true", help="print only verdicts and errors")
@@ -77,6 +86,8 @@ def refuse_words(options):
         raise Problem(f"{len(options.files)} captures are given", "give the capture of one host, or one of each host")
     if len(set(options.files)) < len(options.files):
         raise Problem(f"{options.files[0]} is given twice", "give the capture of each host")
+    if STANDARD_INPUT in options.files and len(options.files) == 2:
+        raise Problem("standard input is given with a file", "give only -, or two files")
     if options.host and len(options.files) == 2:
         raise Problem("--host is given with two captures", "leave it out: the captures show whose they are")
 
@@ -87,11 +98,34 @@ def judge(options):
     program = judging.lab(options.lab)
     if options.report:
         prepare(options.report)
-    notes = Notes()
+    return (judge_live if options.files == [STANDARD_INPUT] else judge_files)(options, program, Notes())
+
+
+def judge_live(options, program, notes):
+    """Judges the connections of a capture that goes on. Ctrl-C ends the capture; what was captured is still judged."""
+    signal.signal(signal.SIGINT, lambda *_: signal.signal(signal.SIGINT, signal.default_int_handler))
+    capture, output = Capture("standard input", None), Output(options)
+    judges = Judge(program, {capture.name: capture}, OneCapture(capture, options.host), options, header_values(options))
+    idle = options.idle or 2 * (options.msl or headers.VALUES["msl"]) // 10**6
+    reader = Reader(capture, sys.stdin.buffer, notes)
+    with contextlib.closing(Pool(judges, options.jobs, output, notes)) as pool:
+        watch(reader, Stream(capture, pool.judge, idle * 10**9, options.memory * 10**6), pool)
+    if not output.count:
+        raise reader.error or nothing_in([capture])
+    say_notes(options, notes)
+    status = output.finish()
+    if reader.error:
+        raise reader.error
+    return status
+
+
+def judge_files(options, program, notes):
+    """Judges the connections of captures in files."""
     with contextlib.ExitStack() as stack:
         captures = [Capture(name, stack.enter_context(plain(name))) for name in options.files]
         connections = indexed(captures, notes)
-        refuse_nothing(captures, connections)
+        if not connections:
+            raise nothing_in(captures)
         roles = TwoCaptures(captures, connections) if len(captures) == 2 else OneCapture(captures[0], options.host)
         roles.refuse_unknown(connections)
         judges = Judge(program, {capture.name: capture for capture in captures}, roles, options, header_values(options))
@@ -101,10 +135,15 @@ def judge(options):
             for result in found:
                 output.add(result)
                 notes.add(result.notes)
+    say_notes(options, notes)
+    return output.finish()
+
+
+def say_notes(options, notes):
+    """Prints what was left out or changed."""
     if not options.quiet:
         for line in notes.lines():
             say(COMMAND, line)
-    return output.finish()
 
 
 def prepare(folder):
@@ -114,13 +153,12 @@ def prepare(folder):
         raise Problem(f"{folder} isn't empty", "name a new folder with --report")
 
 
-def refuse_nothing(captures, connections):
-    """Refuses captures in which there's nothing to judge."""
+def nothing_in(captures):
+    """Why there's nothing to judge in captures."""
     names = ", ".join(capture.name for capture in captures)
     if not any(capture.layout.frames for capture in captures):
-        raise Problem(f"{names}: the capture is empty", "start the capture before the programs, at the interface that they use")
-    if not connections:
-        raise Problem(f"{names}: no TCP segment", "capture at the interface that the programs use, with the filter tcp or none", NOTHING_SENT)
+        return Problem(f"{names}: the capture is empty", "start the capture before the programs, at the interface that they use")
+    return Problem(f"{names}: no TCP segment", "capture at the interface that the programs use, with the filter tcp or none", NOTHING_SENT)
 
 
 def main(words=None):

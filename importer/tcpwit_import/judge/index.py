@@ -29,6 +29,7 @@ class Indexed(Connection):
     def __init__(self, client, server, begun):
         super().__init__(client, server, begun)
         self.places, self.syns, self.own = {}, {}, {}
+        self.fragmented = False
 
     def add(self, capture, packet):
         """Adds the next packet of a capture."""

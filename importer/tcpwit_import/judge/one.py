@@ -33,6 +33,8 @@ class Result:
     said: list = field(default_factory=list)
     files: list = field(default_factory=list)
     notes: Any = None
+    # Whether only its beginning was judged.
+    is_part: bool = False
 
     @property
     def name(self):
@@ -44,7 +46,8 @@ class Result:
         """Its verdict, or why it has none."""
         if not self.answer:
             return f"not judged: {self.reason}"
-        return f"{self.level:<10}{self.answer}" + (f"   {self.sentence}" if self.sentence else "")
+        said = [f"{self.level:<10}{self.answer}", self.sentence, f"(its first {counted(self.segments, 'segment')})" if self.is_part else ""]
+        return "   ".join(filter(None, said))
 
 
 class Judge:
@@ -57,27 +60,27 @@ class Judge:
         self.last = {name: capture.last for name, capture in captures.items()}
         self.clock = roles.clock()
 
-    def result(self, number, indexed):
-        """The result of a connection, which is the one with this number."""
+    def result(self, number, indexed, moment=None):
+        """The result of a connection, which is the one with this number. `moment` is when its recording ended, if its capture goes on."""
         found = Result(shown(indexed.client), shown(indexed.server), indexed.begun, indexed.count, notes=Notes())
+        found.is_part = getattr(indexed, "is_part", False)
         try:
             if not indexed.whole:
                 raise Undecided(f"it began before the capture ({counted(indexed.count, 'segment')})")
-            self.refuse_fragments(indexed)
-            self.judge(number, indexed, found)
+            if indexed.fragmented or self.is_fragmented(indexed):
+                raise Problem("the capture has fragments of IP packets with segments between its hosts", "record with a smaller MTU")
+            self.judge(number, indexed, found, moment)
         except Undecided as reason:
             found.reason = str(reason)
         except Problem as problem:
             found.reason, found.status = problem.cause, 2
         return found
 
-    def refuse_fragments(self, indexed):
-        """A connection can't be judged if segments between its addresses came in fragments."""
-        for name in indexed.places:
-            if frozenset((indexed.client[0], indexed.server[0])) in self.layouts[name].fragmented:
-                raise Problem(f"{name} has fragments of segments between its hosts", "record with a smaller MTU")
+    def is_fragmented(self, indexed):
+        """Whether segments between a connection's addresses came in fragments, which can't be judged."""
+        return any(frozenset((indexed.client[0], indexed.server[0])) in self.layouts[name].fragmented for name in indexed.places)
 
-    def judge(self, number, indexed, found):
+    def judge(self, number, indexed, found, moment):
         """Judges a connection that is captured from its beginning."""
         captures = self.roles.assign(indexed)
         connection = indexed.read(self.files, self.layouts)
@@ -85,7 +88,7 @@ class Judge:
         if not self.options.keep_gaps:
             refuse_gaps([connection])
         found.hosts = 1 if list(captures) == [0] else 2
-        last = {host: self.last[name] for host, name in captures.items()}
+        last = {host: moment or self.last[name] for host, name in captures.items()}
         lines = lines_of(connection, captures, last, self.chosen, found.notes, self.clock)
         folder = self.options.report
         trace = os.path.join(folder, file_name(number, found)) if folder else None

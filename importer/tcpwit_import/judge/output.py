@@ -40,6 +40,8 @@ class Output:
 def facts(result):
     """The facts of a connection, for JSON."""
     found = {"client": result.client, "server": result.server, "begun": result.begun / 10**9, "segments": result.segments}
+    if result.is_part:
+        found["part"] = True
     if not result.answer:
         return found | {"judged": False, "reason": result.reason, "status": result.status}
     words = result.answer.split()

@@ -1,5 +1,7 @@
 """Judges connections in parallel processes, which read the captures themselves."""
+import ctypes
 import multiprocessing
+import signal
 from concurrent.futures import ProcessPoolExecutor
 from concurrent.futures.process import BrokenProcessPool
 
@@ -7,6 +9,8 @@ from ..problem import Problem
 from ..progress import Part
 from ..remedies import LESS_AT_ONCE
 
+# The option of prctl(2) for the signal that a process gets when its parent ends.
+PARENT_DEATH = 1
 # What a worker process inherits: the judge and the connections.
 shared = []
 
@@ -29,8 +33,10 @@ def results(judges, connections, jobs):
 
 
 def begin():
-    """A worker process shows no progress: the others do so, too."""
+    """A worker process shows no progress, as the others work at the same time, and ends if the command is killed."""
     Part.command = None
+    if prctl := getattr(ctypes.CDLL(None), "prctl", None):
+        prctl(PARENT_DEATH, signal.SIGKILL)
 
 
 def result_of(place):
