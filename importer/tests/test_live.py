@@ -40,11 +40,8 @@ class Streams(unittest.TestCase):
 
     def test_a_connection_that_ended(self):
         talk = self.ended()
-        self.feed(talk)
-        self.stream.pass_time(self.stream.now + 2 * IDLE)
-        self.assertEqual(self.judged, [])
         talk.send(0)
-        self.stream.add(packets(talk, 0)[-1])
+        self.feed(talk)
         last = self.stream.now
         self.stream.pass_time(last + IDLE - 1)
         self.assertEqual(self.judged, [])
@@ -52,6 +49,11 @@ class Streams(unittest.TestCase):
         (connection, moment), = self.judged
         self.assertEqual((connection.count, moment, connection.is_part), (6, last + IDLE, False))
         self.assertEqual((self.stream.bytes, len(self.stream.current)), (0, 0))
+
+    def test_a_connection_whose_fin_is_not_acknowledged(self):
+        self.feed(self.ended())
+        self.stream.pass_time(self.stream.now + 9 * IDLE)
+        self.assertEqual(self.judged, [])
 
     def test_a_reset(self):
         talk = Talk()
