@@ -290,6 +290,8 @@ class Verdicts(WithCaptures):
 
     def test_an_acknowledgment_that_is_missing(self):
         talk = Talk()
+        talk.send(0, payload=b"first")
+        talk.send(1)
         talk.send(0, payload=b"hello")
         talk.at += 10**10
         talk.send(0, payload=b"more")

@@ -4,6 +4,7 @@ from ..cases import seen_once
 from ..clocks import SAME, bounds_of, clock_of
 from ..copies import without_copies
 from .inferring import Calls
+from .queues import ignored_by
 from .script import InferredWriter, Script
 from .streams import complete, streams_of
 
@@ -19,17 +20,21 @@ def lines_of(connection, captures, last, chosen, notes, clock=SAME):
         above, below = bounds_of([connection], captures)
         clock = clock_of(above, below) if above and below else clock
         leave_out_unsent(connection, captures, last, clock)
+    ended = min(clock.at(moment) if host == 1 else moment for host, moment in last.items())
     streams = streams_of(connection, {end: captures_of(connection, captures, end) for end in (connection.client, connection.server)})
     complete(connection, streams, notes)
     script = Script()
     for end, host in connection.hosts.items():
         name = captures.get(host, captures.get(None))
         if name is not None:
-            Calls(connection, script, streams, end, connection.seen[name]).infer()
+            packets = connection.seen[name]
+            if end == connection.server:
+                script.ignored = ignored_by(end, packets, last.get(host, last.get(None)), notes)
+                packets = [packet for packet in packets if id(packet) not in script.ignored]
+            Calls(connection, script, streams, end, packets).infer()
     hosts = 1 if list(captures) == [0] else 2
     yield from (line + "\n" for line in headers.header(hosts, (clock.skew + 999) // 1000, {"extra": ROOM} | chosen))
-    end = min(clock.at(moment) if host == 1 else moment for host, moment in last.items())
-    yield from InferredWriter(connection, script, streams, captures, clock, end, notes).lines()
+    yield from InferredWriter(connection, script, streams, captures, clock, ended, notes).lines()
 
 
 def put_in_order(connection, captures, notes):

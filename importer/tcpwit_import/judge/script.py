@@ -12,9 +12,11 @@ BEFORE, AFTER = 0, 1
 
 
 class Script:
-    """The calls of a connection's hosts. A place is a side of a segment's line, which has a letter, a host and a packet; or a host and a moment."""
+    """The calls of a connection's hosts. A place is a side of a segment's line, which has a letter, a host and a packet; or a host and a moment.
+    `ignored` has the packets, by their identities, that the server seems to have ignored: they have no line as received."""
 
     def __init__(self):
+        self.ignored = set()
         self.endpoints, self.lines, self.moments, self.orders = [], {}, [], count()
 
     def moment(self, host, moment):
@@ -69,6 +71,8 @@ class InferredWriter(Writer):
         moments = sorted(((self.moment(*place), place) for place in self.script.moments), reverse=True)
         for line, connection, packet in self.ordered():
             letter, host, moment = line
+            if letter == "I" and id(packet) in self.script.ignored:
+                continue
             while moments and moments[-1][0] <= moment:
                 earlier, place = moments.pop()
                 yield from self.calls_at(place, earlier)
