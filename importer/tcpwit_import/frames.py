@@ -11,6 +11,7 @@ from .remedies import BUFFER
 PCAP = {b"\xd4\xc3\xb2\xa1": ("<", 1000, 16), b"\xa1\xb2\xc3\xd4": (">", 1000, 16), b"\x4d\x3c\xb2\xa1": ("<", 1, 16),
         b"\xa1\xb2\x3c\x4d": (">", 1, 16), b"\x34\xcd\xb2\xa1": ("<", 1000, 24), b"\xa1\xb2\xcd\x34": (">", 1000, 24)}
 SECTION, INTERFACE, OLD_PACKET, SIMPLE_PACKET, STATISTICS, PACKET = 0x0A0D0D0A, 1, 2, 3, 5, 6
+READ = frozenset((INTERFACE, OLD_PACKET, SIMPLE_PACKET, STATISTICS, PACKET))
 ORDERS = {b"\x4d\x3c\x2b\x1a": "<", b"\x1a\x2b\x3c\x4d": ">"}
 # A block's options begin here.
 OPTIONS = {INTERFACE: 16, STATISTICS: 20}
@@ -82,7 +83,8 @@ def frame_at(name, file, layout, offset):
     file.seek(offset)
     if section.head:
         return _pcap_frame(file, section, file.read(section.head), offset)
-    frame = _pcapng_frame(name, section, *_block(file, section, file.read(8)), offset)
+    kind, _, block = _block(file, section, file.read(8))
+    frame = _pcapng_frame(name, section, kind, block, offset)
     if frame is None:
         raise Damaged("a block without a packet")
     return frame
@@ -129,15 +131,13 @@ def _pcapng(name, file, layout, magic):
         if head[:4] == SECTION.to_bytes(4, "big"):
             section, length = _section(file, layout, head, offset)
         else:
-            kind, block = _block(file, section, head)
-            length = len(block)
+            kind, length, block = _block(file, section, head)
             if kind == INTERFACE:
                 section.links.append(_interface(name, block, section.order))
             elif kind == STATISTICS:
                 _refuse_losses(name, block, section.order)
             elif frame := _pcapng_frame(name, section, kind, block, offset):
                 yield frame
-            length = _length(section, head)
         offset += length
         head = file.read(8)
 
@@ -148,33 +148,33 @@ def _section(file, layout, head, offset):
     if mark not in ORDERS:
         raise Damaged("a section without a byte order")
     section = Section(ORDERS[mark], [])
-    length = _length(section, head)
+    _, length = _head(section, head)
     _skip(file, section, length, 12)
     return layout.add(offset, section), length
 
 
-def _length(section, head):
-    """The length of a block."""
+def _head(section, head):
+    """The kind and the length of a block whose first 8 bytes were read."""
     if len(head) < 8:
         raise Ended
-    length = struct.unpack_from(section.order + "I", head, 4)[0]
+    kind, length = struct.unpack(section.order + "II", head)
     if length < 12 or length % 4:
         raise Damaged(f"a block of {length} bytes")
-    return length
+    return kind, length
 
 
 def _block(file, section, head):
-    """The kind and the bytes of the block whose first 8 bytes were read; no bytes if it is skipped."""
-    length, kind = _length(section, head), struct.unpack_from(section.order + "I", head)[0]
-    if kind not in (INTERFACE, OLD_PACKET, SIMPLE_PACKET, STATISTICS, PACKET):
+    """The kind, the length and the bytes of the block whose first 8 bytes were read; no bytes if it is skipped."""
+    kind, length = _head(section, head)
+    if kind not in READ:
         _skip(file, section, length, 8)
-        return kind, b""
+        return kind, length, b""
     if length > LONGEST_BLOCK:
         raise Damaged(f"a block of {length} bytes")
     block = head + _exactly(file, length - 8)
     if block[-4:] != head[4:]:
         raise Damaged("a block with two lengths")
-    return kind, block
+    return kind, length, block
 
 
 def _skip(file, section, length, done):
@@ -202,7 +202,8 @@ def _pcapng_frame(name, section, kind, block, offset):
     if number >= len(section.links):
         raise Problem(f"{name}: a packet from an interface that the file doesn't describe", "record again")
     link, unit, late = section.links[number]
-    sent = _direction(block, 28 + (captured + 3) // 4 * 4, section.order)
+    options = 28 + (captured + 3) // 4 * 4
+    sent = _direction(block, options, section.order) if options + 4 < len(block) else None
     return Frame(late + (high << 32 | low) * 10**9 // unit, link, block[28:28 + captured], length, number, sent, offset)
 
 
