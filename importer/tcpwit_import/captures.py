@@ -97,7 +97,7 @@ def packets_of(name, file, notes, layout=None, whole=False):
                 packet = _packet(frame, name, layout.frames, whole)
             except LeftOut as reason:
                 if isinstance(reason, Fragment):
-                    layout.fragmented.add(frozenset(reason.ends))
+                    layout.add_fragment(name, *reason.ends)
                 notes.leave_out(str(reason), f"{name}, packet {layout.frames}")
                 continue
             packet.offset = frame.offset if again else None

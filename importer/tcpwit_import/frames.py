@@ -19,6 +19,8 @@ RESOLUTION, TIME_OFFSET, DIRECTION, LOST = 9, 14, 2, (5, 7)
 INBOUND, OUTBOUND = 1, 2
 # No program writes longer frames, or longer blocks of those that are read: a longer one shows a damaged file. Other blocks are skipped by pieces.
 LONGEST_FRAME, LONGEST_BLOCK, PIECE = 1 << 20, 1 << 21, 1 << 16
+# Their addresses are kept, so there is a limit.
+MOST_FRAGMENTED = 100_000
 
 
 class Frame(NamedTuple):
@@ -61,6 +63,12 @@ class Layout:
         self.starts.append(start)
         self.sections.append(section)
         return section
+
+    def add_fragment(self, name, source, target):
+        """Adds a fragment between these addresses."""
+        self.fragmented.add(frozenset((source, target)))
+        if len(self.fragmented) > MOST_FRAGMENTED:
+            raise Problem(f"{name}: fragments between more than {MOST_FRAGMENTED} pairs of addresses", "capture only your hosts: tcpdump 'tcp and host ADDRESS'")
 
     def section(self, offset):
         """The section of a record."""

@@ -8,6 +8,7 @@ import tempfile
 import threading
 import tracemalloc
 import unittest
+from unittest import mock
 
 from tcpwit_import.captures import Packet, packet_at, packets_of, read_capture, shown
 from tcpwit_import.cases import seen_once
@@ -144,6 +145,8 @@ class Captures(WithCapture):
         ends = [self.one(links.ethernet(packet)) for packet in (PACKET, PACKET_6)]
         self.assertEqual(layout.fragmented, {frozenset((packet.source[0], packet.target[0])) for packet in ends})
         self.assertEqual(layout.frames, 5)
+        with mock.patch("tcpwit_import.frames.MOST_FRAGMENTED", 1):
+            self.refused(links.pcap_file(samples.fragments()), "fragments between more than 1 pairs")
 
     def test_segments_that_a_snap_length_cut(self):
         whole = [frame for _, frame in samples.frames(samples.with_link(links.ethernet))]
