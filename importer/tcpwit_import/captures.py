@@ -127,7 +127,7 @@ def packet_at(name, file, layout, offset, count=0):
 
 
 def _packet(frame, name, count, whole):
-    """The segment of a frame."""
+    """The packet of a frame; its offset isn't set."""
     moment, link, data, length, interface, sent, _ = frame
     source, target, start, end, identification, own_interface, own_sent = segment_in(link, data, max(length, len(data)))
     segment, wanted = data[start:end], end - start
@@ -140,8 +140,10 @@ def _packet(frame, name, count, whole):
     if captured < head:
         raise LeftOut("segments whose TCP headers the capture cut")
     ports = _PORTS(segment)
-    return Packet(moment, (source, ports[0]), (target, ports[1]), segment, sent if own_sent is None else own_sent, name, count, wanted - captured, None,
-                  identification, interface if own_interface is None else own_interface)
+    outgoing = sent if own_sent is None else own_sent
+    if own_interface is not None:
+        interface = own_interface
+    return Packet(moment, (source, ports[0]), (target, ports[1]), segment, outgoing, name, count, wanted - captured, None, identification, interface)
 
 
 def shown(end):

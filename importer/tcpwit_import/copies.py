@@ -1,5 +1,5 @@
-"""Removes copies of packets that a capture made itself: a mirror port shows a packet when it enters a switch and when it leaves it, and `-i any` shows
-it at a bridge and at the bridge's port."""
+"""Removes copies of packets that a capture made itself: a mirror port shows a packet when it enters a switch and when it leaves it, and
+`-i any` shows it at a bridge and at the bridge's port."""
 from collections import Counter
 
 # A copy comes at most this long after the packet, in nanoseconds.

@@ -19,8 +19,8 @@ RESOLUTION, TIME_OFFSET, DIRECTION, LOST = 9, 14, 2, (5, 7)
 INBOUND, OUTBOUND = 1, 2
 # No program writes longer frames, or longer blocks of those that are read: a longer one shows a damaged file. Other blocks are skipped by pieces.
 LONGEST_FRAME, LONGEST_BLOCK, PIECE = 1 << 20, 1 << 21, 1 << 16
-# Their addresses are kept, so there is a limit.
-MOST_FRAGMENTED = 100_000
+# What a `Layout` keeps has limits: pairs of addresses with fragments; sections and interfaces.
+MOST_FRAGMENTED, MOST_DESCRIBED = 10_000, 10_000
 
 
 class Frame(NamedTuple):
@@ -57,18 +57,31 @@ class Layout:
 
     def __init__(self):
         self.starts, self.sections, self.frames, self.fragmented = [], [], 0, set()
+        self.described = 0
 
     def add(self, start, section):
         """Adds the section that begins there."""
+        self._describe()
         self.starts.append(start)
         self.sections.append(section)
         return section
+
+    def add_interface(self, section, interface):
+        """Adds an interface to a section."""
+        self._describe()
+        section.links.append(interface)
+
+    def _describe(self):
+        self.described += 1
+        if self.described > MOST_DESCRIBED:
+            raise Damaged(f"more than {MOST_DESCRIBED} sections and interfaces")
 
     def add_fragment(self, name, source, target):
         """Adds a fragment between these addresses."""
         self.fragmented.add(frozenset((source, target)))
         if len(self.fragmented) > MOST_FRAGMENTED:
-            raise Problem(f"{name}: fragments between more than {MOST_FRAGMENTED} pairs of addresses", "capture only your hosts: tcpdump 'tcp and host ADDRESS'")
+            raise Problem(f"{name}: fragments between more than {MOST_FRAGMENTED} pairs of addresses",
+                          "capture only your hosts: tcpdump 'tcp and host ADDRESS'")
 
     def section(self, offset):
         """The section of a record."""
@@ -141,7 +154,7 @@ def _pcapng(name, file, layout, magic):
         else:
             kind, length, block = _block(file, section, head)
             if kind == INTERFACE:
-                section.links.append(_interface(name, block, section.order))
+                layout.add_interface(section, _interface(name, block, section.order))
             elif kind == STATISTICS:
                 _refuse_losses(name, block, section.order)
             elif frame := _pcapng_frame(name, section, kind, block, offset):
