@@ -6,8 +6,8 @@ from tcpwit_import.captures import packets_of
 from tcpwit_import.copies import SOON, without_copies
 from tcpwit_import.problem import Notes
 
-from . import links, samples
-from .wire import ACK, ONE, ZERO, segment
+from . import links, samples, test_command
+from .wire import ACK, ONE, ZERO, pcap, segment
 
 
 class Copies(unittest.TestCase):
@@ -73,6 +73,15 @@ class Copies(unittest.TestCase):
     def test_other_directions_are_left_to_the_trace(self):
         frames = self.twice(lambda packet: links.cooked_2(packet, 0, 1), build=lambda packet: links.cooked_2(packet, 4, 1))
         self.assertEqual(self.kept(frames, 276), list(range(1, 19)))
+
+
+class Command(test_command.WithFiles):
+    def test_a_trace_has_no_copies(self):
+        _, trace, _ = test_command.run(*self.captures, *self.logs)
+        pcap(f"{self.folder}/c0.pcap", [(moment + at, frame) for moment, frame in test_command.talk().frames[0] for at in (0, 1000)])
+        status, out, error = test_command.run(*self.captures, *self.logs)
+        self.assertEqual((status, out), (0, trace))
+        self.assertIn("left out: 8 copies of packets that a capture made itself (first: ", error)
 
 
 if __name__ == "__main__":
