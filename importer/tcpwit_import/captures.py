@@ -10,6 +10,8 @@ from .layers import Fragment, LeftOut, segment_in
 from .problem import Problem
 from .remedies import NOTHING_SENT, OFFLOADS_OFF, WHOLE_PACKETS
 
+_PORTS = struct.Struct("!HH").unpack_from
+
 
 class Packet:
     """A captured segment: its moment in nanoseconds, its source and destination, and its bytes from the TCP header on. The checksum becomes 0,
@@ -95,7 +97,7 @@ def packets_of(name, file, notes, layout=None, whole=False):
                 packet = _packet(frame, name, layout.frames, whole)
             except LeftOut as reason:
                 if isinstance(reason, Fragment):
-                    layout.fragmented.add(frozenset(reason.ends))
+                    layout.add_fragment(name, *reason.ends)
                 notes.leave_out(str(reason), f"{name}, packet {layout.frames}")
                 continue
             packet.offset = frame.offset if again else None
@@ -125,22 +127,23 @@ def packet_at(name, file, layout, offset, count=0):
 
 
 def _packet(frame, name, count, whole):
-    """The segment of a frame."""
-    data = frame.data
-    found = segment_in(frame.link, data, max(frame.length, len(data)))
-    segment, wanted = data[found.start:found.end], found.end - found.start
-    if whole and len(segment) < max(wanted, 20):
-        raise Problem(f"{name}, packet {count}: {len(segment)} of its {max(wanted, 20)} bytes were captured", WHOLE_PACKETS, OFFLOADS_OFF)
-    head = (segment[12] >> 4) * 4 if len(segment) > 12 else 20
+    """The packet of a frame; its offset isn't set."""
+    moment, link, data, length, interface, sent, _ = frame
+    source, target, start, end, identification, own_interface, own_sent = segment_in(link, data, max(length, len(data)))
+    segment, wanted = data[start:end], end - start
+    captured = len(segment)
+    if whole and captured < max(wanted, 20):
+        raise Problem(f"{name}, packet {count}: {captured} of its {max(wanted, 20)} bytes were captured", WHOLE_PACKETS, OFFLOADS_OFF)
+    head = (segment[12] >> 4) * 4 if captured > 12 else 20
     if head < 20 or wanted < head:
         raise LeftOut("segments with a wrong data offset")
-    if len(segment) < head:
+    if captured < head:
         raise LeftOut("segments whose TCP headers the capture cut")
-    source, target = struct.unpack_from("!HH", segment)
-    outgoing = frame.sent if found.sent is None else found.sent
-    interface = frame.interface if found.interface is None else found.interface
-    return Packet(frame.moment, (found.source, source), (found.target, target), segment, outgoing, name, count, wanted - len(segment), None,
-                  found.identification, interface)
+    ports = _PORTS(segment)
+    outgoing = sent if own_sent is None else own_sent
+    if own_interface is not None:
+        interface = own_interface
+    return Packet(moment, (source, ports[0]), (target, ports[1]), segment, outgoing, name, count, wanted - captured, None, identification, interface)
 
 
 def shown(end):

@@ -1,11 +1,13 @@
-"""Removes copies of packets that a capture made itself: a mirror port shows a packet when it enters a switch and when it leaves it, and `-i any` shows
-it at a bridge and at the bridge's port."""
+"""Removes copies of packets that a capture made itself: a mirror port shows a packet when it enters a switch and when it leaves it, and
+`-i any` shows it at a bridge and at the bridge's port."""
 from collections import Counter
 
 # A copy comes at most this long after the packet, in nanoseconds.
 SOON = 10**6
 # A network duplicates some packets, a capture all: of ten packets of an end, so many have a copy.
 OF_TEN = 9
+# How many packets are remembered, at least, before older ones are forgotten.
+FEW = 1000
 
 
 class _Transmission:
@@ -34,8 +36,11 @@ def without_copies(packets, notes):
 
 def _compared(packets):
     """The places in the list of certain copies; for each end, those of packets that may be copies, and how many others it sent."""
-    copies, doubtful, originals, recent = set(), {}, Counter(), {}
+    copies, doubtful, originals, recent, full = set(), {}, Counter(), {}, FEW
     for at, packet in enumerate(packets):
+        if len(recent) > full:
+            recent = {key: found for key, found in recent.items() if abs(packet.moment - found[-1].moment) <= SOON}
+            full = 2 * len(recent) + FEW
         key = (packet.source, packet.identification, packet.outgoing, packet.segment)
         interface = (packet.capture, packet.interface)
         before = [each for each in recent.get(key, ()) if abs(packet.moment - each.moment) <= SOON]

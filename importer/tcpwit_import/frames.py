@@ -11,6 +11,7 @@ from .remedies import BUFFER
 PCAP = {b"\xd4\xc3\xb2\xa1": ("<", 1000, 16), b"\xa1\xb2\xc3\xd4": (">", 1000, 16), b"\x4d\x3c\xb2\xa1": ("<", 1, 16),
         b"\xa1\xb2\x3c\x4d": (">", 1, 16), b"\x34\xcd\xb2\xa1": ("<", 1000, 24), b"\xa1\xb2\xcd\x34": (">", 1000, 24)}
 SECTION, INTERFACE, OLD_PACKET, SIMPLE_PACKET, STATISTICS, PACKET = 0x0A0D0D0A, 1, 2, 3, 5, 6
+READ = frozenset((INTERFACE, OLD_PACKET, SIMPLE_PACKET, STATISTICS, PACKET))
 ORDERS = {b"\x4d\x3c\x2b\x1a": "<", b"\x1a\x2b\x3c\x4d": ">"}
 # A block's options begin here.
 OPTIONS = {INTERFACE: 16, STATISTICS: 20}
@@ -18,6 +19,8 @@ RESOLUTION, TIME_OFFSET, DIRECTION, LOST = 9, 14, 2, (5, 7)
 INBOUND, OUTBOUND = 1, 2
 # No program writes longer frames, or longer blocks of those that are read: a longer one shows a damaged file. Other blocks are skipped by pieces.
 LONGEST_FRAME, LONGEST_BLOCK, PIECE = 1 << 20, 1 << 21, 1 << 16
+# What a `Layout` keeps has limits: pairs of addresses with fragments; sections and interfaces.
+MOST_FRAGMENTED, MOST_DESCRIBED = 10_000, 10_000
 
 
 class Frame(NamedTuple):
@@ -54,12 +57,31 @@ class Layout:
 
     def __init__(self):
         self.starts, self.sections, self.frames, self.fragmented = [], [], 0, set()
+        self.described = 0
 
     def add(self, start, section):
         """Adds the section that begins there."""
+        self._describe()
         self.starts.append(start)
         self.sections.append(section)
         return section
+
+    def add_interface(self, section, interface):
+        """Adds an interface to a section."""
+        self._describe()
+        section.links.append(interface)
+
+    def _describe(self):
+        self.described += 1
+        if self.described > MOST_DESCRIBED:
+            raise Damaged(f"more than {MOST_DESCRIBED} sections and interfaces")
+
+    def add_fragment(self, name, source, target):
+        """Adds a fragment between these addresses."""
+        self.fragmented.add(frozenset((source, target)))
+        if len(self.fragmented) > MOST_FRAGMENTED:
+            raise Problem(f"{name}: fragments between more than {MOST_FRAGMENTED} pairs of addresses",
+                          "capture only your hosts: tcpdump 'tcp and host ADDRESS'")
 
     def section(self, offset):
         """The section of a record."""
@@ -82,7 +104,8 @@ def frame_at(name, file, layout, offset):
     file.seek(offset)
     if section.head:
         return _pcap_frame(file, section, file.read(section.head), offset)
-    frame = _pcapng_frame(name, section, *_block(file, section, file.read(8)), offset)
+    kind, _, block = _block(file, section, file.read(8))
+    frame = _pcapng_frame(name, section, kind, block, offset)
     if frame is None:
         raise Damaged("a block without a packet")
     return frame
@@ -129,15 +152,13 @@ def _pcapng(name, file, layout, magic):
         if head[:4] == SECTION.to_bytes(4, "big"):
             section, length = _section(file, layout, head, offset)
         else:
-            kind, block = _block(file, section, head)
-            length = len(block)
+            kind, length, block = _block(file, section, head)
             if kind == INTERFACE:
-                section.links.append(_interface(name, block, section.order))
+                layout.add_interface(section, _interface(name, block, section.order))
             elif kind == STATISTICS:
                 _refuse_losses(name, block, section.order)
             elif frame := _pcapng_frame(name, section, kind, block, offset):
                 yield frame
-            length = _length(section, head)
         offset += length
         head = file.read(8)
 
@@ -148,33 +169,33 @@ def _section(file, layout, head, offset):
     if mark not in ORDERS:
         raise Damaged("a section without a byte order")
     section = Section(ORDERS[mark], [])
-    length = _length(section, head)
+    _, length = _head(section, head)
     _skip(file, section, length, 12)
     return layout.add(offset, section), length
 
 
-def _length(section, head):
-    """The length of a block."""
+def _head(section, head):
+    """The kind and the length of a block whose first 8 bytes were read."""
     if len(head) < 8:
         raise Ended
-    length = struct.unpack_from(section.order + "I", head, 4)[0]
+    kind, length = struct.unpack(section.order + "II", head)
     if length < 12 or length % 4:
         raise Damaged(f"a block of {length} bytes")
-    return length
+    return kind, length
 
 
 def _block(file, section, head):
-    """The kind and the bytes of the block whose first 8 bytes were read; no bytes if it is skipped."""
-    length, kind = _length(section, head), struct.unpack_from(section.order + "I", head)[0]
-    if kind not in (INTERFACE, OLD_PACKET, SIMPLE_PACKET, STATISTICS, PACKET):
+    """The kind, the length and the bytes of the block whose first 8 bytes were read; no bytes if it is skipped."""
+    kind, length = _head(section, head)
+    if kind not in READ:
         _skip(file, section, length, 8)
-        return kind, b""
+        return kind, length, b""
     if length > LONGEST_BLOCK:
         raise Damaged(f"a block of {length} bytes")
     block = head + _exactly(file, length - 8)
     if block[-4:] != head[4:]:
         raise Damaged("a block with two lengths")
-    return kind, block
+    return kind, length, block
 
 
 def _skip(file, section, length, done):
@@ -202,7 +223,8 @@ def _pcapng_frame(name, section, kind, block, offset):
     if number >= len(section.links):
         raise Problem(f"{name}: a packet from an interface that the file doesn't describe", "record again")
     link, unit, late = section.links[number]
-    sent = _direction(block, 28 + (captured + 3) // 4 * 4, section.order)
+    options = 28 + (captured + 3) // 4 * 4
+    sent = _direction(block, options, section.order) if options + 4 < len(block) else None
     return Frame(late + (high << 32 | low) * 10**9 // unit, link, block[28:28 + captured], length, number, sent, offset)
 
 

@@ -1,6 +1,5 @@
 """Where a frame has its TCP segment: link layer, VLAN tags, IPv4 and IPv6."""
 import struct
-from typing import Any, NamedTuple
 
 ETHERNET, COOKED, COOKED_2 = 1, 113, 276
 LOOPBACKS = (0, 108)
@@ -35,27 +34,16 @@ class Fragment(LeftOut):
         self.ends = ends
 
 
-class Inside(NamedTuple):
-    """A frame's segment: the addresses of its packet, where it begins in the frame, where it ends on the wire, and what tells a packet that was
-    captured twice from one that was sent twice: IPv4's identification (0 for IPv6), and the index of the interface, if the link's header has it.
-    `sent` states whether the header marks the frame as sent by its host; None if it marks none."""
-    source: bytes
-    target: bytes
-    start: int
-    end: int
-    identification: int
-    interface: Any
-    sent: Any
-
-
 def segment_in(link, frame, length):
-    """Where a frame that had this length has its segment."""
+    """Where a frame that had this length has its segment: the addresses of its packet, where it begins in the frame, where it ends on the wire,
+    IPv4's identification (0 for IPv6), the number of the interface, and whether the frame is marked as sent by its host. The last two are None if
+    the link's header doesn't show them."""
     try:
         kind, at, interface, sent = _link(link, frame)
         if kind == IPV4:
-            return Inside(*_ipv4(frame, at, length), interface, sent)
+            return *_ipv4(frame, at, length), interface, sent
         if kind == IPV6:
-            return Inside(*_ipv6(frame, at, length), interface, sent)
+            return *_ipv6(frame, at, length), interface, sent
     except (struct.error, IndexError):
         raise LeftOut("packets whose headers the capture cut" if len(frame) < length else "packets that end within their headers") from None
     raise LeftOut("packets that are neither IPv4 nor IPv6")
@@ -64,7 +52,8 @@ def segment_in(link, frame, length):
 def _link(link, frame):
     """The kind of a frame's packet, where it begins, the interface, and whether the host sent it."""
     if link == ETHERNET:
-        return *_tagged(frame, _KIND(frame, 12)[0], 14), None, None
+        kind = _KIND(frame, 12)[0]
+        return (kind, 14, None, None) if kind == IPV4 else (*_tagged(frame, kind, 14), None, None)
     if link == COOKED:
         return *_tagged(frame, _KIND(frame, 14)[0], 16), None, _KIND(frame)[0] == OUTGOING
     if link == COOKED_2:

@@ -96,15 +96,16 @@ def read(name, whole):
     return len(packets)
 
 
-def run(captures, seed, count, name):
-    """Reads this many damaged captures. Returns how many gave packets, and how many a Problem; an AssertionError or another one names the number."""
+def run(captures, seed, count, name, act=read):
+    """Reads this many damaged captures with `act`. Returns how many gave packets, and how many a Problem. An AssertionError names the capture that
+    failed."""
     dice, good, bad = random.Random(seed), 0, 0
     for number in range(count):
         data = damaged(dice.choice(captures), dice)
         with open(name, "wb") as file:
             file.write(data)
         try:
-            found = read(name, dice.random() < 0.3)
+            found = act(name, dice.random() < 0.3)
         except Exception as error:
             raise AssertionError(f"seed {seed}, capture {number}: {type(error).__name__}: {error}") from error
         good, bad = (good + 1, bad) if found is not None else (good, bad + 1)

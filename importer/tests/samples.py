@@ -118,8 +118,8 @@ def several_interfaces(order):
     parts = [links.section(order, [(1, 6), (101, 9)]), links.block(4, bytes(4), order)]
     ethernet, raw, cooked = frames(with_link(links.ethernet)), frames(packet, port=1), frames(with_link(links.cooked_2), port=2)
     for at, ((moment, one), (_, two), (_, three)) in enumerate(zip(ethernet, raw, cooked)):
-        parts.append(links.enhanced(0, moment // 1000, one, None, links.option(2, bytes([1, 0, 0, 0]) if order == "<" else bytes([0, 0, 0, 2]), order), order))
-        parts.append(links.enhanced(1, moment + 1, two, order=order))
+        sent = links.option(2, (2).to_bytes(4, "little" if order == "<" else "big"), order)
+        parts += [links.enhanced(0, moment // 1000, one, None, sent, order), links.enhanced(1, moment + 1, two, order=order)]
         if at == 2:
             parts.append(links.interface(276, links.option(9, b"\x94", order), order) + links.block(4, bytes(8), order))
         if at >= 2:

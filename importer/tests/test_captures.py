@@ -8,6 +8,7 @@ import tempfile
 import threading
 import tracemalloc
 import unittest
+from unittest import mock
 
 from tcpwit_import.captures import Packet, packet_at, packets_of, read_capture, shown
 from tcpwit_import.cases import seen_once
@@ -130,7 +131,8 @@ class Captures(WithCapture):
         frames = [FRAME, links.ethernet(links.v4(ZERO, ONE, BODY, protocol=17)), bytes(14), bytes(12) + b"\x08\x06" + bytes(28),
                   links.ethernet(links.v4(ZERO, ONE, BODY, total=19)), links.ethernet(b"\x44" + PACKET[1:]), bytes(12) + b"\x08\0" + PACKET_6,
                   FRAME[:30], links.ethernet(links.v4(ZERO, ONE, BODY[:12] + b"\x40" + BODY[13:])), links.ethernet(links.v4(ZERO, ONE, BODY[:19])),
-                  links.ethernet(links.v4(ZERO, ONE, BODY[:12] + b"\x70" + BODY[13:])), links.ethernet(links.v6(*SIX, BODY, [(0, b"\xff\1\4" + bytes(5))]))]
+                  links.ethernet(links.v4(ZERO, ONE, BODY[:12] + b"\x70" + BODY[13:])),
+                  links.ethernet(links.v6(*SIX, BODY, [(0, b"\xff\1\4" + bytes(5))]))]
         self.assertEqual(len(self.packets(links.pcap_file([(MOMENT, frame) for frame in frames]))), 1)
         self.assertEqual(self.left_out(), {
             "packets that are not TCP": 1, "packets that are neither IPv4 nor IPv6": 2, "packets with wrong lengths in their IP headers": 4,
@@ -144,6 +146,8 @@ class Captures(WithCapture):
         ends = [self.one(links.ethernet(packet)) for packet in (PACKET, PACKET_6)]
         self.assertEqual(layout.fragmented, {frozenset((packet.source[0], packet.target[0])) for packet in ends})
         self.assertEqual(layout.frames, 5)
+        with mock.patch("tcpwit_import.frames.MOST_FRAGMENTED", 1):
+            self.refused(links.pcap_file(samples.fragments()), "fragments between more than 1 pairs")
 
     def test_segments_that_a_snap_length_cut(self):
         whole = [frame for _, frame in samples.frames(samples.with_link(links.ethernet))]
@@ -259,6 +263,10 @@ class Refusals(WithCapture):
             tracemalloc.stop()
         self.assertEqual(self.packets(late), [])
         self.assertEqual(self.left_out(), {"packets with wrong lengths in their IP headers": 1})
+
+    def test_headers_need_little_memory(self):
+        for data in (links.section("<"), links.interface(1)):
+            self.refused(links.section("<") + data * 10_000, "more than 10000 sections and interfaces after packet 0")
 
     def test_reading_keeps_nothing(self):
         self.write(links.pcap_file([(MOMENT, links.ethernet(links.v4(ZERO, ONE, segment(ZERO, ONE, number, 2, ACK, bytes(1400)))))

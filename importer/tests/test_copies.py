@@ -1,13 +1,15 @@
 """Tests which packets count as copies that a capture made itself."""
 import io
 import unittest
+from unittest import mock
 
+from tcpwit_import import copies
 from tcpwit_import.captures import packets_of
 from tcpwit_import.copies import SOON, without_copies
 from tcpwit_import.problem import Notes
 
-from . import links, samples
-from .wire import ACK, ONE, ZERO, segment
+from . import links, samples, test_command
+from .wire import ACK, ONE, ZERO, pcap, segment
 
 
 class Copies(unittest.TestCase):
@@ -34,6 +36,13 @@ class Copies(unittest.TestCase):
         self.assertEqual(self.kept(self.twice()), list(range(1, 19, 2)))
         # A packet's copy may have another VLAN tag.
         self.assertEqual(self.kept(self.twice(lambda packet: links.ethernet(packet, [(0x8100, 5)]))), list(range(1, 19, 2)))
+
+    def test_packets_of_a_moment_ago_are_remembered(self):
+        with mock.patch.object(copies, "FEW", 2):
+            self.assertEqual(self.kept(self.twice()), list(range(1, 19, 2)))
+            frames = self.twice(lambda packet: links.cooked_2(packet, 4, 7), build=lambda packet: links.cooked_2(packet, 4, 3), late=0)
+            frames = [(samples.MOMENT, frame) for frame in [frame for _, frame in frames[::2]] + [frame for _, frame in frames[1::2]]]
+            self.assertEqual(self.kept(frames, 276), list(range(1, 10)))
 
     def test_a_mirror_port_that_lost_a_copy(self):
         frames = [(moment + each, frame) for moment, frame in self.twice() for each in (0, 10**8, 2 * 10**8)]
@@ -73,6 +82,15 @@ class Copies(unittest.TestCase):
     def test_other_directions_are_left_to_the_trace(self):
         frames = self.twice(lambda packet: links.cooked_2(packet, 0, 1), build=lambda packet: links.cooked_2(packet, 4, 1))
         self.assertEqual(self.kept(frames, 276), list(range(1, 19)))
+
+
+class Command(test_command.WithFiles):
+    def test_a_trace_has_no_copies(self):
+        _, trace, _ = test_command.run(*self.captures, *self.logs)
+        pcap(f"{self.folder}/c0.pcap", [(moment + at, frame) for moment, frame in test_command.talk().frames[0] for at in (0, 1000)])
+        status, out, error = test_command.run(*self.captures, *self.logs)
+        self.assertEqual((status, out), (0, trace))
+        self.assertIn("left out: 8 copies of packets that a capture made itself (first: ", error)
 
 
 if __name__ == "__main__":

@@ -54,10 +54,10 @@ class Carrier:
         """Whether this frame is lost."""
         frame = frame[VNET_HEADER:]
         try:
-            found = segment_in(ETHERNET, frame, len(frame))
+            _, _, start, end, *_ = segment_in(ETHERNET, frame, len(frame))
         except LeftOut:
             return False
-        segment = frame[found.start:found.end]
+        segment = frame[start:end]
         if len(segment) < 20:
             return False
         if side == 0 and len(segment) > (segment[12] >> 4) * 4:
