@@ -220,6 +220,15 @@ class Hosts(WithCaptures):
             other.frames[host] += self.talk.frames[host]
         self.assertEqual(self.hosts(files=self.files(other)), ("hosts 2", "O"))
 
+    def test_a_simultaneous_open(self):
+        self.talk.frames = {host: frames[:1] for host, frames in self.talk.frames.items()}
+        self.talk.next[1], self.talk.at = 5000, 100 * 10**9 + 5 * 10**5
+        self.talk.send(1, SYN)
+        for host in (0, 1):
+            self.talk.frames[host].sort()
+        self.assertEqual(self.hosts(files=self.files()), ("hosts 2", "O"))
+        self.assertEqual(sum(line.split()[2:4] in (["B", "open"],) for line in self.text("given").splitlines()), 2)
+
     def test_a_third_host(self):
         third = Talk(zero=("10.9.0.1", 4000), one=("10.9.0.9", 80), at=200 * 10**9)
         self.talk.frames[0] += third.frames[0]

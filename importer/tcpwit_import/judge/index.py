@@ -44,6 +44,12 @@ class Indexed(Connection):
             if len(syns) < SYNS:
                 syns.setdefault((packet.source, packet.segment[:16]), packet.moment)
 
+    def join(self, other):
+        """Adds what the other capture has of it."""
+        self.whole = self.whole and other.whole
+        for own, more in ((self.places, other.places), (self.syns, other.syns), (self.own, other.own)):
+            own.update(more)
+
     @property
     def count(self):
         """How many packets it has."""
@@ -80,14 +86,17 @@ def indexed(captures, notes):
 
 
 def with_both_parts(connections):
-    """If only one of two captures has a connection's beginning, its parts count as one connection without its beginning."""
-    halves = {frozenset((each.client, each.server)): each for each in connections if each.whole and len(each.places) == 1}
-    kept = []
+    """Joins the parts of connections that begin differently in two captures. In a simultaneous open, each capture shows its own host's SYN first. If
+    only one of them has a connection's beginning, it counts as one without its beginning."""
+    alone = [each for each in connections if each.whole and len(each.places) == 1]
+    halves = {frozenset((each.client, each.server)): each for each in alone}
+    kept, opened_twice = [], {}
     for connection in connections:
         half = None if connection.whole else halves.get(frozenset((connection.client, connection.server)))
+        if connection.whole and len(connection.places) == 1 and len(connection.initial) == 2:
+            half = opened_twice.setdefault(frozenset(connection.initial.items()), connection)
         if half and not half.places.keys() & connection.places.keys():
-            half.places.update(connection.places)
-            half.whole = False
+            half.join(connection)
         else:
             kept.append(connection)
     return kept

@@ -85,14 +85,21 @@ class Judge:
         captures = self.roles.assign(indexed)
         connection = indexed.read(self.files, self.layouts)
         connection.hosts = indexed.hosts
-        if not self.options.keep_gaps:
-            refuse_gaps([connection])
+        self.refuse_lost(connection)
         found.hosts = 1 if list(captures) == [0] else 2
         last = {host: moment or self.last[name] for host, name in captures.items()}
         lines = lines_of(connection, captures, last, self.chosen, found.notes, self.clock)
         folder = self.options.report
         trace = os.path.join(folder, file_name(number, found)) if folder else None
         read(found, *(self.report(trace, lines, found) if folder else self.run(lines)))
+
+    def refuse_lost(self, connection):
+        """Refuses a connection of which a capture lost packets, unless the user accepts that."""
+        try:
+            if not self.options.keep_gaps:
+                refuse_gaps([connection])
+        except Problem as problem:
+            raise Problem(f"{problem.cause} (--keep-gaps judges it as it is)", problem.remedy) from problem
 
     def words(self):
         """The options of `judge`."""
