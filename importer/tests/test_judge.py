@@ -267,7 +267,7 @@ class Faults(WithCaptures):
         names = self.files()
         self.assertIn("3 captures are given", self.fails(*names, names[0] + "x", *self.lab()))
         self.assertIn("is given twice", self.fails(names[0], names[0], *self.lab()))
-        self.assertIn("--host is given with two captures", self.fails(*names, "--host", "client", *self.lab()))
+        self.assertIn("--host or --between is given with two captures", self.fails(*names, "--host", "client", *self.lab()))
 
     def test_compressed_captures(self):
         for name in self.files():

@@ -12,7 +12,7 @@ from ..cli import number_within, slack
 from ..problem import Notes, Parser, Problem, named_file, say, status_of
 from ..progress import Part
 from ..remedies import NOTHING_SENT
-from .hosts import BOTH, CLIENT, SERVER, OneCapture, TwoCaptures
+from .hosts import BETWEEN, BOTH, CLIENT, SERVER, OneCapture, TwoCaptures
 from .index import Capture, indexed, plain
 from .live import Pool, Reader, Stream, watch
 from .one import Judge
@@ -41,6 +41,10 @@ def parser():
     words.add_argument("--host", type=which, metavar="HOST",
                        help=f"whose capture it is, if you give only one: {CLIENT}, {SERVER}, an address, or {BOTH} for a capture that has each segment "
                        "once for both hosts, such as one of lo (default: as the capture shows)")
+    words.add_argument("--between", action="store_true", help="the capture was made between the hosts, such as at a switch: it shows both, but neither "
+                       "duties nor exact times can be judged")
+    words.add_argument("--skew", type=number_within(*headers.LIMITS["skew"]), default=headers.VALUES["slack"], metavar="N",
+                       help="with --between: how many microseconds a segment needs at most between a host and the capture (default: 1000000)")
     words.add_argument("--level", choices=headers.LEVELS, default=headers.FULL, help="the weakest level whose yes gives status 0 (default: full)")
     words.add_argument("--slack", type=slack, metavar="N", help=headers.HELP["slack"])
     words.add_argument("--budget", type=number_within(0, 2**64 - 1), metavar="N",
@@ -88,13 +92,17 @@ def refuse_words(options):
         raise Problem(f"{options.files[0]} is given twice", "give the capture of each host")
     if STANDARD_INPUT in options.files and len(options.files) == 2:
         raise Problem("standard input is given with a file", "give only -, or two files")
-    if options.host and len(options.files) == 2:
-        raise Problem("--host is given with two captures", "leave it out: the captures show whose they are")
+    if (options.host or options.between) and len(options.files) == 2:
+        raise Problem("--host or --between is given with two captures", "leave it out: the captures show whose they are")
+    if options.between and (options.host or options.slack is not None):
+        raise Problem("--between is given with --host or --slack", "leave these out: such a capture shows both hosts, and none of their duties")
 
 
 def judge(options):
     """Judges all connections of the captures, and returns the exit status."""
     refuse_words(options)
+    if options.between:
+        options.host, options.slack = BETWEEN, headers.ANY
     program = judging.lab(options.lab)
     if options.report:
         prepare(options.report)

@@ -6,8 +6,9 @@ from ..clocks import SAME, clock_of
 from ..problem import Problem
 
 CLIENT, SERVER, BOTH = "client", "server", "both"
+BETWEEN = "between"
 NAME_IT = ("name it with --host ADDRESS, --host client or --host server; with --host both if the capture has each segment once for both hosts, "
-           "like that of lo")
+           "like that of lo; with --between if it was made between the hosts")
 # How many comparisons of moments a marked connection outweighs.
 MARKED = 1000
 
@@ -17,7 +18,7 @@ class Undecided(Exception):
 
 
 class OneCapture:
-    """A capture of one host, or of both over loopback. `wanted` is the value of --host, or None."""
+    """A capture of one host, or of both over loopback. `wanted` is the value of --host, or None; BETWEEN for a capture between the hosts."""
 
     def __init__(self, capture, wanted):
         self.capture, self.wanted = capture, wanted
@@ -26,7 +27,7 @@ class OneCapture:
         """The captured end, or None if both are: the two hosts are one."""
         if self.wanted in (CLIENT, SERVER):
             return connection.client if self.wanted == CLIENT else connection.server
-        if self.wanted == BOTH:
+        if self.wanted in (BOTH, BETWEEN):
             return None
         if self.wanted:
             return self.named(connection)

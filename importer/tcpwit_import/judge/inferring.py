@@ -148,7 +148,7 @@ class Calls:
         end, before = offset + packet.size, self.at(packet, BEFORE)
         begin = self.early(packet, self.free)
         # After its FIN, an end has nothing to send: what comes then has no call.
-        if packet.size and end > self.sent and not self.shut and (offset - self.sent <= GAP or self.own.has(self.sent, offset)) \
+        if (packet.size or packet.flags & FIN) and end > self.sent and not self.shut and (offset - self.sent <= GAP or self.own.has(self.sent, offset)) \
                 and self.usable(begin, packet):
             for start in range(self.sent, end, LONGEST):
                 length = min(LONGEST, end - start)

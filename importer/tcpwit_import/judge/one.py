@@ -10,6 +10,7 @@ from ..captures import shown
 from ..connections import refuse_gaps
 from ..files import write_file
 from ..problem import Notes, Problem, decoded
+from .between import split
 from .conversion import lines_of
 from .hosts import Undecided
 
@@ -83,11 +84,13 @@ class Judge:
     def judge(self, number, indexed, found, moment):
         """Judges a connection that is captured from its beginning."""
         captures = self.roles.assign(indexed)
+        last = {host: moment or self.last[name] for host, name in captures.items()}
         connection = indexed.read(self.files, self.layouts)
         connection.hosts = indexed.hosts
         self.refuse_lost(connection)
+        if self.options.between:
+            captures, last = split(connection, captures[None], self.options.skew * 1000), {0: last[None], 1: last[None]}
         found.hosts = 1 if list(captures) == [0] else 2
-        last = {host: moment or self.last[name] for host, name in captures.items()}
         lines = lines_of(connection, captures, last, self.chosen, found.notes, self.clock)
         folder = self.options.report
         trace = os.path.join(folder, file_name(number, found)) if folder else None

@@ -6,6 +6,8 @@ from .one import counted
 
 INFERRED = ("Calls were inferred: their answers aren't judged.",
             "Nor is how soon a host sends what its program gave it (rule start-late).")
+BETWEEN = ("The capture was made between the hosts: no duty is judged, moments are estimates, and a no may also",
+           "come from segments that were lost or reordered on the way to the capture or from it.")
 HALF = "Only one host was captured: the other one isn't judged."
 
 
@@ -32,6 +34,8 @@ class Output:
             counts = f"{self.yes} yes, {self.no} no" + (f", {others} not judged" if others else "")
             print(f"{counted(self.count, 'connection')}: {counts}. {INFERRED[0]}")
             print(INFERRED[1])
+            if self.options.between:
+                print("\n".join(BETWEEN))
             if self.half:
                 print(HALF)
         return self.status if self.yes + self.no else 2
