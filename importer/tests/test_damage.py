@@ -1,23 +1,36 @@
-"""Tests that damaged captures give packets or a Problem. `tools/soak/captures.py` runs more of them."""
-import os
-import tempfile
-import tracemalloc
+"""Tests tcpwit-judge with damaged captures: it gives verdicts, or an error with a remedy."""
+import io
+import signal
 import unittest
+from unittest import mock
 
-from . import damage, samples
+from . import damage, samples, test_judge
+
+COUNT = 150
 
 
-class Damage(unittest.TestCase):
+class Damaged(test_judge.WithCaptures):
+    def judged(self, name, whole):
+        """Judges a capture, which may come by standard input. Returns None after an error."""
+        words = ["-"] if whole else [name]
+        with open(name, "rb") as file, mock.patch("sys.stdin", io.TextIOWrapper(io.BytesIO(file.read()))):
+            status, out, error = test_judge.run(*words, *self.options, "--host", "both" if name.endswith("2.pcap") else "client")
+        self.assertIn(status, (0, 1, 2))
+        self.assertNotIn("this is a bug", error)
+        self.assertNotIn("Traceback", error)
+        if status == 2:
+            self.assertRegex(error + out, r"tcpwit-judge: .+\n  .+|not judged: ")
+            return None
+        return out
+
     def test_damaged_captures(self):
+        self.options, kept = self.lab(), signal.getsignal(signal.SIGINT)
+        self.addCleanup(signal.signal, signal.SIGINT, kept)
         captures = [data for _, data in [*samples.every(), ("together", samples.together())]]
-        with tempfile.TemporaryDirectory() as folder:
-            tracemalloc.start()
-            good, bad = damage.run(captures, 79, 400, os.path.join(folder, "damaged.pcap"))
-            peak = tracemalloc.get_traced_memory()[1]
-            tracemalloc.stop()
-        # Both are common, and no length that a file states takes memory.
-        self.assertGreater(min(good, bad), 100)
-        self.assertLess(peak, 32 << 20)
+        good, bad = damage.run(captures, 79, COUNT, f"{self.folder}/1.pcap", self.judged)
+        self.assertEqual(good + bad, COUNT)
+        self.assertGreater(good, COUNT // 10)
+        damage.run(captures, 80, COUNT, f"{self.folder}/2.pcap", self.judged)
 
 
 if __name__ == "__main__":

@@ -24,8 +24,10 @@ DESCRIPTION = """Judges the TCP connections of captures, without a log of the pr
 
 FILE is what tcpdump -w or Wireshark wrote: pcap or pcapng, also compressed with gzip. Give one capture, or two that were made at the same time,
 one at each host. With - as the only FILE, standard input is a capture that goes on, such as that of tcpdump -U -w -; each connection is judged
-once it has ended and was silent for --idle seconds, or at the end. The calls of the programs are inferred from the segments; so neither their answers are judged, nor how soon a host sends what
-its program gave it (rule start-late).
+once it has ended and was silent for --idle seconds, or at the end.
+
+The calls of the programs are inferred from the segments. So neither their answers are judged, nor how soon a host sends what its program gave it
+(rule start-late).
 
 Each connection has a line: its level and the answer of tcpwit_lab judge, or why it isn't judged.
 
