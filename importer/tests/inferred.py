@@ -5,7 +5,7 @@ from unittest import mock
 from tcpwit_import.captures import shown
 from tcpwit_import.connections import connections_of
 from tcpwit_import.judge import inferring
-from tcpwit_import.judge.conversion import lines_of
+from tcpwit_import.judge.conversion import Trace
 from tcpwit_import.problem import Notes
 
 from .wire import packets
@@ -36,7 +36,7 @@ class Inferring(unittest.TestCase):
         connection.hosts = dict(zip((connection.client, connection.server), hosts))
         last = {host: max(packet.moment for packet in seen[name]) for host, name in captures.items()}
         self.notes = Notes()
-        return list(lines_of(connection, captures, last, chosen or {}, self.notes))
+        return list(Trace(connection, captures, last, chosen or {}, self.notes).lines())
 
     def calls(self, talk, **options):
         """The calls and the letters of the segments, in order."""

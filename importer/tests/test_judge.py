@@ -21,7 +21,7 @@ echo "$@" >> {folder}/words
 if [ "$1" = draw ]; then echo '<svg/>'; exit 0; fi
 if [ "$1" = explain ]; then echo 'explained'; exit 1; fi
 cat > {folder}/given
-for word; do [ "$before" = --case ] && echo 'a case' > "$word"; before=$word; done
+for word; do [ "$before" = --case ] && cat {folder}/case > "$word"; before=$word; done
 cat {folder}/answer
 exit {status}
 """
@@ -55,8 +55,10 @@ class WithCaptures(unittest.TestCase):
         self.talk.send(0, FIN | ACK)
         self.talk.send(1)
 
-    def lab(self, answer=YES, status=0):
-        """Writes a program with this answer. Returns the options that name it."""
+    def lab(self, answer=YES, status=0, case="a case\n"):
+        """Writes a program with this answer and this case. Returns the options that name it."""
+        with open(f"{self.folder}/case", "w", encoding="ascii") as file:
+            file.write(case)
         with open(f"{self.folder}/answer", "w", encoding="ascii") as file:
             file.write(answer)
         with open(f"{self.folder}/lab", "w", encoding="ascii") as file:
@@ -89,7 +91,7 @@ class Lines(WithCaptures):
         status, out, error = run(*self.files(), *self.lab())
         self.assertEqual((status, error), (0, ""))
         self.assertEqual(out, f"10.9.0.1:4000 -> 10.9.0.2:80   full      yes 57 88\n1 connection: 1 yes, 0 no. {INFERRED}")
-        self.assertEqual(self.text("words"), "judge --least full\n")
+        self.assertRegex(self.text("words"), r"^judge --least full --case /dev/fd/\d+\n$")
         self.assertIn("hosts 2\n", self.text("given"))
 
     def test_a_no(self):
@@ -98,9 +100,19 @@ class Lines(WithCaptures):
         self.assertEqual(out.splitlines()[0], "10.9.0.1:4000 -> 10.9.0.2:80   none      no 7 8 ack-late   line 8: it is late.")
         self.assertIn("1 connection: 0 yes, 1 no. ", out)
 
+    def test_the_packet_of_a_no(self):
+        for line, place in ((13, "   (FOLDER/c0.pcap, packet 1)"), (12, ""), (10, ""), (999, "")):
+            _, out, _ = run(*self.files(), *self.lab(NO.replace("line 8:", f"line {line}:"), 1))
+            self.assertEqual(out.splitlines()[0].replace(self.folder, "FOLDER").split("ack-late")[1], f"   line {line}: it is late." + place)
+        # The case has two more lines before that of the packet.
+        lab = self.lab(NO.replace("line 8:", "line 15:"), 1, "x\n5 94 T 0 1 2 rto\n6 11 B status 0\n7 94 T 0 1 2 rto\n" + "x\n" * 20 + "7 94 T 0 1 2 rto\n")
+        for words in ([], ["--report", f"{self.folder}/kept"]):
+            _, out, _ = run(*self.files(), *lab, "--json", *words)
+            self.assertEqual((os.path.basename(json.loads(out)["capture"]), json.loads(out)["packet"]), ("c0.pcap", 1))
+
     def test_options_of_judge(self):
         run(*self.files(), *self.lab(), "--level", "none", "--slack", "any", "--budget", "7")
-        self.assertEqual(self.text("words"), "judge --least none --slack any --budget 7\n")
+        self.assertIn("judge --least none --slack any --budget 7 --case ", self.text("words"))
         self.assertIn("\nslack any\n", self.text("given"))
         run(*self.files(), *self.lab(), "--minrto", "1000000", "--initial", "5681", "--grain", "1", "--msl", "2")
         self.assertIn("\nmsl 2\ngrain 1\nminrto 1000000\nextra 65535\ninitial 5681\n", self.text("given"))
@@ -208,7 +220,8 @@ class Hosts(WithCaptures):
 
     def test_clocks_that_differ(self):
         self.talk.frames[1] = [(moment + 300 * 10**9, frame) for moment, frame in self.talk.frames[1]]
-        for files in (self.files(), self.files()[::-1]):
+        for files, sign in ((self.files(), ""), (self.files()[::-1], "-")):
+            self.assertRegex(run(*files, *self.lab())[2], rf"clocks: host 1 is {sign}(300000|299999)\d+\.\d+ us ahead of host 0 \(host 0 is that of .*/c")
             self.hosts(files=files)
             moments = [int(line.split()[0]) for line in self.text("given").splitlines()[10:]]
             self.assertLess(moments[-1], 2 * 10**6)

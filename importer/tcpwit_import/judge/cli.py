@@ -9,6 +9,7 @@ from ipaddress import ip_address
 from .. import header as headers
 from .. import judging
 from ..cli import number_within, slack
+from ..clocks import SAME, said
 from ..problem import Notes, Parser, Problem, named_file, say, status_of
 from ..progress import Part
 from ..remedies import NOTHING_SENT
@@ -139,6 +140,8 @@ def judge_files(options, program, notes):
         roles = TwoCaptures(captures, connections) if len(captures) == 2 else OneCapture(captures[0], options.host)
         roles.refuse_unknown(connections)
         judges = Judge(program, {capture.name: capture for capture in captures}, roles, options, header_values(options))
+        if judges.clock != SAME:
+            notes.say(f"{said(judges.clock)} (host 0 is that of {captures[0].name})")
         output = Output(options, [str(connection) for connection in connections])
         with contextlib.closing(results(judges, connections, options.jobs)) as found, \
                 Part("judging the connections", len(connections), lambda: output.count):

@@ -12,17 +12,37 @@ from .streams import complete, streams_of
 ROOM = 65535
 
 
-def lines_of(connection, captures, last, chosen, notes, clock=SAME):
-    """The lines of a connection's trace. `captures` maps the recorded hosts to the names of their captures, or None to the one of both hosts;
-    `last` has the moment of each capture's last packet. `clock` counts if the connection alone doesn't show how the clocks differ."""
-    put_in_order(connection, captures, notes)
-    if len(captures) == 2:
-        above, below = bounds_of([connection], captures)
-        clock = clock_of(above, below) if above and below else clock
-        leave_out_unsent(connection, captures, last, clock)
-    ended = min(clock.at(moment) if host == 1 else moment for host, moment in last.items())
-    streams = streams_of(connection, {end: captures_of(connection, captures, end) for end in (connection.client, connection.server)})
-    complete(connection, streams, notes)
+class Trace:
+    """A connection's trace. `captures` maps the recorded hosts to the names of their captures, or None to the one of both hosts; `last` has the
+    moment of each capture's last packet. `clock` counts if the connection alone doesn't show how the clocks differ."""
+
+    def __init__(self, connection, captures, last, chosen, notes, clock=SAME):
+        put_in_order(connection, captures, notes)
+        if len(captures) == 2:
+            above, below = bounds_of([connection], captures)
+            clock = clock_of(above, below) if above and below else clock
+            leave_out_unsent(connection, captures, last, clock)
+        streams = streams_of(connection, {end: captures_of(connection, captures, end) for end in (connection.client, connection.server)})
+        complete(connection, streams, notes)
+        script = script_of(connection, captures, streams, last, notes)
+        hosts = 1 if list(captures) == [0] else 2
+        self.head = headers.header(hosts, (clock.skew + 999) // 1000, {"extra": ROOM} | chosen)
+        ended = min(clock.at(moment) if host == 1 else moment for host, moment in last.items())
+        self.writer = InferredWriter(connection, script, streams, captures, clock, ended, notes)
+
+    def lines(self):
+        """Its lines; each is made when it's asked for."""
+        yield from (line + "\n" for line in self.head)
+        yield from self.writer.lines()
+
+    def packet(self, number):
+        """The packet of the line with this number, once the lines were made; None if it has none."""
+        place = number - len(self.head) - 1
+        return self.writer.packets[place] if 0 <= place < len(self.writer.packets) else None
+
+
+def script_of(connection, captures, streams, last, notes):
+    """The inferred calls of the recorded hosts."""
     script = Script()
     for end, host in connection.hosts.items():
         name = captures.get(host, captures.get(None))
@@ -32,9 +52,7 @@ def lines_of(connection, captures, last, chosen, notes, clock=SAME):
                 script.ignored = ignored_by(end, packets, last.get(host, last.get(None)), notes)
                 packets = [packet for packet in packets if id(packet) not in script.ignored]
             Calls(connection, script, streams, end, packets).infer()
-    hosts = 1 if list(captures) == [0] else 2
-    yield from (line + "\n" for line in headers.header(hosts, (clock.skew + 999) // 1000, {"extra": ROOM} | chosen))
-    yield from InferredWriter(connection, script, streams, captures, clock, ended, notes).lines()
+    return script
 
 
 def put_in_order(connection, captures, notes):

@@ -2,6 +2,7 @@
 import os
 import re
 import subprocess
+from concurrent.futures import ThreadPoolExecutor
 from dataclasses import dataclass, field
 from typing import Any
 
@@ -11,10 +12,14 @@ from ..connections import refuse_gaps
 from ..files import write_file
 from ..problem import Notes, Problem, decoded
 from .between import split
-from .conversion import lines_of
+from .conversion import Trace
 from .hosts import Undecided
 
 ROW = re.compile(r"^(full|recovery|none) +((yes|no) .*)$")
+LINE = re.compile(r"line (\d+)\b")
+TIMEOUT = re.compile(rb"^\d+ \d+ T ", re.M)
+# How many bytes of a case are searched at once.
+PIECE = 1 << 20
 
 
 @dataclass
@@ -34,8 +39,9 @@ class Result:
     said: list = field(default_factory=list)
     files: list = field(default_factory=list)
     notes: Any = None
-    # Whether only its beginning was judged.
+    # Whether only its beginning was judged, and the packet that the sentence is about.
     is_part: bool = False
+    packet: Any = None
 
     @property
     def name(self):
@@ -47,7 +53,7 @@ class Result:
         """Its verdict, or why it has none."""
         if not self.answer:
             return f"not judged: {self.reason}"
-        said = [f"{self.level:<10}{self.answer}", self.sentence, f"(its first {counted(self.segments, 'segment')})" if self.is_part else ""]
+        said = [f"{self.level:<10}{self.answer}", self.sentence, f"({self.packet.place})" if self.packet else "", f"(its first {counted(self.segments, 'segment')})" if self.is_part else ""]
         return "   ".join(filter(None, said))
 
 
@@ -91,10 +97,14 @@ class Judge:
         if self.options.between:
             captures, last = split(connection, captures[None], self.options.skew * 1000), {0: last[None], 1: last[None]}
         found.hosts = 1 if list(captures) == [0] else 2
-        lines = lines_of(connection, captures, last, self.chosen, found.notes, self.clock)
-        folder = self.options.report
-        trace = os.path.join(folder, file_name(number, found)) if folder else None
-        read(found, *(self.report(trace, lines, found) if folder else self.run(lines)))
+        trace = Trace(connection, captures, last, self.chosen, found.notes, self.clock)
+        if self.options.report:
+            timeouts = self.report(os.path.join(self.options.report, file_name(number, found)), trace.lines(), found)
+        else:
+            timeouts = self.run(trace.lines(), found)
+        if line := LINE.match(found.sentence):
+            # The case has a line for each timeout that the search added.
+            found.packet = trace.packet(int(line[1]) - sum(timeout < int(line[1]) for timeout in timeouts))
 
     def refuse_lost(self, connection):
         """Refuses a connection of which a capture lost packets, unless the user accepts that."""
@@ -111,13 +121,19 @@ class Judge:
         words += ["--slack", str(options.slack)] if options.slack is not None else []
         return words + (["--budget", str(options.budget)] if options.budget is not None else [])
 
-    def run(self, lines):
-        """What `judge` prints about a trace that isn't kept, on both outputs, and its status."""
+    def run(self, lines, found):
+        """Judges a trace that isn't kept. Returns the numbers of the case's lines of timeouts."""
+        reader, writer = os.pipe()
         try:
-            process = subprocess.Popen([self.program, *self.words()], stdin=subprocess.PIPE, stdout=subprocess.PIPE, stderr=subprocess.PIPE)
+            process = subprocess.Popen([self.program, *self.words(), "--case", f"/dev/fd/{writer}"], stdin=subprocess.PIPE, stdout=subprocess.PIPE,
+                                       stderr=subprocess.PIPE, pass_fds=[writer])
         except OSError as error:
+            os.close(reader)
             raise Problem(f"{self.program}: {error.strerror}", judging.NAME_IT) from error
-        with process:
+        finally:
+            os.close(writer)
+        with ThreadPoolExecutor(1) as thread, process:
+            timeouts = thread.submit(timeouts_in, open(reader, "rb"))
             try:
                 process.stdin.writelines(map(str.encode, lines))
             except BrokenPipeError:
@@ -127,20 +143,34 @@ class Judge:
                 process.kill()
                 raise
             out, error = process.communicate()
-        return out, error, process.returncode
+        read(found, out, error, process.returncode)
+        return timeouts.result()
 
     def report(self, trace, lines, found):
-        """Judges a trace that is kept, with its case, its picture and the explanation."""
+        """Judges a trace that is kept, with its case, its picture and the explanation. Returns the numbers of the case's lines of timeouts."""
         write_file(trace, map(str.encode, lines))
         case = judging.case_of(trace)
         done = judging.on_file([self.program, *self.words(), "--case", "./" + os.path.basename(case)], trace, os.path.dirname(trace) or ".")
         found.files = [trace]
-        if done.returncode in (judging.YES, judging.NO):
-            judging.draw(self.program, trace)
-            explained = judging.on_file([self.program, "explain"], case)
-            write_file(text_of(trace), [done.stdout, b"\n", explained.stdout])
-            found.files += [name for name in (case, trace.removesuffix(".trace") + ".svg", text_of(trace)) if os.path.exists(name)]
-        return done.stdout, done.stderr, done.returncode
+        read(found, done.stdout, done.stderr, done.returncode)
+        judging.draw(self.program, trace)
+        explained = judging.on_file([self.program, "explain"], case)
+        write_file(text_of(trace), [done.stdout, b"\n", explained.stdout])
+        found.files += [name for name in (case, trace.removesuffix(".trace") + ".svg", text_of(trace)) if os.path.exists(name)]
+        return timeouts_in(open(case, "rb"))
+
+
+def timeouts_in(file):
+    """The numbers of a case's lines of timeouts. The file is closed."""
+    found, before, rest = [], 0, b""
+    with file:
+        while data := file.read(PIECE):
+            data = rest + data
+            whole = data.rfind(b"\n") + 1
+            rest, data = data[whole:], data[:whole]
+            found += [before + data.count(b"\n", 0, line.start()) + 1 for line in TIMEOUT.finditer(data)]
+            before += data.count(b"\n")
+    return found
 
 
 def read(found, out, error, status):

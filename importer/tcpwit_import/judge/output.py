@@ -54,4 +54,5 @@ def facts(result):
         found |= {"lines": int(words[1]), "steps": int(words[2])}
     else:
         found |= {"witness_line": int(words[1]), "trace_line": int(words[2]), "rule": words[3], "sentence": result.sentence}
+        found |= {"capture": result.packet.capture, "packet": result.packet.count} if result.packet else {}
     return found | {"said": result.said} | ({"files": result.files} if result.files else {})

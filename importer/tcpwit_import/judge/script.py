@@ -53,20 +53,23 @@ class InferredWriter(Writer):
     def __init__(self, connection, script, streams, captures, clock, end, notes):
         super().__init__(InferredCase(connection, script.endpoints), captures, clock, end, notes)
         self.script, self.streams = script, streams
+        # The packet of each line, None for a line of a call.
+        self.packets = []
 
     def lines(self):
         """All lines in order, with numbers and threads."""
         for endpoint in self.case.endpoints:
             self.numbers[id(endpoint)] = len(self.numbers) + 1
         start, last = None, 0
-        for line in self.in_order():
+        for line, packet in self.in_order():
             start, last = line.moment - 10**9 if start is None else start, line.moment
+            self.packets.append(packet)
             yield f"{(line.moment - start) // 1000} {self.thread(line.thread)} {line.text}\n"
         for text in LAST_CALL if start is not None else ():
             yield f"{(max(last, self.end) - start) // 1000} {self.thread(LAST_CALL)} {text}\n"
 
     def in_order(self):
-        """The lines of segments, each between those of calls."""
+        """The lines of segments, each with its packet and between those of calls."""
         flows = {id(connection): Flow(connection, self.notes, self.both) for connection in self.case.connections}
         moments = sorted(((self.moment(*place), place) for place in self.script.moments), reverse=True)
         for line, connection, packet in self.ordered():
@@ -77,13 +80,13 @@ class InferredWriter(Writer):
                 earlier, place = moments.pop()
                 yield from self.calls_at(place, earlier)
             yield from self.calls_at((letter, host, id(packet), BEFORE), moment)
-            yield from self.pieces(flows[id(connection)], line, packet)
+            yield from ((piece, packet) for piece in self.pieces(flows[id(connection)], line, packet))
             yield from self.calls_at((letter, host, id(packet), AFTER), moment)
 
     def calls_at(self, place, moment):
         """The lines of the calls at a place."""
         for action, begins in self.script.lines.get(place, ()):
-            yield Line(moment, action.thread, self.begin_text(action) if begins else self.end_text(action))
+            yield Line(moment, action.thread, self.begin_text(action) if begins else self.end_text(action)), None
 
     def begin_text(self, action):
         """The words of a call's beginning. In a simultaneous open, the second end opens, too."""
