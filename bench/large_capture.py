@@ -116,7 +116,7 @@ def main():
             status = process.wait()
             memory.join()
             out.seek(0)
-            summary = next(line for line in out if line[:1].isdigit() and " connections: " in line)
+            summary = next(line for line in out if " yes, " in line)
         print(f"{os.path.getsize(name) / 10**6:.0f} MB, {summary.strip()}")
         print(f"status {status}, {time.monotonic() - begun:.1f} s, at most {memory.most / 1000:.0f} MB of memory")
 

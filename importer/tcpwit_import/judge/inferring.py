@@ -144,20 +144,26 @@ class Calls:
             self.receive(packet, self.peer.acknowledged(packet))
 
     def send_bytes(self, packet, offset):
-        """The program sent the new bytes of a segment, and ended sending before a FIN."""
+        """The program sent the new bytes of a segment, and ended sending before a FIN. After that, an end has nothing to send: what comes then has no
+        call."""
+        if self.shut or not (packet.size or packet.flags & FIN):
+            return
         end, before = offset + packet.size, self.at(packet, BEFORE)
+        if end > self.sent and (offset - self.sent <= GAP or self.own.has(self.sent, offset)):
+            self.send_up_to(end, packet)
+        if packet.flags & FIN and self.usable(before, packet):
+            self.shut = True
+            self.call(self.early(packet, max(self.free, self.last_arrival())), before, "shut")
+
+    def send_up_to(self, end, packet):
+        """The program sent its bytes up to this offset."""
         begin = self.early(packet, self.free)
-        # After its FIN, an end has nothing to send: what comes then has no call.
-        if (packet.size or packet.flags & FIN) and end > self.sent and not self.shut and (offset - self.sent <= GAP or self.own.has(self.sent, offset)) \
-                and self.usable(begin, packet):
+        if self.usable(begin, packet):
             for start in range(self.sent, end, LONGEST):
                 length = min(LONGEST, end - start)
                 data = Data(b"", self.socket, start, length, True)
-                self.call(begin, before if start + length == end else begin, "send", (data,), ("ok", length))
+                self.call(begin, self.at(packet, BEFORE) if start + length == end else begin, "send", (data,), ("ok", length))
             self.sent = end
-        if packet.flags & FIN and not self.shut and self.usable(before, packet):
-            self.shut = True
-            self.call(self.early(packet, max(self.free, self.last_arrival())), before, "shut")
 
     def last_arrival(self):
         """The place of the last packet that arrived, -1 if none did. What the program ended before it would be another state then."""
