@@ -16,7 +16,7 @@ class Damaged(test_judge.WithCaptures):
         with open(name, "rb") as file, mock.patch("sys.stdin", io.TextIOWrapper(io.BytesIO(file.read()))):
             status, out, error = test_judge.run(*words, *self.options, "--host", "both" if name.endswith("2.pcap") else "client")
         self.assertIn(status, (0, 1, 2))
-        self.assertNotIn("this is a bug", error)
+        self.assertNotIn("this is a bug", error + out)
         self.assertNotIn("Traceback", error)
         if status == 2:
             self.assertRegex(error + out, r"tcpwit-judge: .+\n  .+|not judged: ")

@@ -126,6 +126,11 @@ class Lines(WithCaptures):
         self.assertEqual([line.split()[0] for line in out.splitlines()[:2]], ["10.9.0.1:4001", "10.9.0.1:4000"])
         self.assertIn("2 connections: 2 yes, 0 no. ", out)
 
+    def test_a_port_that_connects_to_itself(self):
+        self.talk = Talk(zero=("10.9.0.1", 80), one=("10.9.0.1", 80))
+        _, out, _ = run(*self.files(hosts=(0,)), *self.lab())
+        self.assertIn("not judged: it connects a port with itself", out)
+
     def test_ports_used_again(self):
         again = Talk(at=200 * 10**9)
         again.next = {0: 900000, 1: 50}
@@ -287,6 +292,12 @@ class Faults(WithCaptures):
             with open(name, "rb") as plain, gzip.open(name + ".gz", "wb") as packed:
                 packed.write(plain.read())
         self.assertEqual(run(*(f"{self.folder}/c{host}.pcap.gz" for host in (0, 1)), *self.lab())[0], 0)
+
+    def test_a_bug_concerns_one_connection(self):
+        with mock.patch("tcpwit_import.judge.one.Trace", side_effect=ValueError("x")):
+            status, out, _ = run(*self.files(), *self.lab())
+        self.assertEqual(status, 2)
+        self.assertRegex(out, r"not judged: ValueError: x \(mock.py, line \d+\); this is a bug: report it with the capture\n")
 
     def test_a_killed_worker(self):
         second = Talk(zero=("10.9.0.1", 4001), at=99 * 10**9)

@@ -1,7 +1,7 @@
 """A capture that was made between the hosts, such as at a switch, as two: what each host sent and received, a moment before or after."""
 from copy import copy
 
-from ..connections import ACK, RST
+from ..connections import ACK, FIN, RST, SYN, WRAP
 
 
 def split(connection, name, longest):
@@ -10,7 +10,8 @@ def split(connection, name, longest):
     packets = entering(connection.seen.pop(name))
     names = {host: f"{name}, host {host}" for host in (0, 1)}
     for end, host in connection.hosts.items():
-        delay = min(longest, fastest_answer(packets, end) // 2)
+        # At equal moments, a segment might be received before it is sent.
+        delay = max(1, min(longest, fastest_answer(packets, end) // 2))
         connection.seen[names[host]] = [moved(packet, -delay if packet.source == end else delay) for packet in packets]
     return names
 
@@ -29,14 +30,20 @@ def moved(packet, delay):
 
 
 def fastest_answer(packets, end):
-    """The shortest time between a segment to an end and the one by which it acknowledges exactly that; 0 if there's none."""
-    awaited, shortest = {}, None
+    """The shortest time between a segment to an end and one by which it newly acknowledges all of that; 0 if there's none."""
+    first, reached, shortest = None, 0, None
+    # The end of each segment that isn't acknowledged yet, and its moment.
+    waiting = []
     for packet in sorted(packets, key=lambda packet: packet.moment):
         if packet.source != end:
-            length = packet.size + (packet.flags & 1) + (packet.flags >> 1 & 1)
-            if length:
-                awaited[(packet.number + length) % (1 << 32)] = packet.moment
-        elif packet.flags & (ACK | RST) == ACK and (asked := awaited.pop(packet.acknowledgment, None)) is not None:
-            taken = packet.moment - asked
-            shortest = taken if shortest is None else min(shortest, taken)
+            length = packet.size + (packet.flags & FIN) + bool(packet.flags & SYN)
+            first = packet.number if first is None else first
+            if length and not packet.flags & RST:
+                waiting.append(((packet.number + length - first) % WRAP, packet.moment))
+        elif packet.flags & (ACK | RST) == ACK and waiting:
+            reached = max(reached, (packet.acknowledgment - first) % WRAP)
+            covered = [moment for stop, moment in waiting if stop <= reached]
+            if covered:
+                waiting = [each for each in waiting if each[0] > reached]
+                shortest = min(packet.moment - max(covered), packet.moment - max(covered) if shortest is None else shortest)
     return shortest or 0

@@ -10,7 +10,7 @@ from .. import judging
 from ..captures import shown
 from ..connections import refuse_gaps
 from ..files import write_file
-from ..problem import Notes, Problem, decoded
+from ..problem import Notes, Problem, decoded, place_of
 from .between import split
 from .conversion import Trace
 from .hosts import Undecided
@@ -74,6 +74,8 @@ class Judge:
         try:
             if not indexed.whole:
                 raise Undecided(f"it began before the capture ({counted(indexed.count, 'segment')})")
+            if indexed.client == indexed.server:
+                raise Undecided("it connects a port with itself")
             if indexed.fragmented or self.is_fragmented(indexed):
                 raise Problem("the capture has fragments of IP packets with segments between its hosts", "record with a smaller MTU")
             self.judge(number, indexed, found, moment)
@@ -81,6 +83,9 @@ class Judge:
             found.reason = str(reason)
         except Problem as problem:
             found.reason, found.status = problem.cause, 2
+        except Exception as error:
+            # The other connections are judged all the same.
+            found.reason, found.status = f"{type(error).__name__}: {error} ({place_of(error)}); this is a bug: report it with the capture", 2
         return found
 
     def is_fragmented(self, indexed):
