@@ -19,6 +19,7 @@ LEVELS = ["full", "recovery", "none"]
 # The file of each command that is a script.
 COMMANDS = {
     "tcpwit-record": "importer/tcpwit-record",
+    "tcpwit-judge": "importer/tcpwit-judge",
     "tcpwit-import": "importer/tcpwit-import",
     "tcpwit-stacks": "stacks/run",
     "tcpwit-junit": "packaging/lines/tcpwit-junit",

@@ -198,13 +198,16 @@ class Writer:
         """The lines of all captured segments, in the order of each capture."""
         flows = {id(connection): Flow(connection, self.notes, self.both) for connection in self.case.connections}
         for line, connection, packet in self.ordered():
-            letter, host, moment = line
-            flow = flows[id(connection)]
-            pieces = flow.went_out(packet) if letter == "O" else flow.came_in(packet)
-            for piece in pieces:
-                if len(piece) > LONGEST_SEGMENT:
-                    raise Problem(f"{packet.place}: a segment of {len(piece)} bytes", OFFLOADS_OFF, f"use --kernel plain for a pair; else {OFFLOADS_OFF}")
-                yield Line(moment, THREADS[letter, host], f"{letter} {host} {piece.hex()}")
+            yield from self.pieces(flows[id(connection)], line, packet)
+
+    @staticmethod
+    def pieces(flow, line, packet):
+        """The lines of a captured segment, with its letter, host and moment: as many as it has on the wire."""
+        letter, host, moment = line
+        for piece in flow.went_out(packet) if letter == "O" else flow.came_in(packet):
+            if len(piece) > LONGEST_SEGMENT:
+                raise Problem(f"{packet.place}: a segment of {len(piece)} bytes", OFFLOADS_OFF, f"use --kernel plain for a pair; else {OFFLOADS_OFF}")
+            yield Line(moment, THREADS[letter, host], f"{letter} {host} {piece.hex()}")
 
     def ordered(self):
         """Segments with letter, host and moment. Segments sent precede those that the other host received at the same moment."""

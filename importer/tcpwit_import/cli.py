@@ -13,6 +13,7 @@ from .cases import Writer, cases_by_listener
 from .clocks import SAME, bounds_of, clock_of, refuse_distant, said
 from .completeness import refuse_missing_ends, refuse_missing_sends
 from .connections import connections_of, refuse_gaps
+from .copies import without_copies
 from .files import print_lines, remove, write_file
 from .problem import Notes, Parser, Problem, named_file, say, status_of
 from .progress import Part
@@ -149,6 +150,8 @@ def run(options, notes):
     names = {host: ", ".join(files) for host, files in captures.items()}
     with Part("finding the connections"):
         connections = connections_of({names[host]: of_host for host, of_host in packets.items()})
+        for connection in connections:
+            connection.seen = {name: without_copies(found, notes) for name, found in connection.seen.items()}
     if not connections:
         raise Problem(f"{', '.join(names.values())}: no TCP segment", "capture at the interface that the programs use, with the filter tcp or none",
                       NOTHING_SENT)

@@ -170,25 +170,31 @@ def _size_option(segment):
     return None
 
 
-def connections_of(captures):
-    """The connections of all captures, in the order in which they begin. `captures` maps names to lists of packets."""
+def connections_of(captures, kind=Connection):
+    """The connections of all captures, in the order in which they begin. `captures` maps names to packets."""
     found = {}
     for name, packets in captures.items():
         current = {}
         for packet in packets:
             pair = frozenset((packet.source, packet.target))
             connection = current.get(pair)
-            if packet.is_syn and (connection is None or not connection.whole or _is_new(connection, packet)):
-                key = (packet.source, packet.target, packet.number)
-                connection = found.setdefault(key, Connection(packet.source, packet.target, packet.moment))
-                current[pair] = connection
-            elif connection is None:
-                key = (pair, name)
-                connection = found.setdefault(key, Connection(*_ends(packet), packet.moment))
-                connection.whole = False
-                current[pair] = connection
+            if not continues(connection, packet):
+                key = (packet.source, packet.target, packet.number) if packet.is_syn else (pair, name)
+                connection = current[pair] = found.setdefault(key, begun_by(packet, kind))
             connection.add(name, packet)
     return sorted(found.values(), key=lambda connection: connection.begun)
+
+
+def continues(connection, packet):
+    """Whether a packet belongs to the connection that its ports had last, which is None if they had none."""
+    return connection is not None and not (packet.is_syn and (not connection.whole or _is_new(connection, packet)))
+
+
+def begun_by(packet, kind):
+    """The connection whose first captured packet this is. Without a SYN, it has begun before."""
+    connection = kind(*((packet.source, packet.target) if packet.is_syn else _ends(packet)), packet.moment)
+    connection.whole = packet.is_syn
+    return connection
 
 
 def _ends(packet):

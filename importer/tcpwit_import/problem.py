@@ -120,6 +120,13 @@ class Notes:
         """A line of its own."""
         self.said.append(text)
 
+    def add(self, other):
+        """Adds the counts of other notes. The first place of each kind is the one that was noted first."""
+        for kinds, more in ((self.left_out, other.left_out), (self.changed, other.changed)):
+            for kind, (count, place) in more.items():
+                before, first = kinds.get(kind, (0, place))
+                kinds[kind] = (before + count, first)
+
     @staticmethod
     def _count(kinds, kind, place):
         count, first = kinds.get(kind, (0, place))

@@ -5,6 +5,7 @@ WHOLE_PACKETS = "record complete packets: tcpdump -s 0"
 BUFFER = "record again with a larger buffer: tcpdump -s 130000 -B 262144 --immediate-mode -U"
 ALL_CALLS = "trace all calls from the program's start, with strace -f and no -e (io_uring can't be traced)"
 OFFLOADS_OFF = "turn the offloads off: ethtool -K IF tso off gso off gro off"
+LESS_AT_ONCE = "judge fewer connections at once, with --jobs 1, or use a machine with more memory"
 
 # For tcpwit-record.
 NOTHING_SENT = "check that the programs use TCP; --interface, if given, must be the one that they use"

@@ -442,15 +442,14 @@ class Command(WithFiles):
             self.refused(["--version", "3", "--transfer", "5"], "format version 3 is for one recorded host", recording)
 
     def test_all_that_is_missing_is_named_at_once(self):
-        install = "install them: apt-get install strace tcpdump iproute2 gzip python3-dpkt"
-        with mock.patch("os.geteuid", return_value=0), mock.patch.dict(os.environ, {"PATH": self.folder}), \
-                mock.patch("tcpwit_import.recording.cli.dpkt", None):
-            self.refused(["--no-check", "--transfer", "5"], "not installed: strace, tcpdump, ip, gzip, the Python library dpkt\n  " + install + "\n", recording)
-            self.refused(["--no-check", "--pair", "a b", "--", "c", "d"], "dpkt, a, c\n  " + install + "; install a, c, or name", recording)
-            self.refused(["--no-check", "--", "c", "d"], "not installed: strace, tcpdump, gzip, the Python library dpkt, c\n", recording)
+        install = "install them: apt-get install strace tcpdump iproute2 gzip"
+        with mock.patch("os.geteuid", return_value=0), mock.patch.dict(os.environ, {"PATH": self.folder}):
+            self.refused(["--no-check", "--transfer", "5"], "not installed: strace, tcpdump, ip, gzip\n  " + install + "\n", recording)
+            self.refused(["--no-check", "--pair", "a b", "--", "c", "d"], "gzip, a, c\n  " + install + "; install a, c, or name", recording)
+            self.refused(["--no-check", "--", "c", "d"], "not installed: strace, tcpdump, gzip, c\n", recording)
             with mock.patch("tcpwit_import.judging.TOP", self.folder), mock.patch.dict(os.environ):
                 os.environ.pop("TCPWIT_LAB", None)
-                cause = "not installed: strace, tcpdump, gzip, the Python library dpkt, c; tcpwit_lab is not in PATH, and not built in this repository\n"
+                cause = "not installed: strace, tcpdump, gzip, c; tcpwit_lab is not in PATH, and not built in this repository\n"
                 self.refused(["--", "c"], cause, recording)
                 self.refused(["--", "c"], "or name the program as you would in a shell; install the package tcpwit, which contains tcpwit and tcpwit_lab", recording)
         self.assertEqual([name for name in os.listdir(self.folder) if name.startswith("tcpwit-")], [])

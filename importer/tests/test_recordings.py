@@ -1,8 +1,9 @@
 """Tests recordings of unmodified programs: data/recordings.tar.xz has captures and logs, expected.txt the results.
 
 A line of expected.txt has the name, the number of lines of the trace, and the strictest level with a yes: full, recovery or
-none. The level is compared if TCPWIT_LAB names the program that judges.
+none. The level is compared if TCPWIT_LAB names the program that judges; it is also compared with that of each connection without its calls.
 """
+import json
 import os
 import re
 import tarfile
@@ -10,6 +11,7 @@ import tempfile
 import unittest
 
 from tcpwit_import.header import LEVELS
+from tcpwit_import.judge.cli import main as judging
 
 from .test_command import run
 
@@ -58,6 +60,19 @@ class Recordings(unittest.TestCase):
                     # A better witness may be found, for a stricter level.
                     self.assertIn(strictest, LEVELS[:LEVELS.index(level) + 1], out + error)
                     self.assertEqual(status, 0 if options or strictest == "full" else 1)
+
+    @unittest.skipUnless(os.environ.get("TCPWIT_LAB"), "TCPWIT_LAB names no program")
+    def test_verdicts_without_the_logs(self):
+        for name, _, level in self.expected:
+            folder = os.path.join(self.folder.name, name)
+            files = sorted(f"{folder}/{file}" for file in os.listdir(folder) if file.endswith(".pcap"))
+            with self.subTest(name):
+                _, out, error = run(*files, *(["--host", "client"] if name.startswith("half") else []), "--json", command=judging)
+                found = [json.loads(line) for line in out.splitlines()]
+                self.assertTrue(found, error)
+                for connection in found:
+                    self.assertEqual(connection.get("answer"), "yes", out + error)
+                    self.assertIn(connection["level"], LEVELS[:LEVELS.index(level) + 1], out)
 
     def is_sound(self, text):
         """Checks that moments don't fall, a thread's calls alternate with their ends, numbers are assigned once, and received segments were sent before."""

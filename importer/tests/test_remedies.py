@@ -7,6 +7,7 @@ import unittest
 
 from tcpwit_import import remedies
 from tcpwit_import.cli import parser as of_importer
+from tcpwit_import.judge.cli import parser as of_judge
 from tcpwit_import.recording.cli import parser as of_recorder
 
 PACKAGE = os.path.dirname(os.path.realpath(remedies.__file__))
@@ -31,7 +32,7 @@ def text_of(node, names):
 
 class Remedies(unittest.TestCase):
     def problems(self):
-        """Cause, remedy and the recorder's remedy of each error, and whether only the recorder has it."""
+        """Cause, remedy and the recorder's remedy of each error, and the folder of its module."""
         for path in glob.glob(f"{PACKAGE}/**/*.py", recursive=True):
             with open(path, encoding="utf-8") as file:
                 tree = ast.parse(file.read())
@@ -39,15 +40,16 @@ class Remedies(unittest.TestCase):
                                       if isinstance(each, ast.Assign) and isinstance(each.targets[0], ast.Name)}
             for call in ast.walk(tree):
                 if isinstance(call, ast.Call) and getattr(call.func, "id", "") == "Problem":
-                    yield [text_of(each, names) for each in call.args], os.path.basename(os.path.dirname(path)) == "recording"
+                    yield [text_of(each, names) for each in call.args], os.path.basename(os.path.dirname(path))
 
     def test_options_exist(self):
         options = {command: {name for action in parser()._actions for name in action.option_strings} | OTHERS  # noqa: SLF001
-                   for command, parser in (("importer", of_importer), ("recorder", of_recorder))}
+                   for command, parser in (("importer", of_importer), ("recorder", of_recorder), ("judge", of_judge))}
         count = 0
-        for (cause, remedy, *recorded), is_recorders in self.problems():
+        for (cause, remedy, *recorded), folder in self.problems():
             commands = {"recorder": (recorded or [remedy])[0]} if not any(sign in cause for sign in ONLY_IMPORTER) else {}
-            commands |= {} if is_recorders else {"importer": remedy}
+            commands |= {} if folder == "recording" else {"importer": remedy}
+            commands = {"judge": remedy} if folder == "judge" else commands
             for command, text in commands.items():
                 count += 1
                 self.assertEqual(set(OPTION.findall(text)) - options[command], set(), f"{command}: {cause}: {text}")

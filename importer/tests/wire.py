@@ -1,10 +1,10 @@
 """Small connections, captures and logs for the tests."""
+import io
 import socket
 import struct
 
-import dpkt
-
-from tcpwit_import.captures import Packet
+from tcpwit_import.captures import packets_of
+from tcpwit_import.problem import Notes
 from tcpwit_import.strace_log import read_log
 
 ZERO, ONE = ("10.9.0.1", 4000), ("10.9.0.2", 80)
@@ -40,10 +40,16 @@ def ethernet(packet):
 def pcap(name, frames, link=1, nano=True):
     """Writes a pcap file of (moment in nanoseconds, frame)."""
     with open(name, "wb") as file:
-        file.write(struct.pack("<IHHiIII", 0xA1B23C4D if nano else 0xA1B2C3D4, 2, 4, 0, 0, 262144, link))
-        for moment, frame in frames:
-            part = moment % SECOND // (1 if nano else 1000)
-            file.write(struct.pack("<IIII", moment // SECOND, part, len(frame), len(frame)) + frame)
+        file.write(pcap_bytes(frames, link, nano))
+
+
+def pcap_bytes(frames, link=1, nano=True):
+    """The bytes of a pcap file."""
+    parts = [struct.pack("<IHHiIII", 0xA1B23C4D if nano else 0xA1B2C3D4, 2, 4, 0, 0, 262144, link)]
+    for moment, frame in frames:
+        part = moment % SECOND // (1 if nano else 1000)
+        parts.append(struct.pack("<IIII", moment // SECOND, part, len(frame), len(frame)) + frame)
+    return b"".join(parts)
 
 
 SIZE = b"\x02\x04\x05\xb4"
@@ -105,9 +111,4 @@ def address(end, family="AF_INET"):
 
 def packets(talk, host):
     """The packets of one capture, without a file."""
-    found = []
-    for moment, frame in talk.frames[host]:
-        packet = dpkt.ethernet.Ethernet(frame).data
-        ports = struct.unpack("!HH", packet.data[:4])
-        found.append(Packet(moment, (packet.src, ports[0]), (packet.dst, ports[1]), bytes(packet.data), None, "capture", len(found) + 1))
-    return found
+    return list(packets_of("capture", io.BytesIO(pcap_bytes(talk.frames[host])), Notes()))

@@ -7,12 +7,8 @@ import socket
 import threading
 import time
 
+from ..layers import ETHERNET, LeftOut, segment_in
 from ..problem import Problem
-
-try:
-    import dpkt
-except ImportError:
-    dpkt = None
 
 ALL = 3
 OUTGOING = 4
@@ -56,10 +52,13 @@ class Carrier:
 
     def is_lost(self, side, frame):
         """Whether this frame is lost."""
-        packet = dpkt.ethernet.Ethernet(frame[VNET_HEADER:]).data
-        segment = getattr(packet, "data", b"")
-        is_tcp = isinstance(packet, (dpkt.ip.IP, dpkt.ip6.IP6)) and getattr(packet, "p", 0) == 6 and len(segment) >= 20
-        if not is_tcp:
+        frame = frame[VNET_HEADER:]
+        try:
+            _, _, start, end, *_ = segment_in(ETHERNET, frame, len(frame))
+        except LeftOut:
+            return False
+        segment = frame[start:end]
+        if len(segment) < 20:
             return False
         if side == 0 and len(segment) > (segment[12] >> 4) * 4:
             self.data += 1

@@ -14,7 +14,6 @@ from ..files import write_file
 from ..problem import Notes, Parser, Problem, named_file, not_run, say, status_of
 from ..progress import Part
 from . import NAME
-from .carrier import dpkt
 from .namespaces import ADDRESSES
 from .recorder import Recording, pair_words
 
@@ -140,8 +139,6 @@ def refuse_missing(options):
     """Names all packages and programs at once that the recording needs and that aren't installed."""
     has_namespaces = options.pair or options.transfer or options.namespace
     missing = {name: package for name, package in PACKAGES.items() if shutil.which(name) is None and (has_namespaces or name != "ip")}
-    if dpkt is None:
-        missing["the Python library dpkt"] = "python3-dpkt"
     commands = pair_words(options) if options.pair or options.transfer else [options.program]
     unknown = [name for name in dict.fromkeys(words[0] for words in commands) if shutil.which(name) is None]
     named = [f"{name}: {not_run(name)}" for name in unknown if "/" in name]

@@ -1,0 +1,1 @@
+"""The command tcpwit-judge: judges the connections of captures without a log of their calls."""

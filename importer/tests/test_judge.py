@@ -1,0 +1,352 @@
+"""Tests the command tcpwit-judge. A script with chosen answers replaces tcpwit_lab, unless TCPWIT_LAB names the program."""
+import contextlib
+import gzip
+import io
+import json
+import os
+import struct
+import tempfile
+import unittest
+from ipaddress import ip_address
+from unittest import mock
+
+from tcpwit_import.judge.cli import main
+
+from .wire import ACK, FIN, RST, SYN, Talk, ethernet, ip_packet, pcap, segment
+
+# Answers `judge` by what the test chose, saves the trace, and writes a case and a picture if requested.
+SCRIPT = """#!/bin/sh
+[ "$*" = judge ] && exit 2
+echo "$@" >> {folder}/words
+if [ "$1" = draw ]; then echo '<svg/>'; exit 0; fi
+if [ "$1" = explain ]; then echo 'explained'; exit 1; fi
+cat > {folder}/given
+for word; do [ "$before" = --case ] && cat {folder}/case > "$word"; before=$word; done
+cat {folder}/answer
+exit {status}
+"""
+YES = "full      yes 57 88\nThe run follows RFC 9293.\n"
+NO = "full      no 9 8 state\nrecovery  no 9 8 state\nnone      no 7 8 ack-late\nUnder none: line 8: it is late.\n"
+INFERRED = "Calls were inferred: their answers aren't judged.\nNor is how soon a host sends what its program gave it (rule start-late).\n"
+
+
+def run(*words):
+    """Runs the command. Returns its status and both outputs."""
+    out, error = io.StringIO(), io.StringIO()
+    with contextlib.redirect_stdout(out), contextlib.redirect_stderr(error):
+        try:
+            status = main(list(words))
+        except SystemExit as end:
+            status = end.code
+    return status, out.getvalue(), error.getvalue()
+
+
+def cooked(frames, own):
+    """The frames of a capture of all interfaces, which marks those of a host as sent."""
+    return [(moment, struct.pack("!HHHQ", 4 if own in frame[26:30] else 0, 1, 6, 0) + frame[12:14] + frame[14:]) for moment, frame in frames]
+
+
+class WithCaptures(unittest.TestCase):
+    def setUp(self):
+        self.folder = self.enterContext(tempfile.TemporaryDirectory())
+        self.talk = Talk()
+        self.talk.send(0, payload=b"hello")
+        self.talk.send(1, FIN | ACK)
+        self.talk.send(0, FIN | ACK)
+        self.talk.send(1)
+
+    def lab(self, answer=YES, status=0, case="a case\n"):
+        """Writes a program with this answer and this case. Returns the options that name it."""
+        with open(f"{self.folder}/case", "w", encoding="ascii") as file:
+            file.write(case)
+        with open(f"{self.folder}/answer", "w", encoding="ascii") as file:
+            file.write(answer)
+        with open(f"{self.folder}/lab", "w", encoding="ascii") as file:
+            file.write(SCRIPT.format(folder=self.folder, status=status))
+        os.chmod(f"{self.folder}/lab", 0o755)
+        return ["--lab", f"{self.folder}/lab", "--jobs", "1"]
+
+    def files(self, talk=None, hosts=(0, 1)):
+        """Writes the captures of hosts. Returns their names."""
+        names = [f"{self.folder}/c{host}.pcap" for host in hosts]
+        for name, host in zip(names, hosts):
+            pcap(name, (talk or self.talk).frames[host])
+        return names
+
+    def text(self, name):
+        """The text of a file."""
+        with open(f"{self.folder}/{name}", encoding="ascii") as file:
+            return file.read()
+
+    def fails(self, *words):
+        """The message of a run that fails with status 2, without its second line."""
+        status, out, error = run(*words)
+        self.assertEqual((status, out), (2, ""), error)
+        self.assertNotIn("this is a bug", error)
+        return error.splitlines()[0]
+
+
+class Lines(WithCaptures):
+    def test_a_yes(self):
+        status, out, error = run(*self.files(), *self.lab())
+        self.assertEqual((status, error), (0, ""))
+        self.assertEqual(out, f"10.9.0.1:4000 -> 10.9.0.2:80   full      yes 57 88\n1 connection: 1 yes, 0 no. {INFERRED}")
+        self.assertRegex(self.text("words"), r"^judge --least full --case /dev/fd/\d+\n$")
+        self.assertIn("hosts 2\n", self.text("given"))
+
+    def test_a_no(self):
+        status, out, _ = run(*self.files(), *self.lab(NO, 1))
+        self.assertEqual(status, 1)
+        self.assertEqual(out.splitlines()[0], "10.9.0.1:4000 -> 10.9.0.2:80   none      no 7 8 ack-late   line 8: it is late.")
+        self.assertIn("1 connection: 0 yes, 1 no. ", out)
+
+    def test_the_packet_of_a_no(self):
+        for line, place in ((13, "   (FOLDER/c0.pcap, packet 1)"), (12, ""), (10, ""), (999, "")):
+            _, out, _ = run(*self.files(), *self.lab(NO.replace("line 8:", f"line {line}:"), 1))
+            self.assertEqual(out.splitlines()[0].replace(self.folder, "FOLDER").split("ack-late")[1], f"   line {line}: it is late." + place)
+        # The case has two more lines before that of the packet.
+        lab = self.lab(NO.replace("line 8:", "line 15:"), 1, "x\n5 94 T 0 1 2 rto\n6 11 B status 0\n7 94 T 0 1 2 rto\n" + "x\n" * 20 + "7 94 T 0 1 2 rto\n")
+        for words in ([], ["--report", f"{self.folder}/kept"]):
+            _, out, _ = run(*self.files(), *lab, "--json", *words)
+            self.assertEqual((os.path.basename(json.loads(out)["capture"]), json.loads(out)["packet"]), ("c0.pcap", 1))
+
+    def test_options_of_judge(self):
+        run(*self.files(), *self.lab(), "--level", "none", "--slack", "any", "--budget", "7")
+        self.assertIn("judge --least none --slack any --budget 7 --case ", self.text("words"))
+        self.assertIn("\nslack any\n", self.text("given"))
+        run(*self.files(), *self.lab(), "--minrto", "1000000", "--initial", "5681", "--grain", "1", "--msl", "2")
+        self.assertIn("\nmsl 2\ngrain 1\nminrto 1000000\nextra 65535\ninitial 5681\n", self.text("given"))
+
+    def test_connections_in_their_order(self):
+        second = Talk(zero=("10.9.0.1", 4001), at=99 * 10**9)
+        for host in (0, 1):
+            second.frames[host] += self.talk.frames[host]
+        status, out, _ = run(*self.files(second), *self.lab()[:2], "--jobs", "3")
+        self.assertEqual(status, 0)
+        self.assertEqual([line.split()[0] for line in out.splitlines()[:2]], ["10.9.0.1:4001", "10.9.0.1:4000"])
+        self.assertIn("2 connections: 2 yes, 0 no. ", out)
+
+    def test_a_port_that_connects_to_itself(self):
+        self.talk = Talk(zero=("10.9.0.1", 80), one=("10.9.0.1", 80))
+        _, out, _ = run(*self.files(hosts=(0,)), *self.lab())
+        self.assertIn("not judged: it connects a port with itself", out)
+
+    def test_ports_used_again(self):
+        again = Talk(at=200 * 10**9)
+        again.next = {0: 900000, 1: 50}
+        again.frames = {0: [], 1: []}
+        again.syn(b"")
+        for host in (0, 1):
+            self.talk.frames[host] += again.frames[host]
+        _, out, _ = run(*self.files(), *self.lab())
+        self.assertEqual([line.split()[0] for line in out.splitlines()[:2]], ["10.9.0.1:4000"] * 2)
+
+    def test_a_missing_beginning(self):
+        self.talk.frames[0] = self.talk.frames[0][1:]
+        status, out, _ = run(*self.files(hosts=(0,)), *self.lab(), "--host", "client")
+        self.assertEqual(status, 2)
+        self.assertEqual(out.splitlines()[0], "10.9.0.1:4000 -> 10.9.0.2:80   not judged: it began before the capture (6 segments)")
+        self.assertIn("1 connection: 0 yes, 0 no, 1 not judged. ", out)
+
+    def test_a_beginning_that_one_capture_lacks(self):
+        self.talk.frames[1] = self.talk.frames[1][2:]
+        _, out, _ = run(*self.files(), *self.lab())
+        self.assertEqual(out.splitlines()[0], "10.9.0.1:4000 -> 10.9.0.2:80   not judged: it began before the capture (12 segments)")
+        self.assertEqual(len(out.splitlines()), 3)
+
+    def test_a_lost_packet(self):
+        del self.talk.frames[0][3]
+        status, out, _ = run(*self.files(), *self.lab())
+        self.assertEqual(status, 2)
+        self.assertIn("not judged: ", out.splitlines()[0])
+        self.assertIn("lost packets", out.splitlines()[0])
+        self.assertEqual(run(*self.files(), *self.lab(), "--keep-gaps")[0], 0)
+
+    def test_json(self):
+        _, out, _ = run(*self.files(), *self.lab(NO, 1), "--json")
+        self.assertEqual(json.loads(out), {
+            "client": "10.9.0.1:4000", "server": "10.9.0.2:80", "begun": 100.0, "segments": 14, "judged": True, "hosts": 2, "level": "none", "answer": "no",
+            "status": 1, "witness_line": 7, "trace_line": 8, "rule": "ack-late", "sentence": "line 8: it is late.", "said": NO.splitlines()})
+        _, out, _ = run(*self.files(), *self.lab(), "--json")
+        self.assertEqual((json.loads(out)["lines"], json.loads(out)["steps"]), (57, 88))
+
+    def test_a_report(self):
+        report = f"{self.folder}/kept"
+        _, out, _ = run(*self.files(), *self.lab(), "--report", report, "--json")
+        names = [os.path.basename(name) for name in json.loads(out)["files"]]
+        self.assertEqual(names, [f"1-10.9.0.1_4000-10.9.0.2_80.{end}" for end in ("trace", "case", "svg", "txt")])
+        self.assertEqual(sorted(os.listdir(report)), sorted(names))
+        self.assertEqual(self.text("kept/" + names[3]), YES + "\nexplained\n")
+        self.assertEqual(self.fails(*self.files(), *self.lab(), "--report", report), f"tcpwit-judge: {report} isn't empty")
+
+    def test_a_fault_of_the_lab(self):
+        status, out, _ = run(*self.files(), *self.lab("bad trace 3 number\n", 2))
+        self.assertEqual(status, 2)
+        self.assertIn("not judged: bad trace 3 number", out)
+
+
+class Hosts(WithCaptures):
+    def hosts(self, *words, files=None):
+        """How many hosts a trace has, and the first segment that host 0 sent or received."""
+        status, _, error = run(*(files or self.files(hosts=(0,))), *self.lab(), *words)
+        self.assertEqual(status, 0, error)
+        lines = self.text("given").splitlines()
+        return lines[7], next(line.split()[2] for line in lines if line.split()[2:4] in (["O", "0"], ["I", "0"]))
+
+    def test_one_of_two_hosts(self):
+        self.assertEqual(self.hosts("--host", "client"), ("hosts 1", "O"))
+        self.assertEqual(self.hosts("--host", "10.9.0.1"), ("hosts 1", "O"))
+        self.assertEqual(self.hosts("--host", "server"), ("hosts 1", "I"))
+        self.assertEqual(self.hosts("--host", "10.9.0.2"), ("hosts 1", "I"))
+        self.assertEqual(self.hosts("--host", "both"), ("hosts 2", "O"))
+
+    def test_an_unknown_host(self):
+        name, = self.files(hosts=(0,))
+        self.assertEqual(self.fails(name, *self.lab()), f"tcpwit-judge: {name} doesn't show which host it is of")
+        self.assertIn("isn't client, server, both or an address", run(name, "--host", "x")[2])
+
+    def test_another_host(self):
+        _, out, _ = run(*self.files(hosts=(0,)), *self.lab(), "--host", "10.9.0.3")
+        self.assertIn("not judged: it isn't one of 10.9.0.3", out)
+
+    def test_a_marked_host(self):
+        for address, first in (("10.9.0.1", "O"), ("10.9.0.2", "I")):
+            pcap(f"{self.folder}/any.pcap", cooked(self.talk.frames[0], ip_address(address).packed), link=113)
+            self.assertEqual(self.hosts(files=[f"{self.folder}/any.pcap"]), ("hosts 1", first))
+
+    def test_loopback(self):
+        self.talk = Talk(zero=("127.0.0.1", 4000), one=("127.0.0.1", 80))
+        self.assertEqual(self.hosts(), ("hosts 2", "O"))
+
+    def test_two_captures_in_any_order(self):
+        names = self.files()
+        for files, first in ((names, "O"), (names[::-1], "I")):
+            self.assertEqual(self.hosts(files=files), ("hosts 2", first))
+
+    def test_clocks_that_differ(self):
+        self.talk.frames[1] = [(moment + 300 * 10**9, frame) for moment, frame in self.talk.frames[1]]
+        for files, sign in ((self.files(), ""), (self.files()[::-1], "-")):
+            self.assertRegex(run(*files, *self.lab())[2], rf"clocks: host 1 is {sign}(300000|299999)\d+\.\d+ us ahead of host 0 \(host 0 is that of .*/c")
+            self.hosts(files=files)
+            moments = [int(line.split()[0]) for line in self.text("given").splitlines()[10:]]
+            self.assertLess(moments[-1], 2 * 10**6)
+
+    def test_a_syn_that_never_arrives(self):
+        self.talk.frames = {0: self.talk.frames[0][:1], 1: []}
+        other = Talk(zero=("10.9.0.1", 4001), at=99 * 10**9)
+        for host in (0, 1):
+            other.frames[host] += self.talk.frames[host]
+        self.assertEqual(self.hosts(files=self.files(other)), ("hosts 2", "O"))
+
+    def test_a_simultaneous_open(self):
+        self.talk.frames = {host: frames[:1] for host, frames in self.talk.frames.items()}
+        self.talk.next[1], self.talk.at = 5000, 100 * 10**9 + 5 * 10**5
+        self.talk.send(1, SYN)
+        for host in (0, 1):
+            self.talk.frames[host].sort()
+        self.assertEqual(self.hosts(files=self.files()), ("hosts 2", "O"))
+        self.assertEqual(sum(line.split()[2:4] in (["B", "open"],) for line in self.text("given").splitlines()), 2)
+
+    def test_a_third_host(self):
+        third = Talk(zero=("10.9.0.1", 4000), one=("10.9.0.9", 80), at=200 * 10**9)
+        self.talk.frames[0] += third.frames[0]
+        self.assertEqual(self.hosts(files=self.files()), ("hosts 1", "O"))
+
+    def test_a_capture_that_ended_earlier(self):
+        # Host 0's capture lacks the last segment that host 1 received, and what follows.
+        self.talk.send(0, payload=b"more")
+        self.talk.send(1)
+        self.talk.frames[0] = self.talk.frames[0][:-2]
+        self.hosts(files=self.files())
+        self.assertNotIn(b"more".hex(), self.text("given"))
+
+
+class Faults(WithCaptures):
+    def test_input_that_is_no_capture(self):
+        for data, message in ((b"", "neither pcap nor pcapng"), (b"nonsense", "neither pcap nor pcapng")):
+            with open(f"{self.folder}/bad", "wb") as file:
+                file.write(data)
+            self.assertEqual(self.fails(f"{self.folder}/bad", *self.lab()), f"tcpwit-judge: {self.folder}/bad: {message}")
+        self.assertIn("No such file", self.fails(f"{self.folder}/missing", *self.lab()))
+
+    def test_a_capture_that_was_cut(self):
+        name, = self.files(hosts=(0,))
+        with open(name, "r+b") as file:
+            file.truncate(200)
+        self.assertIn("ends within packet 3", self.fails(name, *self.lab(), "--host", "client"))
+
+    def test_nothing_to_judge(self):
+        pcap(f"{self.folder}/empty", [])
+        self.assertIn("the capture is empty", self.fails(f"{self.folder}/empty", *self.lab()))
+        pcap(f"{self.folder}/arp", [(5, bytes(12) + b"\x08\x06" + bytes(40))])
+        self.assertIn("no TCP segment", self.fails(f"{self.folder}/arp", *self.lab()))
+
+    def test_words(self):
+        names = self.files()
+        self.assertIn("3 captures are given", self.fails(*names, names[0] + "x", *self.lab()))
+        self.assertIn("is given twice", self.fails(names[0], names[0], *self.lab()))
+        self.assertIn("--host or --between is given with two captures", self.fails(*names, "--host", "client", *self.lab()))
+
+    def test_compressed_captures(self):
+        for name in self.files():
+            with open(name, "rb") as plain, gzip.open(name + ".gz", "wb") as packed:
+                packed.write(plain.read())
+        self.assertEqual(run(*(f"{self.folder}/c{host}.pcap.gz" for host in (0, 1)), *self.lab())[0], 0)
+
+    def test_a_bug_concerns_one_connection(self):
+        with mock.patch("tcpwit_import.judge.one.Trace", side_effect=ValueError("x")):
+            status, out, _ = run(*self.files(), *self.lab())
+        self.assertEqual(status, 2)
+        self.assertRegex(out, r"not judged: ValueError: x \(mock.py, line \d+\); this is a bug: report it with the capture\n")
+
+    def test_a_killed_worker(self):
+        second = Talk(zero=("10.9.0.1", 4001), at=99 * 10**9)
+        for host in (0, 1):
+            second.frames[host] += self.talk.frames[host]
+        with mock.patch("tcpwit_import.judge.one.Judge.result", lambda *_: os.kill(os.getpid(), 9)):
+            self.assertIn("a process that judges connections was ended", self.fails(*self.files(second), *self.lab()[:2], "--jobs", "2"))
+
+
+@unittest.skipUnless(os.environ.get("TCPWIT_LAB"), "TCPWIT_LAB names no program")
+class Verdicts(WithCaptures):
+    def judged(self, talk, *words, hosts=(0, 1)):
+        """The lines of a run with tcpwit_lab."""
+        _, out, error = run(*self.files(talk, hosts), *words)
+        self.assertNotIn("tcpwit-judge: ", error)
+        return out.splitlines()
+
+    def test_a_connection(self):
+        for words in ({"hosts": (0, 1)}, {"hosts": (1, 0)}):
+            self.assertIn("   full      yes ", self.judged(self.talk, **words)[0])
+        for host, name in ((0, "client"), (1, "server")):
+            self.assertIn("   full      yes ", self.judged(self.talk, "--host", name, hosts=(host,))[0])
+
+    def test_an_acknowledgment_that_is_missing(self):
+        talk = Talk()
+        talk.send(0, payload=b"first")
+        talk.send(1)
+        talk.send(0, payload=b"hello")
+        talk.at += 10**10
+        talk.send(0, payload=b"more")
+        self.assertIn("   none      no ", self.judged(talk)[0])
+
+    def test_resets(self):
+        for flags in (RST, RST | ACK):
+            for before in ((), ((1, b"ab"),), ((0, b"ab"), (1, b"cd"))):
+                talk = Talk()
+                for host, payload in before:
+                    talk.send(host, payload=payload)
+                talk.send(1, flags)
+                self.assertIn("   full      yes ", self.judged(talk)[0], (flags, before))
+
+    def test_a_syn_without_an_answer(self):
+        talk = Talk()
+        talk.frames = {0: talk.frames[0][:1], 1: talk.frames[1][:1]}
+        later = Talk(zero=("10.9.0.1", 4001), at=500 * 10**9)
+        for host in (0, 1):
+            talk.frames[host] += later.frames[host]
+        self.assertEqual([line.split()[3:5] for line in self.judged(talk)[:2]], [["full", "yes"]] * 2)
+
+
+if __name__ == "__main__":
+    unittest.main()
