@@ -4,9 +4,9 @@ ghost use Rattle.std.specs.Prelude.{◌≡◌, ◌<◌, Some, length, slice_set}
 
 /// Puts an answer into the slot with this number. An answer that was there is dropped.
 #[inline(always)]
-pub fn put_at<A: Drop>(slots: &mut [Option<A>], number: usize, answer: A)
-    requires { number < length slots.old }
-    ensures { slots.new ≡ slice_set slots.old number (Some answer) }
+pub fn put_at<A: Drop>(slots: &mut Vec<Option<A>>, number: usize, answer: A)
+    requires { number < length slots.old.items }
+    ensures { slots.new.items ≡ slice_set slots.old.items number (Some answer) }
 {
     slots[number] = Some(answer);
 }

@@ -56,7 +56,7 @@ fn put<C: Cases>(slots: &mut Vec<Option<CaseResult>>, done: Done<C>)
         answer,
         of: _,
     } = done;
-    put_at(slots.as_mut_slice(), index, answer);
+    put_at(slots, index, answer);
 }
 
 // Takes the answers out of their slots, and checks the cases that have none.
