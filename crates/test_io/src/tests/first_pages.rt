@@ -1,5 +1,5 @@
-//! The calls that the first pages of the libraries show. `test_cases` calls `check_case` for each case file; that of its
-//! first page is `examples/two_threads`.
+//! The calls that the first pages of the libraries show. `test_cases` calls `check_case` for each case file; the case of
+//! its page is `examples/two_threads`.
 
 use crate::tests::segments::is_encoded;
 use crate::tests::texts::is_printed;
