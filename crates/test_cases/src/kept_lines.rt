@@ -1,5 +1,5 @@
-//! Which event lines have every line of a trace. The search adds lines only that show a timeout, so no stored case has
-//! other ones.
+//! Which event lines have every line of a trace. The search adds only lines that show a timeout, so no stored text has
+//! the other answers.
 
 use crate::report::{Done, Report};
 use witness_search::Comparison;

@@ -11,21 +11,21 @@
 //! - `candidates`: a list of these, each with one choice or several
 //! - `added_lines`: the lines that are added to the trace
 //! - `case_text`: the text of the case, in pieces; `witness_text`: those of the witness
-//! - `case_lines`: whether a case has every line of its trace
+//! - `trace_lines`: whether a case has every line of its trace
 #![tactic(auto)]
 
 mod added_lines;
 mod alternatives;
 mod candidates;
-mod case_lines;
 mod case_text;
 mod finding;
 mod going_back;
 mod measuring;
 mod together;
+mod trace_lines;
 mod witness_text;
 
 pub use added_lines::AddedLines;
-pub use case_lines::{CaseLines, Comparison, case_lines};
 pub use case_text::{CaseText, Pieces};
 pub use finding::{Ending, Found, FoundCase, USUAL_BUDGET, find, find_within, find_witness};
+pub use trace_lines::{CaseLines, Comparison, case_lines};

@@ -15,9 +15,9 @@ fn keep_all(buffer: &mut ReceiveBuffer) -> Result<(), AllocError> {
     Ok(())
 }
 
-// How many bytes are read next, and delivered.
-fn deliver(alloc: Global, buffer: &mut ReceiveBuffer) -> Option<usize> {
-    match buffer.read(alloc, 300_000) {
+// How many bytes are read next, at most so many, and delivered.
+fn deliver(alloc: Global, buffer: &mut ReceiveBuffer, most: usize) -> Option<usize> {
+    match buffer.read(alloc, most) {
         Ok(bytes) => {
             buffer.deliver(bytes.len());
             Some(bytes.len())
@@ -32,7 +32,7 @@ fn kept(alloc: Global) -> (u64, Option<usize>) {
     buffer.take_syn();
     let _ = keep_all(&mut buffer);
     let next = buffer.next();
-    (next, deliver(alloc, &mut buffer))
+    (next, deliver(alloc, &mut buffer, 300_000))
 }
 
 // The time for a byte doesn't grow with the number of those that wait.

@@ -93,8 +93,8 @@ fn flushes(told: &mut Vec<u8>, sink: &mut Sink) {
     tell_counts(told, failures, sink.flushes);
 }
 
-// All that is done if this call fails, or none does. What reads all is called twice: four calls bring the pieces and the
-// end.
+// All that is done if this call fails, or none does. What reads all is called twice: four calls bring the pieces and
+// the end.
 fn done(alloc: Global, told: &mut Vec<u8>, fails_at: u32) {
     reads(told, fails_at);
     pieces(told, fails_at);

@@ -1,5 +1,5 @@
-//! The calls that the first pages of the libraries show. `test_cases` calls `check_case` for each case file; that of its
-//! first page is `examples/two_threads`.
+//! The calls that the first pages of the libraries show. That of `checker` is in `test_cases`, whose case
+//! `examples/two_threads` it is; that of `parallel_check` is in `workers`.
 
 use crate::tests::segments::is_encoded;
 use crate::tests::texts::is_printed;

@@ -2,12 +2,13 @@
 
 ghost use Rattle.std.specs.Prelude.{◌≡◌};
 ghost use Rattle.case_forms.specs.declared.calls.Host.TheVariants.{Zero, One};
+ghost use Rattle.spec_network.specs.Tables.{lane};
 ghost use Rattle.test_recording.specs.Scenes.{test_header};
 
 use crate::tests::pair::Pair;
 use crate::tests::side::Side;
 use case_forms::Call;
-use recorder::{Recorder, Site};
+use recorder::{Recorder, Seat, Site};
 use std::alloc::Global;
 use std::marker::Brand;
 use std::sync::Wait;
@@ -33,12 +34,15 @@ fn is_set(flag: &AtomicBool) -> bool {
 // Asks for the state of a socket number that nobody has, once host 0's book is held.
 fn ask_meanwhile<M: Site, R: Wait>(
     rt: &R,
-    one: &mut Side<M>,
+    one: &Recorder<M>,
+    seat: Seat<M>,
     held: &AtomicBool,
     answered: &AtomicBool,
-) {
-    let call = Call::Status(one.seat.thread());
-    if is_set(held) && one.call(rt, call).is_some() {
+)
+    requires { (lane seat.thread ≡ M.host) × (M.host ≡ One) }
+{
+    let mut seat = seat;
+    if is_set(held) && one.call(rt, &mut seat, Call::Status(1)).is_ok() {
         answered.store(true, Ordering::SeqCst);
     }
 }
@@ -47,25 +51,37 @@ fn ask_meanwhile<M: Site, R: Wait>(
 fn is_answered_meanwhile<L: Site + Send + Sync, M: Site + Send + Sync, R: Threads + Wait + Sync>(
     rt: &R,
     zero: &Recorder<L>,
-    one: &mut Side<M>,
-) -> bool {
+    one: &Recorder<M>,
+    seat: Seat<M>,
+) -> bool
+    requires { (lane seat.thread ≡ M.host) × (M.host ≡ One) }
+{
     let held = AtomicBool::new(false);
     let answered = AtomicBool::new(false);
     let (held, answered) = (&held, &answered);
-    let one = &mut *one;
-    thread::scope(thread::scope_env(), rt, |scope| {
-        let asks = scope
-            .spawn(move || ask_meanwhile(rt, one, held, answered))
-            .ok();
-        let seen = zero.look(rt, |_| {
-            held.store(true, Ordering::SeqCst);
-            is_set(answered)
-        });
-        if let Some(asks) = asks {
-            asks.join(rt);
-        }
-        seen
-    })
+    thread::scope(
+        thread::scope_env(),
+        rt,
+        |scope|
+            requires { (lane seat.thread ≡ M.host) × (M.host ≡ One) }
+        {
+            let asks = scope
+                .spawn(
+                    move ||
+                        requires { (lane seat.thread ≡ M.host) × (M.host ≡ One) }
+                    { ask_meanwhile(rt, one, seat, held, answered) },
+                )
+                .ok();
+            let seen = zero.look(rt, |_| {
+                held.store(true, Ordering::SeqCst);
+                is_set(answered)
+            });
+            if let Some(asks) = asks {
+                asks.join(rt);
+            }
+            seen
+        },
+    )
 }
 
 // The same for new recorders. None: there was no seat, or memory ran out.
@@ -81,9 +97,13 @@ fn look_and_ask<L: Site + Send + Sync, M: Site + Send + Sync, R: Threads + Wait 
     requires hosts { (L.host ≡ Zero) × (M.host ≡ One) }
     requires headers { (L.header ≡ test_header) × (M.header ≡ test_header) }
 {
-    let mut pair: Pair<'_, L, M, R> = Pair::new(rt, alloc, first, second, 0)?;
-    let Pair { zero, one, .. } = &mut pair;
-    Some(is_answered_meanwhile(rt, &zero.recorder, one))
+    let pair: Pair<'_, L, M, R> = Pair::new(rt, alloc, first, second, 0)?;
+    let Pair { zero, one, .. } = pair;
+    let Side { recorder, seat, .. } = one;
+    let seen = is_answered_meanwhile(rt, &zero.recorder, &recorder, seat);
+    drop(zero);
+    drop(recorder);
+    Some(seen)
 }
 
 // The same, for two hosts of a run.

@@ -76,8 +76,8 @@ fn has_own_thread(line: &Line) -> bool {
     }
 }
 
-// What is wrong with this trace, if both hosts' SYNs carry this shift; `yes` if nothing is. A version with shifts has the
-// first congestion window of RFC 6928.
+// What is wrong with this trace, if both hosts' SYNs carry this shift; `yes` if nothing is. A version with shifts has
+// the first congestion window of RFC 6928.
 fn judge(trace: &Trace, shift: Option<u8>) -> &'static str {
     if matches!(trace.header.initial, Initial::Rfc6928) != shift.is_some() {
         return "another first window";
