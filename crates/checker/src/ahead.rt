@@ -1,6 +1,7 @@
 //! A trace that is read one line ahead, so that the checker knows when the next line is reached.
 
-ghost use Rattle.std.specs.Prelude.{◌≡◌, ◌≢◌, ◌≤◌, ◌+◌, List, Err, IfOk, IfErr, IfSome, IsSome, OnOk, None, nat_le, true};
+ghost use Rattle.std.specs.Prelude.{◌≡◌, ◌≢◌, ◌≤◌, ◌+◌, List, Err, IfOk, IfErr, IfSome, IsSome, OnOk, None};
+ghost use Rattle.std.specs.Prelude.{nat_le, true};
 ghost use Rattle.std.specs.Prelude.{false};
 ghost use Rattle.std.specs.Option.{option_map, option_map_or};
 ghost use Rattle.case_forms.specs.declared.trace.Line.{Line};

@@ -527,8 +527,8 @@ impl Duties {
         note_post(&mut self.built, moment, sight, after)
     }
 
-    /// Judges a step, with this slack in microseconds, and notes it if no duty refuses it. The result is the first broken
-    /// rule. If memory runs out, the duties are of no use any more.
+    /// Judges a step, with this slack in microseconds, and notes it if no duty refuses it. The result is the first
+    /// broken rule. If memory runs out, the duties are of no use any more.
     #[inline(always)]
     pub fn watch(
         &mut self,
@@ -538,8 +538,10 @@ impl Duties {
         sight: &Sight,
         after: &View,
     ) -> Result<Option<Rule>, OutOfMemory>
-        ensures rule { IfOk result (λ rule. rule ≡ first_broken (duty_rules header.now slack moment self.old sight.now)) }
-        ensures noted { IfOk result (λ rule. IfNone rule (self.new ≡ duties_after after.now moment sight.now self.old)) }
+        ensures rule { IfOk result (λ rule. rule
+            ≡ first_broken (duty_rules header.now slack moment self.old sight.now)) }
+        ensures noted { IfOk result (λ rule. IfNone rule
+            (self.new ≡ duties_after after.now moment sight.now self.old)) }
     {
         if let Err(rule) = self.admits(header, slack, moment, sight) {
             return Ok(Some(rule));

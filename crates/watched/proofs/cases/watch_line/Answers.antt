@@ -8,21 +8,26 @@ use Rattle.watched.proofs.cases.watch_line.Goals as goal
 
 pub returns-in-Ok-clause-ok : goal.returns-in-Ok-clause-ok
 returns-in-Ok-clause-ok c =
-    note_is c.watch.result (case_of c.apply_line_owned.new.world c.watch.new.duties) c.args.world.now c.apply_line_owned.new.world c.args.duties.now c.args.moment
+    note_is c.watch.result (case_of c.apply_line_owned.new.world c.watch.new.duties) c.args.world.now c.apply_line_owned.new.world
+    c.args.duties.now c.args.moment
     (Some (line_step c.args.line)) c.args.seen.now c.in-Ok.ensures.ok c.requires.seen c.watch.ensures.ok
 
 pub returns-in-Ok-clause-admitted : goal.returns-in-Ok-clause-admitted
 returns-in-Ok-clause-admitted c =
     asked_admits c.watch.result c.args.world.now.header c.args.moment (record { model = c.args.world.now.world; duties = c.args.duties.now })
-    c.args.world.now.steps (Some (line_step c.args.line)) (first_broken (judged_rules c.apply_line_owned.new.world.header c.args.moment c.args.duties.now c.args.seen.now)) c.in-Ok.ensures.admitted
-    (judged_later c.args.world.now c.apply_line_owned.new.world c.args.duties.now c.args.moment (Some (line_step c.args.line)) c.args.seen.now c.in-Ok.ensures.ok c.requires.seen)
+    c.args.world.now.steps (Some (line_step c.args.line))
+    (first_broken (judged_rules c.apply_line_owned.new.world.header c.args.moment c.args.duties.now c.args.seen.now)) c.in-Ok.ensures.admitted
+    (judged_later c.args.world.now c.apply_line_owned.new.world c.args.duties.now c.args.moment (Some (line_step c.args.line))
+      c.args.seen.now c.in-Ok.ensures.ok c.requires.seen)
     c.watch.ensures.admitted
 
 pub returns-in-Ok-clause-broken : goal.returns-in-Ok-clause-broken
 returns-in-Ok-clause-broken c =
     asked_breaks c.watch.result c.args.world.now.header c.args.moment (record { model = c.args.world.now.world; duties = c.args.duties.now })
-    c.args.world.now.steps (Some (line_step c.args.line)) (first_broken (judged_rules c.apply_line_owned.new.world.header c.args.moment c.args.duties.now c.args.seen.now)) c.in-Ok.ensures.admitted
-    (judged_later c.args.world.now c.apply_line_owned.new.world c.args.duties.now c.args.moment (Some (line_step c.args.line)) c.args.seen.now c.in-Ok.ensures.ok c.requires.seen)
+    c.args.world.now.steps (Some (line_step c.args.line))
+    (first_broken (judged_rules c.apply_line_owned.new.world.header c.args.moment c.args.duties.now c.args.seen.now)) c.in-Ok.ensures.admitted
+    (judged_later c.args.world.now c.apply_line_owned.new.world c.args.duties.now c.args.moment (Some (line_step c.args.line))
+      c.args.seen.now c.in-Ok.ensures.ok c.requires.seen)
     c.watch.ensures.broken
 
 pub returns-in-Err-clause-broken : goal.returns-in-Err-clause-broken
