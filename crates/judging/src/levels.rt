@@ -28,8 +28,7 @@ impl Level {
         facts: Facts,
     ) -> Result<Level, JudgeFault> {
         let is_asked = match facts.refused {
-            Some(refused) => is_of_duties(refused.rule)
-                && !is_yes_without_duties(stricter),
+            Some(refused) => is_of_duties(refused.rule) && !is_yes_without_duties(stricter),
             None => false,
         };
         let without_duties = if is_asked {

@@ -178,10 +178,12 @@ fn late_at<A: BufRead>(
 // The number of the segment that a step sends; 0 if it sends none.
 fn built_by(step: &Step) -> u32 {
     match &step.label {
-        Label::L(NamedLine {
-            extras: Extras::One(number),
-            ..
-        }) => *number,
+        Label::L(
+            NamedLine {
+                extras: Extras::One(number),
+                ..
+            },
+        ) => *number,
         _ => 0,
     }
 }

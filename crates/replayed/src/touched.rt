@@ -34,7 +34,10 @@ pub(crate) fn touched_by_other(world: &World, step: &Step) -> Option<EndpointId>
     if !has_room(world) || !is_within_limits(&step.label) {
         return None;
     }
-    born(world, sight_of_hidden(world, step.moment, &step.label).touched)
+    born(
+        world,
+        sight_of_hidden(world, step.moment, &step.label).touched,
+    )
 }
 
 // What is touched, if it exists before the step.

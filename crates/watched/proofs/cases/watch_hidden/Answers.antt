@@ -16,7 +16,7 @@ returns-in-Ok-clause-admitted g c =
     c.args.world.now.steps (hidden_step c.args.label.now)
     (first_broken (judged_rules c.apply_hidden.new.world.header c.args.moment c.args.duties.now c.args.seen.now)) c.in-Ok.ensures.admitted
     (judged_later c.args.world.now c.apply_hidden.new.world c.args.duties.now c.args.moment (hidden_step c.args.label.now) c.args.seen.now
-      c.in-Ok.ensures.ok c.requires.seen)
+    c.in-Ok.ensures.ok c.requires.seen)
     c.watch.ensures.admitted
 
 pub returns-in-Ok-clause-broken : goal.returns-in-Ok-clause-broken
@@ -25,7 +25,7 @@ returns-in-Ok-clause-broken g c =
     c.args.world.now.steps (hidden_step c.args.label.now)
     (first_broken (judged_rules c.apply_hidden.new.world.header c.args.moment c.args.duties.now c.args.seen.now)) c.in-Ok.ensures.admitted
     (judged_later c.args.world.now c.apply_hidden.new.world c.args.duties.now c.args.moment (hidden_step c.args.label.now) c.args.seen.now
-      c.in-Ok.ensures.ok c.requires.seen)
+    c.in-Ok.ensures.ok c.requires.seen)
     c.watch.ensures.broken
 
 pub returns-in-Err-clause-broken : goal.returns-in-Err-clause-broken

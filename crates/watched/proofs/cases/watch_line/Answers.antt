@@ -18,7 +18,7 @@ returns-in-Ok-clause-admitted c =
     c.args.world.now.steps (Some (line_step c.args.line))
     (first_broken (judged_rules c.apply_line_owned.new.world.header c.args.moment c.args.duties.now c.args.seen.now)) c.in-Ok.ensures.admitted
     (judged_later c.args.world.now c.apply_line_owned.new.world c.args.duties.now c.args.moment (Some (line_step c.args.line))
-      c.args.seen.now c.in-Ok.ensures.ok c.requires.seen)
+    c.args.seen.now c.in-Ok.ensures.ok c.requires.seen)
     c.watch.ensures.admitted
 
 pub returns-in-Ok-clause-broken : goal.returns-in-Ok-clause-broken
@@ -27,7 +27,7 @@ returns-in-Ok-clause-broken c =
     c.args.world.now.steps (Some (line_step c.args.line))
     (first_broken (judged_rules c.apply_line_owned.new.world.header c.args.moment c.args.duties.now c.args.seen.now)) c.in-Ok.ensures.admitted
     (judged_later c.args.world.now c.apply_line_owned.new.world c.args.duties.now c.args.moment (Some (line_step c.args.line))
-      c.args.seen.now c.in-Ok.ensures.ok c.requires.seen)
+    c.args.seen.now c.in-Ok.ensures.ok c.requires.seen)
     c.watch.ensures.broken
 
 pub returns-in-Err-clause-broken : goal.returns-in-Err-clause-broken
