@@ -348,6 +348,19 @@ class Verdicts(WithCaptures):
                 talk.send(1, flags)
                 self.assertIn("   full      yes ", self.judged(talk)[0], (flags, before))
 
+    def test_a_program_that_gave_up_before_the_answer(self):
+        talk = Talk()
+        talk.frames = {0: talk.frames[0][:1], 1: talk.frames[1][:1]}
+        talk.next, talk.at = {0: 1001, 1: 5000}, 100 * 10**9 + 2 * 10**6
+        talk.send(1, SYN | ACK)
+        talk.at = 100 * 10**9 + 9 * 10**8
+        # It was long in transit.
+        talk.frames[0][-1] = (talk.at, talk.frames[0][-1][1])
+        talk.at += 10**6
+        talk.send(0, RST)
+        for words, hosts in (([], (0, 1)), (["--host", "client"], (0,)), (["--host", "server"], (1,))):
+            self.assertIn(" yes ", self.judged(talk, *words, hosts=hosts)[0])
+
     def test_a_syn_without_an_answer(self):
         talk = Talk()
         talk.frames = {0: talk.frames[0][:1], 1: talk.frames[1][:1]}
