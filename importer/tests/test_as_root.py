@@ -13,7 +13,7 @@ from tcpwit_import.recording.namespaces import Namespace
 from tcpwit_import.recording.running import ADDRESSES, Traced, strace
 
 TOP = os.path.dirname(os.path.dirname(os.path.realpath(__file__)))
-RECORD = os.path.join(TOP, "tcpwit-record")
+RECORD, JUDGE = os.path.join(TOP, "tcpwit-record"), os.path.join(TOP, "tcpwit-judge")
 SERVER = f"{sys.executable} -m http.server 80"
 
 
@@ -71,6 +71,15 @@ class AsRoot(unittest.TestCase):
         for name, ends in (("host0.log", rb"10\.9\.0\.1:\d+->10\.9\.0\.2:80"), ("host1.log", rb"10\.9\.0\.2:80->10\.9\.0\.1:\d+")):
             with open(f"{self.folder}/out/{name}", "rb") as file:
                 self.assertRegex(file.read(), rb"TCP:\[" + ends + rb"\]>, ")
+
+    @unittest.skipUnless(os.environ.get("TCPWIT_LAB"), "TCPWIT_LAB names no program")
+    def test_captures_alone_get_a_verdict(self):
+        self.assertEqual(self.record("--transfer", "20000", "--lose", "3")[0], 0)
+        captures = [f"{self.folder}/out/host{host}.pcap" for host in (0, 1)]
+        for words in (captures, [captures[0], "--host", "client"], [captures[1], "--host", "server"]):
+            done = subprocess.run([JUDGE, "--quiet", *words], capture_output=True, text=True, timeout=100, check=False)
+            self.assertEqual((done.returncode, done.stderr), (0, ""))
+            self.assertRegex(done.stdout, r"^10\.9\.0\.1:\d+ -> 10\.9\.0\.2:\d+   full      yes ")
 
     def test_a_trace_ends_when_the_recording_stopped(self):
         self.assertEqual(self.record("--transfer", "5")[0], 0)

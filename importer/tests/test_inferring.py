@@ -141,6 +141,23 @@ class Calls(inferred.Inferring):
         self.assertIn("B open 1 80 4000", calls)
         self.assertNotIn("B listen 1 80 0", calls)
 
+    def test_bytes_after_a_simultaneous_open(self):
+        talk = Talk()
+        talk.frames = {host: frames[:1] for host, frames in talk.frames.items()}
+        talk.next, talk.at = {0: 1000, 1: 5000}, 100 * 10**9 + 5 * 10**5
+        talk.send(1, SYN)
+        talk.next[0] = 1001
+        talk.send(1, SYN | ACK, b"")
+        talk.next = {0: 1001, 1: 5001}
+        talk.send(0)
+        talk.send(0, payload=b"ab")
+        talk.send(1)
+        talk.send(1, payload=b"cd")
+        talk.send(0)
+        calls = self.calls(talk)
+        self.assertEqual([call for call in calls if " data " in call], ["E data 6162", "E data 6364"])
+        self.assertEqual([call.split()[3] for call in calls if call.startswith("B send")], ["6162", "6364"])
+
     def test_a_long_segment_is_sent_by_one_call(self):
         talk = Talk()
         talk.send(0, payload=bytes(40000))

@@ -126,6 +126,15 @@ class Lines(WithCaptures):
         self.assertEqual([line.split()[0] for line in out.splitlines()[:2]], ["10.9.0.1:4001", "10.9.0.1:4000"])
         self.assertIn("2 connections: 2 yes, 0 no. ", out)
 
+    def test_a_syn_during_a_connection(self):
+        stray = segment(("10.9.0.1", 4000), ("10.9.0.2", 80), 77, 0, SYN)
+        for host in (0, 1):
+            frames = self.talk.frames[host]
+            frames.insert(4, (frames[3][0] + 1000, ethernet(ip_packet(("10.9.0.1", 4000), ("10.9.0.2", 80), stray))))
+        _, out, _ = run(*self.files(), *self.lab())
+        self.assertIn("1 connection: 1 yes", out)
+        self.assertEqual(sum(stray.hex()[:30] in line for line in self.text("given").splitlines()), 2)
+
     def test_a_port_that_connects_to_itself(self):
         self.talk = Talk(zero=("10.9.0.1", 80), one=("10.9.0.1", 80))
         _, out, _ = run(*self.files(hosts=(0,)), *self.lab())
@@ -338,6 +347,19 @@ class Verdicts(WithCaptures):
                     talk.send(host, payload=payload)
                 talk.send(1, flags)
                 self.assertIn("   full      yes ", self.judged(talk)[0], (flags, before))
+
+    def test_a_program_that_gave_up_before_the_answer(self):
+        talk = Talk()
+        talk.frames = {0: talk.frames[0][:1], 1: talk.frames[1][:1]}
+        talk.next, talk.at = {0: 1001, 1: 5000}, 100 * 10**9 + 2 * 10**6
+        talk.send(1, SYN | ACK)
+        talk.at = 100 * 10**9 + 9 * 10**8
+        # It was long in transit.
+        talk.frames[0][-1] = (talk.at, talk.frames[0][-1][1])
+        talk.at += 10**6
+        talk.send(0, RST)
+        for words, hosts in (([], (0, 1)), (["--host", "client"], (0,)), (["--host", "server"], (1,))):
+            self.assertIn(" yes ", self.judged(talk, *words, hosts=hosts)[0])
 
     def test_a_syn_without_an_answer(self):
         talk = Talk()

@@ -143,8 +143,9 @@ def judge_files(options, program, notes):
         if judges.clock != SAME:
             notes.say(f"{said(judges.clock)} (host 0 is that of {captures[0].name})")
         output = Output(options, [str(connection) for connection in connections])
+        # On a terminal, a line that is updated would disturb the verdicts.
         with contextlib.closing(results(judges, connections, options.jobs)) as found, \
-                Part("judging the connections", len(connections), lambda: output.count):
+                Part("judging the connections", len(connections), lambda: output.count, sys.stdout.isatty()):
             for result in found:
                 output.add(result)
                 notes.add(result.notes)

@@ -11,7 +11,7 @@ import tempfile
 from array import array
 
 from ..captures import packet_at, packets_of
-from ..connections import SYN, Connection, connections_of
+from ..connections import FIN, RST, SYN, Connection, connections_of
 from ..files import opened
 from ..frames import Layout
 from ..problem import Problem
@@ -24,18 +24,24 @@ SYNS = 4
 
 class Indexed(Connection):
     """A connection without its packets. For each capture, `places` has their offsets and counts in the file, `syns` the moments of its first SYNs,
-    and `own` the ends whose packets the capture marked as sent, or to which it marked packets as received."""
+    and `own` the ends whose packets the capture marked as sent, or to which it marked packets as received. `others` counts packets that are neither
+    SYN nor reset, and `ends` has the ends that sent a FIN, or None after a reset."""
 
     def __init__(self, client, server, begun):
         super().__init__(client, server, begun)
         self.places, self.syns, self.own = {}, {}, {}
-        self.fragmented = False
+        self.fragmented, self.others, self.ends = False, 0, set()
 
     def add(self, capture, packet):
         """Adds the next packet of a capture."""
         offsets, counts = self.places.setdefault(capture, (array("Q"), array("Q")))
         offsets.append(packet.offset)
         counts.append(packet.count)
+        self.others += not packet.flags & (SYN | RST)
+        if packet.flags & RST:
+            self.ends = None
+        elif packet.flags & FIN and self.ends is not None:
+            self.ends.add(packet.source)
         if packet.outgoing is not None:
             self.own.setdefault(capture, set()).add(packet.source if packet.outgoing else packet.target)
         if packet.flags & SYN:
@@ -49,6 +55,13 @@ class Indexed(Connection):
         self.whole = self.whole and other.whole
         for own, more in ((self.places, other.places), (self.syns, other.syns), (self.own, other.own)):
             own.update(more)
+
+    def continue_with(self, other):
+        """Adds packets that follow in the same captures."""
+        for capture, (offsets, counts) in other.places.items():
+            mine = self.places.setdefault(capture, (array("Q"), array("Q")))
+            mine[0].extend(offsets)
+            mine[1].extend(counts)
 
     @property
     def count(self):
@@ -81,8 +94,23 @@ class Capture:
 
 def indexed(captures, notes):
     """The connections of all captures, in the order in which they begin."""
-    connections = connections_of({capture.name: capture.packets(notes) for capture in captures}, Indexed)
+    connections = without_strays(connections_of({capture.name: capture.packets(notes) for capture in captures}, Indexed))
     return with_both_parts(connections) if len(captures) == 2 else connections
+
+
+def without_strays(connections):
+    """A SYN with another number may come during a connection, such as an old or a forged one. If no SYN answers it, but other segments follow, these
+    belong to the connection that went on."""
+    kept, last = [], {}
+    for connection in connections:
+        pair = frozenset((connection.client, connection.server))
+        before = last.get(pair)
+        if before and before.ends is not None and len(before.ends) < 2 and connection.whole and len(connection.initial) == 1 and connection.others:
+            before.continue_with(connection)
+        else:
+            kept.append(connection)
+            last[pair] = connection
+    return kept
 
 
 def with_both_parts(connections):

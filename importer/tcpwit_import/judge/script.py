@@ -97,5 +97,6 @@ class InferredWriter(Writer):
         return super().begin_text(action)
 
     def bytes_of(self, data, connection):
-        """The bytes of a call."""
-        return self.streams[data.end].bytes_of(data.offset, data.length)
+        """The bytes of a call. In a simultaneous open, the second end opens, too."""
+        own = data.endpoint.local
+        return self.streams[own if data.sends else connection.other(own)].bytes_of(data.offset, data.length)
