@@ -247,6 +247,15 @@ class Hosts(WithCaptures):
             other.frames[host] += self.talk.frames[host]
         self.assertEqual(self.hosts(files=self.files(other)), ("hosts 2", "O"))
 
+    def test_a_capture_that_was_not_running(self):
+        # Each host has a connection that the other's capture lacks.
+        for host, (first, role) in enumerate((("O", "client"), ("I", "server"))):
+            both = Talk(zero=("10.9.0.1", 4001), at=99 * 10**9)
+            both.frames[host] += self.talk.frames[host]
+            for names in (self.files(both), self.files(both)[::-1]):
+                self.assertEqual(self.hosts(files=names), ("hosts 1", first), role)
+                self.assertIn("1 connection with one host captured: the other one isn't judged there.\n", run(*names, *self.lab())[1])
+
     def test_a_simultaneous_open(self):
         self.talk.frames = {host: frames[:1] for host, frames in self.talk.frames.items()}
         self.talk.next[1], self.talk.at = 5000, 100 * 10**9 + 5 * 10**5

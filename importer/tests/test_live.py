@@ -91,6 +91,16 @@ class Streams(unittest.TestCase):
         self.stream.finish()
         self.assertEqual(len(self.judged), 1)
 
+    def test_connections_that_go_on_are_judged_once(self):
+        clients = [("10.9.0.1", port) for port in (1, 2, 3, 4, 5)]
+        for number in range(1000):
+            for client in clients:
+                self.stream.add(self.packet(ACK if number else SYN, number, 1000 * number, bytes(1000) if number else b"", source=client))
+                self.assertLess(self.stream.bytes, 10**6 + 2000)
+        self.stream.finish()
+        self.assertEqual(sorted(connection.client[1] for connection, _ in self.judged), [1, 2, 3, 4, 5])
+        self.assertTrue(all(connection.is_part == (connection.count < 1000) for connection, _ in self.judged))
+
     def test_many_connections_need_little_memory(self):
         for number in range(5000):
             self.stream.add(self.packet(SYN, number, number, source=("10.9.0.1", number + 1)))

@@ -114,19 +114,20 @@ class TwoCaptures:
         client, server = self.host(connection.client), self.host(connection.server)
         if client is not None and server is not None and client == server:
             raise Undecided("both its ends are at the same host")
-        seen = [place for place, capture in enumerate(self.captures) if capture.name in connection.places]
-        if client is None and server is None and (len(seen) == 2 or len(connection.initial) == 1):
-            # No segment of the server shows where the client is: its SYN was captured there.
-            client = seen[0]
-        if len(seen) == 1 and None in (client, server) and len(connection.initial) == 2:
-            return self.half(connection, seen[0], client, server)
-        client = client if client is not None else 1 - server
+        place, *others = [place for place, capture in enumerate(self.captures) if capture.name in connection.places]
+        if not others and (connection.senders != {connection.client} or client == 1 - place or server == place):
+            return self.half(connection, place, client, server)
+        if client is None:
+            # If nothing shows where the client is, the first capture is its own, or the only one that has its SYN.
+            client = place if server is None else 1 - server
         connection.hosts = {connection.client: client, connection.server: 1 - client}
         return {host: capture.name for host, capture in enumerate(self.captures)}
 
     def half(self, connection, place, client, server):
-        """Only one capture has the connection, and its other host isn't known to be the other capture's."""
+        """Only one capture has the connection, although both ends sent: its other host isn't the other capture's, or that wasn't running."""
         own = connection.client if client == place else connection.server if server == place else None
+        if own is None and {client, server} == {None, 1 - place}:
+            own = connection.client if client is None else connection.server
         if own is None:
             raise Undecided(f"nothing shows which of its hosts {self.captures[place].name} is of")
         connection.hosts = {own: 0, connection.other(own): 1}

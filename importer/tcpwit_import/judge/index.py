@@ -25,18 +25,19 @@ SYNS = 4
 class Indexed(Connection):
     """A connection without its packets. For each capture, `places` has their offsets and counts in the file, `syns` the moments of its first SYNs,
     and `own` the ends whose packets the capture marked as sent, or to which it marked packets as received. `others` counts packets that are neither
-    SYN nor reset, and `ends` has the ends that sent a FIN, or None after a reset."""
+    SYN nor reset. `senders` has the ends that sent something, `ends` those that sent a FIN; it's None after a reset."""
 
     def __init__(self, client, server, begun):
         super().__init__(client, server, begun)
         self.places, self.syns, self.own = {}, {}, {}
-        self.fragmented, self.others, self.ends = False, 0, set()
+        self.fragmented, self.others, self.ends, self.senders = False, 0, set(), set()
 
     def add(self, capture, packet):
         """Adds the next packet of a capture."""
         offsets, counts = self.places.setdefault(capture, (array("Q"), array("Q")))
         offsets.append(packet.offset)
         counts.append(packet.count)
+        self.senders.add(packet.source)
         self.others += not packet.flags & (SYN | RST)
         if packet.flags & RST:
             self.ends = None
@@ -55,6 +56,7 @@ class Indexed(Connection):
         self.whole = self.whole and other.whole
         for own, more in ((self.places, other.places), (self.syns, other.syns), (self.own, other.own)):
             own.update(more)
+        self.senders |= other.senders
 
     def continue_with(self, other):
         """Adds packets that follow in the same captures."""
@@ -62,6 +64,7 @@ class Indexed(Connection):
             mine = self.places.setdefault(capture, (array("Q"), array("Q")))
             mine[0].extend(offsets)
             mine[1].extend(counts)
+        self.senders |= other.senders
 
     @property
     def count(self):

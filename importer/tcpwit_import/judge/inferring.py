@@ -101,7 +101,7 @@ class Calls:
     def see_acknowledgment(self, packet):
         """A segment acknowledges the SYN, or something that wasn't sent."""
         if 0 <= self.own.acknowledged(packet) <= self.sent + 1:
-            if not self.is_open and bool(packet.flags & SYN) == self.opens:
+            if not self.is_open and (self.opens or not packet.flags & SYN):
                 self.is_open, self.free = True, self.now
         elif not self.is_open:
             self.wrong.add(packet.acknowledgment)

@@ -12,6 +12,7 @@ from collections import OrderedDict
 from concurrent.futures import FIRST_COMPLETED, ProcessPoolExecutor, wait
 from concurrent.futures.process import BrokenProcessPool
 from copy import copy
+from itertools import islice
 
 from ..captures import packets_of
 from ..connections import ACK, FIN, RST, WRAP, Connection, begun_by, continues
@@ -21,6 +22,8 @@ from . import workers
 
 # What a packet needs besides its bytes, and a connection besides its packets.
 PACKET, CONNECTION = 400, 3000
+# Of how many connections packets may only be counted, if memory is needed.
+COUNTED = 1000
 # How many packets are read ahead, and for how many seconds the next one is awaited.
 AHEAD, PATIENCE = 10_000, 0.5
 SECOND = 10**9
@@ -89,17 +92,22 @@ class Stream:
         connection.add(self.capture.name, packet)
         self.bytes += connection.bytes - before
         self.current.move_to_end(pair)
-        self.keep_to_memory(pair, connection)
-
-    def keep_to_memory(self, pair, connection):
-        """Judges connections early if they need too much memory: a large one as far as it was captured, else those that were silent longest."""
         if connection.bytes * 2 > self.memory and not connection.is_part:
             self.judge_part(connection)
         while self.bytes > self.memory and len(self.current) > 1:
-            oldest = next(iter(self.current))
-            if oldest == pair:
-                break
-            self.end(oldest)
+            self.need_less(connection)
+
+    def need_less(self, latest):
+        """Judges the connection, except the latest, that was silent longest: if it hasn't ended, as far as it was captured. If there's none, one
+        of which packets are only counted is forgotten."""
+        for pair, connection in islice(self.current.items(), COUNTED):
+            if connection is not latest and connection.bytes > CONNECTION:
+                if connection.ended:
+                    self.end(pair)
+                else:
+                    self.judge_part(connection)
+                return
+        self.end(next(iter(self.current)))
 
     def judge_part(self, connection):
         """Judges what was captured of a connection. What follows is only counted."""

@@ -85,7 +85,8 @@ class Judge:
             found.reason, found.status = problem.cause, 2
         except Exception as error:
             # The other connections are judged all the same.
-            found.reason, found.status = f"{type(error).__name__}: {error} ({place_of(error)}); this is a bug: report it with the capture", 2
+            cause = f"{type(error).__name__}: {error} ({place_of(error)})"
+            found.reason, found.status = f"{cause}; this is a bug: report it with the capture", 2
         return found
 
     def is_fragmented(self, indexed):

@@ -9,6 +9,7 @@ INFERRED = ("Calls were inferred: their answers aren't judged.",
 BETWEEN = ("The capture was made between the hosts: no duty is judged, moments are estimates, and a no may also",
            "come from segments that were lost or reordered on the way to the capture or from it.")
 HALF = "Only one host was captured: the other one isn't judged."
+SOME = "{} with one host captured: the other one isn't judged there."
 
 
 class Output:
@@ -37,7 +38,7 @@ class Output:
             if self.options.between:
                 print("\n".join(BETWEEN))
             if self.half:
-                print(HALF)
+                print(HALF if self.half == self.yes + self.no else SOME.format(counted(self.half, "connection")))
         return self.status if self.yes + self.no else 2
 
 
