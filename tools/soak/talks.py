@@ -23,19 +23,21 @@ PROGRAM = '''
 mod tests;
 
 use crate::tests::kinds::Kinds;
-use crate::tests::turns::said_by_chance;
+use crate::tests::scenes::CHANCE;
+use crate::tests::turns::seen;
 
 fn main(rt: HostRuntime) -> std::io::Result<()> {
     let mut kinds = Kinds::none();
     let mut seed = FIRSTu32;
     for _ in 0..COUNTu32 {
-        let said = said_by_chance(&rt, rt.alloc(), seed, &mut kinds);
+        let said = seen(&rt, rt.alloc(), &CHANCE, seed, &mut kinds);
         if said != "yes" {
             println!(rt; "seed {seed}: {said}")?;
         }
         seed += 1;
     }
-    println!(rt; "{kinds:?}")?;
+    let Kinds { timeouts, recoveries, probes, closes, ends } = &kinds;
+    println!(rt; "events: {timeouts} timeouts, {recoveries} recoveries, {probes} probes, {closes} closes at once, {ends} ends of waits")?;
     Ok(())
 }
 '''
@@ -47,7 +49,7 @@ def talked(folder, first, count):
     program = PROGRAM.lstrip().replace("FIRST", str(first)).replace("COUNT", str(count))
     (crate / "src" / "main.rt").write_text(program)
     done = subprocess.run(["rt", "try", "--seconds", "3600"], cwd=crate, stdout=subprocess.PIPE, text=True, check=False)
-    return [line for line in done.stdout.splitlines() if line.startswith(("seed ", "Kinds "))]
+    return [line for line in done.stdout.splitlines() if line.startswith(("seed ", "events: "))]
 
 
 def prepare(folder):
@@ -66,6 +68,8 @@ def prepare(folder):
     (crates / "talks" / "src" / "lib.rt").unlink()
     tests = crates / "talks" / "src" / "tests.rt"
     tests.write_text(tests.read_text().replace("\nmod ", "\npub mod "))
+    turns = crates / "talks" / "src" / "tests" / "turns.rt"
+    turns.write_text(turns.read_text().replace("\nfn seen<", "\npub fn seen<"))
 
 
 def main():
