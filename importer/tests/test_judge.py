@@ -12,7 +12,7 @@ from unittest import mock
 
 from tcpwit_import.judge.cli import main
 
-from .wire import ACK, FIN, RST, SYN, Talk, ethernet, ip_packet, pcap, segment
+from .wire import ACK, FIN, RST, SECOND, SYN, Talk, ethernet, ip_packet, pcap, segment
 
 # Answers `judge` by what the test chose, saves the trace, and writes a case and a picture if requested.
 SCRIPT = """#!/bin/sh
@@ -311,6 +311,20 @@ class Faults(WithCaptures):
                 packed.write(plain.read())
         self.assertEqual(run(*(f"{self.folder}/c{host}.pcap.gz" for host in (0, 1)), *self.lab())[0], 0)
 
+    def test_a_silent_host_is_judged_as_one_that_gave_up(self):
+        for number in range(4):
+            self.talk.send(0, payload=b"again")
+            self.talk.next[0] -= 5
+        late = NO.replace("ack-late", "expiry-late")
+        run(*self.files(hosts=(0,)), *self.lab(late, 1), "--host", "client")
+        # With that, it isn't a yes either, so the first verdict is found again.
+        self.assertEqual(self.text("words").count("judge --least"), 3)
+        self.assertNotIn("giveup", self.text("given"))
+        for answer in (NO, YES):
+            os.remove(f"{self.folder}/words")
+            run(*self.files(hosts=(0,)), *self.lab(answer, 1), "--host", "client")
+            self.assertEqual(self.text("words").count("judge --least"), 1)
+
     def test_a_bug_concerns_one_connection(self):
         with mock.patch("tcpwit_import.judge.one.Trace", side_effect=ValueError("x")):
             status, out, _ = run(*self.files(), *self.lab())
@@ -369,6 +383,26 @@ class Verdicts(WithCaptures):
         talk.send(0, RST)
         for words, hosts in (([], (0, 1)), (["--host", "client"], (0,)), (["--host", "server"], (1,))):
             self.assertIn(" yes ", self.judged(talk, *words, hosts=hosts)[0])
+
+    def silent(self, retransmissions):
+        """A host that retransmits so often, and then never again."""
+        talk = Talk()
+        talk.send(0, payload=b"first")
+        talk.send(1)
+        wait = SECOND // 5
+        for number in range(retransmissions + 1):
+            talk.send(0, payload=b"hello", lost=True)
+            talk.next[0] -= 5
+            talk.at += wait if number == 0 else wait * 2**number
+        later = Talk(zero=("10.9.0.1", 4001), at=500 * SECOND)
+        for host in (0, 1):
+            talk.frames[host] += later.frames[host]
+        return talk
+
+    def test_a_host_that_gave_up(self):
+        for words, hosts in (([], (0, 1)), (["--host", "client"], (0,))):
+            self.assertIn(" yes ", self.judged(self.silent(4), *words, hosts=hosts)[0])
+            self.assertRegex(self.judged(self.silent(1), *words, hosts=hosts)[0], " no .*-late")
 
     def test_a_syn_without_an_answer(self):
         talk = Talk()

@@ -5,7 +5,8 @@ from ..clocks import SAME, bounds_of, clock_of
 from ..copies import without_copies
 from .inferring import Calls
 from .queues import ignored_by
-from .script import InferredWriter, Script
+from .script import AFTER, InferredWriter, Script
+from .silence import last_attempt
 from .streams import complete, streams_of
 
 # Each connection has a trace of its own, whose queue always has room.
@@ -14,9 +15,10 @@ ROOM = 65535
 
 class Trace:
     """A connection's trace. `captures` maps the recorded hosts to the names of their captures, or None to the one of both hosts; `last` has the
-    moment of each capture's last packet. `clock` counts if the connection alone doesn't show how the clocks differ."""
+    moment of each capture's last packet. `clock` counts if the connection alone doesn't show how the clocks differ. With `gives_up`, a host that
+    may have given up did."""
 
-    def __init__(self, connection, captures, last, chosen, notes, clock=SAME):
+    def __init__(self, connection, captures, last, chosen, notes, clock=SAME, gives_up=False):
         put_in_order(connection, captures, notes)
         if len(captures) == 2:
             above, below = bounds_of([connection], captures)
@@ -25,6 +27,9 @@ class Trace:
         streams = streams_of(connection, {end: captures_of(connection, captures, end) for end in (connection.client, connection.server)})
         complete(connection, streams, notes)
         script = script_of(connection, captures, streams, last, notes)
+        if gives_up:
+            add_ends(connection, captures, script)
+        self.may_differ = bool(script.expiries)
         hosts = 1 if list(captures) == [0] else 2
         self.head = headers.header(hosts, (clock.skew + 999) // 1000, {"extra": ROOM} | chosen)
         ended = min(clock.at(moment) if host == 1 else moment for host, moment in last.items())
@@ -53,6 +58,14 @@ def script_of(connection, captures, streams, last, notes):
                 packets = [packet for packet in packets if id(packet) not in script.ignored]
             Calls(connection, script, streams, end, packets).infer()
     return script
+
+
+def add_ends(connection, captures, script):
+    """Adds that a host gave up, if it may have."""
+    for end, host in connection.hosts.items():
+        name = captures.get(host, captures.get(None))
+        if name is not None and (packet := last_attempt(connection.seen[name], end)):
+            script.expiries["O", host, id(packet), AFTER] = f"T {host} {end[1]} {connection.other(end)[1]} giveup"
 
 
 def put_in_order(connection, captures, notes):

@@ -14,10 +14,12 @@ from ..problem import Notes, Problem, decoded, place_of
 from .between import split
 from .conversion import Trace
 from .hosts import Undecided
+from .silence import LATE
 
 ROW = re.compile(r"^(full|recovery|none) +((yes|no) .*)$")
 LINE = re.compile(r"line (\d+)\b")
-TIMEOUT = re.compile(rb"^\d+ \d+ T ", re.M)
+# A timeout that the search may have added.
+TIMEOUT = re.compile(rb"^\d+ \d+ T (?!.* giveup)", re.M)
 # How many bytes of a case are searched at once.
 PIECE = 1 << 20
 
@@ -47,6 +49,12 @@ class Result:
     def name(self):
         """The connection in the output."""
         return f"{self.client} -> {self.server}"
+
+    @property
+    def rule(self):
+        """The rule of a no."""
+        words = self.answer.split()
+        return words[3] if words[:1] == ["no"] else None
 
     @property
     def line(self):
@@ -103,7 +111,16 @@ class Judge:
         if self.options.between:
             captures, last = split(connection, captures[None], self.options.skew * 1000), {0: last[None], 1: last[None]}
         found.hosts = 1 if list(captures) == [0] else 2
-        trace = Trace(connection, captures, last, self.chosen, found.notes, self.clock)
+        given = connection, captures, last, self.chosen
+        self.verdict(number, Trace(*given, found.notes, self.clock), found)
+        if found.rule in LATE and (other := Trace(*given, Notes(), self.clock, True)).may_differ:
+            self.verdict(number, other, found)
+            if found.rule:
+                # It makes no difference.
+                self.verdict(number, Trace(*given, Notes(), self.clock), found)
+
+    def verdict(self, number, trace, found):
+        """Judges a trace."""
         if self.options.report:
             timeouts = self.report(os.path.join(self.options.report, file_name(number, found)), trace.lines(), found)
         else:
@@ -184,7 +201,7 @@ def read(found, out, error, status):
     if status not in (judging.YES, judging.NO):
         said = "; ".join(decoded(out).splitlines()[:1] + decoded(error).splitlines()[-1:])
         raise Problem(said or judging.ended(status), "")
-    found.said, found.status = decoded(out).splitlines(), status
+    found.said, found.status, found.sentence, found.packet = decoded(out).splitlines(), status, "", None
     rows = [row for line in found.said if (row := ROW.match(line))]
     found.level, found.answer = rows[-1][1], rows[-1][2]
     if rows[-1][3] == "no":

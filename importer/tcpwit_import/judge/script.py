@@ -13,10 +13,11 @@ BEFORE, AFTER = 0, 1
 
 class Script:
     """The calls of a connection's hosts. A place is a side of a segment's line, which has a letter, a host and a packet; or a host and a moment.
-    `ignored` has the packets, by their identities, that the server seems to have ignored: they have no line as received."""
+    `ignored` has the packets, by their identities, that the server seems to have ignored: they have no line as received. `expiries` has the text
+    of an expiry at a place."""
 
     def __init__(self):
-        self.ignored = set()
+        self.ignored, self.expiries = set(), {}
         self.endpoints, self.lines, self.moments, self.orders = [], {}, [], count()
 
     def moment(self, host, moment):
@@ -87,6 +88,8 @@ class InferredWriter(Writer):
         """The lines of the calls at a place."""
         for action, begins in self.script.lines.get(place, ()):
             yield Line(moment, action.thread, self.begin_text(action) if begins else self.end_text(action)), None
+        if place in self.script.expiries:
+            yield Line(moment, "expiries", self.script.expiries[place]), None
 
     def begin_text(self, action):
         """The words of a call's beginning. In a simultaneous open, the second end opens, too."""
