@@ -92,7 +92,9 @@ class AsRoot(unittest.TestCase):
     def test_ctrl_c_ends_a_pair(self):
         client = "import socket, time; end = socket.create_connection(('10.9.0.2', 80)); time.sleep(60)"
         words = [RECORD, "--no-check", "--out", f"{self.folder}/out", "--pair", SERVER, "--", sys.executable, "-c", client]
-        with subprocess.Popen(words, stdout=subprocess.PIPE, stderr=subprocess.PIPE) as process:
+        # A shell may start the tests with Ctrl-C ignored.
+        with subprocess.Popen(words, stdout=subprocess.PIPE, stderr=subprocess.PIPE,
+                              preexec_fn=lambda: signal.signal(signal.SIGINT, signal.SIG_DFL)) as process:
             until = time.monotonic() + 30
             while not self.has_logged(b"htons(80)") and time.monotonic() < until:
                 time.sleep(0.05)
