@@ -1,4 +1,6 @@
 """Connections in captures: which segments belong together, and which bytes each end sent."""
+from itertools import islice
+
 from .captures import shown
 from .problem import Problem
 from .remedies import BUFFER, LARGER_BUFFER
@@ -126,22 +128,30 @@ class Connection:
             first = self.initial.get(end)
             if first is None:
                 continue
-            reached = self._reached(capture, end, first)
-            acknowledged = self._acknowledged(end, first, self.seen[capture])
+            reached = _without_gap(self._sent(capture, end, first))
+            acknowledged = self._acknowledged(end, first, self._answers(capture, end))
             if reached < acknowledged < WRAP // 2:
                 return end, reached
         return None
 
-    def _reached(self, capture, end, first):
-        """The offset up to which a capture has an end's bytes and FIN without a gap."""
-        spans = []
+    def _answers(self, capture, end):
+        """What the other end sent in a capture, from its SYN on, if the capture has that: what it sent before belongs to an earlier connection."""
+        packets, other = self.seen[capture], self.other(end)
+        start = next((place for place, packet in enumerate(packets) if packet.source == other and packet.flags & SYN), 0)
+        return islice(packets, start, None)
+
+    def shows(self, end, offset):
+        """Whether a capture has the byte, or the FIN, at an offset of an end."""
+        return any(start <= offset < stop for name in self.seen for start, stop in self._sent(name, end, self.initial[end]))
+
+    def _sent(self, capture, end, first):
+        """The offsets of the bytes and the FIN of an end's segments in a capture: where each segment begins and stops."""
         for packet in self.seen[capture]:
             if packet.source == end and not packet.flags & RST:
                 offset = (packet.number + bool(packet.flags & SYN) - first - 1) % WRAP
                 length = packet.size + (packet.flags & FIN)
                 if length and offset < WRAP // 2:
-                    spans.append((offset, offset + length))
-        return _without_gap(spans)
+                    yield offset, offset + length
 
 
 def _without_gap(spans):
@@ -213,6 +223,13 @@ def refuse_gaps(connections):
     for connection in connections:
         for name in connection.seen:
             if connection.whole and (gap := connection.gap(name)):
-                end, offset = gap
-                raise Problem(f"{name}: the capture lost packets of {connection}: byte {offset + 1} that {shown(end)} sent was "
-                              "acknowledged and is not in the capture", f"{BUFFER}; or accept it as it is with --keep-gaps", LARGER_BUFFER)
+                raise Problem(_cause(connection, name, *gap), f"{BUFFER}; or accept it as it is with --keep-gaps", LARGER_BUFFER)
+
+
+def _cause(connection, name, end, offset):
+    """Why a capture lacks an acknowledged byte. If the other capture lacks it, too, that may be the fault of the end that acknowledged it."""
+    if connection.shows(end, offset):
+        return f"{name}: the capture lost packets of {connection}: byte {offset + 1} that {shown(end)} sent was acknowledged and is not in the capture"
+    lost = "both captures" if len(connection.seen) == 2 else "the capture"
+    return (f"{name}: {shown(connection.other(end))} acknowledged byte {offset + 1} of {shown(end)}, which no capture has: "
+            f"it was never sent, or {lost} lost packets")

@@ -1,5 +1,8 @@
 """Tests which calls are inferred from segments, and where."""
 import unittest
+from types import SimpleNamespace
+
+from tcpwit_import.judge.streams import Stream
 
 from . import inferred
 from .wire import ACK, FIN, RST, SYN, Talk
@@ -238,6 +241,18 @@ class Cut(inferred.Inferring):
         lines = self.trace(talk, captures={0: "c0"})
         self.assertIn("616200000000", next(line for line in lines if " B send" in line))
         self.assertEqual(list(self.notes.changed), ["segments of which no capture has all bytes, completed with zeros"])
+
+    def test_many_segments_that_were_cut(self):
+        # Each segment leaves a span of its own, in both captures. A search through all of them would take minutes.
+        stream, count = Stream(1000), 30_000
+        found = [SimpleNamespace(number=1001 + 10 * at, flags=ACK, size=10, missing=6, payload=b"abcd" + bytes(6)) for at in range(count)]
+        for packet in found * 2:
+            stream.add(packet)
+        self.assertEqual(len(stream.spans), count)
+        for at in range(count):
+            self.assertTrue(stream.has(10 * at, 10 * at + 4))
+            self.assertFalse(stream.has(10 * at + 4, 10 * at + 10))
+            self.assertEqual(stream.bytes_of(10 * at + 2, 10), b"cd" + bytes(6) + (b"ab" if at + 1 < count else bytes(2)))
 
     def test_a_retransmission_has_the_same_bytes(self):
         talk = Talk()

@@ -168,8 +168,24 @@ class Lines(WithCaptures):
         status, out, _ = run(*self.files(), *self.lab())
         self.assertEqual(status, 2)
         self.assertIn("not judged: ", out.splitlines()[0])
-        self.assertIn("lost packets", out.splitlines()[0])
+        self.assertIn("c0.pcap: the capture lost packets of 10.9.0.1:4000 -> 10.9.0.2:80: byte 1 ", out.splitlines()[0])
         self.assertEqual(run(*self.files(), *self.lab(), "--keep-gaps")[0], 0)
+
+    def test_bytes_that_were_never_sent(self):
+        self.talk = Talk()
+        self.talk.next[0] += 1000
+        self.talk.send(1)
+        said = ("c0.pcap: 10.9.0.2:80 acknowledged byte 1 of 10.9.0.1:4000, which no capture has: it was never sent, or {} lost packets "
+                "(--keep-gaps judges it as it is)")
+        for words, lost in ((self.files(), "both captures"), ([*self.files(hosts=(0,)), "--host", "client"], "the capture")):
+            self.assertIn(said.format(lost), run(*words, *self.lab())[1])
+            self.assertEqual(run(*words, *self.lab(), "--keep-gaps")[0], 0)
+
+    def test_an_answer_of_an_earlier_connection(self):
+        self.talk = Talk()
+        frames = self.talk.frames[0]
+        frames.insert(1, (frames[0][0] + 1000, ethernet(ip_packet(("10.9.0.2", 80), ("10.9.0.1", 4000), segment(("10.9.0.2", 80), ("10.9.0.1", 4000), 1, 99999, ACK)))))
+        self.assertEqual(run(*self.files(hosts=(0,)), *self.lab(), "--host", "client")[0], 0)
 
     def test_json(self):
         _, out, _ = run(*self.files(), *self.lab(NO, 1), "--json")
@@ -226,6 +242,14 @@ class Hosts(WithCaptures):
     def test_loopback(self):
         self.talk = Talk(zero=("127.0.0.1", 4000), one=("127.0.0.1", 80))
         self.assertEqual(self.hosts(), ("hosts 2", "O"))
+
+    def test_loopback_in_one_of_two_captures(self):
+        for host in (0, 1):
+            both, own = Talk(at=99 * 10**9), Talk(zero=("127.0.0.1", 4000), one=("127.0.0.1", 80))
+            both.frames[host] += own.frames[0]
+            names = self.files(both)
+            self.assertIn("2 connections: 2 yes, 0 no. ", run(*names, *self.lab())[1])
+            self.assertEqual(self.hosts(files=names), ("hosts 2", "O"))
 
     def test_two_captures_in_any_order(self):
         names = self.files()
@@ -330,6 +354,14 @@ class Faults(WithCaptures):
             status, out, _ = run(*self.files(), *self.lab())
         self.assertEqual(status, 2)
         self.assertRegex(out, r"not judged: ValueError: x \(mock.py, line \d+\); this is a bug: report it with the capture\n")
+
+    def test_a_lack_of_memory_or_space(self):
+        for error, said in ((MemoryError(), "memory ran out: judge fewer connections at once"), (OSError(28, "No space left on device", "x"), "x: No space left on device")):
+            with mock.patch("tcpwit_import.judge.one.Trace", side_effect=error):
+                status, out, _ = run(*self.files(), *self.lab())
+            self.assertEqual(status, 2)
+            self.assertIn("not judged: " + said, out)
+            self.assertNotIn("this is a bug", out)
 
     def test_a_killed_worker(self):
         second = Talk(zero=("10.9.0.1", 4001), at=99 * 10**9)

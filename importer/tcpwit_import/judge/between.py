@@ -1,4 +1,5 @@
 """A capture that was made between the hosts, such as at a switch, as two: what each host sent and received, a moment before or after."""
+import heapq
 from copy import copy
 
 from ..connections import ACK, FIN, RST, SYN, WRAP
@@ -32,18 +33,19 @@ def moved(packet, delay):
 def fastest_answer(packets, end):
     """The shortest time between a segment to an end and one by which it newly acknowledges all of that; 0 if there's none."""
     first, reached, shortest = None, 0, None
-    # The end of each segment that isn't acknowledged yet, and its moment.
+    # A heap of the segments that aren't acknowledged yet: the end of each, and its moment.
     waiting = []
     for packet in sorted(packets, key=lambda packet: packet.moment):
         if packet.source != end:
             length = packet.size + (packet.flags & FIN) + bool(packet.flags & SYN)
             first = packet.number if first is None else first
             if length and not packet.flags & RST:
-                waiting.append(((packet.number + length - first) % WRAP, packet.moment))
+                heapq.heappush(waiting, ((packet.number + length - first) % WRAP, packet.moment))
         elif packet.flags & (ACK | RST) == ACK and waiting:
             reached = max(reached, (packet.acknowledgment - first) % WRAP)
-            covered = [moment for stop, moment in waiting if stop <= reached]
-            if covered:
-                waiting = [each for each in waiting if each[0] > reached]
-                shortest = min(packet.moment - max(covered), packet.moment - max(covered) if shortest is None else shortest)
+            covered = None
+            while waiting and waiting[0][0] <= reached:
+                covered = max(heapq.heappop(waiting)[1], covered or 0)
+            if covered is not None:
+                shortest = min(packet.moment - covered, packet.moment - covered if shortest is None else shortest)
     return shortest or 0

@@ -24,6 +24,8 @@ class Trace:
             above, below = bounds_of([connection], captures)
             clock = clock_of(above, below) if above and below else clock
             leave_out_unsent(connection, captures, last, clock)
+        else:
+            clock = SAME
         streams = streams_of(connection, {end: captures_of(connection, captures, end) for end in (connection.client, connection.server)})
         complete(connection, streams, notes)
         script = script_of(connection, captures, streams, last, notes)

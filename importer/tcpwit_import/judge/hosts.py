@@ -17,6 +17,18 @@ class Undecided(Exception):
     """A connection can't be judged, for a reason that the message states."""
 
 
+def is_loopback(connection):
+    """Whether a connection's addresses show that both its hosts are one."""
+    ends = connection.client, connection.server
+    return connection.client[0] == connection.server[0] or all(ip_address(end[0]).is_loopback for end in ends)
+
+
+def of_both(connection, capture):
+    """Gives each end its host, if a capture is of both hosts. Returns the captures of the hosts."""
+    connection.hosts = {connection.client: 0, connection.server: 1}
+    return {None: capture.name}
+
+
 class OneCapture:
     """A capture of one host, or of both over loopback. `wanted` is the value of --host, or None; BETWEEN for a capture between the hosts."""
 
@@ -42,8 +54,7 @@ class OneCapture:
 
     def marked(self, connection):
         """The end whose segments the capture marked as sent."""
-        ends = [connection.client, connection.server]
-        if connection.client[0] == connection.server[0] or all(ip_address(end[0]).is_loopback for end in ends):
+        if is_loopback(connection):
             return None
         own = connection.own.get(self.capture.name, ())
         if len(own) == 1:
@@ -56,8 +67,7 @@ class OneCapture:
         """Gives each end its host, and returns the captures of the hosts: half a case if only one is recorded."""
         own = self.ends(connection)
         if own is None:
-            connection.hosts = {connection.client: 0, connection.server: 1}
-            return {None: self.capture.name}
+            return of_both(connection, self.capture)
         connection.hosts = {own: 0, connection.other(own): 1}
         return {0: self.capture.name}
 
@@ -111,10 +121,12 @@ class TwoCaptures:
 
     def assign(self, connection):
         """Gives each end its host, and returns the captures of the hosts: half a case if the other host isn't recorded."""
+        place, *others = [place for place, capture in enumerate(self.captures) if capture.name in connection.places]
+        if not others and is_loopback(connection):
+            return of_both(connection, self.captures[place])
         client, server = self.host(connection.client), self.host(connection.server)
         if client is not None and server is not None and client == server:
             raise Undecided("both its ends are at the same host")
-        place, *others = [place for place, capture in enumerate(self.captures) if capture.name in connection.places]
         if not others and (connection.senders != {connection.client} or client == 1 - place or server == place):
             return self.half(connection, place, client, server)
         if client is None:

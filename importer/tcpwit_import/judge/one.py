@@ -11,6 +11,7 @@ from ..captures import shown
 from ..connections import refuse_gaps
 from ..files import write_file
 from ..problem import Notes, Problem, decoded, place_of
+from ..remedies import LESS_AT_ONCE
 from .between import split
 from .conversion import Trace
 from .hosts import Undecided
@@ -91,6 +92,10 @@ class Judge:
             found.reason = str(reason)
         except Problem as problem:
             found.reason, found.status = problem.cause, 2
+        except MemoryError:
+            found.reason, found.status = f"memory ran out: {LESS_AT_ONCE}", 2
+        except OSError as error:
+            found.reason, found.status = ": ".join(filter(None, (error.filename, error.strerror or str(error)))), 2
         except Exception as error:
             # The other connections are judged all the same.
             cause = f"{type(error).__name__}: {error} ({place_of(error)})"

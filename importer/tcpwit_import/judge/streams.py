@@ -1,4 +1,6 @@
 """The bytes that an end of a connection sent, as captures have them, and segments of which a capture has only the beginning."""
+from bisect import bisect_left
+
 from ..connections import FIN, RST, SYN, WRAP
 
 
@@ -16,7 +18,7 @@ class Stream:
     @property
     def end(self):
         """The offset after the last byte."""
-        return self.spans[-1][0] + len(self.spans[-1][1]) if self.spans else 0
+        return self._stop(-1) if self.spans else 0
 
     def offset(self, packet):
         """The offset of a segment's first byte; negative if it begins before the stream, as a keep-alive may."""
@@ -43,9 +45,7 @@ class Stream:
 
     def _put(self, offset, payload):
         """Writes the bytes that aren't known yet, and compares the others."""
-        end, place = offset + len(payload), len(self.spans)
-        while place and self.spans[place - 1][0] + len(self.spans[place - 1][1]) >= offset:
-            place -= 1
+        end, place = offset + len(payload), self._place(offset)
         if place == len(self.spans) or self.spans[place][0] > offset:
             self.spans.insert(place, (offset, bytearray()))
         start, data = self.spans[place]
@@ -53,6 +53,16 @@ class Stream:
         data += payload[start + len(data) - offset:]
         while place + 1 < len(self.spans) and self.spans[place + 1][0] <= end:
             self._join(place)
+
+    def _place(self, offset):
+        """The place of the first span that reaches an offset or is after it. Packets cut short leave many spans, so each search must be fast."""
+        place = bisect_left(self.spans, (offset + 1,))
+        return place - 1 if place and self._stop(place - 1) >= offset else place
+
+    def _stop(self, place):
+        """The offset after the span at a place."""
+        start, data = self.spans[place]
+        return start + len(data)
 
     def _join(self, place):
         """Joins a span and the next one, which it reaches. The bytes of the next one were there first."""
@@ -70,17 +80,18 @@ class Stream:
 
     def has(self, start, stop):
         """Whether some capture has all bytes of a part."""
-        return start >= stop or any(begin <= start and stop <= begin + len(data) for begin, data in reversed(self.spans))
+        place = self._place(start)
+        return start >= stop or (place < len(self.spans) and self.spans[place][0] <= start and stop <= self._stop(place))
 
     def bytes_of(self, offset, length):
         """Bytes of the stream; zeros for those that no capture has."""
-        found = bytearray(length)
-        for start, data in reversed(self.spans):
-            piece = data[max(0, offset - start):max(0, offset + length - start)]
+        found, place = bytearray(length), self._place(offset)
+        while place < len(self.spans) and self.spans[place][0] < offset + length:
+            start, data = self.spans[place]
+            piece = data[max(0, offset - start):offset + length - start]
             at = max(0, start - offset)
             found[at:at + len(piece)] = piece
-            if start <= offset:
-                break
+            place += 1
         return bytes(found)
 
 
