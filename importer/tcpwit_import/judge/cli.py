@@ -61,7 +61,8 @@ def parser():
     words.add_argument("--memory", type=number_within(1, 10**6), default=256, metavar="MB",
                        help="with -: how much memory the packets may need; if it's too little, the largest connection is judged as far as it was captured "
                        "(default: 256)")
-    words.add_argument("--keep-gaps", action="store_true", help="judge connections of which a capture lost packets")
+    words.add_argument("--keep-gaps", action="store_true", help="judge connections of which a capture lost packets, or of which a host acknowledged a byte "
+                       "that no capture has")
     words.add_argument("--lab", type=named_file, metavar="PATH", help="the program tcpwit_lab, which judges traces")
     words.add_argument("--quiet", action="store_true", help="print only verdicts and errors")
     group = words.add_argument_group("header values, to replace the default ones")
