@@ -15,6 +15,13 @@ LEFT_OUT = {
     "sudo ": "needs root, and namespaces, the network or a package",
     "(cd crates/": "proves",
     "packaging/build --out": "packs proved programs",
+    "bindings/c/build ": "takes minutes; bindings/test runs this and the programs that the page shows",
+    "cc judge.c ": "needs the library",
+    "./judge ": "needs the library",
+    "cp DIR/libtcpwit": "needs the library",
+    "CGO_": "needs the library",
+    "TCPWIT_LIB_DIR=": "needs the library",
+    "pip wheel ": "bindings/test builds a wheel",
     "./test": "calls this script, and proves",
     "importer/test": "is a suite of ./test",
     "stacks/run ": "takes more than a minute; stacks/test runs some of the scenarios",
@@ -34,10 +41,10 @@ LEFT_OUT = {
     "python3 tools/soak/": "takes minutes",
 }
 # The beginnings of texts that are neither commands nor the output of the command before them.
-SHOWN = ("//! Judges a case.",)
+SHOWN = ("//! Judges a case.", "#include <", "import tcpwit", "use tcpwit", "package judge", "[dev-dependencies]", "require tcpwit")
 # Statuses other than 0, of commands whose page shows no output. On a busy machine, `record` can end with 1.
 STATUSES = {"tcpwit record ": 1, "strace -f -o calls": 5}
-COMMAND = re.compile(r"(\./|sudo |importer/|stacks/|packaging/|bench/|tools/|python3 |\(cd |\{ |(tcpwit|tcpwit_lab|tcpdump|strace|for|parallel|read|mkfifo|cat|sed|grep) )")
+COMMAND = re.compile(r"(\./|sudo |cc |cp |pip |TCPWIT_LIB_DIR=|CGO_|importer/|stacks/|packaging/|bindings/|bench/|tools/|python3 |\(cd |\{ |(tcpwit|tcpwit_lab|tcpdump|strace|for|parallel|read|mkfifo|cat|sed|grep) )")
 # A command in a sentence or a table. One with `..` is incomplete, and one with N has a number to be chosen.
 INLINE = re.compile(r"(?<!`)`((?:\./)?tcpwit(?:_lab)? [^`\s]+ (?:(?!\.\.|\bN\b)[^`\n])+)`")
 BLOCK = re.compile(r"^(?:    .*\n)+", re.M)

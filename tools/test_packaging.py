@@ -1,5 +1,6 @@
 #!/usr/bin/python3
-"""Tests what packaging/build runs, packs and refuses. This needs no toolchain: a script replaces it, and /bin/true replaces both programs."""
+"""Tests what packaging/build runs, packs and refuses. This needs no toolchain: a script replaces it, /bin/true replaces both programs, and
+functions that do nothing replace those of the library."""
 import gzip
 import os
 import re
@@ -10,15 +11,20 @@ import unittest
 
 TOP = os.path.dirname(os.path.dirname(os.path.abspath(__file__)))
 # The folders whose files are in the package.
-FOLDERS = ("docs", "examples", "importer", "packaging", "stacks")
+FOLDERS = ("bindings", "docs", "examples", "importer", "packaging", "stacks")
 FILES = (".gitignore", "CHANGELOG.md", "README.md", "tools/unproved.py", "crates/verdict/src/rule.rt")
-TOOLS = ("dpkg-deb", "git", "objdump", "strip", "xz")
+TOOLS = ("ar", "cc", "dpkg-deb", "git", "objcopy", "objdump", "strip", "xz")
 # Replaces the toolchain. It records each `rt run` with the first line that it reads. It builds the program once and then leaves it unchanged, since
-# no source changes. Then it prints the program's expected output.
+# no source changes. Then it prints the program's expected output. The folder of the toolchain has an allocator.
 RT = """#!/bin/sh
 name=$(basename "$PWD")
 case $1 in
 version) echo a toolchain ;;
+doc) echo {folder}/START-HERE.md ;;
+lib)
+  echo "$name $*" >> {folder}/runs
+  mkdir -p out
+  cp {folder}/stub.a "out/lib$name.a" ;;
 run)
   echo "$name $* $(head -n 1)" >> {folder}/runs
   {instead}
@@ -45,6 +51,9 @@ def lines_of(path):
 # How `rt run` is called for each program, and what is recorded about it.
 CALLS = {name: f"run -- {' '.join(lines_of(f'crates/{name}/args'))}" for name in ("tcpwit", "tcpwit_lab")}
 RUNS = [f"{name} {call} {lines_of(f'crates/{name}/stdin')[0]}" for name, call in CALLS.items()]
+LIB = "tcpwit_c lib"
+# The packages' names, without versions.
+NAMES = ["SHA256SUMS", "libtcpwit-dev.deb", "libtcpwit1.deb", "tcpwit.deb", "tcpwit.tar.xz"]
 
 
 @unittest.skipUnless(all(map(shutil.which, TOOLS)), f"needs {', '.join(TOOLS)}")
@@ -60,7 +69,9 @@ class Build(unittest.TestCase):
             shutil.copy(f"{TOP}/{name}", f"{self.top}/{name}")
         for name in ("tcpwit", "tcpwit_lab"):
             self.write(f"clone/crates/{name}/src/main.rt", "")
-        self.write("clone/crates.txt", "tcpwit:\ntcpwit_lab:\n")
+        self.write("clone/crates/tcpwit_c/src/lib.rt", "")
+        self.write("clone/crates.txt", "tcpwit:\ntcpwit_lab:\ntcpwit_c staticlib:\n")
+        self.stub()
         self.toolchain()
         self.git("init", "--quiet")
         self.commit()
@@ -82,6 +93,18 @@ class Build(unittest.TestCase):
     def toolchain(self, instead=""):
         """Writes the script that replaces the toolchain; it may do something else instead of building."""
         self.write("bin/rt", RT.format(folder=self.folder, instead=instead))
+
+    def stub(self):
+        """Compiles functions that replace those of the library and of the toolchain's allocator."""
+        with open(f"{TOP}/bindings/c/tcpwit.map", encoding="ascii") as file:
+            names = set(re.findall(r"tcpwit_\w+", file.read())) - {"tcpwit_text_free"}
+        os.makedirs(f"{self.folder}/c")
+        sources = {"stub": "".join(f"void {name}(void) {{}}\n" for name in sorted(names)),
+                   "c/liblibc_c": "#include <stdlib.h>\nvoid rattle_dealloc(void *block) { free(block); }\n"}
+        for name, source in sources.items():
+            self.write(f"{name}.c", source)
+            subprocess.run(["cc", "-c", "-fPIC", f"{self.folder}/{name}.c", "-o", f"{self.folder}/{name}.o"], check=True)
+            subprocess.run(["ar", "rcs", f"{self.folder}/{name}.a", f"{self.folder}/{name}.o"], check=True)
 
     def environment(self):
         """The environment of each command: PATH has the script, but not this machine's toolchain."""
@@ -116,11 +139,11 @@ class Build(unittest.TestCase):
         """The names of the files that were created."""
         return {name: read(f"{self.out}/{name}") for name in sorted(os.listdir(self.out))} if os.path.exists(self.out) else {}
 
-    def unpacked(self):
-        """The folder of the package's files."""
+    def unpacked(self, start="tcpwit"):
+        """The folder of a package's files."""
         root = f"{self.folder}/root"
         shutil.rmtree(root, ignore_errors=True)
-        package = next(name for name in self.packages() if name.endswith(".deb"))
+        package = next(name for name in self.packages() if name.startswith(start) and name.endswith(".deb"))
         subprocess.run(["dpkg-deb", "--extract", f"{self.out}/{package}", root], check=True)
         return root
 
@@ -135,11 +158,11 @@ class Build(unittest.TestCase):
     def test_missing_programs_are_proved_and_packed(self):
         status, lines, error = self.build()
         self.assertEqual(status, 0, error)
-        self.assertEqual(self.runs(), RUNS)
+        self.assertEqual(self.runs(), [*RUNS, LIB])
         for words in (*(f"{name} && rt {call} < stdin" for name, call in CALLS.items()), "about an hour"):
             self.assertIn(words, error)
         names = list(self.packages())
-        self.assertEqual([re.sub(r"_.*_amd64", "", name) for name in names], ["SHA256SUMS", "tcpwit.deb", "tcpwit.tar.xz"])
+        self.assertEqual([re.sub(r"_.*_amd64", "", name) for name in names], NAMES)
         wanted = [f"{self.out}/{name}" for name in (*names[1:], names[0])]
         self.assertEqual(lines, [*wanted, f"commit    {self.git('rev-parse', 'HEAD')}", "toolchain a toolchain"])
         subprocess.run(["sha256sum", "--check", "--strict", "--quiet", "SHA256SUMS"], cwd=self.out, check=True)
@@ -156,6 +179,27 @@ class Build(unittest.TestCase):
         with gzip.open(f"{root}/usr/share/man/man1/tcpwit-record.1.gz", "rt") as file:
             self.assertIn(r".B \-\-kernel {plain,shipped}", file.read())
 
+    def test_a_program_can_be_compiled_with_the_library(self):
+        self.build()
+        with open(f"{TOP}/bindings/c/tcpwit.map", encoding="ascii") as file:
+            names = set(re.findall(r"tcpwit_\w+", file.read()))
+        root = self.unpacked("libtcpwit-dev")
+        with tempfile.TemporaryDirectory() as shared:
+            package = next(name for name in self.packages() if name.startswith("libtcpwit1"))
+            subprocess.run(["dpkg-deb", "--extract", f"{self.out}/{package}", root], check=True)
+            subprocess.run(["dpkg-deb", "--control", f"{self.out}/{package}", f"{shared}/control"], check=True)
+            self.assertEqual(read(f"{shared}/control/shlibs"), b"libtcpwit 1 libtcpwit1\n")
+            self.assertIn("ldconfig", read(f"{shared}/control/triggers").decode())
+        self.write("program.c", '#include <tcpwit.h>\n#include <tcpwit_trace.h>\nint main(void) { tcpwit_check("", 0, NULL); return 0; }\n')
+        libraries = f"{root}/usr/lib/x86_64-linux-gnu"
+        environment = {**self.environment(), "PKG_CONFIG_PATH": f"{libraries}/pkgconfig", "PKG_CONFIG_SYSROOT_DIR": root}
+        for words in ("-ltcpwit", f"{libraries}/libtcpwit.a"):
+            command = f"cc program.c -I{root}/usr/include -L{libraries} {words} -o program && LD_LIBRARY_PATH={libraries} ./program"
+            subprocess.run(["sh", "-c", command], cwd=self.folder, env=environment, check=True)
+        symbols = subprocess.run(["nm", "-D", "--defined-only", f"{libraries}/libtcpwit.so.1"], capture_output=True, text=True, check=True).stdout
+        self.assertEqual({line.split()[-1].split("@")[0] for line in symbols.splitlines()} - {"TCPWIT_1"}, names)
+        self.assertIn("prefix=/usr\n", read(f"{libraries}/pkgconfig/tcpwit.pc").decode())
+
     @unittest.skipUnless(shutil.which("groff"), "needs groff")
     def test_the_manual_has_no_faults(self):
         self.build()
@@ -171,7 +215,7 @@ class Build(unittest.TestCase):
         self.runs()
         before = self.packages()
         self.assertEqual(self.build()[0], 0)
-        self.assertEqual((self.runs(), self.packages()), ([], before))
+        self.assertEqual((self.runs(), self.packages()), ([LIB], before))
 
     def test_an_old_program_is_proved(self):
         self.build()
@@ -179,7 +223,7 @@ class Build(unittest.TestCase):
         os.utime(f"{self.top}/crates/tcpwit_lab/out/tcpwit_lab", (1, 1))
         for runs in (RUNS[1:], []):
             self.assertEqual(self.build()[0], 0)
-            self.assertEqual(self.runs(), runs)
+            self.assertEqual(self.runs(), [*runs, LIB])
 
     def test_a_failed_proof(self):
         self.toolchain("echo error: a proof fails >&2; exit 1")
@@ -220,11 +264,12 @@ class Build(unittest.TestCase):
         for name in ("tcpwit", "tcpwit_lab"):
             os.makedirs(f"{self.top}/.built", exist_ok=True)
             shutil.copy("/bin/true", f"{self.top}/.built/{name}")
-        self.write("clone/new", "")
+        with open(f"{self.top}/tools/unproved.py", "a", encoding="utf-8") as file:
+            file.write(f"\n\ndef build_object(name, out):\n    shutil.copy('{self.folder}/stub.o', out)\n")
         status, lines, error = self.build("--unproved")
         self.assertEqual((status, self.runs()), (0, []), error)
-        self.assertEqual([re.sub(r"_.*_amd64", "", name) for name in self.packages()], ["SHA256SUMS", "tcpwit-unproved.deb", "tcpwit-unproved.tar.xz"])
-        self.assertEqual(lines[3], f"commit    {self.git('rev-parse', 'HEAD')} and uncommitted changes")
+        self.assertEqual([re.sub(r"_.*_amd64", "", name) for name in self.packages()], [re.sub(r"(\w)\.", r"\1-unproved.", name, count=1) for name in NAMES])
+        self.assertEqual(lines[5], f"commit    {self.git('rev-parse', 'HEAD')} and uncommitted changes")
         self.assertIn("proofs    NOT PROVED", read(f"{self.unpacked()}/usr/share/doc/tcpwit-unproved/BUILT").decode())
 
 

@@ -14,8 +14,8 @@ STRING = r'"((?:[^"\\]|\\.)*)"'
 # A text in the code is a string or a constant.
 TEXT = rf"(?:{STRING}|([A-Z_]+))"
 # The beginning of an arm of the table, what may follow it, and an arm of the causes.
-MEANING = re.compile(rf"Meaning::of\(\s*{TEXT},\s*{TEXT},?\s*\)", re.S)
-FURTHER = re.compile(rf"\.(captured|rfc)\(\s*{TEXT},?\s*\)", re.S)
+MEANING = re.compile(rf"&Meaning \{{\s*refused:\s*{TEXT},\s*usual:\s*{TEXT},", re.S)
+FURTHER = re.compile(rf"\b(captured|rfc):\s*{TEXT},", re.S)
 CAUSE = re.compile(rf"((?:\|?\s*Known::\w+\s*)+)=>\s*{TEXT}", re.S)
 CAPTURED = ". In a capture: "
 
@@ -143,7 +143,7 @@ class Rules(unittest.TestCase):
         for name, old, new, fault in (
             (TABLE, "the listen queue is full", "the listen queue was full", "32 queue-full: the words differ"),
             (TABLE, "a round trip was measured", "no round trip was measured", "34 sample: the causes differ"),
-            (TABLE, '.captured("the capture lost', '.rfc("the capture lost', "31 ack-range: the causes differ"),
+            (TABLE, 'captured: "the capture lost', 'rfc: "the capture lost', "31 ack-range: the causes differ"),
             (TABLE, "&[Known::NothingOutstanding]", "&[]", "37 recovery: the causes differ"),
             (CAUSES, "skips positions that it", "skips what it", "20 old-data: the causes differ"),
             (CAUSES, "lost the segments before", "lost some segments before", "20 old-data: the causes differ"),

@@ -2,9 +2,11 @@
 """Builds a program of this repository without proving it, and keeps the result.
 
     python3 tools/unproved.py NAME OUT [-O0]
+    python3 tools/unproved.py --object NAME OUT
     python3 tools/unproved.py --keep NAME ..
 
-NAME is a crate with a `main`, OUT the file of the program. With --keep, the program of each crate is built as `./tcpwit` builds it,
+NAME is a crate with a `main`, OUT the file of the program. With --object, NAME is a static library whose tests call each function that
+it exports, and OUT an object file with these functions. With --keep, the program of each crate is built as `./tcpwit` builds it,
 unless a current one exists, and its path is printed. The status is 127 if there is no program and none can be built.
 
 `rt try` builds a module of the whole program, compiles and runs it, and keeps nothing. This script takes the module that `rt try`
@@ -16,6 +18,7 @@ import fcntl
 import glob
 import os
 import pwd
+import re
 import shutil
 import subprocess
 import sys
@@ -95,15 +98,47 @@ def kit_beside(folder, kept):
     os.chmod(clang, 0o755)
 
 
-def module_of(name, folder):
-    """The module of a program, as a file in the folder."""
+def module_of(name, folder, *words):
+    """The module of a program, as a file in the folder. The words go to `rt try`."""
     kept = f"{folder}/kept.bc"
     kit_beside(f"{folder}/kit", kept)
     pipes = {"stdin": subprocess.DEVNULL, "stdout": subprocess.PIPE, "stderr": subprocess.PIPE}
-    tried = watched("step 1 of 2, translating", [f"{folder}/kit/bin/rt", "try", name], cwd=f"{TOP}/crates/{name}", text=True, **pipes)
+    tried = watched("step 1 of 2, translating", [f"{folder}/kit/bin/rt", "try", name, *words], cwd=f"{TOP}/crates/{name}", text=True, **pipes)
     if not os.path.exists(kept):
         stop(f"{tried.stdout}{tried.stderr}`rt try` made no module of {name}")
     return kept
+
+
+def exported(name, text):
+    """The module of a static library's tests, without their `main`, and with the functions that the library exports."""
+    text = re.sub(r"(?m)^define i32 @main\(\)", "define internal i32 @tests_main()", text)
+    for source in sorted(glob.glob(f"{TOP}/crates/{name}/src/**/*.rt", recursive=True)):
+        with open(source, encoding="utf-8") as file:
+            module = ".".join(os.path.relpath(source, f"{TOP}/crates/{name}/src")[:-3].split(os.sep))
+            for function in re.findall(r'pub extern "C" fn (\w+)', file.read()):
+                symbol = "::".join([name, *(part for part in module.split(".") if part != "lib"), function])
+                head = re.search(rf'(?m)^define internal (.*) @"{symbol}"\((.*)\) #', text)
+                if head is None:
+                    stop(f"the tests of {name} don't call {function}")
+                result = re.sub(r"\b(noundef|zeroext) ", "", head[1])
+                kinds = ", ".join(it.split()[0] for it in head[2].split(", ") if it)
+                text += f'@{function} = alias {result} ({kinds}), ptr @"{symbol}"\n'
+    return text
+
+
+def build_object(name, out):
+    """Builds an object file that has what a static library exports."""
+    need_toolchain(name)
+    clang = f"{kit()}/toolchain/bin/clang"
+    with tempfile.TemporaryDirectory() as folder:
+        module = module_of(name, folder, "--test")
+        subprocess.run([clang, "-S", "-emit-llvm", "-Xclang", "-disable-llvm-passes", "-x", "ir", module, "-o", f"{folder}/module.ll"], check=True)
+        with open(f"{folder}/module.ll", encoding="utf-8") as file:
+            text = exported(name, file.read())
+        with open(f"{folder}/module.ll", "w", encoding="utf-8") as file:
+            file.write(text)
+        words = [clang, *FLAGS, "-fPIC", "-O1", f"{folder}/module.ll", "-o", out]
+        watched("step 2 of 2, optimizing", words).check_returncode()
 
 
 def linked(objects, out):
@@ -196,6 +231,8 @@ def main():
     words = sys.argv[1:]
     if words == ["--help"]:
         print(__doc__.strip())
+    elif words[:1] == ["--object"] and len(words) == 3:
+        build_object(words[1], words[2])
     elif words[:1] == ["--keep"] and len(words) > 1:
         leave_sudo()
         for name in words[1:]:

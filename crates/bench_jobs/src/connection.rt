@@ -4,7 +4,7 @@ use crate::case_text::CaseText;
 use crate::case_text::Word::{Digits, Number, Text};
 use crate::draws::Draws;
 use case_forms::OutOfMemory;
-use line_fields::{push_hex, push_number, push_space, push_word};
+use line_fields::{push_hex, push_word};
 use std::alloc::Global;
 
 /// The greatest payload of a segment, in bytes.
@@ -146,13 +146,7 @@ impl End {
         port: u16,
         other: u16,
     ) -> Result<End, OutOfMemory> {
-        let mut making = Vec::new(alloc);
-        push_word(&mut making, "M ")?;
-        for number in [host, u64::from(port)] {
-            push_number(&mut making, number)?;
-            push_space(&mut making)?;
-        }
-        push_number(&mut making, u64::from(other))?;
+        let making = format!(in alloc; "M {host} {port} {other}")?.into_bytes();
         let mut ports = Vec::new(alloc);
         push_hex(&mut ports, &port.to_be_bytes())?;
         push_hex(&mut ports, &other.to_be_bytes())?;
@@ -165,8 +159,20 @@ impl End {
 }
 
 impl Connection {
-    /// The connection of this client port, whose sockets have two numbers from `socket` on.
-    pub fn new(
+    /// Opens the connection of this client port, whose sockets have two numbers from `socket` on.
+    pub fn open(
+        alloc: Global,
+        draws: &mut Draws,
+        case: &mut CaseText,
+        client_port: u16,
+        socket: u64,
+    ) -> Result<Connection, OutOfMemory> {
+        let mut connection = Connection::new(alloc, draws, client_port, socket)?;
+        connection.begin(case)?;
+        Ok(connection)
+    }
+
+    fn new(
         alloc: Global,
         draws: &mut Draws,
         client_port: u16,
@@ -305,24 +311,28 @@ impl Connection {
         ])
     }
 
-    /// Host 0 opens the connection, and host 1 accepts it.
-    pub fn open(&mut self, case: &mut CaseText) -> Result<(), OutOfMemory> {
+    // Host 0 opens the connection, and host 1 accepts it.
+    fn begin(&mut self, case: &mut CaseText) -> Result<(), OutOfMemory> {
         let call = [
             Text("B open 0"),
             Number(u64::from(self.client_port)),
             Number(u64::from(SERVER_PORT)),
         ];
         case.call(CLIENT, &call, &[Text("ok"), Number(self.client)])?;
-        self.carry(case, &control(true, 0, Kind::Syn, 0), taken(0, false))?;
-        let answer = control(false, 0, Kind::SynAck, 1);
-        self.carry(case, &answer, taken(FIRST_WINDOW, true))?;
-        let last = control(true, 1, Kind::Ack, 1);
-        self.carry(case, &last, taken(FIRST_WINDOW, true))?;
+        self.shake_hands(case)?;
         let call = [Text("B accept"), Number(LISTENER)];
         case.call(SERVER, &call, &[Text("ok"), Number(self.server)])?;
         // The window of the handshake is not scaled; this one is.
         let update = control(false, 1, Kind::Ack, 1);
         self.carry(case, &update, taken(FIRST_WINDOW, false))
+    }
+
+    fn shake_hands(&mut self, case: &mut CaseText) -> Result<(), OutOfMemory> {
+        self.carry(case, &control(true, 0, Kind::Syn, 0), taken(0, false))?;
+        let answer = control(false, 0, Kind::SynAck, 1);
+        self.carry(case, &answer, taken(FIRST_WINDOW, true))?;
+        let last = control(true, 1, Kind::Ack, 1);
+        self.carry(case, &last, taken(FIRST_WINDOW, true))
     }
 }
 

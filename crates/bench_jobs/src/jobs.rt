@@ -7,13 +7,14 @@ use crate::pieces::write_pieces;
 use crate::results::Results;
 use crate::transfer::Transfer;
 use case_forms::OutOfMemory;
-use checker::{check_case, check_streams};
+use checker::{CaseFault, check_case, check_streams};
 use counted::Counted;
 use parallel_check::{Gate, check_many_slices};
 use std::alloc::{AllocError, Global};
 use std::io::BufReader;
 use std::sync::Wait;
 use std::thread::Threads;
+use verdict::Verdict;
 use witness_search::find;
 
 // How many workers check a suite: one, so that its time doesn't depend on other processors.
@@ -170,13 +171,24 @@ pub fn run<H: Threads + Wait + Sync>(
     match job {
         Job::Suite => suite(rt, &mut source, cases, &mut results)?,
         Job::Transfer | Job::Messages | Job::Calls | Job::Pieces | Job::Witness => {
-            for _ in 0..cases {
-                source.write_next(job)?;
-                judge(&mut source, job, &mut results)?;
-            }
+            judge_each(&mut source, job, cases, &mut results)?;
         }
     }
     Ok(results)
+}
+
+// The answers to so many cases, one after the other.
+fn judge_each(
+    source: &mut Source,
+    job: Job,
+    cases: u64,
+    results: &mut Results,
+) -> Result<(), OutOfMemory> {
+    for _ in 0..cases {
+        source.write_next(job)?;
+        judge(source, job, results)?;
+    }
+    Ok(())
 }
 
 // The answer to the case that was written last.
@@ -241,14 +253,45 @@ fn suite<H: Threads + Wait + Sync>(
     let alloc = source.alloc;
     let mut text = Vec::new(alloc);
     let mut ends = Vec::new(alloc);
+    write_suite(source, cases, &mut text, &mut ends)?;
+    check_suite(rt, alloc, text.as_slice(), ends.as_slice(), results)
+}
+
+// Writes so many cases, and where each ends.
+fn write_suite(
+    source: &mut Source,
+    cases: u64,
+    text: &mut Vec<u8>,
+    ends: &mut Vec<usize>,
+) -> Result<(), OutOfMemory> {
     for _ in 0..cases {
         source.write_next(Job::Suite)?;
         source.spoil();
         text.extend_from_slice(source.case.joined()?)?;
         ends.push(text.len())?;
     }
-    let slices = cut(alloc, text.as_slice(), ends.as_slice())?;
+    Ok(())
+}
+
+// The answers to the cases of a text that end at these places.
+fn check_suite<H: Threads + Wait + Sync>(
+    rt: &H,
+    alloc: Global,
+    text: &[u8],
+    ends: &[usize],
+    results: &mut Results,
+) -> Result<(), OutOfMemory> {
+    let slices = cut(alloc, text, ends)?;
     let answers = check_many_slices(rt, alloc, slices.as_slice(), WORKERS, &Unwatched)?;
+    add_all(alloc, slices.as_slice(), answers.as_slice(), results)
+}
+
+fn add_all(
+    alloc: Global,
+    slices: &[&[u8]],
+    answers: &[Result<Verdict, CaseFault>],
+    results: &mut Results,
+) -> Result<(), OutOfMemory> {
     for (slice, answer) in slices.iter().zip(answers.iter()) {
         results.add(alloc, slice.len(), answer)?;
     }
@@ -272,12 +315,16 @@ pub fn print(alloc: Global, job: Job, seed: u64, cases: u64) -> Result<Vec<u8>, 
     let mut source = Source::new(alloc, seed)?;
     let mut out = Vec::new(alloc);
     for _ in 0..cases {
-        source.write_next(job)?;
-        if job == Job::Suite {
-            source.spoil();
-        }
-        out.extend_from_slice(source.case.joined()?)?;
-        out.extend_from_slice(b"end\n")?;
+        print_next(&mut source, job, &mut out)?;
     }
     Ok(out)
+}
+
+fn print_next(source: &mut Source, job: Job, out: &mut Vec<u8>) -> Result<(), OutOfMemory> {
+    source.write_next(job)?;
+    if job == Job::Suite {
+        source.spoil();
+    }
+    out.extend_from_slice(source.case.joined()?)?;
+    out.extend_from_slice(b"end\n")
 }

@@ -40,15 +40,7 @@ pub fn write_pieces(
     count: usize,
 ) -> Result<(), OutOfMemory> {
     let mut pieces = opened(alloc, draws, case, connections, count)?;
-    let size = pieces.count.wrapping_mul(2);
-    let first = part(pool, 2 * draws.below(450_000) as usize, size);
-    pieces.give_all(case, first)?;
-    pieces.bring_in_any_order(draws, case, first)?;
-    pieces.receive_all(case, first, FIRST_WINDOW, true)?;
-    let second = part(pool, 2 * draws.below(450_000) as usize, size);
-    pieces.give_all(case, second)?;
-    pieces.make_again(draws, case, second)?;
-    pieces.receive_all(case, second, MSS, false)
+    pieces.write(draws, case, pool)
 }
 
 // Opens the connections.
@@ -61,37 +53,71 @@ fn opened(
 ) -> Result<Pieces, OutOfMemory> {
     case.begin(0)?;
     listen(case)?;
-    let mut opened = Vec::new(alloc);
-    for index in 0..connections {
-        let port = 2_000_u16.wrapping_add(index % 32_768);
-        let mut connection = Connection::new(alloc, draws, port, 6 + 2 * u64::from(index))?;
-        connection.open(case)?;
-        opened.push(connection)?;
-    }
     let count = count.min(FIRST_WINDOW as usize);
-    let mut order = Vec::new(alloc);
-    for piece in 0..count * usize::from(connections) {
-        order.push(piece)?;
-    }
     Ok(Pieces {
-        connections: opened,
+        connections: open_all(alloc, draws, case, connections)?,
         count,
         sent: 0,
         lines: Vec::new(alloc),
-        order,
+        order: numbers_below(alloc, count * usize::from(connections))?,
     })
 }
 
+fn open_all(
+    alloc: Global,
+    draws: &mut Draws,
+    case: &mut CaseText,
+    count: u16,
+) -> Result<Vec<Connection>, OutOfMemory> {
+    let mut opened = Vec::new(alloc);
+    for index in 0..count {
+        let port = 2_000_u16.wrapping_add(index % 32_768);
+        let socket = 6 + 2 * u64::from(index);
+        opened.push(Connection::open(alloc, draws, case, port, socket)?)?;
+    }
+    Ok(opened)
+}
+
+fn numbers_below(alloc: Global, limit: usize) -> Result<Vec<usize>, OutOfMemory> {
+    let mut numbers = Vec::new(alloc);
+    for number in 0..limit {
+        numbers.push(number)?;
+    }
+    Ok(numbers)
+}
+
 impl Pieces {
+    // Two flights of pieces: the second is retransmitted.
+    fn write(
+        &mut self,
+        draws: &mut Draws,
+        case: &mut CaseText,
+        pool: &[u8],
+    ) -> Result<(), OutOfMemory> {
+        let size = self.count.wrapping_mul(2);
+        let first = part(pool, 2 * draws.below(450_000) as usize, size);
+        self.give_all(case, first)?;
+        self.bring_in_any_order(draws, case, first)?;
+        self.receive_all(case, first, FIRST_WINDOW, true)?;
+        let second = part(pool, 2 * draws.below(450_000) as usize, size);
+        self.give_all(case, second)?;
+        self.make_again(draws, case, second)?;
+        self.receive_all(case, second, MSS, false)
+    }
+
     // Each connection gets its bytes, and all pieces are sent.
     fn give_all(&mut self, case: &mut CaseText, digits: &[u8]) -> Result<(), OutOfMemory> {
         self.lines.clear();
         for connection in self.connections.iter_mut() {
             give(case, connection, digits)?;
-            for index in 0..self.count {
-                let sending = piece(self.sent, digits, index);
-                self.lines.push(connection.send(case, &sending)?)?;
-            }
+            send_pieces(
+                case,
+                connection,
+                digits,
+                self.sent,
+                self.count,
+                &mut self.lines,
+            )?;
         }
         Ok(())
     }
@@ -104,21 +130,32 @@ impl Pieces {
         digits: &[u8],
     ) -> Result<(), OutOfMemory> {
         draws.shuffle(self.order.as_mut_slice());
-        for place in &self.order {
-            let Some(connection) = self.connections.get_mut(connection_of(*place, self.count))
-            else {
-                continue;
-            };
-            let Some(out) = self.lines.get(*place) else {
-                continue;
-            };
-            let sending = piece(self.sent, digits, index_of(*place, self.count));
-            let came = connection.arrive(case, &sending, *out)?;
-            take(case, false, came, kept())?;
-            if draws.below(DOUBLED) == 0 {
-                let came = connection.arrive_again(case, &sending, *out)?;
-                discard(case, came)?;
+        for index in 0..self.order.len() {
+            if let Some(place) = self.order.get(index).copied() {
+                self.bring(draws, case, digits, place)?;
             }
+        }
+        Ok(())
+    }
+
+    // The piece at a place arrives and is kept; it may arrive twice.
+    fn bring(
+        &mut self,
+        draws: &mut Draws,
+        case: &mut CaseText,
+        digits: &[u8],
+        place: usize,
+    ) -> Result<(), OutOfMemory> {
+        let sending = piece(self.sent, digits, index_of(place, self.count));
+        let connection = self.connections.get_mut(connection_of(place, self.count));
+        let (Some(connection), Some(out)) = (connection, self.lines.get(place)) else {
+            return Ok(());
+        };
+        let came = connection.arrive(case, &sending, *out)?;
+        take(case, false, came, kept())?;
+        if draws.below(DOUBLED) == 0 {
+            let came = connection.arrive_again(case, &sending, *out)?;
+            discard(case, came)?;
         }
         Ok(())
     }
@@ -132,11 +169,27 @@ impl Pieces {
         digits: &[u8],
     ) -> Result<(), OutOfMemory> {
         case.pass(TIMEOUT);
+        self.expire_all(case)?;
+        draws.shuffle(self.order.as_mut_slice());
+        let again = self.send_again(case, digits)?;
+        self.bring_in_any_order(draws, case, digits)?;
+        self.discard_all(case, digits, again.as_slice())
+    }
+
+    fn expire_all(&self, case: &mut CaseText) -> Result<(), OutOfMemory> {
         let half = (self.count as u64 / 2).max(2 * MSS);
         for connection in &self.connections {
             connection.expire(case, MSS, half)?;
         }
-        draws.shuffle(self.order.as_mut_slice());
+        Ok(())
+    }
+
+    // All pieces are retransmitted. The result is their places, each with its line.
+    fn send_again(
+        &mut self,
+        case: &mut CaseText,
+        digits: &[u8],
+    ) -> Result<Vec<(usize, u64)>, OutOfMemory> {
         let mut again = Vec::new(*self.lines.allocator());
         for place in &self.order {
             if let Some(connection) = self.connections.get_mut(connection_of(*place, self.count)) {
@@ -144,8 +197,17 @@ impl Pieces {
                 again.push((*place, connection.send(case, &sending)?))?;
             }
         }
-        self.bring_in_any_order(draws, case, digits)?;
-        for (place, out) in &again {
+        Ok(again)
+    }
+
+    // The retransmitted pieces arrive and are dropped.
+    fn discard_all(
+        &mut self,
+        case: &mut CaseText,
+        digits: &[u8],
+        again: &[(usize, u64)],
+    ) -> Result<(), OutOfMemory> {
+        for (place, out) in again {
             if let Some(connection) = self.connections.get_mut(connection_of(*place, self.count)) {
                 let sending = piece(self.sent, digits, index_of(*place, self.count));
                 let came = connection.arrive(case, &sending, *out)?;
@@ -172,6 +234,22 @@ impl Pieces {
         }
         Ok(())
     }
+}
+
+// A connection sends so many pieces after so many bytes, whose lines are added to the others.
+fn send_pieces(
+    case: &mut CaseText,
+    connection: &mut Connection,
+    digits: &[u8],
+    sent: usize,
+    count: usize,
+    lines: &mut Vec<u64>,
+) -> Result<(), OutOfMemory> {
+    for index in 0..count {
+        let sending = piece(sent, digits, index);
+        lines.push(connection.send(case, &sending)?)?;
+    }
+    Ok(())
 }
 
 // The piece of this index after so many bytes.

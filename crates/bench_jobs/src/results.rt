@@ -45,22 +45,28 @@ impl Results {
         self.cases = self.cases.wrapping_add(1);
         self.bytes = self.bytes.wrapping_add(bytes as u64);
         match answer {
-            Ok(verdict) => {
-                match verdict {
-                    Verdict::Yes { .. } => self.yes = self.yes.wrapping_add(1),
-                    Verdict::No { .. } => self.no = self.no.wrapping_add(1),
-                }
-                let mut line = Vec::new(alloc);
-                print_verdict(verdict, &mut line)?;
-                self.mix(line.as_slice());
-            }
-            Err(fault) => {
-                self.bad = self.bad.wrapping_add(1);
-                let line = format!(in alloc; "{fault}")?;
-                self.mix(line.as_bytes());
-            }
+            Ok(verdict) => self.add_verdict(alloc, verdict)?,
+            Err(fault) => self.add_fault(alloc, fault)?,
         }
         self.mix(&[b'\n']);
+        Ok(())
+    }
+
+    fn add_verdict(&mut self, alloc: Global, verdict: &Verdict) -> Result<(), OutOfMemory> {
+        match verdict {
+            Verdict::Yes { .. } => self.yes = self.yes.wrapping_add(1),
+            Verdict::No { .. } => self.no = self.no.wrapping_add(1),
+        }
+        let mut line = Vec::new(alloc);
+        print_verdict(verdict, &mut line)?;
+        self.mix(line.as_slice());
+        Ok(())
+    }
+
+    fn add_fault(&mut self, alloc: Global, fault: &CaseFault) -> Result<(), OutOfMemory> {
+        self.bad = self.bad.wrapping_add(1);
+        let line = format!(in alloc; "{fault}")?;
+        self.mix(line.as_bytes());
         Ok(())
     }
 

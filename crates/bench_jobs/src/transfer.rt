@@ -83,10 +83,8 @@ impl Transfer {
         case.begin(0)?;
         listen(case)?;
         let port = 1_024 + draws.below(60_000) as u16;
-        let mut connection = Connection::new(alloc, draws, port, 6)?;
-        connection.open(case)?;
         Ok(Transfer {
-            connection,
+            connection: Connection::open(alloc, draws, case, port, 6)?,
             sent: 0,
             window: FIRST_WINDOW,
         })

@@ -25,13 +25,13 @@ ghost use Rattle.checker.specs.Consequences.{AllAcknowledgedWasTaken, AllReadsWe
 ghost use Rattle.checker.specs.Consequences.{AllStatesFollow, NoPositionFalls};
 
 use crate::laws::{explained_follows, receives_begin_sends};
+use answers::step_line;
 use case_forms::{Header, Label, Line, NamedLine, OutOfMemory, Step, TakenLine, Trace, Witness};
 use endpoint_state::StepFault;
 use interval_order::{Window, left_over};
 use std::alloc::{AllocError, Global};
 use verdict::{Rule, Verdict};
 use watched::{Case, apply_hidden, apply_line_owned};
-use witness::step_line;
 
 /// The verdict on a witness for a trace of its version, if both have texts.
 ///

@@ -32,6 +32,7 @@ use crate::case::CaseFault;
 use crate::laws::{explained_follows, receives_begin_sends};
 use crate::steps::drain_steps;
 use crate::turns::{ReplayOutcome, StepCounts, replay_steps};
+use answers::step_line;
 use case_forms::Header;
 use counted::Counted;
 use interval_order::{Window, left_over};
@@ -39,7 +40,7 @@ use std::alloc::Global;
 use std::io::BufRead;
 use verdict::Verdict;
 use watched::Case;
-use witness::{StepReader, step_line};
+use witness::StepReader;
 
 /// The trace's fault, else the witness's, else the verdict on the case, however the bytes of both come in pieces. The
 /// fault is `Read` only if a reader's `failures()` grew in the call, which then ends at once. Both readers are

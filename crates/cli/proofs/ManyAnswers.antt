@@ -14,7 +14,7 @@ use Rattle.checker.specs.declared.case.CaseFault.{CaseFault}
 use Rattle.checker.specs.declared.case.CaseFault.TheVariants as faults
 use Rattle.checker.specs.Cases.{case_result, judged}
 use Rattle.parallel_check.specs.Answers.{AnswersEach, IsAnswer}
-use Rattle.cli.specs.Output.{line_of, status_of}
+use Rattle.answer_lines.specs.Output.{line_of, status_of}
 use Rattle.cli.specs.Many.{EndsMany, greatest_status, lines_of_all}
 
 abbrev Answers : Type 0

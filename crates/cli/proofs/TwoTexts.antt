@@ -6,7 +6,8 @@ use Rattle.checker.specs.declared.case.CaseFault.{CaseFault}
 use Rattle.checker.specs.declared.case.CaseFault.TheVariants as faults
 use Rattle.checker.specs.Cases.{texts_result}
 use Rattle.checker.specs.Texts.{GivesTexts}
-use Rattle.cli.specs.Output.{Ends, line_of, status_of}
+use Rattle.answer_lines.specs.Output.{line_of, status_of}
+use Rattle.cli.specs.Output.{Ends}
 
 same_ends : (given read : Result Verdict CaseFault) (status : ℕ) (old new : Option (List ℕ)) → given ≡ read
     → Ends (status_of given) (line_of given) status old new → Ends (status_of read) (line_of read) status old new

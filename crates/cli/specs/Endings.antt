@@ -3,7 +3,8 @@ use Rattle.std.specs.Prelude.{ℕ, List, Option, IfSome, codes}
 use Rattle.checker.specs.Cases.{case_result}
 use Rattle.cli.specs.HexText.{segment_in}
 use Rattle.cli.specs.Many.{cases_of, EndsMany}
-use Rattle.cli.specs.Output.{Ends, line_of, status_of}
+use Rattle.answer_lines.specs.Output.{line_of, status_of}
+use Rattle.cli.specs.Output.{Ends}
 use Rattle.cli.specs.Recorded.{EndsRecord}
 use Rattle.cli.specs.SegmentText.{segment_line, segment_status}
 use Rattle.cli.specs.declared.request.Request.{Request}

@@ -9,7 +9,7 @@ use Rattle.verdict.specs.declared.report.Verdict.{Verdict}
 use Rattle.checker.specs.declared.case.CaseFault.{CaseFault}
 use Rattle.checker.specs.Cases.{case_result}
 use Rattle.parallel_check.specs.Answers.{AnswersEach}
-use Rattle.cli.specs.Output.{line_of, status_of}
+use Rattle.answer_lines.specs.Output.{line_of, status_of}
 
 -- the line, with its end, ends a case
 abbrev pub ends_case : List ℕ → Bool

@@ -4,10 +4,12 @@ ghost use Rattle.std.specs.Prelude.{◌≡◌, ◌≢◌, ◌⊎◌, ◌<◌, �
 ghost use Rattle.std.specs.Io.KnownBytes.{Appends};
 ghost use Rattle.checker.specs.Cases.{texts_result};
 ghost use Rattle.counted.specs.Counting.{left_of, failures_of};
-ghost use Rattle.cli.specs.Output.{Ends, line_of, status_of};
+ghost use Rattle.answer_lines.specs.Output.{line_of, status_of};
+ghost use Rattle.cli.specs.Output.{Ends};
 
-use crate::lines::{DEVICE, line_of, say, status_of};
+use crate::lines::say;
 use crate::running::answer_bad_memory;
+use answer_lines::{DEVICE, line_of, status_of};
 use checker::{CaseFault, check_streams};
 use counted::Counted;
 use std::alloc::Global;

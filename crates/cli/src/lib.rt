@@ -9,7 +9,7 @@
 //! - `options`: an option that comes first, and its number, which `clap` reads (`specs/Options`)
 //! - `file_words`: the options for a case in two files
 //! - `record_words`: the options of a recording, and its plan (`specs/RecordReading`)
-//! - `lines`: the line and the status of a case's answer (`specs/Output`)
+//! - `lines`: a line of output (`specs/Output`)
 //! - `argument`: the segment that a hex text encodes (`specs/HexText`)
 //! - `segment_line`: the line and the status of a segment (`specs/SegmentText`)
 //! - `running`: the whole run, by request (`specs/Endings`), and the answer if memory runs out before it

@@ -7,8 +7,9 @@ ghost use Rattle.counted.specs.Counting.{left_of, failures_of};
 ghost use Rattle.cli.specs.Many.{cases_of, ends_case, greatest_status, lines_of_all, EndsMany};
 
 use crate::files::answer_bad_device;
-use crate::lines::{YES, line_of, say, status_of};
+use crate::lines::{YES, say};
 use crate::running::answer_bad_memory;
+use answer_lines::{line_of, status_of};
 use bstr::ByteSlice;
 use case_forms::OutOfMemory;
 use counted::{Counted, ReadFault};

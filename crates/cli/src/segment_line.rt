@@ -6,7 +6,8 @@ ghost use Rattle.cli.specs.SegmentText.{mss_text, payload_text, rest_text, segme
 ghost use Rattle.cli.specs.SegmentText.{upper_letters};
 
 use crate::argument::ArgumentFault;
-use crate::lines::{MEMORY, REFUSED, YES};
+use crate::lines::YES;
+use answer_lines::{MEMORY, REFUSED};
 use case_forms::OutOfMemory;
 use line_fields::{push_number, push_word};
 use segment::{Flag, Segment};

@@ -4,6 +4,16 @@ ghost use Rattle.std.specs.Prelude.{◌≡◌, ℕ};
 ghost use Rattle.std.specs.Option.{option_map};
 ghost use Rattle.spec_duties.specs.Deadlines.{due_within, is_late, is_past};
 
+use case_forms::Header;
+
+/// By how much a duty may be late. `None`: no duty is judged.
+#[inline(always)]
+pub fn judged_slack(header: &Header) -> Option<u64>
+    ensures { result ≡ header.now.slack }
+{
+    header.slack
+}
+
 /// Whether a moment is after a deadline by more than the slack.
 #[inline(always)]
 pub(crate) fn is_past(slack: u64, moment: u64, deadline: u128) -> bool

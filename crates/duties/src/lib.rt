@@ -8,6 +8,7 @@
 //! - `watching`: the rules of a step, and what is kept after it
 //! - `owed`: what an endpoint owes; `acknowledge`, `expire`, `retransmit`, `probe`, `start`, `reset`: a duty each
 //! - `resent`, `excess`: the limits
+//! - `dropped`: which segments may be dropped, and what a dropped one asks for
 //! - `views`, `deadlines`: what duties read of an endpoint; when one is late
 //! - `laws`: what a greater slack accepts
 //!
@@ -17,6 +18,7 @@
 
 mod acknowledge;
 mod deadlines;
+mod dropped;
 mod excess;
 mod expire;
 mod laws;
@@ -30,7 +32,11 @@ mod views;
 mod watching;
 
 pub use acknowledge::acknowledge_due;
-pub use deadlines::is_late_at_once;
+pub use deadlines::{is_late_at_once, judged_slack};
+pub use dropped::{
+    Target, asks, discards, dropping_of, has_content, is_challenged, meets_closed_window,
+    processing_place,
+};
 pub use expire::expiry_due;
 pub use laws::{less_late_is_more_accepted, nothing_is_judged, slack_is_not_noted};
 pub use owed::{admits_lates, either, lates_of, none_late};

@@ -121,17 +121,26 @@ pub(crate) fn meant_by(world: &World, call: &Call) -> Option<Meant> {
     }
 }
 
-/// The endpoint that a thread's open call means. None: it means none.
-pub(crate) fn key_of_call(world: &World, thread: u32) -> Option<EndpointKey> {
-    let call = world.pending_call(thread)?;
-    if let Call::Connect(host, lport, rport) = call {
-        return Some(EndpointKey::new(*host, *lport, *rport));
-    }
-    let (host, SocketTarget::EndpointAt(place)) = target_of(world, call)? else {
-        return None;
-    };
+/// The ports of a host's endpoint at a place. None: there is no such place.
+pub(crate) fn key_at(world: &World, host: Host, place: u32) -> Option<EndpointKey> {
     let endpoint = world.body(host).endpoint_at(place)?;
     Some(EndpointKey::new(host, endpoint.lport, endpoint.rport))
+}
+
+/// The endpoint that a thread's open call means. None: it means none.
+pub(crate) fn key_of_call(world: &World, thread: u32) -> Option<EndpointKey> {
+    match world.pending_call(thread)? {
+        Call::Connect(host, lport, rport) => Some(EndpointKey::new(*host, *lport, *rport)),
+        call => key_of_socket(world, call),
+    }
+}
+
+// The endpoint whose socket a call names. None: it names no socket, or that of a listener.
+fn key_of_socket(world: &World, call: &Call) -> Option<EndpointKey> {
+    match target_of(world, call)? {
+        (host, SocketTarget::EndpointAt(place)) => key_at(world, host, place),
+        (_, SocketTarget::ListenerAt(_)) => None,
+    }
 }
 
 /// The answer that a call is supposed to have had that is open at the end of the trace. None: it is supposed to have

@@ -108,20 +108,28 @@ impl Arrival {
     }
 }
 
+// For the place of a line, the choices that change what happens there.
+type ByPlace = BTreeMap<usize, Vec<Choice>>;
+
 /// Choices, in the order in which they were chosen.
 #[derive(Drop)]
 pub struct Choices {
     all: Vec<Choice>,
-    /// For the place of a line, the choices that change what happens there.
-    by_place: BTreeMap<usize, Vec<Choice>>,
+    by_place: ByPlace,
 }
 
 // Puts a choice at its lines.
-fn put(by_place: &mut BTreeMap<usize, Vec<Choice>>, choice: Choice) -> Result<(), OutOfMemory> {
-    by_place.entry(choice.place)?.or_default().push(choice)?;
-    if let Deed::WaitUntil(after) = choice.deed {
-        by_place.entry(after)?.or_default().push(choice)?;
+fn put(by_place: &mut ByPlace, choice: Choice) -> Result<(), OutOfMemory> {
+    put_at(by_place, choice.place, choice)?;
+    match choice.deed {
+        Deed::WaitUntil(after) => put_at(by_place, after, choice),
+        _ => Ok(()),
     }
+}
+
+// Puts a choice at the line of a place.
+fn put_at(by_place: &mut ByPlace, place: usize, choice: Choice) -> Result<(), OutOfMemory> {
+    by_place.entry(place)?.or_default().push(choice)?;
     Ok(())
 }
 

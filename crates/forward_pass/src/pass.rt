@@ -89,10 +89,10 @@ impl<'t> Pass<'t> {
     // The step of the line at a place breaks a rule.
     fn failure(&self, place: usize, rule: Rule) -> Failure {
         let world = self.progress.world();
-        let line = self.sought.lines.get(place);
-        let key = line.and_then(|line| {
-            EndpointKey::of_line(line).or(key_of_call(world, line.thread))
-        });
+        let key = match self.sought.lines.get(place) {
+            Some(line) => EndpointKey::of_line(line).or(key_of_call(world, line.thread)),
+            None => None,
+        };
         Failure { place, rule, key }
     }
 
@@ -132,15 +132,16 @@ impl<'t> Pass<'t> {
     }
 
     fn apply(&mut self, at: EndpointKey, remedy: Remedy) -> Done {
-        match remedy {
-            Remedy::Rto => self.try_expiry(at, Timer::Rto),
-            Remedy::Persist => self.try_expiry(at, Timer::Persist),
-            Remedy::TimeWaitOver => self.try_expiry(at, Timer::Msl2),
+        let timer = match remedy {
+            Remedy::Rto => Timer::Rto,
+            Remedy::Persist => Timer::Persist,
+            Remedy::TimeWaitOver => Timer::Msl2,
             Remedy::Recovery => {
-                self.try_recovery(at)?;
-                Ok(())
+                self.progress.try_recovery(at)?;
+                return Ok(());
             }
-        }
+        };
+        self.try_expiry(at, timer)
     }
 
     // Builds the segments that were chosen to be built after the line at a place.

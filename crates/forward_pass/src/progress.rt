@@ -4,6 +4,7 @@ ghost use Rattle.std.specs.Prelude.{◌<◌, OnOk};
 ghost use Rattle.case_forms.specs.Witnesses.{IsWithinLimits};
 ghost use Rattle.spec_tcp.specs.Bounds.{most_steps};
 
+use crate::calls::key_at;
 use crate::key::EndpointKey;
 use crate::stop::{Done, Stop};
 use crate::watching::Watch;
@@ -179,6 +180,19 @@ impl Log {
         Ok(())
     }
 
+    // Writes a step down if it was done, or if nothing else is left to do.
+    fn push_done(
+        &mut self,
+        label: Label<NamedLine>,
+        done: Result<(), StepFault>,
+        will: Will,
+    ) -> Done {
+        if done.is_ok() || will == Will::Insist {
+            self.push_step(label)?;
+        }
+        Ok(done?)
+    }
+
     // The next step breaks this rule of a duty, if any, and is done all the same.
     fn forgive(&mut self, broken: Option<Rule>) {
         if let (Some(rule), None) = (broken, self.findings.forgiven) {
@@ -239,6 +253,11 @@ impl Progress {
 
     pub(crate) fn moment(&self) -> u64 {
         self.log.moment
+    }
+
+    /// Whether what duties refuse is done if nothing else is left to do.
+    pub(crate) fn forgives(&self) -> bool {
+        self.forgives
     }
 
     /// How late a host may be with what it must do, in microseconds. None: no duty is judged.
@@ -314,10 +333,7 @@ impl Progress {
     {
         has_room(&self.world)?;
         let done = self.do_hidden(&label, will);
-        if done.is_ok() || will == Will::Insist {
-            self.log.push_step(label)?;
-        }
-        Ok(done?)
+        self.log.push_done(label, done, will)
     }
 
     /// The current line begins a call.
@@ -424,7 +440,7 @@ impl Progress {
     }
 
     /// A timer expires with an added line, which precedes the first line that has no step yet.
-    pub(crate) fn add_expiry(&mut self, key: EndpointKey, expired: Expired) -> Done {
+    pub(crate) fn add_line(&mut self, key: EndpointKey, expired: Expired) -> Done {
         has_room(&self.world)?;
         self.expire_by(key, expired, Will::Try)?;
         self.log.push_added(key, expired)
@@ -432,10 +448,15 @@ impl Progress {
 
     /// A thread's open call has its effect, with this answer.
     pub(crate) fn effect(&mut self, thread: u32, answer: &Answer, will: Will) -> Done {
-        if self.slack.is_some() {
-            let answer = answer.copy()?;
-            return self.hidden(Label::D { thread, answer }, will);
+        if self.slack.is_none() {
+            return self.effect_unjudged(thread, answer, will);
         }
+        let answer = answer.copy()?;
+        self.hidden(Label::D { thread, answer }, will)
+    }
+
+    // The same if no duty is judged. The answer is copied only once the call has its effect.
+    fn effect_unjudged(&mut self, thread: u32, answer: &Answer, will: Will) -> Done {
         has_room(&self.world)?;
         let done = self.world.effect(thread, answer);
         if done.is_ok() || will == Will::Insist {
@@ -490,7 +511,10 @@ impl Progress {
             return false;
         }
         let place = self.world.body(key.host()).place_of(key.lport, key.rport);
-        place.is_some_and(|place| self.duties.owed_by(key.host(), place).answers == 0)
+        match place {
+            Some(place) => self.duties.owed_by(key.host(), place).answers == 0,
+            None => false,
+        }
     }
 
     /// Whether the model permits a host to build a segment now.
@@ -509,17 +533,23 @@ impl Progress {
             return None;
         }
         let (_, rule) = late_at_end(slack, moment, &self.duties, &self.world)?;
-        let zero = self.late_on(Host::Zero, slack, rule);
-        Some((rule, zero.or_else(|| self.late_on(Host::One, slack, rule))))
+        let key = match self.late_on(Host::Zero, slack, rule) {
+            None => self.late_on(Host::One, slack, rule),
+            zero => zero,
+        };
+        Some((rule, key))
     }
 
     // The first endpoint of a host that breaks this rule after the last line.
     fn late_on(&self, host: Host, slack: u64, rule: Rule) -> Option<EndpointKey> {
-        let body = self.world.body(host);
-        let count = u32::try_from(body.endpoint_count()).unwrap_or(u32::MAX);
-        let late = (0..count).find(|place| self.is_late(host, *place, slack, rule))?;
-        let endpoint = body.endpoint_at(late)?;
-        Some(EndpointKey::new(host, endpoint.lport, endpoint.rport))
+        let count = self.world.body(host).endpoint_count();
+        let count = u32::try_from(count).unwrap_or(u32::MAX);
+        for place in 0..count {
+            if self.is_late(host, place, slack, rule) {
+                return key_at(&self.world, host, place);
+            }
+        }
+        None
     }
 
     // Whether the endpoint of a host at a place breaks this rule after the last line.

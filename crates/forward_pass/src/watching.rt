@@ -37,6 +37,39 @@ impl Watch {
         if self.forgives { Ok(()) } else { Err(broken) }
     }
 
+    // The rule of a duty that a step breaks which takes a line, if that is forgiven. None: it breaks none.
+    fn judge_line(
+        self,
+        world: &World,
+        duties: &Duties,
+        line: &TakenLine,
+        sight: &Sight,
+    ) -> Result<Option<Rule>, Rule> {
+        let broken = self.broken(world, duties, sight);
+        if let Some(rule) = broken {
+            self.permits(rule, admits_line(world, self.moment, line))?;
+        }
+        Ok(broken)
+    }
+
+    // The same for a step that takes none.
+    fn judge_hidden<Taken>(
+        self,
+        world: &World,
+        duties: &Duties,
+        label: &Label<Taken>,
+        sight: &Sight,
+    ) -> Result<Option<Rule>, Rule>
+        requires steps { world.now.steps < most_steps }
+        requires label { IsWithinLimits label.now }
+    {
+        let broken = self.broken(world, duties, sight);
+        if let Some(rule) = broken {
+            self.permits(rule, admits_hidden(world, self.moment, label))?;
+        }
+        Ok(broken)
+    }
+
     // What hosts owe after a step.
     fn note(self, world: &World, duties: &mut Duties, sight: &Sight) -> Result<(), StepFault> {
         let now = view_in(world, &sight.touched);
@@ -55,10 +88,7 @@ impl Watch {
         requires { world.old.steps < most_steps }
     {
         let sight = sight_of_line(world, self.moment, &line);
-        let broken = self.broken(world, duties, &sight);
-        if let Some(rule) = broken {
-            self.permits(rule, admits_line(world, self.moment, &line))?;
-        }
+        let broken = self.judge_line(world, duties, &line, &sight)?;
         apply_line_owned(world, self.moment, line)?;
         self.note(world, duties, &sight)?;
         Ok(broken)
@@ -75,10 +105,7 @@ impl Watch {
         requires label { IsWithinLimits label.now }
     {
         let sight = sight_of_hidden(world, self.moment, label);
-        let broken = self.broken(world, duties, &sight);
-        if let Some(rule) = broken {
-            self.permits(rule, admits_hidden(world, self.moment, label))?;
-        }
+        let broken = self.judge_hidden(world, duties, label, &sight)?;
         apply_hidden(world, self.moment, label)?;
         self.note(world, duties, &sight)?;
         Ok(broken)

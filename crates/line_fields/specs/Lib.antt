@@ -20,3 +20,4 @@ pub mod AnswerFields
 pub mod Forms
 pub mod AnswerForms
 pub mod LineFaults
+pub mod FirstLine

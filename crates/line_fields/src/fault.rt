@@ -1,6 +1,6 @@
 //! Why a text can't be read, and where.
 
-ghost use Rattle.std.specs.Prelude.{◌≡◌};
+ghost use Rattle.std.specs.Prelude.{◌≡◌, None, Some, OnOk, IfErr};
 ghost use Rattle.line_fields.specs.Faults.{kind_name, missing_line};
 ghost use Rattle.line_fields.specs.declared.fault.FaultKind.TheVariants.{OutOfMemory};
 
@@ -154,5 +154,17 @@ impl From<SourceFault> for TextFault {
             SourceFault::Text(e) => e,
             SourceFault::Read => TextFault::out_of_memory(),
         }
+    }
+}
+
+/// What a reader that keeps its first fault returns before it reads on: that fault, if it met one.
+#[inline(always)]
+pub fn none_kept(fault: Option<SourceFault>) -> Result<(), SourceFault>
+    ensures open { OnOk result (fault ≡ None) }
+    ensures kept { IfErr result (λ f. fault ≡ Some f) }
+{
+    match fault {
+        Some(fault) => Err(fault),
+        None => Ok(()),
     }
 }

@@ -10,7 +10,7 @@
 //! - `first_field`: where the first field of a text ends, and the number that it spells
 //! - `hex_digits`: bytes as digits in hex
 //! - `fields`: the cursor, and the numbers, hosts and bytes that it reads
-//! - `lines`: a line's end and its limits, and lines with a fixed text
+//! - `lines`: a line's end and its limits, and lines with a fixed text; `first_line`: the first line of a witness
 //! - `reading`: the next line of a text, of which only one line is kept in memory
 //! - `states`, `timers`: the names of states and of timers
 //! - `answers`: the answers of calls, which are in both texts
@@ -23,6 +23,7 @@ mod digits;
 mod fault;
 mod fields;
 mod first_field;
+mod first_line;
 mod hex_digits;
 mod lines;
 mod printing;
@@ -32,11 +33,12 @@ mod timers;
 
 pub use answers::{answer, answer_law};
 pub use case_forms::{OutOfMemory, Span};
-pub use fault::{FaultKind, SourceFault, TextFault};
+pub use fault::{FaultKind, SourceFault, TextFault, none_kept};
 pub use fields::{Fields, Token, is_text};
+pub use first_line::first_text;
 pub use lines::{checked_fields, checked_line, expect_line, without_line_end};
 pub use printing::{
-    push_answer, push_end, push_hex, push_host, push_number, push_space, push_word,
+    push_answer, push_end, push_hex, push_host, push_line, push_number, push_space, push_word,
 };
 pub use reading::{next_line, require_line};
 pub use segment::SegFault;

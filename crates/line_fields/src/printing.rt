@@ -72,6 +72,14 @@ pub fn push_end(out: &mut Vec<u8>) -> Result<(), OutOfMemory>
     Ok(())
 }
 
+/// Writes a text as a line.
+pub fn push_line(out: &mut Vec<u8>, text: &str) -> Result<(), OutOfMemory>
+    ensures { OnOk result (out.new.items ≡ out.old.items ++ (text.now ++ 10 ∷ [])) }
+{
+    push_word(out, text)?;
+    push_end(out)
+}
+
 /// Writes the fields of an answer, each after a space.
 pub fn push_answer(out: &mut Vec<u8>, answer: &Answer) -> Result<(), OutOfMemory>
     ensures { OnOk result (out.new.items ≡ out.old.items ++ printed_behind (answer_pieces answer.now)) }

@@ -122,10 +122,6 @@ books_merge a b hosts headers books n (inl s) = no_stranger a b n (books_name a 
 books_merge a b hosts headers books n (inr s) = no_stranger b a n (books_name a b hosts headers books).1 s.1
 
 -- so what is told of a stranger is told of no two books
-pub zero_is_named : (a b : Recorded) (n : ℕ) → (a.me ≡ Zero) × (b.me ≡ One) → a.header ≡ b.header → HasStranger a b n
+pub all_are_named : (a b : Recorded) (n : ℕ) → (a.me ≡ Zero) × (b.me ≡ One) → a.header ≡ b.header → IsFirstStranger a b n
     → Books (tcp a.header) (first_event_line a.header) a.entries b.entries → Stranger n ≡ OutOfMemory
-zero_is_named a b n hosts headers s books = absurd (books_merge a b hosts headers books n (inl s))
-
-pub one_is_named : (a b : Recorded) (n : ℕ) → (a.me ≡ Zero) × (b.me ≡ One) → a.header ≡ b.header → HasStranger b a n
-    → Books (tcp a.header) (first_event_line a.header) a.entries b.entries → Stranger n ≡ OutOfMemory
-one_is_named a b n hosts headers s books = absurd (no_stranger b a n (books_name a b hosts headers books).1 s)
+all_are_named a b n hosts headers s books = absurd (books_merge a b hosts headers books n s)

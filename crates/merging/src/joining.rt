@@ -20,7 +20,7 @@ ghost use Rattle.merging.specs.Saying.{both_renumbered, lines_said, steps_said};
 ghost use Rattle.merging.specs.Told.{AllOwnThreads, Tells};
 
 use crate::laws::what_is_told_explains;
-use crate::naming::first_stranger;
+use crate::naming::first_of_both;
 use crate::numbers::count_all;
 use crate::order::InOrder;
 use crate::telling::tell_all;
@@ -113,10 +113,7 @@ pub fn merge_recordings(
     one.is_recording();
     books_grow();
     what_is_told_explains();
-    if let Some(arrival_line) = first_stranger(alloc, zero, one)? {
-        return Err(MergeFault::Stranger { arrival_line });
-    }
-    if let Some(arrival_line) = first_stranger(alloc, one, zero)? {
+    if let Some(arrival_line) = first_of_both(alloc, zero, one)? {
         return Err(MergeFault::Stranger { arrival_line });
     }
     let recorded = tell(alloc, zero, one)?;

@@ -6,11 +6,12 @@ ghost use Rattle.case_forms.specs.Traces.{first_event_line};
 ghost use Rattle.stack_core.specs.Keys.{key_shown};
 ghost use Rattle.merging.specs.Naming.{AllNamed, FirstStranger, IsNamed, NamedItem, SameBytes, SameHead, SameMark};
 ghost use Rattle.merging.specs.Naming.{SameOptions, line_keys, wire_of};
-ghost use Rattle.merging.specs.Faults.{NamesAll, HasStranger};
+ghost use Rattle.merging.specs.Faults.{HasStranger, IsFirstStranger, NamesAll};
 
 use crate::numbers::takes_line;
 use crate::order::first_entry;
 use case_forms::OutOfMemory;
+use recording_parts::first_found;
 use spec_tcp::Emission;
 use stack_core::{Entry, Flying, Item, Key, Recording};
 use std::alloc::Global;
@@ -142,10 +143,10 @@ fn find_stranger(keys: &[Key], other: &Recording, first: u64, entries: &[Entry])
     None
 }
 
-/// The number of the line after the first segment that a recording brought and that the other host didn't send. None:
-/// there is no such segment. The error is that memory ran out.
+// The number of the line after the first segment that a recording brought and that the other host didn't send. None:
+// there is no such segment. The error is that memory ran out.
 #[tactic(auto, using(crate::proofs::Strangers::stranger_at))]
-pub(crate) fn first_stranger(
+fn first_stranger(
     alloc: Global,
     mine: &Recording,
     other: &Recording,
@@ -157,4 +158,23 @@ pub(crate) fn first_stranger(
     let keys = line_keys(alloc, other.entries())?;
     let first = other.header().first_event_line();
     Ok(find_stranger(keys.as_slice(), other, first, mine.entries()))
+}
+
+/// The number of the line after the first segment that one of two recordings brought and that the other host didn't
+/// send: in host 0's recording, else in host 1's. None: there is no such segment. The error is that memory ran out.
+pub(crate) fn first_of_both(
+    alloc: Global,
+    zero: &Recording,
+    one: &Recording,
+) -> Result<Option<u64>, OutOfMemory>
+    requires headers { zero.now.header ≡ one.now.header }
+    ensures none { IfOk result (λ o. IfNone o (NamesAll zero.now one.now × NamesAll one.now zero.now)) }
+    ensures some { IfOk result (λ o. IfSome o (IsFirstStranger zero.now one.now)) }
+{
+    let of_zero = first_stranger(alloc, zero, one)?;
+    let of_one = match of_zero {
+        Some(_) => None,
+        None => first_stranger(alloc, one, zero)?,
+    };
+    Ok(first_found(of_zero, of_one))
 }

@@ -7,6 +7,7 @@ ghost use Rattle.stack_core.specs.Keys.{key_shown};
 ghost use Rattle.merging.specs.Order.{in_order};
 
 use case_forms::Host;
+use recording_parts::is_lesser;
 use stack_core::{Entry, Key};
 use std::marker::Model;
 
@@ -88,11 +89,7 @@ pub(crate) fn rank(host: Host) -> u32
 fn before(a: &Key, b: &Key) -> bool
     ensures { result ≡ before (key_shown a.now) (key_shown b.now) }
 {
-    if a.moment != b.moment {
-        return a.moment < b.moment;
-    }
-    if a.counter != b.counter {
-        return a.counter < b.counter;
-    }
-    rank(a.host) < rank(b.host)
+    let a = (a.moment, a.counter, rank(a.host));
+    let b = (b.moment, b.counter, rank(b.host));
+    is_lesser(a, b)
 }

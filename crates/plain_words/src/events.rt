@@ -63,8 +63,8 @@ impl EventWords<'_> {
         let verb = if at == host { "sends" } else { "receives" };
         let (numbers, src, dst) = (self.numbers, seg.src, seg.dst);
         let words = SegmentWords { numbers, host, seg };
-        write!(f, "{} {verb} ", HostName(at))?;
-        write!(f, "{src} to {dst}: {words}")
+        let at = HostName(at);
+        write!(f, "{at} {verb} {src} to {dst}: {words}")
     }
 }
 
@@ -72,8 +72,8 @@ impl fmt::Display for EventWords<'_> {
     fn fmt<W: fmt::Write>(&self, f: &mut fmt::Formatter<W>) -> fmt::Result {
         let thread = self.line.thread;
         match &self.line.event {
-            Event::CallBegin(call) => write!(f, "thread {thread} calls {}", CallWords(call)),
-            Event::CallEnd(answer) => write!(f, "thread {thread} gets{}", AnswerWords(answer)),
+            Event::CallBegin(call) => begin(f, thread, CallWords(call)),
+            Event::CallEnd(answer) => end(f, thread, AnswerWords(answer)),
             Event::Sent(host, wire) => self.passing(f, *host, *host, &wire.seg),
             Event::Came(host, wire) => self.passing(f, *host, host.other(), &wire.seg),
             Event::Expired(host, lport, rport, timer) => {
@@ -83,6 +83,14 @@ impl fmt::Display for EventWords<'_> {
     }
 }
 
+fn begin<W: fmt::Write>(f: &mut fmt::Formatter<W>, thread: u32, call: CallWords) -> fmt::Result {
+    write!(f, "thread {thread} calls {call}")
+}
+
+fn end<W: fmt::Write>(f: &mut fmt::Formatter<W>, thread: u32, answer: AnswerWords) -> fmt::Result {
+    write!(f, "thread {thread} gets{answer}")
+}
+
 fn expire<W: fmt::Write>(
     f: &mut fmt::Formatter<W>,
     host: Host,
@@ -90,8 +98,8 @@ fn expire<W: fmt::Write>(
     lport: u16,
     rport: u16,
 ) -> fmt::Result {
-    write!(f, "{}: timer {timer} ", HostName(host))?;
-    write!(f, "expires at {lport} to {rport}")
+    let host = HostName(host);
+    write!(f, "{host}: timer {timer} expires at {lport} to {rport}")
 }
 
 /// What a step does.
@@ -102,19 +110,34 @@ impl fmt::Display for StepWords<'_> {
     fn fmt<W: fmt::Write>(&self, f: &mut fmt::Formatter<W>) -> fmt::Result {
         match self.0 {
             Label::L(named) => write!(f, "line {}", named.number),
-            Label::D { thread, answer } => {
-                let answer = AnswerWords(answer);
-                write!(f, "the call of thread {thread} has its effect:{answer}")
-            }
-            Label::M { host, plan } => write!(f, "{} builds {}", HostName(*host), PlanWords(plan)),
+            Label::D { thread, answer } => take_effect(f, *thread, AnswerWords(answer)),
+            Label::M { host, plan } => build(f, HostName(*host), PlanWords(plan)),
             Label::T { host, line, choice } => process(f, *host, *line, *choice),
-            Label::K { host, line } => write!(f, "{} drops line {line}", HostName(*host)),
-            Label::R { host, line } => {
-                write!(f, "{} answers line {line} with a reset", HostName(*host))
-            }
+            Label::K { host, line } => drop_line(f, HostName(*host), *line),
+            Label::R { host, line } => answer_line(f, HostName(*host), *line),
             Label::F { host, recovery } => recover(f, *host, *recovery),
         }
     }
+}
+
+fn take_effect<W: fmt::Write>(
+    f: &mut fmt::Formatter<W>,
+    thread: u32,
+    answer: AnswerWords,
+) -> fmt::Result {
+    write!(f, "the call of thread {thread} has its effect:{answer}")
+}
+
+fn build<W: fmt::Write>(f: &mut fmt::Formatter<W>, host: HostName, plan: PlanWords) -> fmt::Result {
+    write!(f, "{host} builds {plan}")
+}
+
+fn drop_line<W: fmt::Write>(f: &mut fmt::Formatter<W>, host: HostName, line: u64) -> fmt::Result {
+    write!(f, "{host} drops line {line}")
+}
+
+fn answer_line<W: fmt::Write>(f: &mut fmt::Formatter<W>, host: HostName, line: u64) -> fmt::Result {
+    write!(f, "{host} answers line {line} with a reset")
 }
 
 fn process<W: fmt::Write>(
@@ -123,10 +146,14 @@ fn process<W: fmt::Write>(
     line: u64,
     choice: TakeChoice,
 ) -> fmt::Result {
-    let kept = if choice.keep { "kept" } else { "not kept" };
-    write!(f, "{} processes line {line}", HostName(host))?;
-    write!(f, ", cwnd {}, {kept}", choice.cwnd)?;
-    write!(f, "{}", word_if(choice.sample, ", measured"))
+    let (host, cwnd) = (HostName(host), choice.cwnd);
+    let kept = match (choice.keep, choice.sample) {
+        (true, true) => "kept, measured",
+        (true, false) => "kept",
+        (false, true) => "not kept, measured",
+        (false, false) => "not kept",
+    };
+    write!(f, "{host} processes line {line}, cwnd {cwnd}, {kept}")
 }
 
 fn recover<W: fmt::Write>(
@@ -134,8 +161,8 @@ fn recover<W: fmt::Write>(
     host: Host,
     recovery: Recovery,
 ) -> fmt::Result {
-    write!(f, "{} begins fast recovery ", HostName(host))?;
-    write!(f, "at {} to {}", recovery.lport, recovery.rport)?;
+    let (host, lport, rport) = (HostName(host), recovery.lport, recovery.rport);
+    write!(f, "{host} begins fast recovery at {lport} to {rport}")?;
     write!(
         f,
         ", cwnd {}, ssthresh {}",
@@ -151,8 +178,8 @@ impl fmt::Display for PlanWords<'_> {
     fn fmt<W: fmt::Write>(&self, f: &mut fmt::Formatter<W>) -> fmt::Result {
         let plan = self.0;
         let flags = FlagWords(plan.flags);
-        write!(f, "{} to {}: ", plan.lport, plan.rport)?;
-        write!(f, "{flags}{}", plan.pos)?;
+        let (lport, rport, pos) = (plan.lport, plan.rport, plan.pos);
+        write!(f, "{lport} to {rport}: {flags}{pos}")?;
         write!(f, " +{} win {}", plan.len, plan.window)
     }
 }

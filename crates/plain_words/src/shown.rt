@@ -17,14 +17,21 @@ pub struct Shown<'t>(pub &'t [u8]);
 
 impl fmt::Display for Shown<'_> {
     fn fmt<W: fmt::Write>(&self, f: &mut fmt::Formatter<W>) -> fmt::Result {
-        for byte in self.0.iter().take(SHOWN) {
-            escape(f, *byte)?;
+        let count = self.0.len();
+        escape_all(f, self.0)?;
+        if SHOWN <= count {
+            write!(f, " .. ({count} bytes)")
+        } else {
+            Ok(())
         }
-        if SHOWN <= self.0.len() {
-            write!(f, " .. ({} bytes)", self.0.len())?;
-        }
-        Ok(())
     }
+}
+
+fn escape_all<W: fmt::Write>(f: &mut fmt::Formatter<W>, bytes: &[u8]) -> fmt::Result {
+    for byte in bytes.iter().take(SHOWN) {
+        escape(f, *byte)?;
+    }
+    Ok(())
 }
 
 fn escape<W: fmt::Write>(f: &mut fmt::Formatter<W>, byte: u8) -> fmt::Result {

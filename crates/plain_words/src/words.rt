@@ -2,7 +2,7 @@
 
 use case_forms::{Answer, Call, Flags, Host};
 use line_fields::state_name;
-use std::fmt;
+use std::fmt::{self, Display};
 
 /// The word if the condition is true, else nothing.
 pub fn word_if(is_so: bool, word: &'static str) -> &'static str {
@@ -15,7 +15,10 @@ pub struct HostName(pub Host);
 
 impl fmt::Display for HostName {
     fn fmt<W: fmt::Write>(&self, f: &mut fmt::Formatter<W>) -> fmt::Result {
-        write!(f, "host {}", self.0 as u8)
+        f.write_str(match self.0 {
+            Host::Zero => "host 0",
+            Host::One => "host 1",
+        })
     }
 }
 
@@ -45,14 +48,8 @@ impl fmt::Display for CallWords<'_> {
         match self.0 {
             Call::Listen(host, port, backlog) => listen(f, *host, *port, *backlog),
             Call::Connect(host, lport, rport) => open(f, *host, *lport, *rport),
-            Call::Send(socket, bytes) => {
-                on_socket(f, "send", *socket)?;
-                write!(f, ", {} bytes", bytes.len())
-            }
-            Call::Recv(socket, most) => {
-                on_socket(f, "recv", *socket)?;
-                write!(f, ", at most {most}")
-            }
+            Call::Send(socket, bytes) => send(f, *socket, bytes.len()),
+            Call::Recv(socket, most) => receive(f, *socket, *most),
             Call::Await(socket) => on_socket(f, "await", *socket),
             Call::Accept(socket) => on_socket(f, "accept", *socket),
             Call::Shut(socket) => on_socket(f, "shut", *socket),
@@ -63,9 +60,17 @@ impl fmt::Display for CallWords<'_> {
     }
 }
 
-// A call on a socket, in the words of the text. Each write is a call of its own, which is quicker to prove.
+// A call on a socket, in the words of the text. A function for each form is quicker to prove than one for all.
 fn on_socket<W: fmt::Write>(f: &mut fmt::Formatter<W>, call: &str, socket: u32) -> fmt::Result {
     write!(f, "{call} {socket}")
+}
+
+fn send<W: fmt::Write>(f: &mut fmt::Formatter<W>, socket: u32, count: usize) -> fmt::Result {
+    write!(f, "send {socket}, {count} bytes")
+}
+
+fn receive<W: fmt::Write>(f: &mut fmt::Formatter<W>, socket: u32, most: u16) -> fmt::Result {
+    write!(f, "recv {socket}, at most {most}")
 }
 
 fn listen<W: fmt::Write>(
@@ -74,8 +79,8 @@ fn listen<W: fmt::Write>(
     port: u16,
     backlog: u16,
 ) -> fmt::Result {
-    write!(f, "listen at {} ", HostName(host))?;
-    write!(f, "on port {port}, backlog {backlog}")
+    let host = HostName(host);
+    write!(f, "listen at {host} on port {port}, backlog {backlog}")
 }
 
 fn open<W: fmt::Write>(
@@ -84,8 +89,8 @@ fn open<W: fmt::Write>(
     lport: u16,
     rport: u16,
 ) -> fmt::Result {
-    write!(f, "open at {}, ", HostName(host))?;
-    write!(f, "port {lport} to {rport}")
+    let host = HostName(host);
+    write!(f, "open at {host}, port {lport} to {rport}")
 }
 
 /// An answer after a space, with a count instead of bytes.
@@ -96,7 +101,7 @@ impl fmt::Display for AnswerWords<'_> {
     fn fmt<W: fmt::Write>(&self, f: &mut fmt::Formatter<W>) -> fmt::Result {
         match self.0 {
             Answer::Bytes(bytes) => write!(f, " data, {} bytes", bytes.len()),
-            answer => write!(f, "{}", AnswerFields(answer)),
+            answer => AnswerFields(answer).fmt(f),
         }
     }
 }
@@ -108,12 +113,21 @@ pub struct AnswerFields<'a>(pub &'a Answer);
 impl fmt::Display for AnswerFields<'_> {
     fn fmt<W: fmt::Write>(&self, f: &mut fmt::Formatter<W>) -> fmt::Result {
         match self.0 {
-            Answer::Given(count) => write!(f, " ok {count}"),
-            Answer::Bytes(bytes) => write!(f, " data {}", Hex(bytes.as_slice())),
-            Answer::State(state) => write!(f, " state {}", state_name(*state)),
+            Answer::Given(count) => fields(f, "ok", count),
+            Answer::Bytes(bytes) => fields(f, "data", &Hex(bytes.as_slice())),
+            Answer::State(state) => fields(f, "state", &state_name(*state)),
             answer => write!(f, " {}", answer_word(answer)),
         }
     }
+}
+
+// Two fields.
+fn fields<W: fmt::Write>(
+    f: &mut fmt::Formatter<W>,
+    first: &str,
+    second: &impl Display,
+) -> fmt::Result {
+    write!(f, " {first} {second}")
 }
 
 // The first field of an answer.

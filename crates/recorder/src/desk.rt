@@ -19,6 +19,7 @@ use crate::recorder::RecFault;
 use crate::seat::Seat;
 use crate::site::{Held, Site};
 use case_forms::{Call, GREATEST_COUNTER, GREATEST_MOMENT, Header, Host, MOST_EVENTS};
+use recording_parts::are_all;
 use stack_core::{CoreConfig, Flying, Key, Tick};
 use std::alloc::Global;
 use std::collections::BTreeSet;
@@ -115,7 +116,7 @@ impl<L: Site> Desk<L> {
     pub(crate) fn are_all(&self, seats: &[Seat<L>]) -> bool
         ensures { IsTrue result ↔ (65535 ≤ length seats.now + self.now.left) }
     {
-        seats.len() + self.left as usize >= SEATS as usize
+        are_all(seats.len(), self.left, SEATS)
     }
 
     /// Stops the recording: no event follows.

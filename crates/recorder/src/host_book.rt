@@ -15,6 +15,7 @@ ghost use Rattle.merging.specs.Naming.{AllAbove};
 ghost use Rattle.recorder.specs.Books.{IsSameSite, ends_in};
 
 use case_forms::{Call, Header, Host, OutOfMemory};
+use recording_parts::count_answer;
 use stack_core::{Answered, CoreConfig, Flying, HostCore, Recording, Tick};
 use std::alloc::Global;
 use std::marker::Model;
@@ -145,7 +146,7 @@ impl HostBook {
     {
         match self.core.attempt(thread, tick)? {
             Some(answered) => {
-                self.total += 1;
+                count_answer(&mut self.total);
                 Ok(Some(answered))
             }
             None => Ok(None),

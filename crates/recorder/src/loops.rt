@@ -33,9 +33,33 @@ impl From<OutOfMemory> for LoopEnd {
 fn send<R: Wait>(rt: &R, out: &Sender<Flying, Global>, flying: Flying) -> Result<(), LoopEnd> {
     match out.send(rt, flying) {
         Ok(()) => Ok(()),
-        Err(SendError::Disconnected(_)) => Err(LoopEnd::Closed),
-        Err(SendError::OutOfMemory(_)) => Err(LoopEnd::OutOfMemory),
+        Err(error) => Err(why_unsent(error)),
     }
+}
+
+// Why a segment wasn't sent.
+fn why_unsent(error: SendError<Flying>) -> LoopEnd {
+    let end = match &error {
+        SendError::Disconnected(_) => LoopEnd::Closed,
+        SendError::OutOfMemory(_) => LoopEnd::OutOfMemory,
+    };
+    drop(error);
+    end
+}
+
+// Sends a segment twice, but once if there is no memory for the copy.
+fn send_twice<R: Wait>(
+    rt: &R,
+    out: &Sender<Flying, Global>,
+    flying: Flying,
+) -> Result<(), LoopEnd> {
+    if let Ok(copy) = flying.copy() {
+        if let Err(end) = send(rt, out, copy) {
+            drop(flying);
+            return Err(end);
+        }
+    }
+    send(rt, out, flying)
 }
 
 // Applies a segment's fate to it.
@@ -49,13 +73,7 @@ fn apply_fate<R: Wait>(
     match fate {
         Fate::Pass => send(rt, out, flying),
         Fate::Lose => Ok(()),
-        Fate::Twice => {
-            // If there is no memory for the copy, it is sent once.
-            if let Ok(copy) = flying.copy() {
-                send(rt, out, copy)?;
-            }
-            send(rt, out, flying)
-        }
+        Fate::Twice => send_twice(rt, out, flying),
         Fate::Hold(further) => Ok(held.hold(further, flying)?),
     }
 }

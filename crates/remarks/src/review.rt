@@ -22,20 +22,10 @@ pub struct Remarked {
 
 /// Remarks on a case with a yes, or up to the step that is refused. There is none on a case without a verdict.
 pub fn remark(alloc: Global, case: &Case<'_>) -> Result<Remarked, ReplayFault> {
-    let mut review = Review {
-        case,
-        moment: 0,
-        found: Found::new(alloc, &case.trace.header),
-        notes: BTreeMap::new(alloc),
-        made: BTreeMap::new(alloc),
-        shown: BTreeSet::new(alloc),
-        again: BTreeMap::new(alloc),
-        held: BTreeMap::new(alloc),
-        calls: BTreeMap::new(alloc),
-        resets: BTreeMap::new(alloc),
-    };
-    let mut replay = Replay::new(alloc, case);
-    review.run(alloc, &mut replay)
+    let mut review = Review::new(alloc, case);
+    let remarked = review.replay(alloc);
+    drop(review);
+    remarked
 }
 
 /// A case up to a step.
@@ -58,6 +48,32 @@ pub(crate) struct Review<'c> {
     pub calls: BTreeMap<u32, u64>,
     /// For each host and ports, its own and the peer's, what arrived last, if that is a reset.
     pub resets: BTreeMap<(u8, u16, u16), Reset>,
+}
+
+impl<'c> Review<'c> {
+    // A review before the first step.
+    fn new(alloc: Global, case: &'c Case<'c>) -> Review<'c> {
+        Review {
+            case,
+            moment: 0,
+            found: Found::new(alloc, &case.trace.header),
+            notes: BTreeMap::new(alloc),
+            made: BTreeMap::new(alloc),
+            shown: BTreeSet::new(alloc),
+            again: BTreeMap::new(alloc),
+            held: BTreeMap::new(alloc),
+            calls: BTreeMap::new(alloc),
+            resets: BTreeMap::new(alloc),
+        }
+    }
+
+    // Replays the case.
+    fn replay(&mut self, alloc: Global) -> Result<Remarked, ReplayFault> {
+        let mut replay = Replay::new(alloc, self.case);
+        let remarked = self.run(alloc, &mut replay);
+        drop(replay);
+        remarked
+    }
 }
 
 impl Review<'_> {

@@ -15,6 +15,7 @@ mod connected;
 use crate::answers::connected::at_endpoint;
 use case_forms::{Answer, Call, OutOfMemory, State};
 use endpoint_state::HostTcp;
+use recording_parts::on_no_socket;
 use spec_tcp::SocketTarget;
 use std::alloc::Global;
 
@@ -75,7 +76,7 @@ fn on_socket(
         × WaitsAt ring body.now number call.now)) }
 {
     match body.thing(number) {
-        None => Ok(Some(Answer::BadSocket)),
+        None => Ok(on_no_socket()),
         Some(SocketTarget::ListenerAt(place)) => Ok(at_listener(body, place, call, next)),
         Some(SocketTarget::EndpointAt(place)) => match body.endpoint_at(place) {
             Some(endpoint) => at_endpoint(alloc, endpoint, call, ring),

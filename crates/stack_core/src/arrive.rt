@@ -25,6 +25,7 @@ use crate::send_states::{Before, Seen};
 use crate::tick::Tick;
 use case_forms::{OutOfMemory, Ports, Recovery, RtoChoice, TakeChoice, TakenLine};
 use endpoint::is_past_lifetime;
+use recording_parts::{choice_if, is_own, with_bytes};
 use spec_step::Label;
 use spec_tcp::Emission;
 
@@ -111,7 +112,7 @@ impl HostCore {
     fn is_own(&self, flying: &Flying) -> bool
         ensures { IsTrue result ↔ (flying.now.key.host ≡ self.now.recorded.me) }
     {
-        flying.key().host == self.me()
+        is_own(self.me(), flying.key().host)
     }
 
     fn is_old(&self, flying: &Flying, moment: u64) -> bool
@@ -210,11 +211,8 @@ impl HostCore {
     {
         let choice = with_bytes(cwnd, sample);
         let host = self.me();
-        if self.admits(&Label::T { host, line, choice }) {
-            Some(choice)
-        } else {
-            None
-        }
+        let may = self.admits(&Label::T { host, line, choice });
+        choice_if(may, choice)
     }
 
     // Fast recovery begins at the endpoint of these ports, if it may.
@@ -289,17 +287,6 @@ impl HostCore {
                 ssthresh: 0,
             },
         }
-    }
-}
-
-// A segment is taken with its bytes.
-fn with_bytes(cwnd: u32, sample: bool) -> TakeChoice
-    ensures { result ≡ record { cwnd = cwnd; keep = true; sample = sample } }
-{
-    TakeChoice {
-        cwnd,
-        keep: true,
-        sample,
     }
 }
 

@@ -2,8 +2,6 @@
 
 ghost use Rattle.std.specs.Prelude.{◌≡◌, ◌<◌, ◌≤◌, false, length, IfNone, IfOk, OnErr};
 ghost use Rattle.std.specs.Option.{IfSome};
-ghost use Rattle.case_forms.specs.declared.steps.Label.TheVariants as labels;
-ghost use Rattle.case_forms.specs.declared.taken_line.TakenLine.TheVariants as lines;
 ghost use Rattle.spec_network.specs.Tables.{lane};
 ghost use Rattle.spec_network.specs.Hosts.{turn_of};
 ghost use Rattle.stack_core.specs.Cores.{GivesNext, IsAfter, IsRecorded, next_socket, own_body, world};
@@ -18,8 +16,9 @@ use crate::answers::choose;
 use crate::deadline_queue::Affected;
 use crate::host_core::HostCore;
 use crate::tick::Tick;
-use case_forms::{Answer, Call, Host, OutOfMemory, TakenLine};
+use case_forms::{Answer, Call, Host, OutOfMemory};
 use endpoint_state::HostTcp;
+use recording_parts::call_end;
 use spec_step::Label;
 use spec_tcp::SocketTarget;
 use spec_tcp_laws::forgetting_is_free;
@@ -175,15 +174,4 @@ fn next_socket(me: Host, body: &HostTcp) -> u32
         Host::One => 3,
     };
     first + 2 * body.socket_count() as u32
-}
-
-// The step in which a thread's call ends with this answer, which takes the line of this number.
-fn call_end(line: u64, thread: u32, answer: Answer) -> Label
-    ensures { result ≡ labels.L (lines.CallEnd line thread answer) }
-{
-    Label::L(TakenLine::CallEnd {
-        line,
-        thread,
-        answer,
-    })
 }

@@ -18,13 +18,14 @@ ghost use Rattle.stack_core.specs.Told.{MayOpen, TellsWell};
 
 use crate::deadline_queue::DeadlineQueue;
 use crate::plans::{
-    AdvertisedWindow, GREATEST_PAYLOAD, GREATEST_SHIFT, SynOptions, byte_of, candidate_segments,
-    fin_of, offer_of, syn_of,
+    AdvertisedWindow, GREATEST_PAYLOAD, SynOptions, byte_of, candidate_segments, fin_of, offer_of,
+    syn_of,
 };
 use crate::send_states::SendStates;
 use case_forms::{GREATEST_POSITION, Host, SegmentPlan, Version};
 use endpoint::admits_making;
 use endpoint_state::{Endpoint, HostTcp, World};
+use recording_parts::{GREATEST_SHIFT, plan_if};
 
 /// A segment that may be made: at an endpoint whose duties are listed, or else at any endpoint where one may be made
 /// that takes new positions. None: no segment without RST that takes new positions may be made.
@@ -355,8 +356,6 @@ fn ask(world: &World, me: Host, plan: SegmentPlan) -> Option<SegmentPlan>
     ensures some { IfSome result (λ m. IsMakeable world.now.header me world.now.world m) }
     ensures none { IfNone result (Refuses world.now.header me world.now.world plan) }
 {
-    match world.admits_making(me, &plan) {
-        Ok(()) => Some(plan),
-        Err(_) => None,
-    }
+    let may = world.admits_making(me, &plan).is_ok();
+    plan_if(may, plan)
 }

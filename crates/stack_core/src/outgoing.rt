@@ -8,6 +8,7 @@ ghost use Rattle.stack_core.specs.Outgoing.{flag_bits, greatest_payload, segment
 
 use crate::flying::Flying;
 use case_forms::{Flags, OutOfMemory, Wire};
+use recording_parts::payload_of;
 use segment::{Bytes, EncFault, SegFault, Segment, decode, encode};
 use spec_tcp::Emission;
 use std::alloc::{AllocError, Global};
@@ -57,7 +58,7 @@ fn written(alloc: Global, m: &Emission, mss: Option<u16>) -> Result<Segment, Out
         mss,
         scale: if m.flags.syn { m.shift } else { None },
         options: Bytes::from_slice(alloc, &[])?,
-        payload: m.payload.copy()?,
+        payload: payload_of(m)?,
     })
 }
 

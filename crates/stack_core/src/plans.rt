@@ -9,14 +9,12 @@ ghost use Rattle.stack_core.specs.Told.{MayOpen};
 use crate::send_states::{Again, SendState};
 use case_forms::{Flags, GREATEST_POSITION, SegmentPlan, Version};
 use endpoint_state::Endpoint;
+use recording_parts::told_shift;
 use seqno::Word;
 use window_rules::offered_edge;
 
 // The greatest payload that a core sends, in bytes: with a header and both options it fits into a segment.
 pub(crate) const GREATEST_PAYLOAD: u16 = 65_487;
-
-// The greatest shift of a window (RFC 7323, 2.3).
-pub(crate) const GREATEST_SHIFT: u8 = 14;
 
 /// What an endpoint is given with its first SYN.
 #[derive(Clone, Copy)]
@@ -60,16 +58,6 @@ pub(crate) fn offer_of(
         },
         at_syn: room.min(65_535) as u16,
         window: (room >> shift).min(65_535) as u16,
-    }
-}
-
-// The shift that a SYN carries, of the configured one; None if it carries none.
-fn told_shift(version: Version, tells: bool, shift: Option<u8>) -> Option<u8>
-    ensures { IfSome result (λ n. (scales version ≡ true) × (n ≤ 14)) }
-{
-    match shift {
-        Some(told) if tells && version.scales() => Some(told.min(GREATEST_SHIFT)),
-        _ => None,
     }
 }
 

@@ -21,17 +21,11 @@ use crate::tick::Tick;
 use case_forms::{Expired, Header, OutOfMemory, Ports, RtoChoice, TakenLine};
 use endpoint::has_more;
 use endpoint_state::{Endpoint, HostTcp};
+use recording_parts::{Due, due_if};
 use spec_step::Label;
 
 // A core gives up after this many expiries without an answer.
 const TRIES: u32 = 12;
-
-/// A timer that may expire, with the values chosen for its expiry.
-#[derive(Clone, Copy)]
-pub(crate) struct Due {
-    pub(crate) ports: Ports,
-    pub(crate) expired: Expired,
-}
 
 impl HostCore {
     /// A timer that is due expires, which is a line. False: nothing is changed, because no line of a retransmission
@@ -328,8 +322,6 @@ fn ask(recording: &Recording, moment: u64, ports: Ports, expired: Expired) -> Op
         ports,
         expired,
     };
-    match recording.admits(moment, &Label::L(line)) {
-        Ok(()) => Some(Due { ports, expired }),
-        Err(_) => None,
-    }
+    let may = recording.admits(moment, &Label::L(line)).is_ok();
+    due_if(may, Due { ports, expired })
 }

@@ -3,8 +3,8 @@ use Rattle.std.specs.Option.{option_map_or}
 use Rattle.std.specs.Prelude.{slice_get}
 use Rattle.spec_tcp.specs.Arrives.{Taker, Nobody, AtListener, AtEndpoint}
 use Rattle.spec_tcp.specs.HostTcp.{HostTcp}
-use Rattle.watched.specs.declared.dropped.Target.{Target}
-use Rattle.watched.specs.declared.dropped.Target.TheVariants as targets
+use Rattle.duties.specs.declared.dropped.Target.{Target}
+use Rattle.duties.specs.declared.dropped.Target.TheVariants as targets
 
 abbrev pub taker_at : HostTcp → Target → Taker
 taker_at b targets.Nobody = Nobody

@@ -19,7 +19,7 @@ use crate::sights::{
     sight_of_hidden, sight_of_line, sight_of_making, sight_of_sending, sight_of_taking, view_in,
 };
 use case_forms::{Header, Label, TakenLine};
-use duties::Duties;
+use duties::{Duties, judged_slack};
 use endpoint_state::{StepFault, World};
 use spec_duties::Sight;
 use std::alloc::Global;
@@ -107,7 +107,7 @@ fn watch(world: &World, duties: &mut Duties, moment: u64, sight: &Sight) -> Resu
     ensures broken { IfErr result (λ fault. IfBroken fault
         (λ rule. first_broken (judged_rules world.now.header moment duties.old sight.now) ≡ Some rule)) }
 {
-    let Some(slack) = world.header().slack else {
+    let Some(slack) = judged_slack(world.header()) else {
         return Ok(());
     };
     let now = view_in(world, &sight.touched);

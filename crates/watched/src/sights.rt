@@ -11,17 +11,15 @@ ghost use Rattle.spec_tcp.specs.Steps.{hidden_step, line_step};
 ghost use Rattle.spec_duties.specs.Dropped.{has_content};
 ghost use Rattle.spec_duties.specs.Sights.{at_drop, at_next, at_place, at_ports, at_sender, at_target, processing_of};
 ghost use Rattle.spec_duties.specs.Sights.{sending_of, sight, touching, unseen, view_in};
+ghost use Rattle.spec_duties.specs.Views as views;
 ghost use Rattle.spec_duties.specs.declared.sights.Post.TheVariants as post;
 ghost use Rattle.spec_duties.specs.declared.sights.Mail.TheVariants as mail;
 ghost use Rattle.watched.specs.Targets.{taker_at};
 
 use crate::calls::sight_of_effect;
-use crate::dropped::{
-    Target, answering_breaks, asks, discards_at, dropping_of, has_content, spared_by,
-    taking_breaks, target_of,
-};
+use crate::dropped::{answering_breaks, discards_at, spared_by, taking_breaks, target_of};
 use case_forms::{Host, Label, Ports, SegmentPlan, TakeChoice, TakenLine};
-use duties::{unborn, view_of};
+use duties::{Target, asks, dropping_of, has_content, processing_place, unborn, view_of};
 use endpoint_state::{HostTcp, World};
 use spec_duties::{Event, Mail, Post, Queueing, Sending, Sight, Touched, View};
 use spec_tcp::Emission;
@@ -84,12 +82,20 @@ pub(crate) fn at_next(host: Host, b: &HostTcp, event: Event) -> Option<Touched>
     requires { length b.now.endpoints < 2 ^ 32 }
     ensures { result ≡ at_next host b.now event }
 {
-    Some(Touched {
+    Some(born_at(host, event, b.endpoint_count() as u32))
+}
+
+// A step creates the endpoint at a place.
+#[inline(always)]
+fn born_at(host: Host, event: Event, place: u32) -> Touched
+    ensures { result ≡ record { host = host; place = place; event = event; before = views.unborn } }
+{
+    Touched {
         host,
-        place: b.endpoint_count() as u32,
+        place,
         event,
         before: unborn(),
-    })
+    }
 }
 
 #[inline(always)]
@@ -129,10 +135,10 @@ fn at_target(host: Host, b: &HostTcp, m: &Emission, target: Target) -> Option<To
     requires { length b.now.endpoints < 2 ^ 32 }
     ensures { result ≡ at_target host b.now m.now (taker_at b.now target) }
 {
+    let place = processing_place(target, b.endpoint_count() as u32)?;
     match target {
-        Target::Nobody => None,
-        Target::Listener(_) => at_next(host, b, processing_of(m)),
-        Target::Endpoint(place) => at_place(host, b, processing_of(m), place),
+        Target::Nobody | Target::Listener(_) => Some(born_at(host, processing_of(m), place)),
+        Target::Endpoint(_) => at_place(host, b, processing_of(m), place),
     }
 }
 

@@ -44,9 +44,10 @@ pub(crate) fn congestion(
     write!(out, "{what} end at {end}, the congestion edge ")?;
     write!(out, "is {edge} = SND.UNA {una} + cwnd {cwnd}")?;
     if edge > una.saturating_add(u64::from(cwnd)) {
-        write!(out, " + two segments of {smss}")?;
+        writeln!(out, " + two segments of {smss}")
+    } else {
+        out.push_str("\n")
     }
-    out.push_str("\n")
 }
 
 /// Where the segment begins, and what may be sent.
@@ -62,8 +63,10 @@ pub(crate) fn old_data(
     match misplaced(endpoint, plan) {
         Reason::Gap { .. } => writeln!(out, ": a gap after {sent}, where the sent data ends"),
         Reason::Acknowledged { .. } => {
-            write!(out, ": below SND.UNA {una}, so it is acknowledged; ")?;
-            out.push_str("an empty segment may begin one below\n")
+            writeln!(
+                out,
+                ": below SND.UNA {una}, so it is acknowledged; an empty segment may begin one below"
+            )
         }
         Reason::Again { .. } | Reason::Beyond { .. } | Reason::Late(_) | Reason::Other => {
             write!(out, "; sent up to {sent}, may be retransmitted up to ")?;
@@ -80,13 +83,19 @@ fn timer_due(out: &mut String, endpoint: &Endpoint, moment: u64) -> Done {
     };
     let rto = endpoint.timers.rto;
     let due = since.saturating_add(rto);
-    write!(out, "the retransmission timer is due at {due} ")?;
-    write!(out, "= {since} + RTO {rto}, {} us ", due.abs_diff(moment))?;
-    out.push_str(if moment < due {
-        "after this step\n"
+    write!(
+        out,
+        "the retransmission timer is due at {due} = {since} + RTO {rto}, "
+    )?;
+    let (distance, side) = if moment < due {
+        (due - moment, "after this step")
     } else {
-        "before this step: the trace may lack its expiry\n"
-    })
+        (
+            moment - due,
+            "before this step: the trace may lack its expiry",
+        )
+    };
+    writeln!(out, "{distance} us {side}")
 }
 
 /// Where the segment's bytes begin and end, and which bytes may be sent.
@@ -101,13 +110,15 @@ pub(crate) fn payload_range(out: &mut String, Building { plan, endpoint, .. }: B
     }
     let fin = word_if(plan.flags.fin, ", and a FIN there");
     let accepted = endpoint.stream.accepted.end();
-    write!(out, "{fin}; sends accepted the bytes from 1 ")?;
-    write!(out, "up to {accepted}, and sending ")?;
-    out.push_str(if endpoint.stream.ended {
-        "has ended, with a FIN there\n"
+    let ended = if endpoint.stream.ended {
+        "has ended, with a FIN there"
     } else {
-        "hasn't ended: no FIN may be sent\n"
-    })
+        "hasn't ended: no FIN may be sent"
+    };
+    writeln!(
+        out,
+        "{fin}; sends accepted the bytes from 1 up to {accepted}, and sending {ended}"
+    )
 }
 
 /// Whether the segment has ACK, and whether the peer's SYN was received.
@@ -119,19 +130,20 @@ pub(crate) fn ack_field(out: &mut String, Building { plan, endpoint, .. }: Build
 
 /// The initial sequence numbers that were given.
 pub(crate) fn iss(out: &mut String, Building { plan, endpoint, .. }: Building) -> Done {
-    match endpoint.iss {
-        Some(Word(iss)) => write!(out, "the initial sequence number {iss} was given before, ")?,
-        None => out.push_str("no initial sequence number was given yet, ")?,
-    }
+    say_given(out, endpoint.iss)?;
+    let with = if plan.flags.syn { "with" } else { "without" };
     match plan.iss {
-        Some(Word(iss)) => write!(out, "and the step gives {iss}, ")?,
-        None => out.push_str("and the step gives none, ")?,
+        Some(Word(iss)) => writeln!(out, "and the step gives {iss}, {with} a SYN"),
+        None => writeln!(out, "and the step gives none, {with} a SYN"),
     }
-    out.push_str(if plan.flags.syn {
-        "with a SYN\n"
-    } else {
-        "without a SYN\n"
-    })
+}
+
+// Writes the initial sequence number that was given before.
+fn say_given(out: &mut String, iss: Option<Word>) -> Done {
+    match iss {
+        Some(Word(iss)) => write!(out, "the initial sequence number {iss} was given before, "),
+        None => out.push_str("no initial sequence number was given yet, "),
+    }
 }
 
 /// What the state of the endpoint lets it build.
@@ -139,8 +151,10 @@ pub(crate) fn state(out: &mut String, world: &World, it: Building) -> Done {
     let (flags, len) = (FlagWords(it.plan.flags), it.plan.len);
     let a = if it.endpoint.reset_due { "a" } else { "no" };
     let not = word_if(!it.endpoint.closed, "not ");
-    write!(out, "the segment: {flags}with {len} bytes; ")?;
-    writeln!(out, "{a} reset is due, and the socket was {not}closed")?;
+    writeln!(
+        out,
+        "the segment: {flags}with {len} bytes; {a} reset is due, and the socket was {not}closed"
+    )?;
     may_build(out, world, it)
 }
 

@@ -1,7 +1,7 @@
 //! The rules of threads and calls.
 
 use crate::Done;
-use crate::answers::say_allowed;
+use crate::allowed::say_allowed;
 use crate::described::describe;
 use crate::scene::{Scene, witness_line};
 use crate::wire::first_difference;
@@ -26,8 +26,10 @@ pub(crate) fn describe_thread(out: &mut String, scene: &Scene, thread: u32) -> D
         (None, Some(answer)) => {
             say_begun(out, scene, thread)?;
             let effect = effect_at(scene, thread);
-            write!(out, ", took effect in line {effect} of the witness, ")?;
-            out.push_str("with the answer")?;
+            write!(
+                out,
+                ", took effect in line {effect} of the witness, with the answer"
+            )?;
             say_answer(out, answer)
         }
     }
@@ -35,14 +37,23 @@ pub(crate) fn describe_thread(out: &mut String, scene: &Scene, thread: u32) -> D
 
 // Writes where the open call began: the last used line that began a call of the thread; 0 if there is none.
 fn say_begun(out: &mut String, scene: &Scene, thread: u32) -> Done {
-    let begun = scene.lines().iter().rfind(|line| {
-        line.thread == thread
+    let begun = begun_at(scene, thread);
+    write!(
+        out,
+        "the open call of thread {thread}, begun in trace line {begun}"
+    )
+}
+
+fn begun_at(scene: &Scene, thread: u32) -> u64 {
+    for line in scene.lines().iter().rev() {
+        if line.thread == thread
             && matches!(&line.event, Event::CallBegin(_))
             && scene.used_by(line.number).is_some()
-    });
-    let begun = begun.map_or(0, |line| line.number);
-    write!(out, "the open call of thread {thread}, ")?;
-    write!(out, "begun in trace line {begun}")
+        {
+            return line.number;
+        }
+    }
+    0
 }
 
 // The line of the witness with the last effect of a thread before the step; 0 if there is none.
@@ -80,9 +91,11 @@ pub(crate) fn describe_end(out: &mut String, scene: &Scene, thread: u32, answer:
 /// Where a socket number was returned before.
 pub(crate) fn socket(out: &mut String, scene: &Scene, number: u32) -> Done {
     if let Some(host) = giver(scene.world(), number) {
-        write!(out, "socket number {number} was returned before, ")?;
         let host = HostName(host);
-        writeln!(out, "at {host}; each is returned once, at either host")?;
+        writeln!(
+            out,
+            "socket number {number} was returned before, at {host}; each is returned once, at either host"
+        )?;
     }
     describe_named(out, scene, number)
 }
@@ -151,6 +164,8 @@ fn describe_listener(out: &mut String, world: &World, host: Host, place: u32) ->
         return Ok(());
     };
     let (host, port, children) = (HostName(host), listener.port, listener.queue.len());
-    write!(out, "before the step, {host}'s listener on port {port}, ")?;
-    writeln!(out, "children in its queue: {children}")
+    writeln!(
+        out,
+        "before the step, {host}'s listener on port {port}, children in its queue: {children}"
+    )
 }

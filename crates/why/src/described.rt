@@ -14,8 +14,11 @@ const UNSET: u32 = u32::MAX;
 
 /// Writes that a host has no endpoint with these ports.
 pub(crate) fn no_endpoint(out: &mut String, host: Host, lport: u16, rport: u16) -> Done {
-    write!(out, "{} has no endpoint between ", HostName(host))?;
-    writeln!(out, "its port {lport} and the peer's port {rport}")
+    let host = HostName(host);
+    writeln!(
+        out,
+        "{host} has no endpoint between its port {lport} and the peer's port {rport}"
+    )
 }
 
 /// Writes the endpoint of a host with these ports, or that it has none.
@@ -39,11 +42,11 @@ pub(crate) fn describe(out: &mut String, scene: &Scene, id: EndpointId) -> Done 
     };
     let (lport, rport) = (endpoint.lport, endpoint.rport);
     let state = state_name(endpoint.state);
-    out.push_str(match scene.step {
+    let when = match scene.step {
         Some(_) => "before the step",
         None => "after the last step",
-    })?;
-    write!(out, ", {}'s endpoint ", HostName(id.host))?;
+    };
+    write!(out, "{when}, {}'s endpoint ", HostName(id.host))?;
     writeln!(out, "{lport} -> {rport}: {state}")?;
     describe_values(out, endpoint)?;
     describe_owed(out, scene, id, endpoint)
@@ -60,9 +63,11 @@ fn describe_sending(out: &mut String, endpoint: &Endpoint) -> Done {
     let (stream, recover) = (&endpoint.stream, endpoint.recover);
     let (una, sent, accepted) = (stream.snd_una, endpoint.snd_max(), stream.accepted.end());
     let ended = word_if(stream.ended, ", sending has ended");
-    write!(out, "  sending: SND.UNA {una}, sent up to {sent}, ")?;
-    write!(out, "accepted from the program up to {accepted}{ended}, ")?;
-    writeln!(out, "may be retransmitted up to {recover}")
+    write!(
+        out,
+        "  sending: SND.UNA {una}, sent up to {sent}, accepted from the program up to {accepted}"
+    )?;
+    writeln!(out, "{ended}, may be retransmitted up to {recover}")
 }
 
 // Before the peer's SYN, which has position 0, there is nothing to acknowledge and no window to advertise.

@@ -1,12 +1,13 @@
 //! The verdict on a case, and the reason for it in plain words.
 
+use crate::comparing::compare;
 use crate::described::describe_ports;
 use crate::known::{Origin, say_cause};
 use crate::marks::mark;
 use crate::scene::{Object, Scene};
 use crate::unjudged::say_unjudged;
-use crate::{Done, building, calls, inbox, late, limits, numbers, order, processing, timers, wire};
-use case_forms::{Answer, Event, Host, Label, Line, OutOfMemory, Step};
+use crate::{Done, calls, inbox, late, processing, wire};
+use case_forms::{Event, Host, Label, Line, OutOfMemory, Step};
 use checker::{CaseFault, check_case};
 use line_fields::{FaultKind, TextFault};
 use plain_words::{Shown, fault_line};
@@ -24,78 +25,105 @@ pub struct Said {
 
 /// Explains the verdict on a case, whose segments have this origin.
 pub fn explain(alloc: Global, text: &[u8], origin: Origin) -> Result<Said, ReplayFault> {
+    let mut said = String::new(alloc);
+    let status = say(alloc, &mut said, text, origin)?;
+    Ok(Said { text: said, status })
+}
+
+// Writes what is said, and returns the status.
+fn say(alloc: Global, out: &mut String, text: &[u8], origin: Origin) -> Result<u8, ReplayFault> {
     match check_case(alloc, text) {
-        Ok(verdict @ Verdict::Yes { .. }) => {
-            let text = format!(in alloc; "{verdict}\n")?;
-            Ok(Said { text, status: 0 })
-        }
-        Ok(verdict @ Verdict::No { rule, .. }) => {
-            let mut said = format!(in alloc; "{verdict}\n")?;
-            // Both texts were read before, so that only memory can fail.
-            let case = Case::judged(alloc, text, verdict).map_err(|_| ReplayFault::OutOfMemory)?;
-            quote(&mut said, &case, &verdict)?;
-            explain_no(alloc, &mut said, &case, rule, origin)?;
-            Ok(Said {
-                text: said,
-                status: 1,
-            })
-        }
+        Ok(verdict) => say_verdict(alloc, out, text, origin, verdict),
         Err(CaseFault::Trace(fault)) => {
-            say_fault(alloc, "bad trace ", Texts::of(text).trace, &fault)
+            say_fault(alloc, out, "bad trace ", Texts::of(text).trace, &fault)
         }
         Err(CaseFault::Witness(fault)) => {
-            say_fault(alloc, "bad witness ", Texts::of(text).witness, &fault)
+            say_fault(alloc, out, "bad witness ", Texts::of(text).witness, &fault)
         }
         Err(CaseFault::Read | CaseFault::OutOfMemory) => Err(ReplayFault::OutOfMemory),
+    }
+}
+
+fn say_verdict(
+    alloc: Global,
+    out: &mut String,
+    text: &[u8],
+    origin: Origin,
+    verdict: Verdict,
+) -> Result<u8, ReplayFault> {
+    writeln!(out, "{verdict}")?;
+    match verdict {
+        Verdict::Yes { .. } => Ok(0),
+        // Both texts were read before, so that only memory can fail.
+        Verdict::No { rule, .. } => match Case::judged(alloc, text, verdict) {
+            Ok(case) => explain_no(alloc, out, &case, rule, origin),
+            Err(_) => Err(ReplayFault::OutOfMemory),
+        },
     }
 }
 
 // The line of a fault, and where it is in its text.
 fn say_fault(
     alloc: Global,
+    out: &mut String,
     refusal: &str,
     bytes: &[u8],
     fault: &TextFault,
-) -> Result<Said, ReplayFault> {
+) -> Result<u8, ReplayFault> {
     if let FaultKind::OutOfMemory = fault.kind {
         return Err(ReplayFault::OutOfMemory);
     }
-    let mut text = fault_line(alloc, refusal, fault)?;
-    mark(&mut text, bytes, fault)?;
-    Ok(Said { text, status: 2 })
+    say_fault_line(alloc, out, refusal, fault)?;
+    mark(out, bytes, fault)?;
+    Ok(2)
 }
 
-// The reason for a no.
+fn say_fault_line(alloc: Global, out: &mut String, refusal: &str, fault: &TextFault) -> Done {
+    let line = fault_line(alloc, refusal, fault)?;
+    out.push_str(line.as_str())
+}
+
+// What is refused, and the reason for it.
 fn explain_no(
     alloc: Global,
     out: &mut String,
     case: &Case,
     rule: Rule,
     origin: Origin,
-) -> Result<(), ReplayFault> {
+) -> Result<u8, ReplayFault> {
+    quote(out, case)?;
     let mut scene = Scene::new(alloc, case);
-    let explained = explain_refusal(out, &mut scene, rule, origin);
+    let explained = run_and_explain(out, &mut scene, rule, origin);
     drop(scene);
     explained
 }
 
-// What is known at the refused step or after the last one, what the rule compares, and the usual causes.
-fn explain_refusal(
+fn run_and_explain(
     out: &mut String,
     scene: &mut Scene,
     rule: Rule,
     origin: Origin,
-) -> Result<(), ReplayFault> {
+) -> Result<u8, ReplayFault> {
     scene.run()?;
+    describe(out, scene, rule)?;
+    explain_refusal(out, scene, rule, origin)?;
+    Ok(1)
+}
+
+// What is known at the refused step or after the last one.
+fn describe(out: &mut String, scene: &Scene, rule: Rule) -> Done {
     match scene.step {
-        Some(step) if !is_of_order(rule) => describe_step(out, scene, step)?,
-        Some(_) => {}
-        None => late::describe_end(out, scene)?,
+        Some(step) if !is_of_order(rule) => describe_step(out, scene, step),
+        Some(_) => Ok(()),
+        None => late::describe_end(out, scene),
     }
+}
+
+// What the rule compares, and the usual causes.
+fn explain_refusal(out: &mut String, scene: &Scene, rule: Rule, origin: Origin) -> Done {
     compare(out, scene, rule)?;
     say_cause(out, scene, rule, origin)?;
-    say_unjudged(out, scene, rule)?;
-    Ok(())
+    say_unjudged(out, scene, rule)
 }
 
 // Whether a rule is about nothing but the order of the lines.
@@ -113,15 +141,21 @@ fn is_of_order(rule: Rule) -> bool {
 }
 
 // The step and the trace line, as written.
-fn quote(out: &mut String, case: &Case, verdict: &Verdict) -> Done {
-    if let Verdict::No { witness_line, .. } = verdict
-        && let Some(line) = line_at(case.texts.witness, *witness_line)
-    {
+fn quote(out: &mut String, case: &Case) -> Done {
+    let Ok(
+        Verdict::No {
+            witness_line,
+            trace_line,
+            ..
+        },
+    ) = &case.verdict
+    else {
+        return Ok(());
+    };
+    if let Some(line) = line_at(case.texts.witness, *witness_line) {
         writeln!(out, "the step: {}", Shown(line))?;
     }
-    if let Verdict::No { trace_line, .. } = verdict
-        && let Some(line) = line_at(case.texts.trace, *trace_line)
-    {
+    if let Some(line) = line_at(case.texts.trace, *trace_line) {
         writeln!(out, "trace line {trace_line}: {}", Shown(line))?;
     }
     Ok(())
@@ -159,155 +193,5 @@ fn describe_line(out: &mut String, scene: &Scene, line: &Line) -> Done {
         Event::Sent(host, _) => wire::describe_sent(out, scene, *host),
         Event::Came(host, _) => wire::describe_came(out, scene, *host),
         Event::Expired(host, lport, rport, _) => describe_ports(out, scene, *host, *lport, *rport),
-    }
-}
-
-// What the rule compares. Each rule is named, so that a new one can't be forgotten here.
-fn compare(out: &mut String, scene: &Scene, rule: Rule) -> Done {
-    let (world, moment, object) = (scene.world(), scene.moment(), scene.object());
-    let read = match object {
-        Object::Processing(it) => scene.as_read(it.endpoint, it.m),
-        _ => None,
-    };
-    match (rule, object, &read) {
-        (Rule::LineRange, _, _) => order::line_range(out, scene),
-        (Rule::LineAgain, _, _) => order::line_again(out, scene),
-        (Rule::ThreadOrder, _, _) => order::thread_order(out, scene),
-        (Rule::MomentFalls, _, _) => order::moment_falls(out, scene),
-        (Rule::MomentOff, _, _) => order::moment_off(out, scene),
-        (Rule::Overdue, _, _) => order::overdue(out, scene),
-        (Rule::Unplaced, _, _) => order::unplaced(out, scene),
-        (Rule::Socket, Object::Effect(_, Answer::Given(number)), _) => {
-            calls::socket(out, scene, *number)
-        }
-        (Rule::CallAnswer, Object::Effect(thread, answer), _) => {
-            calls::call_answer(out, scene, thread, answer)
-        }
-        (Rule::NoEndpoint | Rule::State, Object::Building(it), _) => building::state(
-            out, world, it,
-        ),
-        (Rule::NoEndpoint, Object::Expiring(_), _) => {
-            out.push_str("the endpoint is CLOSED, and has no timers\n")
-        }
-        (Rule::NoEndpoint, Object::Recovering(..), _) => out.push_str("the endpoint is CLOSED\n"),
-        (Rule::State, Object::Answered(host, m), _) => inbox::unanswerable(out, scene, host, m),
-        (Rule::State, Object::Recovering(endpoint, _), _) => timers::handshake(out, endpoint),
-        (Rule::Iss, Object::Building(it), _) => building::iss(out, it),
-        (Rule::BytesDiffer, Object::Sent(made, _, wire), _) => wire::differences(out, made, wire),
-        (Rule::NotMade, Object::Sent(_, number, _), _) => wire::sent_before(out, scene, number),
-        (Rule::PayloadRange, Object::Building(it), _) => building::payload_range(out, it),
-        (Rule::AckField, Object::Building(it), _) => building::ack_field(out, it),
-        (Rule::OldData, Object::Building(it), _) => building::old_data(out, it, moment),
-        (Rule::Offered, Object::Building(it), _) => building::offered(out, it),
-        (Rule::Congestion, Object::Building(it), _) => building::congestion(out, "new bytes", it),
-        (Rule::Size, Object::Building(it), _) => building::size(out, it),
-        (Rule::CopyDiffers, Object::Came(m, wire), _) => wire::copy_differs(out, m, wire),
-        (Rule::Lifetime, Object::Came(m, _), _) => wire::lifetime(out, scene, m),
-        (Rule::Growth, Object::Expiring(it), _) => timers::growth(out, scene, it),
-        (Rule::TimerOff, Object::Expiring(it), _) => timers::off(out, it),
-        (Rule::TimerEarly, Object::Expiring(it), _) => timers::early(out, scene, it),
-        (Rule::Recovery, Object::Recovering(endpoint, chosen), _) => {
-            timers::recovery(out, endpoint, chosen, moment)
-        }
-        (Rule::State, Object::Processing(_), _) => {
-            out.push_str("in SYN-SENT only a segment with SYN or RST is processed\n")
-        }
-        (Rule::State, Object::Listening(..), _) => {
-            out.push_str("a listener processes only a segment with SYN, without ACK and RST\n")
-        }
-        (Rule::NotPeer, Object::Processing(it), Some(m)) => {
-            processing::not_peer(out, scene, it, m)
-        }
-        (Rule::Number, Object::Processing(it), Some(m)) => {
-            numbers::misread(out, scene, it.endpoint, m)
-        }
-        (Rule::Unacceptable, Object::Processing(it), Some(m)) => {
-            numbers::unacceptable(out, it.endpoint, m)
-        }
-        (Rule::AckRange, Object::Processing(it), Some(m)) => {
-            numbers::ack_range(out, it.endpoint, m)
-        }
-        (Rule::QueueFull, Object::Processing(it), _) => processing::queue_full(out, scene, it),
-        (Rule::Growth, Object::Processing(it), Some(m)) => {
-            processing::growth(out, it, m, moment)
-        }
-        (Rule::Growth, Object::Listening(_, _, choice), _) => {
-            let cwnd = choice.cwnd;
-            writeln!(out, "the step chooses cwnd {cwnd}, a child begins with 0")
-        }
-        (Rule::Sample, Object::Processing(it), Some(m)) => {
-            processing::sample(out, scene.header().version, it.endpoint, m)
-        }
-        (Rule::Sample, Object::Listening(..), _) => {
-            out.push_str("the step measures a round trip, ")?;
-            out.push_str("but a child has sent nothing that could be acknowledged\n")
-        }
-        (Rule::ScaleUnread, Object::Processing(it), Some(m)) => {
-            processing::scale_unread(out, it.endpoint, m)
-        }
-        (Rule::Dropped, _, _) => limits::dropped(out, scene),
-        (Rule::Discarded, Object::Processing(it), Some(m)) => limits::discarded(
-            out,
-            it.endpoint,
-            m,
-        ),
-        (Rule::ProcessLate, _, _) => late::waiting(out, scene),
-        (Rule::SendLate, Object::Sent(_, number, _), _) => late::built(out, scene, number),
-        (
-            Rule::AckLate
-            | Rule::ExpiryLate
-            | Rule::ResendLate
-            | Rule::ProbeLate
-            | Rule::StartLate
-            | Rule::ResetLate,
-            _,
-            _,
-        ) => late::owed(out, scene),
-        (Rule::Resent, Object::Building(it), _) => limits::resent(out, scene, it),
-        (Rule::ResentBeyond, Object::Building(it), _) => {
-            building::congestion(out, "outstanding bytes", it)
-        }
-        (Rule::AckExcess, _, _) => limits::ack_excess(out, scene),
-        // What the step is about says it all.
-        (
-            Rule::ThreadBusy
-            | Rule::NoCall
-            | Rule::DoneTwice
-            | Rule::AnswerDiffers
-            | Rule::Socket
-            | Rule::CallAnswer
-            | Rule::NoEndpoint
-            | Rule::State
-            | Rule::Iss
-            | Rule::BytesDiffer
-            | Rule::NotMade
-            | Rule::PayloadRange
-            | Rule::AckField
-            | Rule::OldData
-            | Rule::Offered
-            | Rule::Congestion
-            | Rule::Size
-            | Rule::NoEmission
-            | Rule::CopyDiffers
-            | Rule::Lifetime
-            | Rule::Inbox
-            | Rule::NotPeer
-            | Rule::Number
-            | Rule::Unacceptable
-            | Rule::AckRange
-            | Rule::QueueFull
-            | Rule::Growth
-            | Rule::Sample
-            | Rule::ScaleUnread
-            | Rule::TimerOff
-            | Rule::TimerEarly
-            | Rule::Recovery
-            | Rule::Discarded
-            | Rule::SendLate
-            | Rule::Resent
-            | Rule::ResentBeyond,
-            _,
-            _,
-        ) => Ok(()),
     }
 }

@@ -146,11 +146,11 @@ pub(crate) fn say_fitting(out: &mut String, scene: &Scene, rule: Rule) -> Done {
 fn fits_latest(out: &mut String, others: &OtherWindows, end: u64) -> Done {
     let latest = others.latest;
     if end <= others.now.una.saturating_add(u64::from(latest)) {
-        write!(
+        writeln!(
             out,
-            "it would fit the window {latest} of the last new acknowledgment"
+            "it would fit the window {latest} of the last new acknowledgment (Linux). RFC 9293, 3.10.7.4, doesn't \
+use that: SND.WL1 is greater"
         )?;
-        out.push_str(" (Linux). RFC 9293, 3.10.7.4, doesn't use that: SND.WL1 is greater\n")?;
     }
     Ok(())
 }
@@ -162,9 +162,11 @@ fn fits_upper(out: &mut String, others: &OtherWindows, end: u64) -> Done {
         ..others.now.congestion
     };
     if una < POSITIONS && end <= congestion_edge(una, &window) {
-        out.push_str("it would fit if slow start added one SMSS for each acknowledgment, ")?;
-        write!(out, "with cwnd {cwnd}. RFC 5681, 3.1, and version 5 allow ")?;
-        out.push_str("that; this version allows min(N, SMSS)\n")?;
+        writeln!(
+            out,
+            "it would fit if slow start added one SMSS for each acknowledgment, with cwnd {cwnd}. RFC 5681, 3.1, \
+and version 5 allow that; this version allows min(N, SMSS)"
+        )?;
     }
     Ok(())
 }
@@ -173,9 +175,11 @@ fn fits_segments(out: &mut String, others: &OtherWindows) -> Done {
     let flight = others.segments.flight().saturating_add(1);
     let allowed = others.segments.allowed(&others.now);
     if flight <= allowed {
-        out.push_str("it would fit a window that counts segments (Linux): ")?;
-        write!(out, "{flight} are in flight with this one, ")?;
-        writeln!(out, "and the window would be {allowed}")?;
+        writeln!(
+            out,
+            "it would fit a window that counts segments (Linux): {flight} are in flight with this one, and the \
+window would be {allowed}"
+        )?;
     }
     Ok(())
 }

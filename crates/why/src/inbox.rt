@@ -53,26 +53,38 @@ fn by_positions(out: &mut String, m: &Emission, pos: u64, ack: u64) -> Done {
 fn by_numbers(out: &mut String, m: &Emission) -> Done {
     let (flags, seq) = (FlagWords(m.flags), m.seq.0);
     let (ack, len) = (m.ack_seq.0, m.payload.len());
-    write!(out, "the segment: {flags}sequence number {seq}, ")?;
-    writeln!(out, "acknowledgment number {ack}, {len} bytes")
+    writeln!(
+        out,
+        "the segment: {flags}sequence number {seq}, acknowledgment number {ack}, {len} bytes"
+    )
 }
 
 // Writes why the segment of a line isn't in the inbox.
 fn nothing_waits(out: &mut String, scene: &Scene, host: Host, line: u64) -> Done {
-    write!(out, "the segment of line {line} isn't in the inbox ")?;
-    write!(out, "of {}: ", HostName(host))?;
-    let arrives = scene.line(line).is_some_and(|named| {
-        matches!(&named.event, Event::Came(at, _) if *at == host)
-    });
-    if !arrives {
+    let name = HostName(host);
+    write!(
+        out,
+        "the segment of line {line} isn't in the inbox of {name}: "
+    )?;
+    if !arrives(scene, host, line) {
         return out.push_str("that isn't an I line of this host\n");
     }
     if scene.used_by(line).is_none() {
         return out.push_str("that line isn't used yet\n");
     }
     let emptied = emptied_at(scene, host, line);
-    out.push_str("it was processed, dropped or answered ")?;
-    writeln!(out, "in line {emptied} of the witness")
+    writeln!(
+        out,
+        "it was processed, dropped or answered in line {emptied} of the witness"
+    )
+}
+
+// Whether a segment arrives at a host with a line.
+fn arrives(scene: &Scene, host: Host, line: u64) -> bool {
+    match scene.line(line) {
+        Some(named) => matches!(&named.event, Event::Came(at, _) if *at == host),
+        None => false,
+    }
 }
 
 // The witness line that processed, dropped or answered the segment of a line; 0 if there is none.
@@ -94,8 +106,11 @@ pub(crate) fn unanswerable(out: &mut String, scene: &Scene, host: Host, m: &Emis
     match scene.taker(host, m) {
         Some(endpoint) if !endpoint.state.is_closed() => unanswerable_at(out, scene, endpoint, m),
         _ => {
-            write!(out, "a listener is open on port {}: ", m.rport)?;
-            out.push_str("a reset answers only a segment with ACK, and this one has none\n")
+            let port = m.rport;
+            writeln!(
+                out,
+                "a listener is open on port {port}: a reset answers only a segment with ACK, and this one has none"
+            )
         }
     }
 }
@@ -103,8 +118,9 @@ pub(crate) fn unanswerable(out: &mut String, scene: &Scene, host: Host, m: &Emis
 fn unanswerable_at(out: &mut String, scene: &Scene, endpoint: &Endpoint, m: &Emission) -> Done {
     write!(out, "in {} ", state_name(endpoint.state))?;
     if !endpoint.state.is_syn_sent() && !endpoint.state.is_syn_received() {
-        out.push_str("no reset answers a segment; one may in SYN-SENT, ")?;
-        return out.push_str("in SYN-RECEIVED, at a listener, or without an endpoint\n");
+        return out.push_str(
+            "no reset answers a segment; one may in SYN-SENT, in SYN-RECEIVED, at a listener, or without an endpoint\n",
+        );
     }
     out.push_str("a reset answers only an ACK that isn't of its own SYN\n")?;
     if !m.flags.ack {

@@ -13,9 +13,11 @@ pub(crate) fn describe_end(out: &mut String, scene: &Scene) -> Done {
         return Ok(());
     };
     let (moment, refused) = (scene.last_moment(), about(rule).refused);
-    out.push_str("no step is refused, and each line is placed\n")?;
-    write!(out, "by the moment of the last step, {moment}, ")?;
-    writeln!(out, "a duty is late: {refused}")?;
+    writeln!(
+        out,
+        "no step is refused, and each line is placed\nby the moment of the last step, {moment}, a duty is \
+late: {refused}"
+    )?;
     match scene.debtor {
         Some(debtor) => describe(out, scene, debtor.id),
         None => Ok(()),

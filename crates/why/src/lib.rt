@@ -8,23 +8,24 @@
 //!
 //! Private modules:
 //!
-//! - `explaining`: the verdict's line, what the refused step is about, and what each rule compares there
+//! - `explaining`: the verdict's line, and what the refused step is about; `comparing`: what each rule compares there
 //! - `marks`: a line with a fault, and a mark under its columns
 //! - `scene`: the world before the refused step, and what the step is about
 //! - `described`: an endpoint in words; `owed`: what it owes; `inbox`: a received segment in words
 //! - `order`, `calls`, `building`, `wire`, `processing`, `numbers`, `timers`: what the rules compare; `late`, `limits`:
 //!   the same for duties
-//! - `answers`: the answers that a call may have
+//! - `allowed`: the answers that a call may have
 //! - `known`: what is known at the step of the causes of its rule
 //! - `fitting`, `segment_window`, `changes`: the other windows that a segment would fit, kept while the case is
 //!   replayed
 //! - `unjudged`: the level that leaves a refusal unjudged
 #![tactic(auto)]
 
-mod answers;
+mod allowed;
 mod building;
 mod calls;
 mod changes;
+mod comparing;
 mod described;
 mod explaining;
 mod fitting;

@@ -34,11 +34,10 @@ pub(crate) fn dropped(out: &mut String, scene: &Scene) -> Done {
 pub(crate) fn discarded(out: &mut String, endpoint: &Endpoint, m: &Arrived) -> Done {
     let (first, length) = (m.pos(), m.length());
     let (next, edge) = (endpoint.rcv_nxt(), endpoint.window.rcv_adv);
-    write!(out, "it occupies {length} positions, from {first} on; ")?;
-    write!(out, "{next} is next in order and inside the window, ")?;
     writeln!(
         out,
-        "which ends before {edge}, and the step doesn't keep it"
+        "it occupies {length} positions, from {first} on; {next} is next in order and inside the window, which \
+ends before {edge}, and the step doesn't keep it"
     )
 }
 
@@ -47,8 +46,11 @@ pub(crate) fn resent(out: &mut String, scene: &Scene, it: Building) -> Done {
     let Some(Owed { again, .. }) = owed_by_touched(scene) else {
         return Ok(());
     };
-    write!(out, "it begins at {}, and again is {again}: ", it.plan.pos)?;
-    out.push_str("all positions below that were sent again already\n")
+    writeln!(
+        out,
+        "it begins at {}, and again is {again}: all positions below that were sent again already",
+        it.plan.pos
+    )
 }
 
 /// For how many segments an acknowledgment may still be sent.
@@ -57,8 +59,10 @@ pub(crate) fn ack_excess(out: &mut String, scene: &Scene) -> Done {
     let Some(Owed { answers, .. }) = owed_by_touched(scene) else {
         return Ok(());
     };
-    write!(out, "answers is {answers}: as many acknowledgments ")?;
-    out.push_str("were sent as segments came\n")
+    writeln!(
+        out,
+        "answers is {answers}: as many acknowledgments were sent as segments came"
+    )
 }
 
 // What the endpoint owes that the step touches.

@@ -54,8 +54,9 @@ fn built_with(out: &mut String, half: bool, position: u64) -> Done {
 /// The positions that a segment occupies, and the receive window.
 pub(crate) fn unacceptable(out: &mut String, endpoint: &Endpoint, m: &Arrived) -> Done {
     if m.flags().syn && !m.flags().rst {
-        out.push_str("it has a SYN, which is acceptable only in SYN-RECEIVED, ")?;
-        return out.push_str("at position 0 and with ACK\n");
+        return out.push_str(
+            "it has a SYN, which is acceptable only in SYN-RECEIVED, at position 0 and with ACK\n",
+        );
     }
     let (next, length) = (endpoint.rcv_nxt(), m.length());
     let first = if m.is_reset_reply() {
@@ -66,8 +67,10 @@ pub(crate) fn unacceptable(out: &mut String, endpoint: &Endpoint, m: &Arrived) -
     write!(out, "it occupies {length} positions, from {first} on; ")?;
     match endpoint.window.rcv_adv.checked_sub(1) {
         Some(last) if next <= last => {
-            out.push_str("its first or last has to be in the receive window, ")?;
-            writeln!(out, "from {next} to {last}")
+            writeln!(
+                out,
+                "its first or last has to be in the receive window, from {next} to {last}"
+            )
         }
         _ => writeln!(out, "the receive window is 0, so it has to begin at {next}"),
     }
@@ -76,20 +79,22 @@ pub(crate) fn unacceptable(out: &mut String, endpoint: &Endpoint, m: &Arrived) -
 /// The position that a segment acknowledges, and those that it may.
 pub(crate) fn ack_range(out: &mut String, endpoint: &Endpoint, m: &Arrived) -> Done {
     if !m.flags().ack {
-        out.push_str("it has no ACK, which a reset needs in SYN-SENT ")?;
-        return out.push_str("and any other segment always\n");
+        return out.push_str(
+            "it has no ACK, which a reset needs in SYN-SENT and any other segment always\n",
+        );
     }
     if endpoint.state.is_syn_sent() {
         return ack_of_syn(out, endpoint, m);
     }
     let (ack, una, sent) = (m.ack(), endpoint.stream.snd_una, endpoint.snd_max());
-    write!(out, "it acknowledges {ack}; SND.UNA is {una}, ")?;
-    write!(out, "sent up to {sent}")?;
-    out.push_str(if endpoint.state.is_syn_received() {
-        "; in SYN-RECEIVED it has to be above SND.UNA\n"
-    } else {
-        "\n"
-    })
+    let above = word_if(
+        endpoint.state.is_syn_received(),
+        "; in SYN-RECEIVED it has to be above SND.UNA",
+    );
+    writeln!(
+        out,
+        "it acknowledges {ack}; SND.UNA is {una}, sent up to {sent}{above}"
+    )
 }
 
 /// The acknowledgment number, and the one that acknowledges the endpoint's own SYN.

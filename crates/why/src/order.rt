@@ -15,8 +15,10 @@ pub(crate) fn line_range(out: &mut String, scene: &Scene) -> Done {
         return writeln!(out, "extra numbers in the step: {count}; {wanted}");
     }
     let (count, first) = (scene.lines().len(), scene.header().first_event_line());
-    write!(out, "the trace has {count} event lines, ")?;
-    writeln!(out, "from line {first} on; the step names line {number}")
+    writeln!(
+        out,
+        "the trace has {count} event lines, from line {first} on; the step names line {number}"
+    )
 }
 
 // The extra numbers of a line.
@@ -36,8 +38,10 @@ fn wanted(line: &Line, half: bool) -> &'static str {
 pub(crate) fn line_again(out: &mut String, scene: &Scene) -> Done {
     let number = scene.named().number;
     let step = scene.used_by(number).unwrap_or(0);
-    write!(out, "line {number} was already used ")?;
-    writeln!(out, "by line {step} of the witness")
+    writeln!(
+        out,
+        "line {number} was already used by line {step} of the witness"
+    )
 }
 
 /// The first earlier line of the same thread that isn't used yet.
@@ -47,18 +51,30 @@ pub(crate) fn thread_order(out: &mut String, scene: &Scene) -> Done {
         return Ok(());
     };
     let thread = line.thread;
-    let earlier = scene.lines().iter().find(|other| {
-        other.number < number && other.thread == thread && scene.used_by(other.number).is_none()
-    });
-    let earlier = earlier.map_or(0, |line| line.number);
-    write!(out, "line {earlier} of the same thread {thread} ")?;
-    out.push_str("comes first and isn't used yet\n")
+    let earlier = earlier_line(scene, number, thread);
+    writeln!(
+        out,
+        "line {earlier} of the same thread {thread} comes first and isn't used yet"
+    )
+}
+
+// The first line of a thread before a line that isn't used yet; 0 if there is none.
+fn earlier_line(scene: &Scene, number: u64, thread: u32) -> u64 {
+    for line in scene.lines() {
+        if line.number < number && line.thread == thread && scene.used_by(line.number).is_none() {
+            return line.number;
+        }
+    }
+    0
 }
 
 /// The moment of the step, next to that of the step before it.
 pub(crate) fn moment_falls(out: &mut String, scene: &Scene) -> Done {
-    write!(out, "the step's moment is {}, ", scene.moment())?;
-    writeln!(out, "that of the step before is {}", scene.last_moment())
+    let (moment, last) = (scene.moment(), scene.last_moment());
+    writeln!(
+        out,
+        "the step's moment is {moment}, that of the step before is {last}"
+    )
 }
 
 /// When a line may be used.
@@ -67,28 +83,41 @@ pub(crate) fn moment_off(out: &mut String, scene: &Scene) -> Done {
     let line = scene.line(scene.named().number);
     let from = line.map_or(0, |line| line.moment);
     let to = from.saturating_add(skew);
-    write!(out, "the step's moment is {moment}, the line may be used ")?;
-    writeln!(out, "from {from} to {to} (its moment plus skew {skew})")
+    writeln!(
+        out,
+        "the step's moment is {moment}, the line may be used from {from} to {to} (its moment plus skew {skew})"
+    )
 }
 
 /// The first line that had to be used before the step's moment.
 pub(crate) fn overdue(out: &mut String, scene: &Scene) -> Done {
     let (moment, skew) = (scene.moment(), scene.header().skew);
-    let overdue = scene.lines().iter().find(|line| {
-        scene.used_by(line.number).is_none() && line.moment.saturating_add(skew) < moment
-    });
-    let Some(line) = overdue else {
+    let Some(line) = overdue_line(scene, skew, moment) else {
         return Ok(());
     };
     let (number, by) = (line.number, line.moment.saturating_add(skew));
-    write!(out, "line {number} had to be used by {by}; ")?;
-    writeln!(out, "the step's moment is {moment}")
+    writeln!(
+        out,
+        "line {number} had to be used by {by}; the step's moment is {moment}"
+    )
+}
+
+// The first line that is overdue at a moment.
+fn overdue_line<'c>(scene: &Scene<'c>, skew: u64, moment: u64) -> Option<&'c Line> {
+    for line in scene.lines() {
+        if scene.used_by(line.number).is_none() && line.moment.saturating_add(skew) < moment {
+            return Some(line);
+        }
+    }
+    None
 }
 
 /// The event lines that no step used.
 pub(crate) fn unplaced(out: &mut String, scene: &Scene) -> Done {
     let (steps, all) = (scene.before.len(), scene.lines().len());
     let unused = all.saturating_sub(scene.used.len());
-    write!(out, "the witness has {steps} steps; unused event lines: ")?;
-    writeln!(out, "{unused} of {all}, and this is the first")
+    writeln!(
+        out,
+        "the witness has {steps} steps; unused event lines: {unused} of {all}, and this is the first"
+    )
 }

@@ -19,16 +19,23 @@ pub(crate) fn describe_owed(
     };
     out.push_str("  owes:")?;
     let start = out.len();
-    for debt in debts_of(scene.duties(), id, endpoint) {
+    say_debts(out, &debts_of(scene.duties(), id, endpoint))?;
+    if start == out.len() {
+        out.push_str(" nothing\n")
+    } else {
+        writeln!(out, " (and {slack} of slack)")
+    }
+}
+
+fn say_debts(out: &mut String, debts: &[Option<Debt>]) -> Done {
+    let start = out.len();
+    for debt in debts {
         if let Some(debt) = debt {
             out.push_str(word_if(start < out.len(), ";"))?;
-            say_debt(out, &debt)?;
+            say_debt(out, debt)?;
         }
     }
-    if start == out.len() {
-        return out.push_str(" nothing\n");
-    }
-    writeln!(out, " (and {slack} of slack)")
+    Ok(())
 }
 
 fn say_debt(out: &mut String, debt: &Debt) -> Done {

@@ -42,11 +42,14 @@ pub(crate) fn not_peer(out: &mut String, scene: &Scene, it: Processing, m: &Arri
     if let Some(peer) = endpoint.stream.peer {
         write!(out, ", its peer is {}", EndpointName(peer))?;
     }
-    write!(out, "; the segment was built by {sender}")?;
-    if let Some(peer) = m.peer_at_send() {
-        write!(out, " for {}", EndpointName(peer))?;
+    match m.peer_at_send() {
+        Some(peer) => built_for(out, sender, EndpointName(peer)),
+        None => writeln!(out, "; the segment was built by {sender}"),
     }
-    out.push_str("\n")
+}
+
+fn built_for(out: &mut String, sender: EndpointName, peer: EndpointName) -> Done {
+    writeln!(out, "; the segment was built by {sender} for {peer}")
 }
 
 /// How many children the listen queue has, and how many it has room for.
@@ -60,9 +63,11 @@ pub(crate) fn queue_full(out: &mut String, scene: &Scene, it: Processing) -> Don
         return Ok(());
     };
     let (children, extra) = (listener.queue.len(), scene.header().extra);
-    write!(out, "children in the listen queue: {children}; ")?;
     let backlog = listener.backlog;
-    writeln!(out, "it has room for backlog {backlog} + extra {extra}")
+    writeln!(
+        out,
+        "children in the listen queue: {children}; it has room for backlog {backlog} + extra {extra}"
+    )
 }
 
 /// The congestion window that the step chooses, and the greatest one.
@@ -72,9 +77,11 @@ pub(crate) fn growth(out: &mut String, it: Processing, m: &Arrived, moment: u64)
     let counted = endpoint.control.values.counted;
     let ack = if m.flags().ack { m.ack() } else { 0 };
     let acknowledged = ack.saturating_sub(endpoint.stream.snd_una);
-    write!(out, "the step chooses cwnd {cwnd}, the greatest is ")?;
-    write!(out, "{greatest}; newly acknowledged {acknowledged}, ")?;
-    writeln!(out, "counted before {counted}")
+    writeln!(
+        out,
+        "the step chooses cwnd {cwnd}, the greatest is {greatest}; newly acknowledged {acknowledged}, counted \
+before {counted}"
+    )
 }
 
 /// Whether a segment is a new acknowledgment, which may measure a round trip.
@@ -92,11 +99,16 @@ pub(crate) fn sample(out: &mut String, version: Version, endpoint: &Endpoint, m:
         } else {
             "a"
         };
-        write!(out, "it acknowledges from {una} up to {ack}, ")?;
-        writeln!(out, "and {which} position there was sent more than once")
+        writeln!(
+            out,
+            "it acknowledges from {una} up to {ack}, and {which} position there was sent more than once"
+        )
     } else {
-        write!(out, "it acknowledges nothing new: SND.UNA is {una}; ")?;
-        out.push_str("a round trip is measured by a new acknowledgment, not by a reset\n")
+        writeln!(
+            out,
+            "it acknowledges nothing new: SND.UNA is {una}; a round trip is measured by a new acknowledgment, not \
+by a reset"
+        )
     }
 }
 
@@ -105,6 +117,8 @@ pub(crate) fn scale_unread(out: &mut String, endpoint: &Endpoint, m: &Arrived) -
     let (scaled, scales) = (m.is_scaled(), endpoint.is_scaling());
     let sender = if scaled { "scaled" } else { "didn't scale" };
     let receiver = if scales { "scales them" } else { "doesn't" };
-    write!(out, "its sender {sender} windows when it built ")?;
-    writeln!(out, "the segment, and its receiver {receiver}")
+    writeln!(
+        out,
+        "its sender {sender} windows when it built the segment, and its receiver {receiver}"
+    )
 }

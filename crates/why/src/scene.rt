@@ -100,24 +100,31 @@ impl<'c> Scene<'c> {
     /// Does the steps before the refused one, and looks at that.
     pub(crate) fn run(&mut self) -> Result<(), ReplayFault> {
         self.do_steps()?;
-        self.touched = self.step.and_then(|step| self.replay.touched(step));
+        self.touched = match self.step {
+            Some(step) => self.replay.touched(step),
+            None => None,
+        };
         self.debtor = self.replay.debtor();
         Ok(())
     }
 
     fn do_steps(&mut self) -> Result<(), ReplayFault> {
         for (place, step) in self.before.iter().enumerate() {
-            if let Some(others) = &mut self.others {
-                others.note(self.replay.world(), step);
-            }
-            self.replay.apply(step)?;
             if let Label::L(named) = &step.label {
                 self.used.insert(named.number, witness_line(Some(place)))?;
             }
-            if let Some(others) = &mut self.others {
-                others.follow(self.replay.world())?;
-            }
+            self.do_step(step)?;
         }
+        Ok(())
+    }
+
+    fn do_step(&mut self, step: &Step) -> Result<(), ReplayFault> {
+        let Some(others) = &mut self.others else {
+            return self.replay.apply(step);
+        };
+        others.note(self.replay.world(), step);
+        self.replay.apply(step)?;
+        others.follow(self.replay.world())?;
         Ok(())
     }
 

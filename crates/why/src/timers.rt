@@ -15,10 +15,14 @@ pub(crate) fn growth(out: &mut String, scene: &Scene, it: Expiring) -> Done {
     let endpoint = it.endpoint;
     let (most, highest) = greatest_values(endpoint, scene.moment());
     let (flight, backoffs) = (endpoint.flight(), endpoint.backoffs);
-    write!(out, "the step chooses cwnd {cwnd} ")?;
-    write!(out, "(the greatest is {most}) and ssthresh {ssthresh} ")?;
-    write!(out, "(the greatest is {highest}); in flight {flight}, ")?;
-    writeln!(out, "expiries since a new acknowledgment {backoffs}")
+    write!(
+        out,
+        "the step chooses cwnd {cwnd} (the greatest is {most}) and ssthresh {ssthresh} (the greatest is {highest})"
+    )?;
+    writeln!(
+        out,
+        "; in flight {flight}, expiries since a new acknowledgment {backoffs}"
+    )
 }
 
 /// Why a timer can't expire at all.
@@ -26,8 +30,10 @@ pub(crate) fn off(out: &mut String, it: Expiring) -> Done {
     match it.timer {
         Timer::Rto => {
             let (una, sent) = (it.endpoint.stream.snd_una, it.endpoint.snd_max());
-            write!(out, "the timer is off: SND.UNA {una}, sent up to {sent}; ")?;
-            out.push_str("a SYN, data or a FIN arms it\n")
+            writeln!(
+                out,
+                "the timer is off: SND.UNA {una}, sent up to {sent}; a SYN, data or a FIN arms it"
+            )
         }
         Timer::Persist => persist_off(out, it.endpoint),
         Timer::Msl2 => out.push_str("the timer is off: it is armed on entering TIME-WAIT\n"),
@@ -38,8 +44,10 @@ pub(crate) fn off(out: &mut String, it: Expiring) -> Done {
 fn persist_off(out: &mut String, endpoint: &Endpoint) -> Done {
     let (stream, wnd) = (&endpoint.stream, endpoint.window.snd_wnd);
     if endpoint.timers.persist_armed.is_none() {
-        out.push_str("the timer is off: a window of 0 arms it, ")?;
-        return writeln!(out, "and SND.WND is {wnd}");
+        return writeln!(
+            out,
+            "the timer is off: a window of 0 arms it, and SND.WND is {wnd}"
+        );
     }
     out.push_str("the timer is armed, but ")?;
     if !endpoint.is_up() {
@@ -51,29 +59,34 @@ fn persist_off(out: &mut String, endpoint: &Endpoint) -> Done {
     } else {
         "no FIN"
     };
-    write!(out, "there is nothing to probe with: SND.UNA {una}, ")?;
-    writeln!(out, "accepted from the program up to {accepted}, and {fin}")
+    writeln!(
+        out,
+        "there is nothing to probe with: SND.UNA {una}, accepted from the program up to {accepted}, and {fin}"
+    )
 }
 
 /// Writes that the handshake isn't done.
 pub(crate) fn handshake(out: &mut String, endpoint: &Endpoint) -> Done {
     let (una, next) = (endpoint.stream.snd_una, endpoint.rcv_nxt());
-    write!(out, "the handshake isn't done: SND.UNA {una}, ")?;
-    writeln!(out, "RCV.NXT {next}; both have to be at least 1")
+    writeln!(
+        out,
+        "the handshake isn't done: SND.UNA {una}, RCV.NXT {next}; both have to be at least 1"
+    )
 }
 
 fn giveup_off(out: &mut String, endpoint: &Endpoint) -> Done {
     let (expiries, flight) = (endpoint.unanswered_expiries, endpoint.flight());
     let not = word_if(!endpoint.closed, "not ");
-    write!(out, "expiries since a segment was processed: {expiries}, ")?;
-    write!(out, "three are needed; outstanding: {flight} positions, ")?;
-    out.push_str(if endpoint.timers.persist_armed.is_some() {
-        "and the persist timer is armed\n"
+    let persist = if endpoint.timers.persist_armed.is_some() {
+        "armed"
     } else {
-        "and the persist timer is off; one of the two is needed\n"
-    })?;
-    out.push_str("or else FIN-WAIT-2 with a closed socket: ")?;
-    writeln!(out, "the socket is {not}closed")
+        "off; one of the two is needed"
+    };
+    writeln!(
+        out,
+        "expiries since a segment was processed: {expiries}, three are needed; outstanding: {flight} positions, \
+and the persist timer is {persist}\nor else FIN-WAIT-2 with a closed socket: the socket is {not}closed"
+    )
 }
 
 /// The moment from which on a timer may expire.
@@ -86,8 +99,10 @@ pub(crate) fn early(out: &mut String, scene: &Scene, it: Expiring) -> Done {
     };
     let (since, grain) = (armed.unwrap_or(0), header.grain);
     let earliest = since.saturating_add(time).saturating_sub(grain).max(since);
-    write!(out, "armed since {since}, it runs for {time} and may ")?;
-    write!(out, "expire a clock tick ({grain}) early: ")?;
+    write!(
+        out,
+        "armed since {since}, it runs for {time} and may expire a clock tick ({grain}) early: "
+    )?;
     writeln!(out, "from {earliest} on; the step's moment is {moment}")
 }
 
@@ -95,23 +110,31 @@ pub(crate) fn early(out: &mut String, scene: &Scene, it: Expiring) -> Done {
 pub(crate) fn recovery(out: &mut String, endpoint: &Endpoint, it: Recovery, moment: u64) -> Done {
     let (profile, values) = (endpoint.control.profile, &endpoint.control.values);
     if !profile.counts_duplicates() {
-        out.push_str("in flight: 0; ")?;
-        return out.push_str("fast recovery begins only if something is in flight\n");
+        return out.push_str("in flight: 0; fast recovery begins only if something is in flight\n");
     }
     let (dup, flight) = (values.dup, endpoint.flight());
-    write!(out, "duplicate acknowledgments: {dup}, three are needed; ")?;
-    write!(out, "in flight: {flight}, ")?;
-    out.push_str(if values.fast {
-        "in fast recovery already\n"
+    let fast = if values.fast {
+        "in fast recovery already"
     } else {
-        "not in fast recovery\n"
-    })?;
-    if !profile.bounds_windows() {
-        return Ok(());
+        "not in fast recovery"
+    };
+    writeln!(
+        out,
+        "duplicate acknowledgments: {dup}, three are needed; in flight: {flight}, {fast}"
+    )?;
+    if profile.bounds_windows() {
+        recovery_windows(out, endpoint, it, moment)
+    } else {
+        Ok(())
     }
+}
+
+fn recovery_windows(out: &mut String, endpoint: &Endpoint, it: Recovery, moment: u64) -> Done {
     let (cwnd, ssthresh) = (it.cwnd, it.ssthresh);
     let (most, highest) = greatest_recovery(endpoint, ssthresh, moment);
-    write!(out, "the step chooses ssthresh {ssthresh} ")?;
-    write!(out, "(the greatest is {highest}) and cwnd {cwnd} ")?;
-    writeln!(out, "(the greatest with that ssthresh is {most})")
+    writeln!(
+        out,
+        "the step chooses ssthresh {ssthresh} (the greatest is {highest}) and cwnd {cwnd} (the greatest with \
+that ssthresh is {most})"
+    )
 }

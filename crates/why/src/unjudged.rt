@@ -23,9 +23,11 @@ pub(crate) fn say_unjudged(out: &mut String, scene: &Scene, rule: Rule) -> Done 
         }
     };
     let condition = word_if(rule == Rule::OldData, " if an F step comes first");
-    out.push_str("stacks with CUBIC, BBR, SACK or RACK-TLP do this; ")?;
-    write!(out, "{before}`congestion {level}`{after} ")?;
-    writeln!(out, "leaves it unjudged{condition}")
+    writeln!(
+        out,
+        "stacks with CUBIC, BBR, SACK or RACK-TLP do this; {before}`congestion {level}`{after} leaves it \
+unjudged{condition}"
+    )
 }
 
 // The strictest level at which the step doesn't break the rule. None: it breaks it at every level.

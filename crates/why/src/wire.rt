@@ -14,8 +14,10 @@ pub(crate) fn describe_sent(out: &mut String, scene: &Scene, host: Host) -> Done
         return Ok(());
     }
     let (host, count) = (HostName(host), world.count());
-    write!(out, "{host} built no segment with the number {number}; ")?;
-    writeln!(out, "so far {count} were built at both hosts")
+    writeln!(
+        out,
+        "{host} built no segment with the number {number}; so far {count} were built at both hosts"
+    )
 }
 
 /// Writes what is wrong with the line that a received segment should copy, if that is no sent segment.
@@ -40,8 +42,10 @@ fn sender_in(scene: &Scene, line: u64) -> Option<Host> {
 /// Where the segment was sent before.
 pub(crate) fn sent_before(out: &mut String, scene: &Scene, number: u32) -> Done {
     let line = shown_before(scene, number);
-    write!(out, "segment {number} was already sent ")?;
-    writeln!(out, "in trace line {line}")
+    writeln!(
+        out,
+        "segment {number} was already sent in trace line {line}"
+    )
 }
 
 // The O line that showed a built segment before the step; 0 if there is none.
@@ -62,8 +66,10 @@ pub(crate) fn copy_differs(out: &mut String, m: &Emission, wire: &Wire) -> Done 
     let (sent, shown) = (m.bytes.as_slice(), wire.bytes.as_slice());
     if sent.len() != shown.len() {
         let (sent, shown) = (sent.len(), shown.len());
-        write!(out, "  bytes of the segment: sent {sent}, ")?;
-        writeln!(out, "the line shows {shown}")?;
+        writeln!(
+            out,
+            "  bytes of the segment: sent {sent}, the line shows {shown}"
+        )?;
     }
     first_difference(out, "byte of the segment", "sent", sent, shown)?;
     differences(out, m, wire)
@@ -72,8 +78,10 @@ pub(crate) fn copy_differs(out: &mut String, m: &Emission, wire: &Wire) -> Done 
 /// When the segment was sent and received.
 pub(crate) fn lifetime(out: &mut String, scene: &Scene, m: &Emission) -> Done {
     let (moment, sent, msl) = (scene.moment(), m.moment, scene.header().msl);
-    write!(out, "it arrives at {moment}, it was sent at {sent}, ")?;
-    writeln!(out, "the maximum segment lifetime is {msl}")
+    writeln!(
+        out,
+        "it arrives at {moment}, it was sent at {sent}, the maximum segment lifetime is {msl}"
+    )
 }
 
 /// The fields in which the segment and the line differ.
@@ -104,8 +112,10 @@ pub(crate) fn differences(out: &mut String, m: &Emission, wire: &Wire) -> Done {
             writeln!(out, "  window shift: built {built}, the line shows {shown}")
         }
         (None, Some(shown)) => {
-            out.push_str("  window shift: built with none, ")?;
-            writeln!(out, "the line shows {shown}")
+            writeln!(
+                out,
+                "  window shift: built with none, the line shows {shown}"
+            )
         }
         (Some(_), Some(_)) | (_, None) => Ok(()),
     }

@@ -1,20 +1,10 @@
 -- The first line of a witness.
-use Rattle.std.specs.Prelude.{ℕ, Bool, ◌&&◌, List, codes}
+use Rattle.std.specs.Prelude.{ℕ, Bool, ◌&&◌, List}
 use Rattle.std.specs.Str.{bytes_eq}
 use Rattle.bstr.specs.Text.{without_terminator}
 use Rattle.case_forms.specs.declared.version.Version.{Version}
-use Rattle.case_forms.specs.declared.version.Version.TheVariants.{One, Two, Three, Four, FourHalf, Five, FiveHalf}
+pub use Rattle.line_fields.specs.FirstLine.{first_text}
 use Rattle.line_fields.specs.Lines.{is_ended}
-
--- the text of the first line in each version
-abbrev pub first_text : Version → List ℕ
-first_text One = codes "witness 1"
-first_text Two = codes "witness 2"
-first_text Three = codes "witness 3"
-first_text Four = codes "witness 4"
-first_text FourHalf = codes "witness 4"
-first_text Five = codes "witness 5"
-first_text FiveHalf = codes "witness 5"
 
 -- the bytes of a line, with its end, are the first line of a witness of this version
 abbrev pub begins_witness : Version → List ℕ → Bool

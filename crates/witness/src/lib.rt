@@ -10,7 +10,6 @@
 //!   labels
 //! - `read_witness`: a whole text; `TextFault`, `FaultKind`, `Span`: the first fault, and its place
 //! - `StepReader`: a text whose steps are read on request; `SourceFault`: a fault, or a read that failed
-//! - `step_line`: the number of a step's line
 //! - `print_witness`: the text of a witness, which reads back as the same witness; `push_witness`: the same, appended
 //!   to a `Vec`
 //!
@@ -53,4 +52,4 @@ pub use printing::{
     label_bytes, print_law, print_witness, printable_law, push_witness, step_in_memory,
 };
 pub use reading::{read_step, read_witness, read_witness_for};
-pub use stream::{StepReader, step_line};
+pub use stream::StepReader;

@@ -12,10 +12,11 @@ ghost use Rattle.witness.specs.WitnessText.{IsWitnessText, seen_alone, witness_f
 ghost use Rattle.witness.specs.Printable.{HasLabelBits, IsInMemory, IsPrintableWitness, with_columns};
 ghost use Rattle.witness.specs.Printed.{witness_text, without_spans};
 
-use crate::first_line::first_text;
 use crate::flags::push_flags;
 use case_forms::{Answer, Extras, Host, Label, NamedLine, OutOfMemory, SegmentPlan, Step, Witness};
-use line_fields::{push_answer, push_end, push_host, push_number, push_space, push_word};
+use line_fields::{
+    first_text, push_answer, push_end, push_host, push_line, push_number, push_space, push_word,
+};
 use seqno::Word;
 use std::alloc::Global;
 
@@ -160,8 +161,7 @@ pub fn push_witness(out: &mut Vec<u8>, witness: &Witness) -> Result<(), OutOfMem
     ensures text { OnOk result (out.new.items ≡ out.old.items ++ witness_text witness.now) }
     ensures memory { OnOk result (AllByRecursion IsInMemory witness.now.steps) }
 {
-    push_word(out, first_text(witness.version))?;
-    push_end(out)?;
+    push_line(out, first_text(witness.version))?;
     for step in witness.steps.as_slice() {
         push_step(out, step)?;
         step_in_memory(step);

@@ -1,6 +1,6 @@
 //! The reader of a witness whose steps are read on request.
 
-ghost use Rattle.std.specs.Prelude.{◌≡◌, ◌≢◌, ◌+◌, ◌<◌, ◌^◌, IfOk, OnOk, IfSome, Some, None, Err};
+ghost use Rattle.std.specs.Prelude.{◌≡◌, ◌≢◌, IfOk, OnOk, IfSome, Some, None, Err};
 ghost use Rattle.counted.specs.Counting.{left_of, failures_of, one_more};
 ghost use Rattle.line_fields.specs.declared.fault.TextFault.{TextFault};
 ghost use Rattle.line_fields.specs.declared.fault.SourceFault.{SourceFault};
@@ -10,25 +10,13 @@ ghost use Rattle.witness.specs.WitnessText.{number_after};
 ghost use Rattle.witness.specs.StepsLeft.{first_line, source_of, version_of, number_read, number_of, fault_of};
 ghost use Rattle.witness.specs.StepsLeft.{steps_left, reader_failures, StandsAt};
 
-use crate::first_line::first_text;
 use crate::reading::read_step;
+use answers::FIRST_STEP;
 use case_forms::{Step, Version};
 use counted::Counted;
-use line_fields::{SourceFault, expect_line, next_line, require_line};
+use line_fields::{SourceFault, expect_line, first_text, next_line, none_kept, require_line};
 use std::alloc::Global;
 use std::io::BufRead;
-
-// The number of the line of the first step.
-const FIRST_STEP: u64 = 2;
-
-/// The number of the line of the step after this many others.
-#[inline(always)]
-pub fn step_line(place: u64) -> u64
-    requires { place + 2 < 2 ^ 64 }
-    ensures { result ≡ place + 2 }
-{
-    place + FIRST_STEP
-}
 
 /// A witness of some version, whose steps are read on request. Only one line of the text is kept in memory. After a
 /// fault, each later call returns that fault.
@@ -127,9 +115,7 @@ impl<B: BufRead> StepReader<B> {
             → reader_failures self.new ≡ one_more (reader_failures self.old) }
         ensures same { result ≢ Err SourceFault.Read → reader_failures self.new ≡ reader_failures self.old }
     {
-        if let Some(fault) = self.fault {
-            return Err(fault);
-        }
+        none_kept(self.fault)?;
         let read = self.read();
         self.keep_fault(read)
     }

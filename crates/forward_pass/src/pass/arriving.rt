@@ -1,14 +1,14 @@
 //! An arrival is processed, answered by a reset if one follows, or dropped: at once, or late, after segments that were
 //! built before.
 
-use super::Pass;
 use super::sending::position_of;
+use super::{Pass, Sought};
 use crate::calls::listener_at;
 use crate::choices::Arrival;
 use crate::key::EndpointKey;
 use crate::late::Waiting;
 use crate::outgoing::Shown;
-use crate::progress::{Will, saturated};
+use crate::progress::{Progress, Will, saturated};
 use crate::stop::{Done, Stop, permitted};
 use case_forms::{Event, Host, TakeChoice, Timer, Wire};
 use endpoint::{greatest_taking, matches_sent, reset_of};
@@ -31,7 +31,7 @@ enum Turn {
     Now,
     /// After other arrivals of this endpoint, or after a segment that was built before and is sent soon.
     Late(EndpointKey),
-    /// A segment was built before, but isn't sent soon.
+    /// A segment was built before, but isn't sent soon; or the arrival may not be late.
     TooLate,
 }
 
@@ -58,13 +58,86 @@ fn built_before(endpoint: &Endpoint, m: &Arrived<'_>, wire: &Wire, is_open: bool
     contains.then_some(next)
 }
 
+// Whether a segment is the reset that answers an arrival.
+fn is_answer(sought: Sought<'_>, m: &Emission, wire: &Wire) -> bool {
+    let reset = reset_of(sought.alloc, m);
+    matches_sent(sought.header, wire, &reset)
+}
+
+impl Progress {
+    // Drops an arrival, unless a duty requires it to be processed.
+    fn try_dropping(&mut self, host: Host, line: u64) -> Result<bool, Stop> {
+        match self.drop_arrival(host, line, Will::Try) {
+            Err(Stop::Broken(Rule::Dropped)) if !self.forgives() => return Ok(false),
+            Err(Stop::Broken(_)) => self.drop_arrival(host, line, Will::Insist)?,
+            done => done?,
+        }
+        Ok(true)
+    }
+
+    // Processes an arrival. If a duty requires it to be kept, it is.
+    fn take_or_keep(&mut self, host: Host, line: u64, choice: TakeChoice) -> Done {
+        let keep = match self.take(host, line, choice, Will::Try) {
+            Err(Stop::Broken(Rule::Discarded)) if !self.forgives() => true,
+            Err(Stop::Broken(_)) => choice.keep,
+            done => return done,
+        };
+        self.take(host, line, TakeChoice { keep, ..choice }, Will::Insist)
+    }
+
+    // The endpoint for which an arrival is meant, and the greatest choice with which it may be processed.
+    fn choice(&self, host: Host, line: u64, how: Arrival) -> Option<(EndpointKey, TakeChoice)> {
+        let world = self.world();
+        let moment = self.moment();
+        let (key, m) = self.waiting(host, line)?;
+        let mut choice = TakeChoice {
+            cwnd: self.greatest_window(key, m, how),
+            keep: !how.is_not_kept,
+            sample: !how.is_unmeasured,
+        };
+        match world.admits_taking(host, moment, line, choice) {
+            Ok(()) => {}
+            Err(Rule::Sample) => {
+                choice.sample = false;
+                world.admits_taking(host, moment, line, choice).ok()?;
+            }
+            Err(_) => return None,
+        }
+        Some((key, choice))
+    }
+
+    // The greatest congestion window with which a segment may be processed, which may have to stay as it is; 0 at a
+    // listener.
+    fn greatest_window(&self, key: EndpointKey, m: &Emission, how: Arrival) -> u32 {
+        let Some((endpoint, read)) = self.read(key, m) else {
+            return 0;
+        };
+        let greatest = saturated(greatest_taking(endpoint, &read, self.moment()));
+        if how.is_not_grown {
+            greatest.min(endpoint.control.values.cwnd)
+        } else {
+            greatest
+        }
+    }
+
+    // A SYN finds an endpoint whose TIME-WAIT is over.
+    fn leaves_time_wait(&mut self, host: Host, line: u64) -> Result<bool, Stop> {
+        let Some((key, m)) = self.waiting(host, line) else {
+            return Ok(false);
+        };
+        let endpoint = self.endpoint(key);
+        let is_over = m.flags.syn && endpoint.is_some_and(|endpoint| endpoint.state.is_time_wait());
+        Ok(is_over && self.add_expiry(key, Timer::Msl2)?)
+    }
+}
+
 impl<'t> Pass<'t> {
     /// The current line shows an arrival.
     pub(crate) fn receive(&mut self, host: Host, wire: &'t Wire) -> Done {
         let place = self.progress.log.place();
         let how = self.choices.arrival(place);
         let line = self.bring_in(host, wire, how)?;
-        if self.widening(host, line).is_some() {
+        if self.progress.widening(host, line).is_some() {
             self.progress.log.findings.beyond.push(place)?;
         }
         let moment = self.progress.moment();
@@ -83,10 +156,12 @@ impl<'t> Pass<'t> {
 
     /// An arrival is processed, unless others are late at its endpoint, or it is late itself.
     pub(crate) fn take_turn(&mut self, waiting: Waiting, how: Arrival) -> Done {
-        if !how.may_be_late() {
-            return self.resolve_arrival(waiting.host, waiting.line, how);
-        }
-        match self.turn_of(waiting) {
+        let turn = if how.may_be_late() {
+            self.turn_of(waiting)
+        } else {
+            Turn::TooLate
+        };
+        match turn {
             Turn::Now => self.process(waiting.host, waiting.line, how),
             Turn::Late(key) => {
                 self.progress.log.findings.late.push(waiting.place)?;
@@ -123,8 +198,10 @@ impl<'t> Pass<'t> {
 
     // Whether the next segment of the receiver of an arrival was built before, and is sent soon after it.
     fn is_late(&self, waiting: Waiting) -> bool {
-        let earlier = self.earlier(waiting.host, waiting.line);
-        earlier.is_some_and(|(shown, is_needed)| self.is_soon(shown, waiting, is_needed))
+        match self.earlier(waiting.host, waiting.line) {
+            Some((shown, is_needed)) => self.is_soon(shown, waiting, is_needed),
+            None => false,
+        }
     }
 
     // When a segment is sent.
@@ -139,9 +216,12 @@ impl<'t> Pass<'t> {
     /// segment.
     pub(crate) fn catch_up(&mut self, key: EndpointKey) -> Done {
         for _ in 0..self.late.count(key) {
-            let Some(waiting) = self.late.first(key).filter(|first| !self.is_late(*first)) else {
+            let Some(waiting) = self.late.first(key) else {
                 break;
             };
+            if self.is_late(waiting) {
+                break;
+            }
             self.late.remove_first(key);
             let how = self.choices.arrival(waiting.place);
             self.resolve_arrival(waiting.host, waiting.line, how)?;
@@ -199,19 +279,9 @@ impl<'t> Pass<'t> {
         sent.last(place).unwrap_or(0)
     }
 
-    // Drops an arrival, unless a duty requires it to be processed.
-    fn try_dropping(&mut self, host: Host, line: u64) -> Result<bool, Stop> {
-        match self.progress.drop_arrival(host, line, Will::Try) {
-            Err(Stop::Broken(Rule::Dropped)) if !self.sought.forgives => return Ok(false),
-            Err(Stop::Broken(_)) => self.progress.drop_arrival(host, line, Will::Insist)?,
-            done => done?,
-        }
-        Ok(true)
-    }
-
     // What was built before an arrival is built, and the arrival is processed, answered or dropped.
     fn resolve_arrival(&mut self, host: Host, line: u64, mut how: Arrival) -> Done {
-        if how.is_dropped && self.try_dropping(host, line)? {
+        if how.is_dropped && self.progress.try_dropping(host, line)? {
             return Ok(());
         }
         how.is_not_kept |= !self.make_earlier(host, line, how)?;
@@ -221,7 +291,7 @@ impl<'t> Pass<'t> {
     // An arrival is processed, or answered or dropped if that isn't permitted.
     fn process(&mut self, host: Host, line: u64, how: Arrival) -> Done {
         if how.is_widened {
-            self.widen(host, line)?;
+            self.progress.widen(host, line)?;
         }
         if self.is_unanswered(host, line) {
             let dropped = self.progress.drop_arrival(host, line, Will::Try);
@@ -232,7 +302,7 @@ impl<'t> Pass<'t> {
         if self.try_processing(host, line, how)? {
             return Ok(());
         }
-        if self.leaves_time_wait(host, line)? && self.try_processing(host, line, how)? {
+        if self.progress.leaves_time_wait(host, line)? && self.try_processing(host, line, how)? {
             return Ok(());
         }
         self.answer_or_drop(host, line)
@@ -252,8 +322,10 @@ impl<'t> Pass<'t> {
             .moment()
             .saturating_add(slack)
             .saturating_add(DELAY);
-        let next = self.outgoing.next(key);
-        next.is_none_or(|shown| latest < self.moment_of(shown))
+        match self.outgoing.next(key) {
+            Some(shown) => latest < self.moment_of(shown),
+            None => true,
+        }
     }
 
     // Answers an arrival by a reset, or drops it.
@@ -289,58 +361,12 @@ impl<'t> Pass<'t> {
 
     // Processes an arrival, if that's permitted.
     fn try_processing(&mut self, host: Host, line: u64, how: Arrival) -> Result<bool, Stop> {
-        let Some((key, choice)) = self.choice(host, line, how) else {
+        let Some((key, choice)) = self.progress.choice(host, line, how) else {
             return Ok(false);
         };
-        self.take(host, line, choice)?;
+        self.progress.take_or_keep(host, line, choice)?;
         self.wake_receiver(key)?;
         Ok(true)
-    }
-
-    // Processes an arrival. If a duty requires it to be kept, it is.
-    fn take(&mut self, host: Host, line: u64, choice: TakeChoice) -> Done {
-        let keep = match self.progress.take(host, line, choice, Will::Try) {
-            Err(Stop::Broken(Rule::Discarded)) if !self.sought.forgives => true,
-            Err(Stop::Broken(_)) => choice.keep,
-            done => return done,
-        };
-        self.progress
-            .take(host, line, TakeChoice { keep, ..choice }, Will::Insist)
-    }
-
-    // The endpoint for which an arrival is meant, and the greatest choice with which it may be processed.
-    fn choice(&self, host: Host, line: u64, how: Arrival) -> Option<(EndpointKey, TakeChoice)> {
-        let world = self.progress.world();
-        let moment = self.progress.moment();
-        let (key, m) = self.progress.waiting(host, line)?;
-        let mut choice = TakeChoice {
-            cwnd: self.greatest_window(key, m, how),
-            keep: !how.is_not_kept,
-            sample: !how.is_unmeasured,
-        };
-        match world.admits_taking(host, moment, line, choice) {
-            Ok(()) => {}
-            Err(Rule::Sample) => {
-                choice.sample = false;
-                world.admits_taking(host, moment, line, choice).ok()?;
-            }
-            Err(_) => return None,
-        }
-        Some((key, choice))
-    }
-
-    // The greatest congestion window with which a segment may be processed, which may have to stay as it is; 0 at a
-    // listener.
-    fn greatest_window(&self, key: EndpointKey, m: &Emission, how: Arrival) -> u32 {
-        let Some((endpoint, read)) = self.progress.read(key, m) else {
-            return 0;
-        };
-        let greatest = saturated(greatest_taking(endpoint, &read, self.progress.moment()));
-        if how.is_not_grown {
-            greatest.min(endpoint.control.values.cwnd)
-        } else {
-            greatest
-        }
     }
 
     // Calls on the endpoint that processed a segment are tried, and those on its listener.
@@ -352,16 +378,6 @@ impl<'t> Pass<'t> {
             Some(listener) => self.wake(listener_at(key.host(), listener)),
             None => Ok(()),
         }
-    }
-
-    // A SYN finds an endpoint whose TIME-WAIT is over.
-    fn leaves_time_wait(&mut self, host: Host, line: u64) -> Result<bool, Stop> {
-        let Some((key, m)) = self.progress.waiting(host, line) else {
-            return Ok(false);
-        };
-        let endpoint = self.progress.endpoint(key);
-        let is_over = m.flags.syn && endpoint.is_some_and(|endpoint| endpoint.state.is_time_wait());
-        Ok(is_over && self.add_expiry(key, Timer::Msl2)?)
     }
 
     // Answers an arrival by a reset, if its receiver sends that reset next.
@@ -380,8 +396,7 @@ impl<'t> Pass<'t> {
     fn answer_to(&self, host: Host, line: u64) -> Option<Shown<'t>> {
         let (key, m) = self.progress.waiting(host, line)?;
         let shown = self.outgoing.next_reset(key)?;
-        let reset = reset_of(self.sought.alloc, m);
-        matches_sent(self.sought.header, shown.wire, &reset).then_some(shown)
+        is_answer(self.sought, m, shown.wire).then_some(shown)
     }
 
     // Builds what is sent later and was built before this arrival was processed. The result is whether the arrival is
@@ -425,7 +440,7 @@ impl<'t> Pass<'t> {
         if !self.is_in_time(shown) {
             return Ok(false);
         }
-        let plan = self.plan_of(shown.key, shown.wire);
+        let plan = self.progress.plan_of(shown.key, shown.wire);
         let Some(made) = permitted(self.progress.make(shown.key.host(), plan, Will::Try))? else {
             return Ok(false);
         };

@@ -3,7 +3,7 @@
 use super::Pass;
 use crate::calls::{Meant, Pending, key_of_call, meant_by, supposed};
 use crate::key::EndpointKey;
-use crate::progress::{MeantCall, Will};
+use crate::progress::{MeantCall, Progress, Will};
 use crate::stop::{Done, Stop, permitted};
 use case_forms::{Answer, Call, Event, State, Timer};
 
@@ -29,26 +29,28 @@ fn timer_for(answer: &Answer) -> Option<Timer> {
     }
 }
 
+impl Progress {
+    // Writes down what the call of a thread means, which begins at a place.
+    fn note_meant(&mut self, place: usize, thread: u32) -> Done {
+        if let Some(key) = key_of_call(self.world(), thread) {
+            let meant = &mut self.log.findings.meant;
+            meant.push(MeantCall { place, key })?;
+        }
+        Ok(())
+    }
+}
+
 impl Pass<'_> {
     /// The current line begins a call; the call has its effect if that's permitted.
     pub(crate) fn begin(&mut self, thread: u32, call: &Call) -> Done {
         let place = self.progress.log.place();
         self.progress.begin(thread, call)?;
         self.calls.open.insert(thread, place)?;
-        self.note_meant(place, thread)?;
+        self.progress.note_meant(place, thread)?;
         if self.choices.waits(place) {
             return Ok(());
         }
         self.try_first(place, thread, call)
-    }
-
-    // Writes down what the call of a thread means, which begins at a place.
-    fn note_meant(&mut self, place: usize, thread: u32) -> Done {
-        if let Some(key) = key_of_call(self.progress.world(), thread) {
-            let meant = &mut self.progress.log.findings.meant;
-            meant.push(MeantCall { place, key })?;
-        }
-        Ok(())
     }
 
     /// A call has its effect if that's permitted; else it waits.
@@ -87,7 +89,7 @@ impl Pass<'_> {
     // A call opens an endpoint whose ports are in use: the old one's TIME-WAIT is over, or the call waits.
     fn wait_for_ports(&mut self, pending: Pending, key: EndpointKey) -> Done {
         self.calls.opens.insert(key, pending)?;
-        if self.add_expiry(key, Timer::Msl2)? {
+        if self.progress.add_expiry(key, Timer::Msl2)? {
             self.open_again(key)?;
         }
         Ok(())

@@ -5,7 +5,7 @@ use crate::choices::Unseen;
 use crate::copies::Sending;
 use crate::key::EndpointKey;
 use crate::outgoing::Shown;
-use crate::progress::Will;
+use crate::progress::{Progress, Will};
 use crate::stop::{Done, Stop};
 use case_forms::{Flags, Host, POSITIONS, SegmentPlan, Timer, Wire};
 use endpoint_state::Endpoint;
@@ -46,15 +46,15 @@ fn holds_oldest(endpoint: &Endpoint, plan: &SegmentPlan) -> bool {
     plan.pos <= una && una < plan.pos.saturating_add(len) && una < endpoint.snd_max()
 }
 
-impl<'t> Pass<'t> {
+impl Progress {
     /// The segment that a line shows, as its endpoint has to build it.
     pub(crate) fn plan_of(&self, key: EndpointKey, wire: &Wire) -> SegmentPlan {
         let seg = &wire.seg;
         let flags = flags_of(seg);
-        let endpoint = self.progress.endpoint(key);
+        let endpoint = self.endpoint(key);
         let pos = endpoint.and_then(|endpoint| position_of(endpoint, seg.seq));
         let is_first = flags.syn && endpoint.is_none_or(|endpoint| endpoint.iss.is_none());
-        let is_scaled = is_first && self.sought.header.version.scales();
+        let is_scaled = is_first && self.world().header().version.scales();
         SegmentPlan {
             lport: key.lport,
             rport: key.rport,
@@ -67,6 +67,60 @@ impl<'t> Pass<'t> {
         }
     }
 
+    // Builds the segment that a line shows. If that isn't permitted, the witness ends with this step.
+    fn make_at_last(&mut self, key: EndpointKey, wire: &Wire) -> Result<u32, Stop> {
+        let (host, plan) = (key.host(), self.plan_of(key, wire));
+        self.make(host, plan, Will::Insist)
+    }
+
+    // After one expiry, or if retransmissions aren't judged, a SYN may be built again without another expiry. Its timer
+    // may have expired all the same.
+    fn expire_before_syn(&mut self, key: EndpointKey) -> Done {
+        let endpoint = self.endpoint(key);
+        if endpoint.is_some_and(|endpoint| endpoint.iss.is_some() && endpoint.snd_max() > 0) {
+            self.add_expiry(key, Timer::Rto)?;
+        }
+        Ok(())
+    }
+
+    // After one expiry, or if retransmissions aren't judged, the oldest segment may be sent again without another.
+    // A duty requires one all the same.
+    fn expire_before_oldest(&mut self, key: EndpointKey, wire: &Wire) -> Done {
+        if !self.has_expiry_due(key) {
+            return Ok(());
+        }
+        let plan = self.plan_of(key, wire);
+        let endpoint = self.endpoint(key);
+        let is_oldest = endpoint.is_some_and(|endpoint| holds_oldest(endpoint, &plan));
+        if is_oldest && self.admits_making(key.host(), &plan) {
+            self.add_expiry(key, Timer::Rto)?;
+        }
+        Ok(())
+    }
+
+    // Does what permits old data to be sent again.
+    fn permit_old_data(&mut self, key: EndpointKey) -> Result<bool, Stop> {
+        let endpoint = self.endpoint(key);
+        let is_closed = endpoint.is_some_and(|endpoint| endpoint.window.snd_wnd == 0);
+        if is_closed && self.add_expiry(key, Timer::Persist)? {
+            return Ok(true);
+        }
+        if self.try_recovery(key)? {
+            return Ok(true);
+        }
+        self.expire_any(key)
+    }
+
+    // A timer expires: the retransmission timer, or else the persist timer.
+    fn expire_any(&mut self, key: EndpointKey) -> Result<bool, Stop> {
+        if self.add_expiry(key, Timer::Rto)? {
+            return Ok(true);
+        }
+        self.add_expiry(key, Timer::Persist)
+    }
+}
+
+impl<'t> Pass<'t> {
     /// The current line shows a segment sent: it is built, unless it was before.
     pub(crate) fn send(&mut self, host: Host, wire: &'t Wire) -> Done {
         let key = EndpointKey::sender(host, wire);
@@ -90,11 +144,11 @@ impl<'t> Pass<'t> {
     fn make_shown(&mut self, key: EndpointKey, wire: &Wire) -> Result<u32, Stop> {
         let host = key.host();
         if wire.seg.has(Flag::Syn) {
-            self.expire_before_syn(key)?;
+            self.progress.expire_before_syn(key)?;
         }
-        self.expire_before_oldest(key, wire)?;
+        self.progress.expire_before_oldest(key, wire)?;
         for _ in 0..REMEDIES {
-            let plan = self.plan_of(key, wire);
+            let plan = self.progress.plan_of(key, wire);
             let made = self.progress.make(host, plan, Will::Try);
             if made.is_ok() && plan.flags.rst {
                 // A reset closes its endpoint, for which calls may wait.
@@ -107,13 +161,7 @@ impl<'t> Pass<'t> {
                 break;
             }
         }
-        self.make_at_last(key, wire)
-    }
-
-    // Builds the segment that a line shows. If that isn't permitted, the witness ends with this step.
-    fn make_at_last(&mut self, key: EndpointKey, wire: &Wire) -> Result<u32, Stop> {
-        let (host, plan) = (key.host(), self.plan_of(key, wire));
-        self.progress.make(host, plan, Will::Insist)
+        self.progress.make_at_last(key, wire)
     }
 
     // Does what may permit a segment that breaks this rule, or processes what is late. The result is whether something
@@ -137,8 +185,8 @@ impl<'t> Pass<'t> {
         match rule {
             // What precedes the segment was built, and no line shows it.
             Rule::OldData if is_after_gap => self.make_unseen(key, Unseen::One, plan.pos),
-            Rule::OldData | Rule::Resent => self.permit_old_data(key),
-            Rule::Offered => self.add_expiry(key, Timer::Persist),
+            Rule::OldData | Rule::Resent => self.progress.permit_old_data(key),
+            Rule::Offered => self.progress.add_expiry(key, Timer::Persist),
             Rule::State | Rule::NoEndpoint if plan.flags.syn && !plan.flags.ack => self.reopen(key),
             Rule::PayloadRange | Rule::State | Rule::NoEndpoint => self.suppose_at(key),
             _ => Ok(false),
@@ -147,37 +195,12 @@ impl<'t> Pass<'t> {
 
     // A SYN is sent: the TIME-WAIT of an older endpoint is over, or a call opens the ports again.
     fn reopen(&mut self, key: EndpointKey) -> Result<bool, Stop> {
-        let is_over = self.add_expiry(key, Timer::Msl2)?;
+        let is_over = self.progress.add_expiry(key, Timer::Msl2)?;
         let is_opened = self.open_again(key)?;
         if is_over || is_opened {
             return Ok(true);
         }
         self.suppose_at(key)
-    }
-
-    // After one expiry, or if retransmissions aren't judged, a SYN may be built again without another expiry. Its timer
-    // may have expired all the same.
-    fn expire_before_syn(&mut self, key: EndpointKey) -> Done {
-        let endpoint = self.progress.endpoint(key);
-        if endpoint.is_some_and(|endpoint| endpoint.iss.is_some() && endpoint.snd_max() > 0) {
-            self.add_expiry(key, Timer::Rto)?;
-        }
-        Ok(())
-    }
-
-    // After one expiry, or if retransmissions aren't judged, the oldest segment may be sent again without another.
-    // A duty requires one all the same.
-    fn expire_before_oldest(&mut self, key: EndpointKey, wire: &Wire) -> Done {
-        if !self.progress.has_expiry_due(key) {
-            return Ok(());
-        }
-        let plan = self.plan_of(key, wire);
-        let endpoint = self.progress.endpoint(key);
-        let is_oldest = endpoint.is_some_and(|endpoint| holds_oldest(endpoint, &plan));
-        if is_oldest && self.progress.admits_making(key.host(), &plan) {
-            self.add_expiry(key, Timer::Rto)?;
-        }
-        Ok(())
     }
 
     // An acknowledgment answers an arrival: if all others are answered, one that is late is processed.
@@ -191,29 +214,8 @@ impl<'t> Pass<'t> {
         Ok(())
     }
 
-    // Does what permits old data to be sent again.
-    fn permit_old_data(&mut self, key: EndpointKey) -> Result<bool, Stop> {
-        let endpoint = self.progress.endpoint(key);
-        let is_closed = endpoint.is_some_and(|endpoint| endpoint.window.snd_wnd == 0);
-        if is_closed && self.add_expiry(key, Timer::Persist)? {
-            return Ok(true);
-        }
-        if self.try_recovery(key)? {
-            return Ok(true);
-        }
-        self.expire_any(key)
-    }
-
-    // A timer expires: the retransmission timer, or else the persist timer.
-    fn expire_any(&mut self, key: EndpointKey) -> Result<bool, Stop> {
-        if self.add_expiry(key, Timer::Rto)? {
-            return Ok(true);
-        }
-        self.add_expiry(key, Timer::Persist)
-    }
-
     fn suppose_at(&mut self, key: EndpointKey) -> Result<bool, Stop> {
-        match self.meant_at(key) {
+        match self.progress.meant_at(key) {
             Some(meant) => self.suppose(meant),
             None => Ok(false),
         }

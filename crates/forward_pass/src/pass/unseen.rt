@@ -3,7 +3,7 @@
 use super::Pass;
 use crate::choices::Unseen;
 use crate::key::EndpointKey;
-use crate::progress::Will;
+use crate::progress::{Progress, Will};
 use crate::stop::{Done, Stop, permitted};
 use case_forms::{Flags, Host, SegmentPlan, State};
 use endpoint_state::Endpoint;
@@ -73,24 +73,31 @@ fn window_up_to(endpoint: &Endpoint, end: u64) -> Option<u16> {
     u16::try_from(size.div_ceil(unit)).ok()
 }
 
-impl Pass<'_> {
+impl Progress {
     /// Advertises a window that reaches to the end of an arrival, in a segment that no line shows.
     pub(crate) fn widen(&mut self, host: Host, line: u64) -> Done {
         if let Some(plan) = self.widening(host, line) {
-            permitted(self.progress.make(host, plan, Will::Try))?;
+            permitted(self.make(host, plan, Will::Try))?;
         }
         Ok(())
     }
 
     /// The segment that advertises such a window. None: the window reaches there, or none can.
     pub(crate) fn widening(&self, host: Host, line: u64) -> Option<SegmentPlan> {
-        let (key, m) = self.progress.waiting(host, line)?;
-        let (endpoint, read) = self.progress.read(key, m)?;
+        let (key, m) = self.waiting(host, line)?;
+        let (endpoint, read) = self.read(key, m)?;
         let len = (m.payload.len() as u64).max(1);
         let window = window_up_to(endpoint, read.pos().saturating_add(len))?;
         Some(bare(endpoint, window, true))
     }
 
+    // Builds a segment. The result is whether that's permitted.
+    fn try_plan(&mut self, host: Host, plan: SegmentPlan) -> Result<bool, Stop> {
+        Ok(permitted(self.make(host, plan, Will::Try))?.is_some())
+    }
+}
+
+impl Pass<'_> {
     /// An endpoint builds what no line shows, of its bytes at most those below a position. The result is whether it
     /// built any.
     pub(crate) fn make_unseen(
@@ -105,7 +112,7 @@ impl Pass<'_> {
             let Some(plan) = self.unseen_plan(key, unseen, to) else {
                 break;
             };
-            if !self.try_plan(key.host(), plan)? {
+            if !self.progress.try_plan(key.host(), plan)? {
                 break;
             }
             is_made = true;
@@ -117,11 +124,6 @@ impl Pass<'_> {
             self.wake_endpoint(key)?;
         }
         Ok(is_made)
-    }
-
-    // Builds a segment. The result is whether that's permitted.
-    fn try_plan(&mut self, host: Host, plan: SegmentPlan) -> Result<bool, Stop> {
-        Ok(permitted(self.progress.make(host, plan, Will::Try))?.is_some())
     }
 
     // The next segment that an endpoint can build. None: it has nothing to send.
@@ -144,7 +146,7 @@ impl Pass<'_> {
     fn unseen_syn(&self, key: EndpointKey, endpoint: &Endpoint) -> SegmentPlan {
         let number = match self.outgoing.next(key).map(|shown| shown.wire) {
             Some(wire) if wire.seg.has(Flag::Syn) && !wire.seg.has(Flag::Rst) => {
-                return self.plan_of(key, wire);
+                return self.progress.plan_of(key, wire);
             }
             Some(wire) => Word(wire.seg.seq.0.wrapping_sub(1)),
             None => self.outgoing.syns.get(&key).copied().unwrap_or(Word(0)),

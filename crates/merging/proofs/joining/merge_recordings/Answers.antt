@@ -8,7 +8,7 @@ use Rattle.spec_merge.specs.Recordings.{merged}
 use Rattle.stack_core.specs.Told.{AllTold}
 use Rattle.merging.specs.Saying.{both_renumbered}
 use Rattle.merging.specs.Told.{AllOwnThreads, Tells}
-use Rattle.merging.proofs.HonestLemmas.{one_is_named, zero_is_named}
+use Rattle.merging.proofs.HonestLemmas.{all_are_named}
 use Rattle.merging.proofs.MergeLemmas.{beside, beside_books, beside_small, own_threads, told_as}
 use Rattle.merging.proofs.ShiftLemmas.{both_shifts}
 use Rattle.merging.proofs.joining.merge_recordings.Goals as goal
@@ -18,18 +18,13 @@ tell-requires-clause-small c =
     beside_small c.args.zero.now c.args.one.now
     (beside c.args.zero.now c.args.one.now c.requires.hosts c.requires.headers c.is_recording.ensures
     c.is_recording-2.ensures c.requires.few c.requires.above
-    (rw c.in_default.is at c.in_ok-arrival_line.ensures.none)
-    (rw c.in_default-2.is at c.in_ok-arrival_line-2.ensures.none))
+    (rw c.in_default.is at c.in_ok-arrival_line.ensures.none).0
+    (rw c.in_default.is at c.in_ok-arrival_line.ensures.none).1)
 
 pub returns-in-Some-clause-beside : goal.returns-in-Some-clause-beside
 returns-in-Some-clause-beside c =
-    zero_is_named c.args.zero.now c.args.one.now c.in-Some.arrival_line c.requires.hosts c.requires.headers
+    all_are_named c.args.zero.now c.args.one.now c.in-Some.arrival_line c.requires.hosts c.requires.headers
     (rw c.in-Some.is at c.in_ok-arrival_line.ensures.some)
-
-pub returns-in-Some-2-clause-beside : goal.returns-in-Some-2-clause-beside
-returns-in-Some-2-clause-beside c =
-    one_is_named c.args.zero.now c.args.one.now c.in-Some-2.arrival_line c.requires.hosts c.requires.headers
-    (rw c.in-Some-2.is at c.in_ok-arrival_line-2.ensures.some)
 
 pub returns-clause-told : goal.returns-clause-told
 returns-clause-told c =
@@ -40,8 +35,8 @@ returns-clause-told c =
     (beside_books c.books_grow.ensures.finished c.args.zero.now c.args.one.now
     (beside c.args.zero.now c.args.one.now c.requires.hosts c.requires.headers c.is_recording.ensures
     c.is_recording-2.ensures c.requires.few c.requires.above
-    (rw c.in_default.is at c.in_ok-arrival_line.ensures.none)
-    (rw c.in_default-2.is at c.in_ok-arrival_line-2.ensures.none)))
+    (rw c.in_default.is at c.in_ok-arrival_line.ensures.none).0
+    (rw c.in_default.is at c.in_ok-arrival_line.ensures.none).1))
 
 pub returns-clause-threads : goal.returns-clause-threads
 returns-clause-threads c = subst (λ (lines : List Line). AllOwnThreads lines) (sym c.in_ok-recorded.ensures.lines)
@@ -53,8 +48,8 @@ returns-clause-explains c =
     beside_books c.books_grow.ensures.finished c.args.zero.now c.args.one.now
     (beside c.args.zero.now c.args.one.now c.requires.hosts c.requires.headers c.is_recording.ensures
     c.is_recording-2.ensures c.requires.few c.requires.above
-    (rw c.in_default.is at c.in_ok-arrival_line.ensures.none)
-    (rw c.in_default-2.is at c.in_ok-arrival_line-2.ensures.none)) in
+    (rw c.in_default.is at c.in_ok-arrival_line.ensures.none).0
+    (rw c.in_default.is at c.in_ok-arrival_line.ensures.none).1) in
     let tells =
     told_as c.args.zero.now.header c.in_ok-recorded.recorded.trace c.in_ok-recorded.recorded.witness
     c.args.zero.now.entries c.args.one.now.entries c.requires.whole c.requires.slack c.in_ok-recorded.ensures.header

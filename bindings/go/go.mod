@@ -1,0 +1,3 @@
+module tcpwit
+
+go 1.19

@@ -1,0 +1,70 @@
+//! The line and the exit status of an answer to a case.
+//!
+//! `specs/Output` defines both.
+#![tactic(auto)]
+
+ghost use Rattle.std.specs.Prelude.{◌≡◌, ◌++◌, IfOk, codes, decimal};
+ghost use Rattle.answer_lines.specs.Output.{fault_text, line_of, status_of};
+
+use answers::exit_status;
+use case_forms::OutOfMemory;
+use checker::CaseFault;
+use line_fields::{TextFault, push_number, push_word};
+use std::alloc::Global;
+use verdict::{Verdict, print_verdict};
+
+/// The status if a text is refused.
+pub const REFUSED: u8 = 2;
+/// The status if memory ran out.
+pub const MEMORY: u8 = 4;
+/// The status if a read or a write failed.
+pub const DEVICE: u8 = 5;
+
+/// The status of a case's answer: 0 for a yes, 1 for a no, else one of the constants.
+pub fn status_of(answer: &Result<Verdict, CaseFault>) -> u8
+    ensures { result ≡ status_of answer.now }
+{
+    match answer {
+        Ok(Verdict::Yes { .. }) => exit_status(true),
+        Ok(Verdict::No { .. }) => exit_status(false),
+        Err(CaseFault::Trace(_) | CaseFault::Witness(_)) => REFUSED,
+        Err(CaseFault::Read) => DEVICE,
+        Err(CaseFault::OutOfMemory) => MEMORY,
+    }
+}
+
+/// The line of a case's answer, with its end.
+pub fn line_of(alloc: Global, answer: &Result<Verdict, CaseFault>) -> Result<Vec<u8>, OutOfMemory>
+    ensures { IfOk result (λ line. line.items ≡ line_of answer.now) }
+{
+    let mut line = Vec::new(alloc);
+    match answer {
+        Ok(verdict) => print_verdict(verdict, &mut line)?,
+        Err(CaseFault::Trace(fault)) => push_fault(&mut line, "bad trace", fault)?,
+        Err(CaseFault::Witness(fault)) => push_fault(&mut line, "bad witness", fault)?,
+        Err(CaseFault::Read) => push_word(&mut line, "bad device")?,
+        Err(CaseFault::OutOfMemory) => push_word(&mut line, "bad memory")?,
+    }
+    line.push(b'\n')?;
+    Ok(line)
+}
+
+// Appends what is refused, where, and why.
+fn push_fault(line: &mut Vec<u8>, refusal: &str, fault: &TextFault) -> Result<(), OutOfMemory>
+    ensures { IfOk result (λ _. line.new.items ≡ line.old.items ++ (refusal.now ++ fault_text fault.now)) }
+{
+    push_word(line, refusal)?;
+    push_column(line, fault.span.line)?;
+    push_column(line, fault.span.start as u64)?;
+    push_column(line, fault.span.stop as u64)?;
+    push_word(line, " ")?;
+    push_word(line, fault.kind.name())
+}
+
+// Appends a number after a space.
+fn push_column(line: &mut Vec<u8>, number: u64) -> Result<(), OutOfMemory>
+    ensures { IfOk result (λ _. line.new.items ≡ line.old.items ++ (codes " " ++ decimal number)) }
+{
+    push_word(line, " ")?;
+    push_number(line, number)
+}

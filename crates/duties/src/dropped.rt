@@ -1,0 +1,148 @@
+//! Which segments need not be processed, which dropped ones ask for an acknowledgment, and what may not be discarded.
+
+ghost use Rattle.std.specs.Prelude.{◌≡◌};
+ghost use Rattle.duties.specs.Targets.{processing_place};
+ghost use Rattle.spec_duties.specs.Dropped.{asks, discards, dropping_of, has_content, holds_next, is_ack_range};
+ghost use Rattle.spec_duties.specs.Dropped.{is_challenged, is_next, is_unacceptable, keeps_order, meets_closed_window};
+
+use case_forms::{Host, State, TakeChoice};
+use seqno::number;
+use spec_duties::{Dropping, Spared};
+use spec_tcp::{Arrived, Emission, Endpoint};
+use verdict::Rule;
+
+/// What may process a segment, by its place.
+#[derive(Clone, Copy)]
+pub enum Target {
+    Nobody,
+    Listener(u32),
+    Endpoint(u32),
+}
+
+/// The place of the endpoint that processes a segment: a listener's child gets the next place. `None`: nobody does.
+#[inline(always)]
+pub fn processing_place(target: Target, next: u32) -> Option<u32>
+    ensures { result ≡ processing_place target next }
+{
+    match target {
+        Target::Nobody => None,
+        Target::Listener(_) => Some(next),
+        Target::Endpoint(place) => Some(place),
+    }
+}
+
+#[inline(always)]
+fn is_unacceptable(rule: Option<Rule>) -> bool
+    ensures { result ≡ is_unacceptable rule }
+{
+    matches!(rule, Some(Rule::Unacceptable))
+}
+
+#[inline(always)]
+fn is_ack_range(rule: Option<Rule>) -> bool
+    ensures { result ≡ is_ack_range rule }
+{
+    matches!(rule, Some(Rule::AckRange))
+}
+
+#[inline(always)]
+fn is_next(e: &Endpoint, m: &Emission) -> bool
+    ensures { result ≡ is_next e.now m.now }
+{
+    match e.irs {
+        Some(irs) => m.seq == number(irs, e.rcv_nxt()),
+        None => false,
+    }
+}
+
+/// Whether a segment is a reset that may be challenged instead (RFC 5961, 3.2).
+#[inline(always)]
+pub fn is_challenged(e: &Endpoint, m: &Emission) -> bool
+    ensures { result ≡ is_challenged e.now m.now }
+{
+    m.flags.rst && !e.state.is_syn_sent() && !is_next(e, m)
+}
+
+/// Whether a segment doesn't fit into a closed receive window (RFC 9293, 3.10.7.4, first).
+#[inline(always)]
+pub fn meets_closed_window(e: &Endpoint, m: &Emission) -> bool
+    ensures { result ≡ meets_closed_window e.now m.now }
+{
+    !e.state.is_syn_sent() && e.receive_window() == 0 && 0 < m.length()
+}
+
+/// What a step that drops a segment shows of it.
+#[inline(always)]
+pub fn dropping_of(
+    host: Host,
+    taking: Option<Rule>,
+    answering: Option<Rule>,
+    spared: Spared,
+) -> Dropping
+    ensures { result ≡ dropping_of host taking answering spared }
+{
+    Dropping {
+        host,
+        takeable: taking.is_none(),
+        spared,
+        answerable: answering.is_none() && !is_unacceptable(taking),
+    }
+}
+
+/// Whether a segment has bytes or a FIN.
+#[inline(always)]
+pub fn has_content(m: &Emission) -> bool
+    ensures { result ≡ has_content m.now }
+{
+    0 < m.payload.len() || m.flags.fin
+}
+
+/// Whether a dropped segment asks for an acknowledgment.
+#[inline(always)]
+pub fn asks(m: &Emission, taking: Option<Rule>, e: &Endpoint) -> bool
+    ensures { result ≡ asks m.now taking e.now }
+{
+    if e.state.is_syn_sent() {
+        return false;
+    }
+    if m.flags.rst {
+        return taking.is_none();
+    }
+    is_unacceptable(taking) || is_ack_range(taking) && m.flags.ack || taking.is_none()
+}
+
+#[inline(always)]
+fn keeps_order(state: State) -> bool
+    ensures { result ≡ keeps_order state }
+{
+    match state {
+        State::SynReceived | State::Established | State::FinWait1 | State::FinWait2 => true,
+        State::Closed
+        | State::Listen
+        | State::SynSent
+        | State::CloseWait
+        | State::Closing
+        | State::LastAck
+        | State::TimeWait => false,
+    }
+}
+
+#[inline(always)]
+fn holds_next(e: &Endpoint, m: &Arrived<'_>) -> bool
+    ensures { result ≡ holds_next e.now m.now }
+{
+    m.pos() <= e.rcv_nxt() && ((e.rcv_nxt() - m.pos()) as u128) < m.length()
+}
+
+/// Whether an endpoint that processes a segment in this way discards what is next in order.
+#[inline(always)]
+pub fn discards(how: TakeChoice, e: &Endpoint, m: &Arrived<'_>) -> bool
+    ensures { result ≡ discards how e.now m.now }
+{
+    !how.keep
+        && keeps_order(e.state)
+        && !e.closed
+        && !m.flags().rst
+        && e.rcv_nxt() < e.window.rcv_adv
+        && holds_next(e, m)
+}

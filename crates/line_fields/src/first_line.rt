@@ -1,0 +1,19 @@
+//! The first line of a witness.
+
+ghost use Rattle.std.specs.Prelude.{◌≡◌};
+ghost use Rattle.line_fields.specs.FirstLine.{first_text};
+
+use case_forms::Version;
+
+/// The text of a witness's first line, which names the version.
+pub fn first_text(version: Version) -> &'static str
+    ensures { result.now ≡ first_text version }
+{
+    match version {
+        Version::One => "witness 1",
+        Version::Two => "witness 2",
+        Version::Three => "witness 3",
+        Version::Four | Version::FourHalf => "witness 4",
+        Version::Five | Version::FiveHalf => "witness 5",
+    }
+}

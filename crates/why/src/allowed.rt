@@ -1,0 +1,96 @@
+//! The answers that a call may have.
+
+use crate::Done;
+use crate::calls::giver;
+use crate::scene::Scene;
+use case_forms::{Answer, Call, State};
+use endpoint_state::{Endpoint, World, call_allowed};
+use plain_words::{AnswerFields, Shown, word_if};
+use spec_tcp::SocketTarget;
+use std::alloc::Global;
+
+// The answers with neither a number nor bytes.
+const WORDS: [Answer; 21] = [
+    Answer::Done,
+    Answer::Again,
+    Answer::Eof,
+    Answer::Closed,
+    Answer::NotConn,
+    Answer::Refused,
+    Answer::Reset,
+    Answer::Timeout,
+    Answer::InUse,
+    Answer::BadSocket,
+    Answer::State(State::Closed),
+    Answer::State(State::Listen),
+    Answer::State(State::SynSent),
+    Answer::State(State::SynReceived),
+    Answer::State(State::Established),
+    Answer::State(State::FinWait1),
+    Answer::State(State::FinWait2),
+    Answer::State(State::CloseWait),
+    Answer::State(State::Closing),
+    Answer::State(State::LastAck),
+    Answer::State(State::TimeWait),
+];
+
+/// Writes the answers that a call may have, with `or` between them.
+pub(crate) fn say_allowed(out: &mut String, scene: &Scene, call: &Call) -> Done {
+    let (world, start) = (scene.world(), out.len());
+    say_words(out, world, call)?;
+    let or = word_if(start < out.len(), " or");
+    match call {
+        Call::Send(_, bytes) if call_allowed(world, call, &Answer::Given(1)).is_ok() => {
+            write!(out, "{or} ok N with N from 1 to {}", bytes.len())
+        }
+        Call::Recv(socket, most) => match endpoint_named(world, *socket) {
+            Some(endpoint) => say_bytes(out, scene, or, endpoint, *most),
+            None => Ok(()),
+        },
+        Call::Listen(..) | Call::Connect(..) | Call::Accept(_)
+            if call_allowed(world, call, &Answer::Given(u32::MAX)).is_ok() => {
+            out.push_str(or)?;
+            out.push_str(" ok N with a number N that was never returned")
+        }
+        _ => Ok(()),
+    }
+}
+
+// Writes those of `WORDS` that a call may have.
+fn say_words(out: &mut String, world: &World, call: &Call) -> Done {
+    let start = out.len();
+    for answer in &WORDS {
+        if call_allowed(world, call, answer).is_ok() {
+            let or = word_if(start < out.len(), " or");
+            write!(out, "{or}{}", AnswerFields(answer))?;
+        }
+    }
+    Ok(())
+}
+
+// The endpoint that a socket number names.
+fn endpoint_named(world: &World, socket: u32) -> Option<&Endpoint> {
+    let body = world.body(giver(world, socket)?);
+    match body.thing(socket)? {
+        SocketTarget::EndpointAt(place) => body.endpoint_at(place),
+        SocketTarget::ListenerAt(_) => None,
+    }
+}
+
+// Writes the bytes that `recv` may return, at most this many.
+fn say_bytes(out: &mut String, scene: &Scene, or: &str, endpoint: &Endpoint, most: u16) -> Done {
+    let bytes = endpoint
+        .stream
+        .receive
+        .read(scene.alloc, usize::from(most))?;
+    say_data(out, scene.alloc, or, bytes.as_slice())
+}
+
+fn say_data(out: &mut String, alloc: Global, or: &str, bytes: &[u8]) -> Done {
+    if bytes.is_empty() {
+        return Ok(());
+    }
+    let digits = hex::encode(alloc, bytes)?;
+    let digits = Shown(digits.as_bytes());
+    write!(out, "{or} data with 1 to {} bytes of {digits}", bytes.len())
+}
