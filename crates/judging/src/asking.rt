@@ -1,5 +1,6 @@
 //! The levels, one after the other until one has a yes.
 
+use crate::connections::Connections;
 use crate::levels::Level;
 use crate::rewriting::{Slack, header_of};
 use crate::sentences::{answer, lines_kept};
@@ -7,7 +8,7 @@ use crate::trying::{Facts, JudgeFault, Question, Tried, try_level};
 use case_forms::Judged;
 use std::alloc::{AllocError, Global};
 use verdict::Verdict;
-use witness_search::CaseText;
+use witness_search::{CaseLines, CaseText};
 
 /// The answer for a trace.
 #[derive(Drop)]
@@ -18,6 +19,19 @@ pub struct Judgement<'t> {
     pub kept: String,
     /// The strictest level with a yes. None: no level has one.
     pub level: Option<Judged>,
+    /// The levels that were tried, the strictest first.
+    pub levels: Vec<Level>,
+    /// The last of them, and the verdict at it.
+    pub last: Judged,
+    pub verdict: Verdict,
+    /// How late a host may be with its duties, in microseconds. None: they weren't judged.
+    pub slack: Option<u64>,
+    /// Whether only host 0 was recorded.
+    pub is_half: bool,
+    /// The connections of the case.
+    pub connections: Connections,
+    /// The event lines of the case.
+    pub lines: CaseLines,
     /// The case of the last level that was tried: the trace in version 5, and its witness.
     pub case: CaseText<'t>,
 }
@@ -98,6 +112,13 @@ fn concluded<'t>(
         text,
         kept,
         level,
+        levels,
+        last: judged,
+        verdict: facts.verdict,
+        slack: question.slack,
+        is_half: question.header.version.is_half(),
+        connections: facts.connections,
+        lines: facts.lines,
         case,
     })
 }

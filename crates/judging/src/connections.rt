@@ -8,7 +8,7 @@ use witness_search::Found;
 
 /// The connections of a case, if its verdict is yes.
 #[derive(Clone, Copy)]
-pub(crate) struct Connections {
+pub struct Connections {
     /// How many SYNs began one. In a half case, the SYN-ACK of host 0 counts, too.
     pub begun: u64,
     /// How many of their endpoints received the peer's SYN and an acknowledgment of their own.

@@ -8,7 +8,7 @@ use verdict::{Rule, Verdict};
 
 /// A level that was tried, once its case isn't needed any more.
 #[derive(Clone, Copy)]
-pub(crate) struct Level {
+pub struct Level {
     pub judged: Judged,
     pub verdict: Verdict,
     /// What the verdict refuses. None: it is yes.

@@ -9,6 +9,8 @@
 //! lines aren't copied. Each function is proved only to be safe and to return.
 //!
 //! - `judge`, `Judgement`: the answer for a trace, the level with a yes, and the case of the last level
+//! - `Level`, `level_name`, `sentence`: a level that was tried, its name, and what it refused
+//! - `Connections`: how many the case has
 //! - `Slack`: how late a host may be with its duties
 //!
 //! Private modules:
@@ -29,5 +31,8 @@ mod sentences;
 mod trying;
 
 pub use asking::{Judgement, judge};
+pub use connections::Connections;
+pub use levels::Level;
 pub use rewriting::{GREATEST_SLACK, Slack};
+pub use sentences::{level_name, sentence};
 pub use trying::JudgeFault;

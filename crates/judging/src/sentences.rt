@@ -12,7 +12,8 @@ use std::fmt;
 use verdict::{Rule, Verdict};
 use witness_search::{CaseLines, Ending};
 
-fn level_name(level: Judged) -> &'static str {
+/// The name of a level.
+pub fn level_name(level: Judged) -> &'static str {
     match level {
         Judged::Full => "full",
         Judged::Recovery => "recovery",
@@ -179,8 +180,8 @@ a witness that needs other changes may still exist.\n",
     })
 }
 
-// What a level refused, as the end of a sentence; empty if nothing was.
-fn sentence(alloc: Global, slack: Option<u64>, level: &Level) -> Result<String, OutOfMemory> {
+/// What a level refused with this slack, as the end of a sentence; empty if nothing was.
+pub fn sentence(alloc: Global, slack: Option<u64>, level: &Level) -> Result<String, OutOfMemory> {
     let mut out = String::new(alloc);
     if let Some(refused) = level.refused {
         match refused.line {

@@ -17,8 +17,9 @@ pub(crate) type Done = Result<(), OutOfMemory>;
 #[derive(Drop)]
 pub(crate) struct Found {
     text: String,
-    /// By the line that a remark begins at, and its number: where it begins and ends in the text.
-    places: BTreeMap<(u64, u64), (usize, usize)>,
+    /// By the line that a remark begins at, and its number: the line that it ends at, and where it begins and ends in
+    /// the text.
+    places: BTreeMap<(u64, u64), (u64, usize, usize)>,
     /// What rules say, so that it is no remark.
     pub covered: Covered,
 }
@@ -43,18 +44,18 @@ impl Found {
         let key = (at.0, self.places.len() as u64);
         let begin = self.text.len();
         writeln!(self.text, "{at}: {who} {does} {what}")?;
-        self.places.insert(key, (begin, self.text.len()))?;
+        self.places.insert(key, (at.1, begin, self.text.len()))?;
         Ok(())
     }
 
     /// All of them.
     pub(crate) fn remarked(&self, alloc: Global) -> Result<Remarked, OutOfMemory> {
-        let mut text = String::new(alloc);
-        for (begin, end) in self.places.values() {
+        let (mut text, mut places) = (String::new(alloc), Vec::new(alloc));
+        for ((first, _), (last, begin, end)) in self.places.iter() {
             text.push_str(self.text.get(*begin..*end).unwrap_or(""))?;
+            places.push((*first != AT_THE_END).then_some((*first, *last)))?;
         }
-        let count = self.places.len();
-        Ok(Remarked { text, count })
+        Ok(Remarked { text, places })
     }
 }
 

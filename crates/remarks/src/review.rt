@@ -16,8 +16,8 @@ use std::collections::{BTreeMap, BTreeSet};
 pub struct Remarked {
     /// A line for each; empty if there is none.
     pub text: String,
-    /// How many there are.
-    pub count: usize,
+    /// For each, the first and the last line of the trace that it is about. None: it is about the end.
+    pub places: Vec<Option<(u64, u64)>>,
 }
 
 /// Remarks on a case with a yes, or up to the step that is refused. There is none on a case without a verdict.

@@ -194,7 +194,7 @@ fn remarks_on(alloc: Global, text: &[u8]) -> Result<Said, AllocError> {
     }
     match remark(alloc, &case) {
         Ok(remarked) => {
-            let status = if remarked.count == 0 { DONE } else { NO };
+            let status = if remarked.places.is_empty() { DONE } else { NO };
             Ok(Said::new(remarked.text, status))
         }
         Err(fault) => refused_replay(alloc, fault),

@@ -1,21 +1,23 @@
 //! What the program does with its words and its standard input.
 
+use crate::report::{JudgedReport, RemarkedReport, Report};
 use crate::saying::{
-    DONE, NO, USAGE, say, say_altered, say_bad_device, say_bad_memory, say_bad_replay,
-    say_bad_trace, say_fault, say_written,
+    DONE, NO, Refused, USAGE, say, say_altered, say_bad_device, say_bad_memory, say_bad_replay,
+    say_bad_trace, say_fault, say_object, say_written,
 };
-use crate::words::{Asked, Judging, asked_by};
+use crate::words::{Asked, Form, Judging, asked_by};
 use counted::Counted;
 use drawing::{draw, show};
-use judging::{JudgeFault, judge};
-use remarks::remark;
+use judging::{JudgeFault, Judgement, judge};
+use remarks::{Remarked, remark};
 use replayed::Case;
 use std::alloc::{AllocError, Global};
 use std::fs::File;
 use std::io;
 use std::io::{Eprint, ErrorKind, Input, Read, Write};
 use std::rt::Files;
-use why::explain;
+use verdict::Verdict;
+use why::{Said, explain};
 use witness_search::{CaseText, Ending, FoundCase, find_within};
 
 /// Does what the words after the program's name ask for, and answers the status: 0 if it is done, 1 if the answer is
@@ -33,8 +35,10 @@ pub(crate) fn run<H: Files + Eprint + Input, W: Write>(
     let mut text = Vec::new(alloc);
     match rt.reader().read_to_end(&mut text) {
         Ok(_) => write_answer(rt, alloc, asked, text.as_slice(), w),
-        Err(error) if error.kind() == ErrorKind::OutOfMemory => say_bad_memory(rt, w),
-        Err(error) => say_bad_device(rt, w, "standard input", &error),
+        Err(error) if error.kind() == ErrorKind::OutOfMemory => {
+            say_bad_memory(rt, asked.form(), w)
+        }
+        Err(error) => say_bad_device(rt, asked.form(), "standard input", &error, w),
     }
 }
 
@@ -49,16 +53,33 @@ fn write_answer<H: Files + Eprint, W: Write>(
     match asked {
         Asked::Find(budget) => match find_within(alloc, text, budget) {
             Ok(found) => tell_found(rt, &found, w),
-            Err(fault) => say_bad_trace(rt, alloc, "find", text, &fault, w),
+            Err(fault) => say_bad_trace(rt, alloc, Form::Lines, "find", text, &fault, w),
         },
-        Asked::Explain(origin) => match explain(alloc, text, origin) {
-            Ok(said) => say(rt, w, said.text.as_bytes(), said.status),
-            Err(fault) => say_bad_replay(rt, w, fault),
+        Asked::Explain(origin, form) => match explain(alloc, text, origin) {
+            Ok(said) => write_explanation(rt, alloc, form, &said, w),
+            Err(fault) => say_bad_replay(rt, form, fault, w),
         },
-        Asked::Judge(judging) => write_judgement(rt, alloc, judging, text, w),
-        Asked::Show | Asked::Draw(_) | Asked::Remark => match Case::read(alloc, text) {
+        Asked::Judge(judging, form) => write_judgement(rt, alloc, judging, form, text, w),
+        Asked::Show | Asked::Draw(_) | Asked::Remark(_) => match Case::read(alloc, text) {
             Ok(case) => write_case(rt, alloc, asked, &case, w),
-            Err(fault) => say_fault(rt, alloc, "bad trace ", &fault, w),
+            Err(fault) => say_fault(rt, alloc, asked.form(), Refused::Trace, &fault, w),
+        },
+    }
+}
+
+// Writes the explanation of a verdict.
+fn write_explanation<H: Eprint, W: Write>(
+    rt: &H,
+    alloc: Global,
+    form: Form,
+    said: &Said,
+    w: &mut Counted<W>,
+) -> u8 {
+    match form {
+        Form::Lines => say(rt, w, said.text.as_bytes(), said.status),
+        Form::Json => match Report::explained(alloc, said) {
+            Ok(report) => say_object(rt, alloc, &report, said.status, w),
+            Err(_) => say_bad_memory(rt, form, w),
         },
     }
 }
@@ -73,51 +94,59 @@ fn write_case<H: Eprint, W: Write>(
 ) -> u8 {
     match asked {
         Asked::Draw(range) => tell(rt, draw(alloc, case, range), w),
-        Asked::Remark => match &case.verdict {
-            Ok(_) => write_remarks(rt, alloc, case, w),
-            Err(fault) => say_fault(rt, alloc, "bad witness ", fault, w),
+        Asked::Remark(form) => match &case.verdict {
+            Ok(verdict) => match remark(alloc, case) {
+                Ok(remarked) => write_remarks(rt, alloc, form, *verdict, &remarked, w),
+                Err(fault) => say_bad_replay(rt, form, fault, w),
+            },
+            Err(fault) => say_fault(rt, alloc, form, Refused::Witness, fault, w),
         },
-        Asked::Show | Asked::Find(_) | Asked::Explain(_) | Asked::Judge(_) => {
+        Asked::Show | Asked::Find(_) | Asked::Explain(..) | Asked::Judge(..) => {
             tell(rt, show(alloc, case), w)
         }
     }
 }
 
-// Writes the remarks on a case. The status is 0 if there is none, and 1 if there is any.
+// Writes the remarks on a case with this verdict. The status is 0 if there is none, and 1 if there is any.
 fn write_remarks<H: Eprint, W: Write>(
     rt: &H,
     alloc: Global,
-    case: &Case<'_>,
+    form: Form,
+    verdict: Verdict,
+    remarked: &Remarked,
     w: &mut Counted<W>,
 ) -> u8 {
-    match remark(alloc, case) {
-        Ok(remarked) => {
-            let status = if remarked.count == 0 { DONE } else { NO };
-            say(rt, w, remarked.text.as_bytes(), status)
-        }
-        Err(fault) => say_bad_replay(rt, w, fault),
+    let status = if remarked.places.is_empty() {
+        DONE
+    } else {
+        NO
+    };
+    match form {
+        Form::Lines => say(rt, w, remarked.text.as_bytes(), status),
+        Form::Json => match RemarkedReport::of(alloc, status, verdict, remarked) {
+            Ok(report) => say_object(rt, alloc, &report, status, w),
+            Err(_) => say_bad_memory(rt, form, w),
+        },
     }
 }
 
-// Judges a trace and prints the answer. If a file is named for the case of the last level, it writes that, and prints
+// Judges a trace and writes the answer. If a file is named for the case of the last level, it writes that, and says
 // which lines it has. The status is 0 if the level that `--least` names or a stricter one has a yes, and 1 if none has.
 fn write_judgement<H: Files + Eprint, W: Write>(
     rt: &H,
     alloc: Global,
     judging: Judging<'_>,
+    form: Form,
     text: &[u8],
     w: &mut Counted<W>,
 ) -> u8 {
     let judgement = match judge(alloc, text, judging.slack, judging.budget) {
         Ok(judgement) => judgement,
-        Err(JudgeFault::Trace(fault)) => return say_bad_trace(rt, alloc, "judge", text, &fault, w),
-        Err(JudgeFault::Witness(fault)) => return say_fault(rt, alloc, "bad witness ", &fault, w),
-        Err(JudgeFault::Replay(fault)) => return say_bad_replay(rt, w, fault),
-        Err(JudgeFault::Altered) => return say_altered(rt, w),
+        Err(fault) => return say_unjudged(rt, alloc, form, text, fault, w),
     };
     if let Some(name) = judging.case {
         if let Err(error) = write_file(rt, name, &judgement.case) {
-            return say_bad_device(rt, w, name, &error);
+            return say_bad_device(rt, form, name, &error, w);
         }
     }
     let status = if judgement.meets(judging.least) {
@@ -125,11 +154,46 @@ fn write_judgement<H: Files + Eprint, W: Write>(
     } else {
         NO
     };
-    let said = say(rt, w, judgement.text.as_bytes(), status);
-    match judging.case {
-        Some(_) if said == status => say(rt, w, judgement.kept.as_bytes(), status),
-        _ => said,
+    let is_written = judging.case.is_some();
+    match form {
+        Form::Lines => say_judgement(rt, &judgement, status, is_written, w),
+        Form::Json => match JudgedReport::of(alloc, status, &judgement, is_written) {
+            Ok(report) => say_object(rt, alloc, &report, status, w),
+            Err(_) => say_bad_memory(rt, form, w),
+        },
     }
+}
+
+// Writes why a trace can't be judged.
+fn say_unjudged<H: Eprint, W: Write>(
+    rt: &H,
+    alloc: Global,
+    form: Form,
+    text: &[u8],
+    fault: JudgeFault,
+    w: &mut Counted<W>,
+) -> u8 {
+    match fault {
+        JudgeFault::Trace(fault) => say_bad_trace(rt, alloc, form, "judge", text, &fault, w),
+        JudgeFault::Witness(fault) => say_fault(rt, alloc, form, Refused::Witness, &fault, w),
+        JudgeFault::Replay(fault) => say_bad_replay(rt, form, fault, w),
+        JudgeFault::Altered => say_altered(rt, form, w),
+    }
+}
+
+// Writes the lines of an answer, and which lines the case has if it was written to a file.
+fn say_judgement<H: Eprint, W: Write>(
+    rt: &H,
+    judgement: &Judgement<'_>,
+    status: u8,
+    is_written: bool,
+    w: &mut Counted<W>,
+) -> u8 {
+    let said = say(rt, w, judgement.text.as_bytes(), status);
+    if !is_written || said != status {
+        return said;
+    }
+    say(rt, w, judgement.kept.as_bytes(), status)
 }
 
 // Writes a case to a file.
@@ -167,6 +231,6 @@ fn tell_found<H: Eprint, W: Write>(rt: &H, found: &FoundCase<'_>, w: &mut Counte
 fn tell<H: Eprint, W: Write>(rt: &H, text: Result<String, AllocError>, w: &mut Counted<W>) -> u8 {
     match text {
         Ok(text) => say(rt, w, text.as_bytes(), DONE),
-        Err(AllocError) => say_bad_memory(rt, w),
+        Err(AllocError) => say_bad_memory(rt, Form::Lines, w),
     }
 }

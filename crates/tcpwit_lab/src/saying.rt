@@ -1,10 +1,14 @@
 //! What is written, and the status with which the program then ends.
 
+use crate::report::{Outcome, Report, line_of, lines_of};
+use crate::words::Form;
+use case_forms::OutOfMemory;
 use counted::Counted;
 use judging::JudgeFault;
 use line_fields::{FaultKind, TextFault};
 use plain_words::fault_line;
 use replayed::{ReplayFault, line_at};
+use serde::Serialize;
 use std::alloc::Global;
 use std::io;
 use std::io::{Eprint, Write};
@@ -48,58 +52,161 @@ pub(crate) fn say_written<H: Eprint, W: Write>(
     }
 }
 
+/// An answer that has no numbers.
+#[derive(Clone, Copy)]
+struct Fixed {
+    line: &'static str,
+    object: &'static str,
+    status: u8,
+}
+
+const BAD_MEMORY: Fixed = Fixed {
+    line: "bad memory\n",
+    object: "{\"status\":4,\"answer\":\"bad memory\",\"said\":[\"bad memory\"]}\n",
+    status: MEMORY,
+};
+
+const BAD_DEVICE: Fixed = Fixed {
+    line: "bad device\n",
+    object: "{\"status\":5,\"answer\":\"bad device\",\"said\":[\"bad device\"]}\n",
+    status: DEVICE,
+};
+
+const TOO_MANY_STEPS: Fixed = Fixed {
+    line: "too many steps\n",
+    object: "{\"status\":2,\"answer\":\"too many steps\",\"said\":[\"too many steps\"]}\n",
+    status: REFUSED,
+};
+
+const ALTERED: Fixed = Fixed {
+    line: "altered trace\n",
+    object: "{\"status\":2,\"answer\":\"altered trace\",\"said\":[\"altered trace\"]}\n",
+    status: REFUSED,
+};
+
+fn say_fixed<H: Eprint, W: Write>(rt: &H, form: Form, fixed: Fixed, w: &mut Counted<W>) -> u8 {
+    let text = match form {
+        Form::Lines => fixed.line,
+        Form::Json => fixed.object,
+    };
+    say(rt, w, text.as_bytes(), fixed.status)
+}
+
+/// Writes an object as a line.
+pub(crate) fn say_object<H: Eprint, W: Write, T: Serialize>(
+    rt: &H,
+    alloc: Global,
+    object: &T,
+    status: u8,
+    w: &mut Counted<W>,
+) -> u8 {
+    match line_of(alloc, object) {
+        Ok(line) => say(rt, w, line.as_slice(), status),
+        Err(_) => say_bad_memory(rt, Form::Json, w),
+    }
+}
+
 /// Writes that a file or a stream can't be used, with its name and the reason on standard error.
 pub(crate) fn say_bad_device<H: Eprint, W: Write>(
     rt: &H,
-    w: &mut Counted<W>,
+    form: Form,
     name: &str,
     error: &io::Error,
+    w: &mut Counted<W>,
 ) -> u8 {
     let _ = eprintln!(rt; "{name}: {error}");
-    say(rt, w, b"bad device\n", DEVICE)
+    say_fixed(rt, form, BAD_DEVICE, w)
 }
 
 /// Writes that memory ran out.
-pub(crate) fn say_bad_memory<H: Eprint, W: Write>(rt: &H, w: &mut Counted<W>) -> u8 {
-    say(rt, w, b"bad memory\n", MEMORY)
+pub(crate) fn say_bad_memory<H: Eprint, W: Write>(rt: &H, form: Form, w: &mut Counted<W>) -> u8 {
+    say_fixed(rt, form, BAD_MEMORY, w)
 }
 
 /// Writes why a case can't be replayed.
 pub(crate) fn say_bad_replay<H: Eprint, W: Write>(
     rt: &H,
-    w: &mut Counted<W>,
+    form: Form,
     fault: ReplayFault,
+    w: &mut Counted<W>,
 ) -> u8 {
     match fault {
-        ReplayFault::OutOfMemory => say_bad_memory(rt, w),
+        ReplayFault::OutOfMemory => say_bad_memory(rt, form, w),
         ReplayFault::TooManySteps => {
             let _ = eprintln!(rt; "{fault}");
-            say(rt, w, b"too many steps\n", REFUSED)
+            say_fixed(rt, form, TOO_MANY_STEPS, w)
         }
     }
 }
 
 /// Writes that the case that was found isn't one of the trace.
-pub(crate) fn say_altered<H: Eprint, W: Write>(rt: &H, w: &mut Counted<W>) -> u8 {
+pub(crate) fn say_altered<H: Eprint, W: Write>(rt: &H, form: Form, w: &mut Counted<W>) -> u8 {
     let _ = eprintln!(rt; "{}", JudgeFault::Altered);
-    say(rt, w, b"altered trace\n", REFUSED)
+    say_fixed(rt, form, ALTERED, w)
 }
 
-/// Writes the fault of a text as a line that begins with these words.
+/// Which text has a fault.
+#[derive(Clone, Copy)]
+pub(crate) enum Refused {
+    Trace,
+    Witness,
+}
+
+impl Refused {
+    // The first words of the answer.
+    fn answer(self) -> &'static str {
+        match self {
+            Refused::Trace => "bad trace",
+            Refused::Witness => "bad witness",
+        }
+    }
+
+    // The same with a space after them.
+    fn before_numbers(self) -> &'static str {
+        match self {
+            Refused::Trace => "bad trace ",
+            Refused::Witness => "bad witness ",
+        }
+    }
+}
+
+/// Writes the fault of a text.
 pub(crate) fn say_fault<H: Eprint, W: Write>(
     rt: &H,
     alloc: Global,
-    refusal: &str,
+    form: Form,
+    refused: Refused,
     fault: &TextFault,
     w: &mut Counted<W>,
 ) -> u8 {
-    match fault.kind {
-        FaultKind::OutOfMemory => say_bad_memory(rt, w),
-        _ => match fault_line(alloc, refusal, fault) {
-            Ok(line) => say(rt, w, line.as_bytes(), REFUSED),
-            Err(_) => say_bad_memory(rt, w),
+    if let FaultKind::OutOfMemory = fault.kind {
+        return say_bad_memory(rt, form, w);
+    }
+    let line = match fault_line(alloc, refused.before_numbers(), fault) {
+        Ok(line) => line,
+        Err(_) => return say_bad_memory(rt, form, w),
+    };
+    match form {
+        Form::Lines => say(rt, w, line.as_bytes(), REFUSED),
+        Form::Json => match report_of(alloc, refused, fault, line.as_str()) {
+            Ok(report) => say_object(rt, alloc, &report, REFUSED, w),
+            Err(_) => say_bad_memory(rt, form, w),
         },
     }
+}
+
+// The fault of a text as an object.
+fn report_of<'r>(
+    alloc: Global,
+    refused: Refused,
+    fault: &TextFault,
+    line: &'r str,
+) -> Result<Report<'r>, OutOfMemory> {
+    Ok(Report {
+        status: REFUSED,
+        outcome: Outcome::refused(refused.answer(), fault),
+        said: lines_of(alloc, line)?,
+    })
 }
 
 /// Writes the fault of a text that should be a trace. If it's a case, standard error has a command that passes its
@@ -107,6 +214,7 @@ pub(crate) fn say_fault<H: Eprint, W: Write>(
 pub(crate) fn say_bad_trace<H: Eprint, W: Write>(
     rt: &H,
     alloc: Global,
+    form: Form,
     subcommand: &str,
     text: &[u8],
     fault: &TextFault,
@@ -119,7 +227,7 @@ pub(crate) fn say_bad_trace<H: Eprint, W: Write>(
         );
         let _ = eprintln!(rt; "  sed '/^witness/,$d' FILE | tcpwit_lab {subcommand}");
     }
-    say_fault(rt, alloc, "bad trace ", fault, w)
+    say_fault(rt, alloc, form, Refused::Trace, fault, w)
 }
 
 // Whether the line of this number begins the witness of a case.

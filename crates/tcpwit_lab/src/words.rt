@@ -12,11 +12,30 @@ pub(crate) enum Asked<'w> {
     /// How many steps are spent on going back.
     Find(u64),
     /// Where the segments of the case come from.
-    Explain(Origin),
+    Explain(Origin, Form),
     Show,
     Draw(Range),
-    Judge(Judging<'w>),
-    Remark,
+    Judge(Judging<'w>, Form),
+    Remark(Form),
+}
+
+/// How an answer is written.
+#[derive(Clone, Copy)]
+pub(crate) enum Form {
+    /// As lines for readers.
+    Lines,
+    /// As one JSON object.
+    Json,
+}
+
+impl Asked<'_> {
+    /// How the answer is written.
+    pub(crate) fn form(&self) -> Form {
+        match self {
+            Asked::Explain(_, form) | Asked::Judge(_, form) | Asked::Remark(form) => *form,
+            Asked::Find(_) | Asked::Show | Asked::Draw(_) => Form::Lines,
+        }
+    }
 }
 
 /// What the words after `judge` ask for.
@@ -39,13 +58,36 @@ pub(crate) fn asked_by<'w>(words: &[&'w str]) -> Option<Asked<'w>> {
     };
     match (*subcommand, options) {
         ("find", _) => Some(Asked::Find(find_budget(options)?)),
-        ("judge", _) => Some(Asked::Judge(judging_of(options)?)),
+        ("judge", _) => Some(Asked::Judge(judging_of(options)?, form_of(options))),
         ("draw", _) => Some(Asked::Draw(range_of(options)?)),
-        ("explain", ["--simulated"]) => Some(Asked::Explain(Origin::Simulated)),
-        ("explain", []) => Some(Asked::Explain(Origin::Captured)),
+        ("explain", _) => Some(Asked::Explain(origin_of(options)?, form_of(options))),
         ("show", []) => Some(Asked::Show),
-        ("remark", []) => Some(Asked::Remark),
+        ("remark", _) if are_options(options, &[JSON]) => Some(Asked::Remark(form_of(options))),
         _ => None,
+    }
+}
+
+// The options without a value.
+const JSON: &str = "--json";
+
+const SIMULATED: &str = "--simulated";
+
+// How `--json` or its absence lets an answer be written.
+fn form_of(options: &[&str]) -> Form {
+    match value_of(options, JSON) {
+        Some(_) => Form::Json,
+        None => Form::Lines,
+    }
+}
+
+// Where `--simulated` or its absence says that the segments come from. None: other words.
+fn origin_of(options: &[&str]) -> Option<Origin> {
+    if !are_options(options, &[SIMULATED, JSON]) {
+        return None;
+    }
+    match value_of(options, SIMULATED) {
+        Some(_) => Some(Origin::Simulated),
+        None => Some(Origin::Captured),
     }
 }
 
@@ -57,10 +99,11 @@ fn find_budget(options: &[&str]) -> Option<u64> {
     budget_of(value_of(options, "--budget"))
 }
 
-// What `--least LEVEL`, `--slack SLACK`, `--case FILE` and `--budget N` ask for, in any order and each at most once.
+// What `--least LEVEL`, `--slack SLACK`, `--case FILE` and `--budget N` ask for, in any order and each at most once;
+// `--json` may be among them.
 // LEVEL is `full`, `recovery` or `none`; `full` if it isn't given. FILE isn't empty. None: other words.
 fn judging_of<'w>(options: &[&'w str]) -> Option<Judging<'w>> {
-    if !are_options(options, &["--least", "--slack", "--case", "--budget"]) {
+    if !are_options(options, &["--least", "--slack", "--case", "--budget", JSON]) {
         return None;
     }
     let least = match value_of(options, "--least") {
@@ -145,8 +188,8 @@ fn number_of(digits: &str) -> Option<u64> {
     digits.parse::<u64>().ok()
 }
 
-// Whether these words are options with these names, in any order and each at most once. Each has a value: the next
-// word, which doesn't begin with `-`, or what follows `=` in the same word.
+// Whether these words are options with these names, in any order and each at most once. Each but `--json` and
+// `--simulated` has a value: the next word, which doesn't begin with `-`, or what follows `=` in the same word.
 fn are_options(words: &[&str], names: &[&str]) -> bool {
     let mut at: usize = 0;
     for _ in words {
@@ -162,7 +205,7 @@ fn are_options(words: &[&str], names: &[&str]) -> bool {
     at == words.len()
 }
 
-// The value of the option with this name, if the words have it.
+// The value of the option with this name, if the words have it; empty for an option without a value.
 fn value_of<'w>(words: &[&'w str], name: &str) -> Option<&'w str> {
     let mut at: usize = 0;
     for _ in words {
@@ -175,12 +218,19 @@ fn value_of<'w>(words: &[&'w str], name: &str) -> Option<&'w str> {
     None
 }
 
+// Whether an option has no value.
+fn is_flag(name: &str) -> bool {
+    name == JSON || name == SIMULATED
+}
+
 // The name and the value of the option at a place, and the place after both. None: no word is there, or it has no
 // value.
 fn option_at<'w>(words: &[&'w str], at: usize) -> Option<(&'w str, &'w str, usize)> {
     match words.get(at..)? {
         [] => None,
+        [flag, ..] if is_flag(flag) => Some((*flag, "", at.saturating_add(1))),
         [first, rest @ ..] => match (first.split_once('='), rest) {
+            (Some((name, _)), _) if is_flag(name) => None,
             (Some((name, value)), _) => Some((name, value, at.saturating_add(1))),
             (None, [value, ..]) if !value.starts_with("-") => {
                 Some((*first, *value, at.saturating_add(2)))

@@ -91,11 +91,11 @@ fn of_remarks(
     remarked: Result<Remarked, ReplayFault>,
 ) -> Result<String, AllocError> {
     match remarked {
-        Ok(remarked) if remarked.text.as_str().lines().count() != remarked.count => {
+        Ok(remarked) if remarked.text.as_str().lines().count() != remarked.places.len() => {
             format!(in alloc; "{name} has another count of remarks than lines")
         }
         Ok(remarked) => {
-            let status = if remarked.count == 0 { 0 } else { 1 };
+            let status = if remarked.places.is_empty() { 0 } else { 1 };
             format!(in alloc; "{status} {name} {verdict}\n{}", remarked.text)
         }
         Err(fault) => format!(in alloc; "{fault}"),

@@ -21,18 +21,31 @@ pub struct Said {
     pub text: String,
     /// 0: yes. 1: no. 2: a text is refused.
     pub status: u8,
+    /// The result of checking the case.
+    pub checked: Result<Verdict, CaseFault>,
 }
 
 /// Explains the verdict on a case, whose segments have this origin.
 pub fn explain(alloc: Global, text: &[u8], origin: Origin) -> Result<Said, ReplayFault> {
+    let checked = check_case(alloc, text);
     let mut said = String::new(alloc);
-    let status = say(alloc, &mut said, text, origin)?;
-    Ok(Said { text: said, status })
+    let status = say(alloc, &mut said, text, origin, checked)?;
+    Ok(Said {
+        text: said,
+        status,
+        checked,
+    })
 }
 
 // Writes what is said, and returns the status.
-fn say(alloc: Global, out: &mut String, text: &[u8], origin: Origin) -> Result<u8, ReplayFault> {
-    match check_case(alloc, text) {
+fn say(
+    alloc: Global,
+    out: &mut String,
+    text: &[u8],
+    origin: Origin,
+    checked: Result<Verdict, CaseFault>,
+) -> Result<u8, ReplayFault> {
+    match checked {
         Ok(verdict) => say_verdict(alloc, out, text, origin, verdict),
         Err(CaseFault::Trace(fault)) => {
             say_fault(alloc, out, "bad trace ", Texts::of(text).trace, &fault)
