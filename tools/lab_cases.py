@@ -22,7 +22,9 @@ USAGE = [
     ["judge", "--case"], ["judge", "--case", ""], ["judge", "--case", "-x"], ["judge", "--case", "x", "--case", "x"],
     ["draw", "--from="], ["draw", "--from=0"], ["draw", "--from=9", "--to=8"], ["draw", "--from=9", "--from", "9"], ["judge", "--least="],
     ["judge", "--case="], ["judge", "--slack"], ["judge", "--slack="], ["judge", "--slack", "Any"], ["judge", "--slack", "any", "--slack", "0"],
-    ["explain", "--simulated=yes"],
+    ["explain", "--simulated=yes"], ["explain", "--simulated", "--simulated"], ["explain", "--json", "--json"], ["explain", "--json", "x"],
+    ["judge", "--json="], ["judge", "--json=yes"], ["judge", "--json", "yes"], ["judge", "--case", "--json"], ["remark", "--json", "--json"],
+    ["remark", "--simulated"], ["judge", "--simulated"], ["find", "--json"], ["show", "--json"], ["draw", "--json"],
 ]
 RANGES = [
     (["--from", "9"], 9, None), (["--to", "12"], None, 12), (["--from", "9", "--to", "12"], 9, 12),

@@ -64,15 +64,16 @@ class Completion(unittest.TestCase):
         self.assertEqual(self.completed("tcpwit", "record", "--rounds", "20", "--l"), ["--lose"])
 
     def test_options_of_tcpwit_lab(self):
-        for word in ("show", "remark"):
-            self.assertEqual(self.completed("tcpwit_lab", word, ""), ["--help"])
+        self.assertEqual(self.completed("tcpwit_lab", "show", ""), ["--help"])
+        self.assertEqual(self.completed("tcpwit_lab", "remark", ""), ["--json", "--help"])
+        self.assertEqual(self.completed("tcpwit_lab", "remark", "--json", ""), [])
         self.assertEqual(self.completed("tcpwit_lab", "find", ""), ["--budget", "--help"])
         self.assertEqual(self.completed("tcpwit_lab", "find", "--budget", ""), [])
-        self.assertEqual(self.completed("tcpwit_lab", "explain", ""), ["--simulated", "--help"])
-        self.assertEqual(self.completed("tcpwit_lab", "explain", "--simulated", ""), [])
+        self.assertEqual(self.completed("tcpwit_lab", "explain", ""), ["--simulated", "--json", "--help"])
+        self.assertEqual(self.completed("tcpwit_lab", "explain", "--simulated", "--j"), ["--json"])
         self.assertEqual(self.completed("tcpwit_lab", "draw", ""), ["--from", "--to", "--help"])
         self.assertEqual(self.completed("tcpwit_lab", "draw", "--from", "1", ""), ["--from", "--to"])
-        self.assertEqual(self.completed("tcpwit_lab", "judge", ""), ["--least", "--slack", "--budget", "--case", "--help"])
+        self.assertEqual(self.completed("tcpwit_lab", "judge", ""), ["--least", "--slack", "--budget", "--case", "--json", "--help"])
         self.assertEqual(self.completed("tcpwit_lab", "judge", "--budget", ""), [])
         self.assertEqual(self.completed("tcpwit_lab", "judge", "--budget", "0", "--b"), ["--budget"])
 

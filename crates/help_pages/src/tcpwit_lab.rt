@@ -21,12 +21,15 @@ pub(crate) static TCPWIT_LAB: CommandLine = CommandLine {
         Subcommand {
             name: "explain",
             about: "Explains the verdict on a case in plain words",
-            usage: "tcpwit_lab explain [--simulated] < CASE",
-            arguments: &[Argument {
-                name: "simulated",
-                form: Form::Flag,
-                help: "The segments crossed a simulated wire: name no cause that only captures have",
-            }],
+            usage: "tcpwit_lab explain [--simulated] [--json] < CASE",
+            arguments: &[
+                Argument {
+                    name: "simulated",
+                    form: Form::Flag,
+                    help: "The segments crossed a simulated wire: name no cause that only captures have",
+                },
+                JSON,
+            ],
             after: EXPLAIN,
         },
         Subcommand {
@@ -57,7 +60,7 @@ pub(crate) static TCPWIT_LAB: CommandLine = CommandLine {
         Subcommand {
             name: "judge",
             about: "Finds the strictest level that gets a yes for a trace",
-            usage: "tcpwit_lab judge [--least LEVEL] [--slack SLACK] [--budget N] [--case FILE] < TRACE",
+            usage: "tcpwit_lab judge [--least LEVEL] [--slack SLACK] [--budget N] [--case FILE] [--json] < TRACE",
             arguments: &[
                 Argument {
                     name: "least",
@@ -79,18 +82,25 @@ pub(crate) static TCPWIT_LAB: CommandLine = CommandLine {
                     form: Form::Option("FILE"),
                     help: "Writes the case of the last level tried to FILE",
                 },
+                JSON,
             ],
             after: JUDGE,
         },
         Subcommand {
             name: "remark",
             about: "Lists what breaks no rule of a case and is worth a look",
-            usage: "tcpwit_lab remark < CASE",
-            arguments: &[],
+            usage: "tcpwit_lab remark [--json] < CASE",
+            arguments: &[JSON],
             after: REMARK,
         },
     ],
     after: AFTER,
+};
+
+const JSON: Argument = Argument {
+    name: "json",
+    form: Form::Flag,
+    help: "Prints one JSON object",
 };
 
 const AFTER: &str = "\

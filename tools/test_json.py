@@ -1,0 +1,125 @@
+#!/usr/bin/python3
+"""Tests `tcpwit_lab explain`, `judge` and `remark` with `--json`: the objects have the members that
+docs/reference/tcpwit_lab.schema.json permits, and say the same as the lines without `--json`."""
+import json
+import os
+import shlex
+import subprocess
+import tempfile
+import unittest
+
+import jsonschema
+
+TOP = os.path.dirname(os.path.dirname(os.path.abspath(__file__)))
+DATA = f"{TOP}/crates/test_cases/data"
+LAB = shlex.split(os.environ.get("TCPWIT_LAB", f"{TOP}/tcpwit_lab"))
+LEVELS = ("full", "recovery", "none")
+
+
+def run(words, text, **options):
+    """The output and the status."""
+    ran = subprocess.run([*LAB, *words], input=text, stdout=subprocess.PIPE, stderr=subprocess.DEVNULL, check=False, timeout=60, **options)
+    return ran.stdout.decode(), ran.returncode
+
+
+def content(path):
+    with open(path, "rb") as file:
+        return file.read()
+
+
+def line_of(found):
+    """The line of `tcpwit check` for the outcome in an object."""
+    if found["answer"] == "yes":
+        return f"yes {found['lines']} {found['hidden']}"
+    if found["answer"] == "no":
+        return f"no {found['witness_line']} {found['trace_line']} {found['rule']}"
+    fault = found["fault"]
+    return f"{found['answer']} {fault['line']} {fault['start']} {fault['stop']} {fault['kind']}"
+
+
+class Json(unittest.TestCase):
+    @classmethod
+    def setUpClass(cls):
+        with open(f"{TOP}/docs/reference/tcpwit_lab.schema.json", encoding="utf-8") as file:
+            schema = json.load(file)
+        jsonschema.Draft202012Validator.check_schema(schema)
+        cls.kinds = {name: jsonschema.Draft202012Validator({**schema, "oneOf": [{"$ref": f"#/$defs/{name}"}]})
+                     for name in ("explained", "judged", "remarked", "refused")}
+
+    def object(self, kind, words, text, **options):
+        """The object for these words; it has the members of its kind or, with a status above 1, of a refusal, and of no other kind."""
+        line, status = run([*words, "--json"], text, **options)
+        self.assertEqual((line.count("\n"), line[-1:]), (1, "\n"))
+        found = json.loads(line)
+        kind = kind if status < 2 else "refused"
+        self.assertEqual([name for name, form in self.kinds.items() if form.is_valid(found)], [kind], line)
+        self.assertEqual(found["status"], status)
+        plain = run(words, text, **options)
+        self.assertEqual(("".join(f"{said}\n" for said in found["said"]), status), plain)
+        return found
+
+    def test_cases(self):
+        with open(f"{DATA}/expected.txt", encoding="utf-8") as file:
+            rows = [row.rstrip("\n").split("\t") for row in file]
+        for name, answer in rows[::9] + [row for row in rows if row[0].startswith("examples/")]:
+            text = content(f"{DATA}/{name}.case")
+            with self.subTest(name):
+                self.assertEqual(line_of(self.object("explained", ["explain"], text)), answer)
+                found = self.object("remarked", ["remark"], text)
+                self.assertEqual(line_of(found), answer)
+                self.assertEqual([remark["text"] for remark in found.get("remarks", [])], found["said"] if found["status"] < 2 else [])
+
+    def test_remarks_have_their_lines(self):
+        with open(f"{DATA}/remarked.txt", encoding="utf-8") as file:
+            names = [block.split(" ")[1] for block in file.read().split("== ")[1:]]
+        seen = set()
+        for name in names:
+            for remark in self.object("remarked", ["remark"], content(f"{DATA}/{name}.case")).get("remarks", []):
+                first, last = remark.get("first"), remark.get("last")
+                place = "at the end" if first is None else f"line {first}" if first == last else f"lines {first} to {last}"
+                self.assertTrue(remark["text"].startswith(f"{place}: "), remark)
+                seen.add(place.split(" ", maxsplit=1)[0])
+        self.assertEqual(seen, {"line", "lines", "at"})
+
+    def test_traces(self):
+        names = sorted(name for name in os.listdir(f"{DATA}/kernel") if name.endswith(".trace"))
+        for name in names:
+            text = content(f"{DATA}/kernel/{name}")
+            for words in ([], ["--slack", "any"], ["--slack", "0", "--budget", "0"]):
+                with self.subTest(f"{name} {words}"):
+                    self.judged(["judge", *words], text, words[:2] == ["--slack", "any"])
+
+    def judged(self, words, text, is_without_duties):
+        found = self.object("judged", words, text)
+        rows = [line for line in found["said"] if line.split(" ", 1)[0] in LEVELS]
+        self.assertEqual([f"{level['level']:<10}{line_of(level)}" for level in found["levels"]], rows)
+        last = found["levels"][-1]
+        self.assertEqual((found["level"], line_of(found)), (last["level"], line_of(last)))
+        self.assertEqual("slack" in found, not is_without_duties)
+        self.assertEqual("connections" in found, found["answer"] == "yes")
+        for level in found["levels"]:
+            if "without_duties" in level:
+                self.assertIn(f"Under {level['level']}, without duties: {line_of(level['without_duties'])}", found["said"])
+        said = [line for line in found["said"] if line.startswith("Under ") and ", without" not in line]
+        self.assertLessEqual(set(said), {f"Under {level['level']}: {level.get('sentence')}" for level in found["levels"]})
+
+    def test_a_case_that_is_written(self):
+        text = content(f"{DATA}/kernel/lost-fin.trace")
+        with tempfile.TemporaryDirectory() as folder:
+            found = self.object("judged", ["judge", "--case", "run.case"], text, cwd=folder)
+            self.assertEqual(found["said"][-1], f"The case has all {found['kept']} event lines of the trace, in order.")
+            self.assertEqual((found["added"], found["hosts"], found["connections"]), (1, 2, {"begun": 1, "established": 1}))
+            self.assertEqual(os.listdir(folder), ["run.case"])
+            self.assertEqual(self.object("judged", ["judge", "--case", "none/run.case"], text, cwd=folder)["answer"], "bad device")
+
+    def test_a_text_that_cannot_be_read(self):
+        with open("/proc/self/mem", "rb") as unreadable:
+            ran = subprocess.run([*LAB, "judge", "--json"], stdin=unreadable, capture_output=True, check=False, timeout=60)
+        self.assertEqual((json.loads(ran.stdout), ran.returncode), ({"status": 5, "answer": "bad device", "said": ["bad device"]}, 5))
+
+    def test_one_host(self):
+        self.assertEqual(self.object("judged", ["judge"], content(f"{TOP}/examples/one_host_recorded.case").split(b"witness ")[0])["hosts"], 1)
+
+
+if __name__ == "__main__":
+    unittest.main()
