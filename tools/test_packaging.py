@@ -265,7 +265,7 @@ class Build(unittest.TestCase):
             os.makedirs(f"{self.top}/.built", exist_ok=True)
             shutil.copy("/bin/true", f"{self.top}/.built/{name}")
         with open(f"{self.top}/tools/unproved.py", "a", encoding="utf-8") as file:
-            file.write(f"\n\ndef build_object(name, out):\n    shutil.copy('{self.folder}/stub.o', out)\n")
+            file.write(f"\n\ndef build_object(name, calls, out):\n    shutil.copy('{self.folder}/stub.o', out)\n")
         status, lines, error = self.build("--unproved")
         self.assertEqual((status, self.runs()), (0, []), error)
         self.assertEqual([re.sub(r"_.*_amd64", "", name) for name in self.packages()], [re.sub(r"(\w)\.", r"\1-unproved.", name, count=1) for name in NAMES])

@@ -2,6 +2,7 @@
 """Tests which programs the scripts of a clone run, and their messages if there is none. This needs no toolchain: scripts replace it."""
 import os
 import pwd
+import re
 import shutil
 import subprocess
 import sys
@@ -31,6 +32,25 @@ while [ $# -gt 1 ] && [ "$1" != -o ]; do shift; done
 [ $# -gt 1 ] && cp {folder}/program "$2"
 exit 0
 """
+# `rt try` passes a module that begins with the sources of a library and of its tests; the compiler copies it.
+RT_OF_LIBRARY = """#!/bin/sh
+case $1 in
+doc) echo {kit}/doc ;;
+try) {{ cat src/lib.rt src/tests.rt; head -c 200000 /dev/zero | tr '\\0' '\\n'; }} > {folder}/module.bc
+  "$(dirname "$0")/../toolchain/bin/clang" {folder}/module.bc ;;
+esac
+"""
+COPIER = """#!/bin/sh
+while [ "$2" != -o ]; do shift; done
+cp "$1" "$3"
+"""
+# A library that exports one function, and what is made of a test that calls it.
+LIBRARY = '#![tactic(auto)]\n\nmod ends;\n'
+ENDS = '#[unsafe(no_mangle)]\npub extern "C" fn ends(text: &[u8], more: bool) -> u32 {\n'
+CALLS = """define i32 @main() {
+define internal noundef i32 @"lib::ends::ends"(ptr noundef %0, i64 noundef %1, i1 noundef zeroext %2) #1 {
+"""
+ALIAS = '@ends = alias i32 (ptr, i64, i1), ptr @"lib::ends::ends"\n'
 
 
 class Clone(unittest.TestCase):
@@ -62,13 +82,13 @@ class Clone(unittest.TestCase):
         for name in names:
             self.write(f"clone/.built/{name}", PROGRAM)
 
-    def toolchain(self):
+    def toolchain(self, rt=RT, maker=MAKER):
         """Writes the scripts that replace the toolchain."""
         kit = f"{self.folder}/kit"
         for name in ("bin/rt", "bin/rtlib.py"):
-            self.write(f"kit/{name}", RT.format(kit=kit, folder=self.folder))
+            self.write(f"kit/{name}", rt.format(kit=kit, folder=self.folder))
         for name in ("clang", "ld.lld"):
-            self.write(f"kit/toolchain/bin/{name}", MAKER.format(folder=self.folder))
+            self.write(f"kit/toolchain/bin/{name}", maker.format(folder=self.folder))
         os.symlink(f"{kit}/bin/rt", f"{self.folder}/bin/rt")
 
     def run_in_clone(self, *words, **variables):
@@ -129,6 +149,22 @@ class Clone(unittest.TestCase):
         self.assertEqual((status, out), (0, ""), error)
         for step in ("step 1 of 2, translating: 0 s", "step 2 of 2, optimizing: 0 s"):
             self.assertIn(step, error)
+
+    def test_a_library_is_built_from_calls(self):
+        self.toolchain(RT_OF_LIBRARY, COPIER)
+        self.write("clone/crates.txt", "lib staticlib:\n")
+        self.write("clone/crates/lib/src/lib.rt", LIBRARY)
+        self.write("clone/crates/lib/src/ends.rt", ENDS)
+        self.write("clone/calls.txt", CALLS)
+        words = ["tools/unproved.py", "--object", "lib", "calls.txt", "lib.o"]
+        self.assertEqual(self.run_in_clone(*words), (0, "", ""))
+        with open(f"{self.top}/lib.o", encoding="ascii") as file:
+            made = re.sub(r"\n\n+", "\n\n", file.read())
+        calls = CALLS.replace("i32 @main()", "internal i32 @tests_main()")
+        self.assertEqual(made, f"{LIBRARY}\n#[cfg(test)]\nmod tests;\n{calls}\n{ALIAS}")
+        self.assertEqual(sorted(os.listdir(f"{self.top}/crates/lib/src")), ["ends.rt", "lib.rt"])
+        self.write("clone/calls.txt", "define i32 @main() {\n")
+        self.assertEqual(self.run_in_clone(*words), (NO_PROGRAM, "", "calls.txt doesn't call ends\n"))
 
     @unittest.skipUnless(os.geteuid() == 0, "needs root")
     def test_under_sudo_the_owner_builds(self):

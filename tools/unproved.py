@@ -2,12 +2,12 @@
 """Builds a program of this repository without proving it, and keeps the result.
 
     python3 tools/unproved.py NAME OUT [-O0]
-    python3 tools/unproved.py --object NAME OUT
+    python3 tools/unproved.py --object NAME CALLS OUT
     python3 tools/unproved.py --keep NAME ..
 
-NAME is a crate with a `main`, OUT the file of the program. With --object, NAME is a static library whose tests call each function that
-it exports, and OUT an object file with these functions. With --keep, the program of each crate is built as `./tcpwit` builds it,
-unless a current one exists, and its path is printed. The status is 127 if there is no program and none can be built.
+NAME is a crate with a `main`, OUT the file of the program. With --object, NAME is a static library, CALLS a file of tests that call
+each function that it exports, and OUT an object file with these functions. With --keep, the program of each crate is built as `./tcpwit`
+builds it, unless a current one exists, and its path is printed. The status is 127 if there is no program and none can be built.
 
 `rt try` builds a module of the whole program, compiles and runs it, and keeps nothing. This script takes the module that `rt try`
 passes to its compiler, and compiles and links it with the toolchain's own tools. The module has a run-time check instead of each
@@ -98,19 +98,28 @@ def kit_beside(folder, kept):
     os.chmod(clang, 0o755)
 
 
-def module_of(name, folder, *words):
-    """The module of a program, as a file in the folder. The words go to `rt try`."""
+def module_of(name, folder, *words, top=TOP):
+    """The module of a program, as a file in the folder. The words go to `rt try`, which works in the repository `top`."""
     kept = f"{folder}/kept.bc"
     kit_beside(f"{folder}/kit", kept)
     pipes = {"stdin": subprocess.DEVNULL, "stdout": subprocess.PIPE, "stderr": subprocess.PIPE}
-    tried = watched("step 1 of 2, translating", [f"{folder}/kit/bin/rt", "try", name, *words], cwd=f"{TOP}/crates/{name}", text=True, **pipes)
+    tried = watched("step 1 of 2, translating", [f"{folder}/kit/bin/rt", "try", name, *words], cwd=f"{top}/crates/{name}", text=True, **pipes)
     if not os.path.exists(kept):
         stop(f"{tried.stdout}{tried.stderr}`rt try` made no module of {name}")
     return kept
 
 
-def exported(name, text):
-    """The module of a static library's tests, without their `main`, and with the functions that the library exports."""
+def copy_with_tests(name, calls, top):
+    """Copies the crates' sources to the repository `top`, and adds these tests to one of them."""
+    shutil.copytree(f"{TOP}/crates", f"{top}/crates", ignore=shutil.ignore_patterns("data", "must-fail", "out"))
+    shutil.copy(f"{TOP}/crates.txt", top)
+    shutil.copy(calls, f"{top}/crates/{name}/src/tests.rt")
+    with open(f"{top}/crates/{name}/src/lib.rt", "a", encoding="utf-8") as file:
+        file.write("\n#[cfg(test)]\nmod tests;\n")
+
+
+def exported(name, calls, text):
+    """The module of the tests that call a static library, without their `main`, and with the functions that the library exports."""
     text = re.sub(r"(?m)^define i32 @main\(\)", "define internal i32 @tests_main()", text)
     for source in sorted(glob.glob(f"{TOP}/crates/{name}/src/**/*.rt", recursive=True)):
         with open(source, encoding="utf-8") as file:
@@ -119,22 +128,23 @@ def exported(name, text):
                 symbol = "::".join([name, *(part for part in module.split(".") if part != "lib"), function])
                 head = re.search(rf'(?m)^define internal (.*) @"{symbol}"\((.*)\) #', text)
                 if head is None:
-                    stop(f"the tests of {name} don't call {function}")
+                    stop(f"{calls} doesn't call {function}")
                 result = re.sub(r"\b(noundef|zeroext) ", "", head[1])
                 kinds = ", ".join(it.split()[0] for it in head[2].split(", ") if it)
                 text += f'@{function} = alias {result} ({kinds}), ptr @"{symbol}"\n'
     return text
 
 
-def build_object(name, out):
-    """Builds an object file that has what a static library exports."""
+def build_object(name, calls, out):
+    """Builds an object file that has what a static library exports. The tests in the file `calls` call each export."""
     need_toolchain(name)
     clang = f"{kit()}/toolchain/bin/clang"
     with tempfile.TemporaryDirectory() as folder:
-        module = module_of(name, folder, "--test")
+        copy_with_tests(name, calls, f"{folder}/copy")
+        module = module_of(name, folder, "--test", top=f"{folder}/copy")
         subprocess.run([clang, "-S", "-emit-llvm", "-Xclang", "-disable-llvm-passes", "-x", "ir", module, "-o", f"{folder}/module.ll"], check=True)
         with open(f"{folder}/module.ll", encoding="utf-8") as file:
-            text = exported(name, file.read())
+            text = exported(name, calls, file.read())
         with open(f"{folder}/module.ll", "w", encoding="utf-8") as file:
             file.write(text)
         words = [clang, *FLAGS, "-fPIC", "-O1", f"{folder}/module.ll", "-o", out]
@@ -231,8 +241,8 @@ def main():
     words = sys.argv[1:]
     if words == ["--help"]:
         print(__doc__.strip())
-    elif words[:1] == ["--object"] and len(words) == 3:
-        build_object(words[1], words[2])
+    elif words[:1] == ["--object"] and len(words) == 4:
+        build_object(*words[1:])
     elif words[:1] == ["--keep"] and len(words) > 1:
         leave_sudo()
         for name in words[1:]:

@@ -70,7 +70,7 @@ void tcpwit_check_two(const char *trace, size_t trace_length, const char *witnes
 size_t tcpwit_rule_name(uint32_t rule, char *name, size_t room);
 
 /* Writes the line that `tcpwit check` prints for an answer, with its line feed, in the same way. No line has more than
- * 127 bytes. */
+ * 127 bytes. Numbers that no answer has give an empty string and 0, and so does running out of memory. */
 size_t tcpwit_answer_line(const struct tcpwit_result *answer, char *line, size_t room);
 
 /* A text that this library made: `length` bytes and a zero after them. `bytes` is NULL if memory ran out. */

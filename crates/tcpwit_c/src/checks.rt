@@ -11,11 +11,9 @@ ghost use Rattle.checker.specs.Consequences.{AllStatesFollow, NoPositionFalls};
 ghost use Rattle.checker.specs.Headline.{ReceivesBeginSends};
 ghost use Rattle.checker.specs.Texts.{AreInCase, AreOf, GivesTexts};
 ghost use Rattle.checker.specs.Cases.{case_result, GivesCase};
-ghost use Rattle.tcpwit_c.specs.Answers.{Answers};
+ghost use Rattle.c_answers.specs.Answers.{Answers};
 
-use crate::answer::Answer;
-use checker::{CaseFault, check_case, check_streams};
-use counted::Counted;
+use c_answers::{Answer, answer_to_case, answer_to_texts};
 use std::alloc::Global;
 
 /// Checks a case: a trace and its witness in one text.
@@ -55,7 +53,7 @@ pub extern "C" fn tcpwit_check(alloc: Global, text: &[u8], answer: &mut Answer)
         → Answers answer.new (λ r. IfOk r (λ v. IsYes v → NoPositionFalls t w)) }
     ensures unread { answer.new.kind ≤ 4 }
 {
-    *answer = Answer::of(check_case(alloc, text));
+    *answer = answer_to_case(alloc, text);
 }
 
 /// Checks a case whose trace and witness are two texts.
@@ -95,10 +93,5 @@ pub extern "C" fn tcpwit_check_two(alloc: Global, trace: &[u8], witness: &[u8], 
         → Answers answer.new (λ r. IfOk r (λ v. IsYes v → NoPositionFalls t w)) }
     ensures unread { answer.new.kind ≤ 4 }
 {
-    let (result, _, _) = check_streams(alloc, Counted::new(trace), Counted::new(witness));
-    *answer = match result {
-        // A read of a text in memory fails only after 2^50 others.
-        Err(CaseFault::Read) => Answer::of(Err(CaseFault::OutOfMemory)),
-        result => Answer::of(result),
-    };
+    *answer = answer_to_texts(alloc, trace, witness);
 }

@@ -1,13 +1,13 @@
 //! The result whose numbers an answer has.
 
-ghost use Rattle.std.specs.Prelude.{◌≡◌, ℕ, Result, Some};
+ghost use Rattle.std.specs.Prelude.{◌≡◌, ◌<◌, ◌⊎◌, ℕ, IfSome, None, Result, Some};
 ghost use Rattle.verdict.specs.declared.rule.Rule.{Rule};
 ghost use Rattle.verdict.specs.declared.report.Verdict.{Verdict};
 ghost use Rattle.line_fields.specs.declared.fault.FaultKind.{FaultKind};
 ghost use Rattle.line_fields.specs.declared.fault.TextFault.{TextFault};
 ghost use Rattle.checker.specs.declared.case.CaseFault.{CaseFault};
 ghost use Rattle.spec_tcp_laws.specs.Ascending.{rule_number};
-ghost use Rattle.tcpwit_c.specs.Answers.{answer_of, fault_number, of_fault};
+ghost use Rattle.c_answers.specs.Answers.{answer_of, fault_number, of_fault};
 
 use crate::answer::Answer;
 use checker::CaseFault;
@@ -17,6 +17,19 @@ use verdict::{Rule, Verdict};
 
 /// The result whose numbers these are. None: they are those of no result.
 pub(crate) fn result_of(answer: &Answer) -> Option<Result<Verdict, CaseFault>>
+    ensures found { (r : Result Verdict CaseFault) → answer.now ≡ answer_of r → result ≡ Some r }
+    ensures only { IfSome result (λ r. answer.now ≡ answer_of r) }
+{
+    let result = result_with(answer)?;
+    if Answer::of(result) == *answer {
+        Some(result)
+    } else {
+        None
+    }
+}
+
+// The result that has the numbers of its kind from here. None: no result has them.
+fn result_with(answer: &Answer) -> Option<Result<Verdict, CaseFault>>
     ensures { (r : Result Verdict CaseFault) → answer.now ≡ answer_of r → result ≡ Some r }
 {
     match answer.kind {
@@ -29,14 +42,8 @@ pub(crate) fn result_of(answer: &Answer) -> Option<Result<Verdict, CaseFault>>
             trace_line: answer.trace_line,
             rule: rule_numbered(answer.rule)?,
         })),
-        2 => match fault_of(answer) {
-            Some(fault) => Some(Err(CaseFault::Trace(fault))),
-            None => None,
-        },
-        3 => match fault_of(answer) {
-            Some(fault) => Some(Err(CaseFault::Witness(fault))),
-            None => None,
-        },
+        2 => Some(Err(CaseFault::Trace(fault_of(answer)?))),
+        3 => Some(Err(CaseFault::Witness(fault_of(answer)?))),
         4 => Some(Err(CaseFault::OutOfMemory)),
         5 => Some(Err(CaseFault::Read)),
         _ => None,
@@ -45,7 +52,8 @@ pub(crate) fn result_of(answer: &Answer) -> Option<Result<Verdict, CaseFault>>
 
 // The fault whose numbers these are. None: they are those of no fault.
 fn fault_of(answer: &Answer) -> Option<TextFault>
-    ensures { (kind : ℕ) (f : TextFault) → answer.now ≡ of_fault kind f → result ≡ Some f }
+    ensures { (f : TextFault) → answer.now.fault ≡ fault_number f.kind → answer.now.fault_line ≡ f.span.line
+        → answer.now.fault_start ≡ f.span.start → answer.now.fault_stop ≡ f.span.stop → result ≡ Some f }
 {
     Some(TextFault {
         kind: fault_numbered(answer.fault)?,
@@ -59,7 +67,8 @@ fn fault_of(answer: &Answer) -> Option<TextFault>
 
 /// The rule with this number. None: no rule has it.
 pub(crate) fn rule_numbered(number: u32) -> Option<Rule>
-    ensures { (rule : Rule) → number ≡ rule_number rule → result ≡ Some rule }
+    ensures found { (rule : Rule) → number ≡ rule_number rule → result ≡ Some rule }
+    ensures none { (number ≡ 0) ⊎ (52 < number) → result ≡ None }
 {
     Some(match number {
         1 => Rule::LineRange,

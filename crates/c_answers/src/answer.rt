@@ -2,7 +2,7 @@
 
 ghost use Rattle.std.specs.Prelude.{◌≡◌};
 ghost use Rattle.spec_tcp_laws.specs.Ascending.{rule_number};
-ghost use Rattle.tcpwit_c.specs.Answers.{answer_of, fault_number, of_fault};
+ghost use Rattle.c_answers.specs.Answers.{answer_of, fault_number, of_fault};
 
 use checker::CaseFault;
 use line_fields::{FaultKind, TextFault};
@@ -11,7 +11,7 @@ use verdict::{Rule, Verdict};
 
 /// The answer to a case. Numbers that the kind doesn't have are 0.
 #[repr(C)]
-#[derive(Clone, Copy)]
+#[derive(Clone, Copy, PartialEq, Eq)]
 pub struct Answer {
     /// 0: yes; 1: no; 2: the trace can't be read; 3: the witness can't be read; 4: memory ran out.
     pub kind: u32,
@@ -38,7 +38,7 @@ pub struct Answer {
 impl Answer {
     // An answer of this kind whose other numbers are 0.
     const fn blank(kind: u32) -> Answer
-        ensures { result ≡ Rattle.tcpwit_c.specs.Answers.blank kind }
+        ensures { result ≡ Rattle.c_answers.specs.Answers.blank kind }
     {
         Answer {
             kind,

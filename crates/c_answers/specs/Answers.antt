@@ -9,7 +9,7 @@ use Rattle.verdict.specs.declared.report.Verdict.TheVariants as verdicts
 use Rattle.spec_tcp_laws.specs.Ascending.{rule_number}
 use Rattle.checker.specs.declared.case.CaseFault.{CaseFault}
 use Rattle.checker.specs.declared.case.CaseFault.TheVariants as faults
-use Rattle.tcpwit_c.specs.declared.answer.Answer.{Answer}
+use Rattle.c_answers.specs.declared.answer.Answer.{Answer}
 
 -- the number of a fault's kind, the first being 1
 abbrev pub fault_number : FaultKind → ℕ
