@@ -15,6 +15,8 @@ pub mod HexFields
 pub mod Pairs
 pub mod States
 pub mod Timers
+pub mod Congestion
+pub mod Slack
 pub mod Answers
 pub mod AnswerFields
 pub mod Forms

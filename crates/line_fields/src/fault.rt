@@ -1,6 +1,6 @@
 //! Why a text can't be read, and where.
 
-ghost use Rattle.std.specs.Prelude.{◌≡◌, None, Some, OnOk, IfErr};
+ghost use Rattle.std.specs.Prelude.{◌≡◌, None, Some, IfOk, OnOk, IfErr};
 ghost use Rattle.line_fields.specs.Faults.{kind_name, missing_line};
 ghost use Rattle.line_fields.specs.declared.fault.FaultKind.TheVariants.{OutOfMemory};
 
@@ -167,4 +167,20 @@ pub fn none_kept(fault: Option<SourceFault>) -> Result<(), SourceFault>
         Some(fault) => Err(fault),
         None => Ok(()),
     }
+}
+
+/// What such a reader returns after it read on: what was read. A fault is kept for later calls.
+#[inline(always)]
+pub fn keep_fault<T>(
+    fault: &mut Option<SourceFault>,
+    read: Result<T, SourceFault>,
+) -> Result<T, SourceFault>
+    ensures read { result ≡ read }
+    ensures open { IfOk result (λ x. fault.new ≡ fault.old) }
+    ensures kept { IfErr result (λ f. fault.new ≡ Some f) }
+{
+    if let Err(met) = &read {
+        *fault = Some(*met);
+    }
+    read
 }

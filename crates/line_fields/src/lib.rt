@@ -10,21 +10,26 @@
 //! - `first_field`: where the first field of a text ends, and the number that it spells
 //! - `hex_digits`: bytes as digits in hex
 //! - `fields`: the cursor, and the numbers, hosts and bytes that it reads
+//! - `hosts`: the numbers of hosts, and how many were recorded
 //! - `lines`: a line's end and its limits, and lines with a fixed text; `first_line`: the first line of a witness
 //! - `reading`: the next line of a text, of which only one line is kept in memory
 //! - `states`, `timers`: the names of states and of timers
+//! - `congestion`, `lateness`: how much of congestion control is judged, and how late a host may be
 //! - `answers`: the answers of calls, which are in both texts
 //! - `printing`: words, numbers and answers, appended to a `Vec` as bytes
 #![tactic(auto)]
 
 mod answers;
 mod blocks;
+mod congestion;
 mod digits;
 mod fault;
 mod fields;
 mod first_field;
 mod first_line;
 mod hex_digits;
+mod hosts;
+mod lateness;
 mod lines;
 mod printing;
 mod reading;
@@ -33,14 +38,17 @@ mod timers;
 
 pub use answers::{answer, answer_law};
 pub use case_forms::{OutOfMemory, Span};
-pub use fault::{FaultKind, SourceFault, TextFault, none_kept};
+pub use congestion::{judged, judged_name};
+pub use fault::{FaultKind, SourceFault, TextFault, keep_fault, none_kept};
 pub use fields::{Fields, Token, is_text};
 pub use first_line::first_text;
+pub use hosts::{host_number, hosted};
+pub use lateness::slack;
 pub use lines::{checked_fields, checked_line, expect_line, without_line_end};
 pub use printing::{
     push_answer, push_end, push_hex, push_host, push_line, push_number, push_space, push_word,
 };
-pub use reading::{next_line, require_line};
+pub use reading::{after_line, next_line, require_line};
 pub use segment::SegFault;
 pub use states::state_name;
 pub use timers::{timer, timer_name};

@@ -8,6 +8,7 @@ ghost use Rattle.line_fields.specs.Spelling.{printed_behind};
 ghost use Rattle.line_fields.specs.Answers.{answer_pieces};
 
 use crate::hex_digits::write_digits;
+use crate::hosts::host_number;
 use crate::states::state_name;
 use case_forms::{Answer, Host, OutOfMemory};
 use itoa::Buffer;
@@ -52,16 +53,6 @@ pub fn push_hex(out: &mut Vec<u8>, bytes: &[u8]) -> Result<(), OutOfMemory>
     let (_before, digits) = out.as_mut_slice().split_at_mut(len);
     write_digits(bytes, digits);
     Ok(())
-}
-
-// The number of a host.
-fn host_number(host: Host) -> u64
-    ensures { result ≡ host_number host }
-{
-    match host {
-        Host::Zero => 0,
-        Host::One => 1,
-    }
 }
 
 /// Writes the end of a line, which is LF.

@@ -1,6 +1,6 @@
 //! The next line of a text whose lines are read on request.
 
-ghost use Rattle.std.specs.Prelude.{◌≡◌, ◌≢◌, Err, true, false, OnOk};
+ghost use Rattle.std.specs.Prelude.{◌≡◌, ◌≢◌, ◌<◌, ◌+◌, ◌^◌, Err, true, false, OnOk};
 ghost use Rattle.counted.specs.Counting.{left_of, failures_of, one_more};
 ghost use Rattle.line_fields.specs.declared.fault.TextFault.{TextFault};
 ghost use Rattle.line_fields.specs.Rows.{rows_of, TakesRow, HasNoRow, next_text, needed_text, FailsAt};
@@ -65,4 +65,14 @@ pub fn require_line<B: BufRead>(
         return Ok(());
     }
     Err(SourceFault::Text(TextFault::missing_line(number)))
+}
+
+/// What the line after a line of this moment and this number is read with: the moment below which it falls, and its own
+/// number.
+#[inline(always)]
+pub fn after_line(moment: u64, number: u64) -> (u64, u64)
+    requires { number + 1 < 2 ^ 64 }
+    ensures { result ≡ (moment, number + 1) }
+{
+    (moment, number + 1)
 }

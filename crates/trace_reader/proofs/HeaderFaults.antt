@@ -15,11 +15,14 @@ use Rattle.case_forms.specs.declared.version.Judged.{Judged}
 use Rattle.case_forms.specs.declared.version.Judged.TheVariants.{Full}
 use Rattle.case_forms.specs.Versions.{named_as, says_slack}
 use Rattle.line_fields.specs.Choice.{kind_named, kind_value}
+use Rattle.line_fields.specs.Congestion.{judged_name, all_judged}
 use Rattle.line_fields.specs.Faults.{missing_line}
 use Rattle.line_fields.specs.Forms.{numeric, named}
+use Rattle.line_fields.specs.Hosts.{hosted}
 use Rattle.line_fields.specs.LineFaults.{IsTextFaultOf, IsNextFault}
 use Rattle.line_fields.specs.Lines.{line_rest}
 use Rattle.line_fields.specs.Reading.{◌>>=◌, fault_at, missing, first_of, next_field, is_number, number_value, number_field}
+use Rattle.line_fields.specs.Slack.{begins_digit, slack_value, slack_field}
 use Rattle.line_fields.specs.Word.{Word, Rest}
 use Rattle.line_fields.specs.declared.fault.FaultKind.{FaultKind}
 use Rattle.line_fields.specs.declared.fault.FaultKind.TheVariants as kinds
@@ -32,10 +35,10 @@ use Rattle.trace_reader.specs.HeaderForms.{IsFirstText, Row, row, initial_want, 
 use Rattle.trace_reader.specs.HeaderForms.{header_rows, AreNamed, Fits, Breaks, Other, Bad, More}
 use Rattle.trace_reader.specs.HeaderForms.{IsRow, IsRowFault, AreRows, IsRowsFault, IsHeaderFault, First, Rows}
 use Rattle.trace_reader.specs.declared.late_lines.LateLines.{LateLines}
-use Rattle.trace_reader.specs.Headers.{initial_number, judged_name, all_judged, header_fault, some_left, named_rest, alone, value_line, next_value}
+use Rattle.trace_reader.specs.Headers.{initial_number, header_fault, some_left, named_rest, alone, value_line, next_value}
 use Rattle.trace_reader.specs.Headers.{version_in, first_version, first_line, initial_of, initial_value, initial_field}
-use Rattle.trace_reader.specs.Headers.{initial_line, half_line, hosts_line, congestion_line, begins_digit, slack_value, slack_field, slack_line, last_line}
-use Rattle.trace_reader.specs.Headers.{hosted, late, judged_lines, late_lines, header_with, header_of}
+use Rattle.trace_reader.specs.Headers.{initial_line, half_line, hosts_line, congestion_line, slack_line, last_line}
+use Rattle.trace_reader.specs.Headers.{late, judged_lines, late_lines, header_with, header_of}
 use Rattle.trace_reader.proofs.HeaderLaw.{Raws, Headed, is_first, version_taken, version_given, version_takes, version_again}
 use Rattle.trace_reader.proofs.HeaderLaw.{with_first, with_skew, with_msl, with_grain, with_minrto, with_extra}
 

@@ -23,6 +23,9 @@ use Rattle.case_forms.specs.declared.version.Judged.{Judged}
 use Rattle.case_forms.specs.declared.version.Judged.TheVariants.{Full, Recovery, NoControl}
 use Rattle.case_forms.specs.Versions.{says_congestion, says_slack, named_as}
 use Rattle.line_fields.specs.Choice.{kind_value, kind_field}
+use Rattle.line_fields.specs.Congestion.{judged_name, all_judged}
+use Rattle.line_fields.specs.Hosts.{hosted}
+use Rattle.line_fields.specs.Slack.{begins_digit, slack_value, slack_field}
 use Rattle.line_fields.specs.declared.fault.FaultKind.TheVariants as kinds
 use Rattle.line_fields.specs.declared.fault.TextFault.{TextFault}
 use Rattle.line_fields.specs.Word.{Word, Rest, rest_of}
@@ -38,12 +41,12 @@ use Rattle.line_fields.proofs.Endings.{ending_again}
 use Rattle.line_fields.proofs.Texts.{lines_of-raw}
 use Rattle.line_fields.proofs.LineRests.{fields_taken, fields_again, is_raw, text_takes, text_again}
 use Rattle.trace_reader.specs.declared.late_lines.LateLines.{LateLines}
-use Rattle.trace_reader.specs.Headers.{first_words, initial_number, initial_words, half_words, hosts_words, judged_name, all_judged, congestion_words}
+use Rattle.trace_reader.specs.Headers.{first_words, initial_number, initial_words, half_words, hosts_words, congestion_words}
 use Rattle.trace_reader.specs.Headers.{slack_text, slack_words, judged_words, late_words, header_words, IsHeader, AreLines}
 use Rattle.trace_reader.specs.Headers.{header_fault, some_left, named_rest, alone, value_line, next_value}
 use Rattle.trace_reader.specs.Headers.{version_in, first_version, version_named, first_line, initial_of, initial_value, initial_field, initial_line}
-use Rattle.trace_reader.specs.Headers.{half_line, hosts_line, congestion_line, begins_digit, slack_value, slack_field, slack_line, last_line}
-use Rattle.trace_reader.specs.Headers.{hosted, late, judged_lines, late_lines, header_with, header_of}
+use Rattle.trace_reader.specs.Headers.{half_line, hosts_line, congestion_line, slack_line, last_line}
+use Rattle.trace_reader.specs.Headers.{late, judged_lines, late_lines, header_with, header_of}
 
 abbrev pub Raws : Type 0
 Raws = List (List ℕ)

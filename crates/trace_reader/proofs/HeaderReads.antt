@@ -8,11 +8,12 @@ use Rattle.case_forms.specs.declared.version.Version.{Version}
 use Rattle.case_forms.specs.declared.version.Version.TheVariants.{Two, Three}
 use Rattle.line_fields.specs.declared.fault.TextFault.{TextFault}
 use Rattle.line_fields.specs.declared.fault.SourceFault.{SourceFault}
+use Rattle.line_fields.specs.Hosts.{hosted}
 use Rattle.line_fields.specs.Reading.{◌>>=◌}
 use Rattle.line_fields.specs.Rows.{with_rest, Reads}
 use Rattle.line_fields.proofs.ReadsLemmas.{reads_then, reads_not}
 use Rattle.trace_reader.specs.declared.late_lines.LateLines.{LateLines}
-use Rattle.trace_reader.specs.Headers.{first_line, half_line, hosts_line, congestion_line, last_line, hosted, late, header_of}
+use Rattle.trace_reader.specs.Headers.{first_line, half_line, hosts_line, congestion_line, last_line, late, header_of}
 use Rattle.trace_reader.proofs.HeaderLaw.{Raws, with_first}
 
 abbrev Known : Type 0

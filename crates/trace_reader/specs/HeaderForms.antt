@@ -4,16 +4,18 @@ use Rattle.std.specs.Str.{bytes_eq}
 use Rattle.case_forms.specs.declared.version.Version.{Version}
 use Rattle.case_forms.specs.declared.version.Version.TheVariants.{One, Two, Three, Four, FourHalf, Five, FiveHalf}
 use Rattle.case_forms.specs.Versions.{says_slack}
+use Rattle.line_fields.specs.Congestion.{judged_name, all_judged}
 use Rattle.line_fields.specs.Forms.{Want, unless_empty, numeric, named}
 use Rattle.line_fields.specs.LineFaults.{IsWholeFault, IsTextFaultOf, IsNextFault}
 use Rattle.line_fields.specs.Lines.{IsLine, line_rest}
 use Rattle.line_fields.specs.Reading.{fault_at}
+use Rattle.line_fields.specs.Slack.{begins_digit}
 use Rattle.line_fields.specs.Spelling.{joined}
 use Rattle.line_fields.specs.Word.{Word, Rest}
 use Rattle.line_fields.specs.declared.fault.FaultKind.{FaultKind}
 use Rattle.line_fields.specs.declared.fault.FaultKind.TheVariants as kinds
 use Rattle.line_fields.specs.declared.fault.TextFault.{TextFault}
-use Rattle.trace_reader.specs.Headers.{judged_name, all_judged, begins_digit, first_words, header_fault}
+use Rattle.trace_reader.specs.Headers.{first_words, header_fault}
 
 -- the text of the first line, in some version
 abbrev pub IsFirstText : List ℕ → Type 0

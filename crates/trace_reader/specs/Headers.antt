@@ -1,9 +1,7 @@
 -- The header's lines: six; a seventh in version 2, an eighth in version 3, a ninth in version 4, a tenth in version 5.
-use Rattle.std.specs.Prelude.{◌≡◌, ◌≤◌, ℕ, ◌+◌, ◌==◌, ◌&&◌, Bool, false, if◌then◌else◌, List, [], ◌∷◌, slice_get}
+use Rattle.std.specs.Prelude.{◌≡◌, ◌≤◌, ℕ, ◌+◌, ◌==◌, ◌&&◌, Bool, false, if◌then◌else◌, List, [], ◌∷◌}
 use Rattle.std.specs.Prelude.{Option, None, Some, IfSome, Result, Ok, Err, codes}
-use Rattle.std.specs.Char.{is_ascii_digit}
 use Rattle.std.specs.Fmt.{decimal}
-use Rattle.std.specs.Option.{option_map_or}
 use Rattle.std.specs.Str.{bytes_eq}
 use Rattle.bstr.specs.Text.{without_terminator}
 use Rattle.case_forms.specs.declared.trace.Header.{Header}
@@ -12,13 +10,16 @@ use Rattle.case_forms.specs.declared.version.Version.TheVariants.{One, Two, Thre
 use Rattle.case_forms.specs.declared.version.Initial.{Initial}
 use Rattle.case_forms.specs.declared.version.Initial.TheVariants.{Rfc5681, Rfc6928}
 use Rattle.case_forms.specs.declared.version.Judged.{Judged}
-use Rattle.case_forms.specs.declared.version.Judged.TheVariants.{Full, Recovery, NoControl}
+use Rattle.case_forms.specs.declared.version.Judged.TheVariants.{Full}
 use Rattle.case_forms.specs.Versions.{says_congestion, says_slack}
 use Rattle.line_fields.specs.declared.fault.FaultKind.TheVariants as kinds
 use Rattle.line_fields.specs.declared.fault.TextFault.{TextFault}
 use Rattle.line_fields.specs.Word.{Word, Rest}
 use Rattle.line_fields.specs.Reading.{◌>>=◌, fault_at, next_field, number_value, number_field}
 use Rattle.line_fields.specs.Choice.{kind_field}
+use Rattle.line_fields.specs.Congestion.{judged_name, all_judged}
+use Rattle.line_fields.specs.Hosts.{hosted}
+use Rattle.line_fields.specs.Slack.{slack_field}
 use Rattle.line_fields.specs.Lines.{IsLine, is_ended, whole_line, line_text, line_rest, next_raw}
 use Rattle.line_fields.specs.Spelling.{joined}
 use Rattle.trace_reader.specs.declared.late_lines.LateLines.{LateLines}
@@ -67,16 +68,6 @@ half_words = codes "half" ∷ decimal 0 ∷ []
 -- the fields of the line that says how many hosts were recorded
 abbrev pub hosts_words : ℕ → List (List ℕ)
 hosts_words count = codes "hosts" ∷ decimal count ∷ []
-
--- the word for how much of congestion control is judged
-abbrev pub judged_name : Judged → List ℕ
-judged_name Full = codes "full"
-judged_name Recovery = codes "recovery"
-judged_name NoControl = codes "none"
-
--- all of these words
-abbrev pub all_judged : List Judged
-all_judged = Full ∷ Recovery ∷ NoControl ∷ []
 
 -- the fields of the line with that word
 abbrev pub congestion_words : Judged → List (List ℕ)
@@ -232,36 +223,13 @@ hosts_line raws = next_value 8 (codes "hosts") (number_field 1 2) raws
 abbrev pub congestion_line : List (List ℕ) → Result (Judged × List (List ℕ)) TextFault
 congestion_line raws = next_value 9 (codes "congestion") (kind_field judged_name all_judged) raws
 
--- the first byte is a digit
-abbrev pub begins_digit : List ℕ → Bool
-begins_digit text = option_map_or is_ascii_digit (slice_get text 0) false
-
--- how late a host may be: `any`, or a number of microseconds; else Number if a digit begins the field, and Field if not
-abbrev pub slack_value : Word → Result (Option ℕ) TextFault
-slack_value w =
-    if bytes_eq w.text (codes "any") then Ok None
-    else if begins_digit w.text then (number_value 0 1000000000000000000 w >>= λ slack. Ok (Some slack))
-    else Err (fault_at kinds.Field w)
-
--- the next field, which says so
-unfoldable pub slack_field : Rest → Result (Option ℕ × Rest) TextFault
-slack_field r = do
-  w ← next_field r
-  slack ← slack_value w.0
-  Ok (slack, w.1)
-
--- the next line, which says so
+-- the next line, which says how late a host may be
 abbrev pub slack_line : List (List ℕ) → Result (Option ℕ × List (List ℕ)) TextFault
 slack_line raws = next_value 10 (codes "slack") slack_field raws
 
 -- the next line, if the version has that line
 abbrev pub last_line : Version → List (List ℕ) → Result (Option ℕ × List (List ℕ)) TextFault
 last_line v raws = if says_slack v then slack_line raws else Ok (None, raws)
-
--- version 4 or 5 with this many hosts
-abbrev pub hosted : Version → ℕ → Version
-hosted v count =
-    if count == 1 then (if says_slack v then FiveHalf else FourHalf) else if says_slack v then Five else Four
 
 -- the content of the late lines
 abbrev pub late : Version → Initial → Judged → Option ℕ → LateLines

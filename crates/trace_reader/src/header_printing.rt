@@ -4,12 +4,12 @@ ghost use Rattle.std.specs.Prelude.{◌≡◌, ◌∷◌, [], ◌++◌, OnOk, ma
 ghost use Rattle.std.specs.List.{concat};
 ghost use Rattle.std.specs.Fmt.{decimal};
 ghost use Rattle.line_fields.specs.Spelling.{printed};
-ghost use Rattle.trace_reader.specs.Headers.{judged_name, initial_number, judged_words, last_words, late_words};
+ghost use Rattle.trace_reader.specs.Headers.{initial_number, judged_words, last_words, late_words};
 ghost use Rattle.trace_reader.specs.Printed.{header_text};
 
 use crate::first_line::first_text;
-use case_forms::{Header, Initial, Judged, OutOfMemory, Version};
-use line_fields::{push_end, push_number, push_space, push_word};
+use case_forms::{Header, Host, Initial, Judged, OutOfMemory, Version};
+use line_fields::{host_number, judged_name, push_end, push_number, push_space, push_word};
 
 // Writes a name and a number as a line.
 fn push_number_line(out: &mut Vec<u8>, name: &str, number: u64) -> Result<(), OutOfMemory>
@@ -29,17 +29,6 @@ fn push_word_line(out: &mut Vec<u8>, name: &str, word: &str) -> Result<(), OutOf
     push_space(out)?;
     push_word(out, word)?;
     push_end(out)
-}
-
-// The word for how much of congestion control is judged.
-fn judged_name(congestion: Judged) -> &'static str
-    ensures { result.now ≡ judged_name congestion }
-{
-    match congestion {
-        Judged::Full => "full",
-        Judged::Recovery => "recovery",
-        Judged::NoControl => "none",
-    }
 }
 
 // The number of the RFC that gives the first congestion window.
@@ -97,7 +86,7 @@ fn push_late(out: &mut Vec<u8>, header: &Header) -> Result<(), OutOfMemory>
         Version::Two => push_number_line(out, "initial", initial_number(initial)),
         Version::Three => {
             push_number_line(out, "initial", initial_number(initial))?;
-            push_number_line(out, "half", 0)
+            push_number_line(out, "half", host_number(Host::Zero))
         }
         Version::Four | Version::Five => {
             push_judged(out, version, 2, initial, header.congestion, header.slack)

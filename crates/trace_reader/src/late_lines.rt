@@ -3,17 +3,18 @@
 ghost use Rattle.std.specs.Prelude.{◌≡◌, ◌≢◌, Err, codes};
 ghost use Rattle.counted.specs.Counting.{left_of, failures_of, one_more};
 ghost use Rattle.line_fields.specs.Choice.{kind_field};
+ghost use Rattle.line_fields.specs.Congestion.{judged_name, all_judged};
 ghost use Rattle.line_fields.specs.Reading.{Gives};
 ghost use Rattle.line_fields.specs.Rows.{rows_of, with_rest, Reads};
+ghost use Rattle.line_fields.specs.Slack.{slack_field};
 ghost use Rattle.trace_reader.specs.Headers.{value_line, initial_field, initial_line};
-ghost use Rattle.trace_reader.specs.Headers.{judged_name, all_judged, congestion_line};
-ghost use Rattle.trace_reader.specs.Headers.{begins_digit, slack_field, slack_line, last_line};
-ghost use Rattle.trace_reader.specs.Headers.{hosted, half_lines, judged_lines, late_lines};
+ghost use Rattle.trace_reader.specs.Headers.{congestion_line, slack_line, last_line};
+ghost use Rattle.trace_reader.specs.Headers.{half_lines, judged_lines, late_lines};
 
 use crate::named_lines::{named_rest, next_number};
 use case_forms::{Initial, Judged, Version};
 use counted::Counted;
-use line_fields::{FaultKind, Fields, SourceFault, TextFault, require_line};
+use line_fields::{FaultKind, Fields, SourceFault, TextFault, hosted, judged, require_line, slack};
 use std::io::BufRead;
 
 // The number of the line that names the RFC of the first congestion window.
@@ -30,8 +31,6 @@ const CONGESTION_LINE: u64 = 9;
 
 // The number of the line that says how late a host may be.
 const SLACK_LINE: u64 = 10;
-
-const MAX_SLACK: u64 = 1_000_000_000_000_000_000;
 
 /// The content of the header's lines after line 6, or the values for a version that doesn't have them.
 #[derive(Clone, Copy)]
@@ -84,22 +83,6 @@ fn next_initial<A: BufRead>(
     Ok(initial)
 }
 
-// The next field, which is the word for how much of congestion control is judged.
-fn judged(fields: &mut Fields) -> Result<Judged, TextFault>
-    ensures { Gives (λ word. (word, fields.new)) result (kind_field judged_name all_judged fields.old) }
-{
-    let name = fields.next()?;
-    if name.is("full") {
-        Ok(Judged::Full)
-    } else if name.is("recovery") {
-        Ok(Judged::Recovery)
-    } else if name.is("none") {
-        Ok(Judged::NoControl)
-    } else {
-        Err(name.fault(FaultKind::Field))
-    }
-}
-
 // How much of congestion control is judged, from a line made of `congestion` and a word.
 #[tactic(auto, unfolding(crate::specs::Headers::value_line))]
 fn named_congestion(raw: &[u8]) -> Result<Judged, TextFault>
@@ -130,40 +113,13 @@ fn next_congestion<A: BufRead>(
     Ok(congestion)
 }
 
-// Whether the first byte is a digit.
-fn begins_digit(text: &[u8]) -> bool
-    ensures { result ≡ begins_digit text.now }
-{
-    match text.first() {
-        Some(byte) => byte.is_ascii_digit(),
-        None => false,
-    }
-}
-
-// The next field, which says how late a host may be: `any`, or a number. Another field is Number if a digit begins it,
-// else Field.
-#[tactic(auto, unfolding(crate::specs::Headers::slack_field))]
-fn slack_field(fields: &mut Fields) -> Result<Option<u64>, TextFault>
-    ensures { Gives (λ slack. (slack, fields.new)) result (slack_field fields.old) }
-{
-    let field = fields.next()?;
-    if field.is("any") {
-        return Ok(None);
-    }
-    if !begins_digit(field.text) {
-        return Err(field.fault(FaultKind::Field));
-    }
-    let slack = field.number(0, MAX_SLACK)?;
-    Ok(Some(slack))
-}
-
 // How late a host may be, from a line made of `slack` and that field.
 #[tactic(auto, unfolding(crate::specs::Headers::value_line))]
 fn named_slack(raw: &[u8]) -> Result<Option<u64>, TextFault>
     ensures { Gives (λ slack. slack) result (value_line 10 (codes "slack") slack_field raw.now) }
 {
     let (mut fields, fault) = named_rest(SLACK_LINE, "slack", raw)?;
-    let slack = slack_field(&mut fields)?;
+    let slack = slack(&mut fields)?;
     if !fields.is_empty() {
         return Err(fault);
     }
@@ -201,23 +157,6 @@ fn last_line<A: BufRead>(
         next_slack(source, line)
     } else {
         Ok(None)
-    }
-}
-
-// The version of a text of version 4 or 5, given the count of recorded hosts.
-fn hosted(version: Version, hosts: u64) -> Version
-    ensures { result ≡ hosted version hosts }
-{
-    if hosts == 1 {
-        if version.says_slack() {
-            Version::FiveHalf
-        } else {
-            Version::FourHalf
-        }
-    } else if version.says_slack() {
-        Version::Five
-    } else {
-        Version::Four
     }
 }
 

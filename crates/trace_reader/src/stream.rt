@@ -15,7 +15,7 @@ use crate::events::event_line;
 use crate::header::header;
 use case_forms::{Header, Line, Version};
 use counted::Counted;
-use line_fields::{SourceFault, next_line};
+use line_fields::{SourceFault, after_line, keep_fault, next_line};
 use std::alloc::Global;
 use std::io::BufRead;
 
@@ -60,23 +60,6 @@ impl<A> TraceReader<A> {
     {
         self.source
     }
-
-    // Returns what was read; a fault is kept for later calls.
-    #[inline(always)]
-    fn keep_fault<T>(&mut self, read: Result<T, SourceFault>) -> Result<T, SourceFault>
-        requires { fault_of self.old ≡ None }
-        ensures read { result ≡ read }
-        ensures source { source_of self.new ≡ source_of self.old }
-        ensures place { place_of self.new ≡ place_of self.old }
-        ensures version { version_of self.new ≡ version_of self.old }
-        ensures open { IfOk result (λ x. fault_of self.new ≡ None) }
-        ensures kept { (f : SourceFault) → result ≡ Err f → fault_of self.new ≡ Some f }
-    {
-        if let Err(fault) = &read {
-            self.fault = Some(*fault);
-        }
-        read
-    }
 }
 
 impl<A: BufRead> TraceReader<A> {
@@ -102,7 +85,7 @@ impl<A: BufRead> TraceReader<A> {
             return Err(fault);
         }
         let read = header(&mut self.source, &mut self.line);
-        let header = self.keep_fault(read)?;
+        let header = keep_fault(&mut self.fault, read)?;
         self.version = header.version;
         self.number = header.first_event_line();
         Ok(header)
@@ -159,7 +142,7 @@ impl<A: BufRead> TraceReader<A> {
             return Err(fault);
         }
         let read = self.read_into(item);
-        self.keep_fault(read)
+        keep_fault(&mut self.fault, read)
     }
 
     /// Reads over the next event line. False at the end of the text. The header must have been read. The error is the
@@ -217,8 +200,7 @@ impl<A: BufRead> TraceReader<A> {
             self.number,
             self.line.as_slice(),
         )?;
-        self.before = line.moment;
-        self.number += 1;
+        (self.before, self.number) = after_line(line.moment, self.number);
         *item = Some(line);
         Ok(())
     }

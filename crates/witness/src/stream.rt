@@ -14,7 +14,9 @@ use crate::reading::read_step;
 use answers::FIRST_STEP;
 use case_forms::{Step, Version};
 use counted::Counted;
-use line_fields::{SourceFault, expect_line, first_text, next_line, none_kept, require_line};
+use line_fields::{
+    SourceFault, expect_line, first_text, keep_fault, next_line, none_kept, require_line,
+};
 use std::alloc::Global;
 use std::io::BufRead;
 
@@ -73,26 +75,6 @@ impl<B> StepReader<B> {
     {
         self.source
     }
-
-    // Returns what was read; a fault is kept for later calls.
-    #[inline(always)]
-    fn keep_fault(
-        &mut self,
-        read: Result<Option<Step>, SourceFault>,
-    ) -> Result<Option<Step>, SourceFault>
-        requires { fault_of self.old ≡ None }
-        ensures read { result ≡ read }
-        ensures source { source_of self.new ≡ source_of self.old }
-        ensures version { version_of self.new ≡ version_of self.old }
-        ensures number { number_read self.new ≡ number_read self.old }
-        ensures open { IfOk result (λ x. fault_of self.new ≡ None) }
-        ensures kept { (f : SourceFault) → result ≡ Err f → fault_of self.new ≡ Some f }
-    {
-        if let Err(fault) = &read {
-            self.fault = Some(*fault);
-        }
-        read
-    }
 }
 
 impl<B: BufRead> StepReader<B> {
@@ -117,7 +99,7 @@ impl<B: BufRead> StepReader<B> {
     {
         none_kept(self.fault)?;
         let read = self.read();
-        self.keep_fault(read)
+        keep_fault(&mut self.fault, read)
     }
 
     // The next step, if no fault was met.

@@ -3,9 +3,10 @@ use Rattle.std.proofs.lemmas.Result.{err_from_is_err_and}
 use Rattle.std.specs.Prelude.{codes}
 use Rattle.line_fields.specs.declared.fault.SourceFault.{SourceFault}
 use Rattle.line_fields.specs.Choice.{kind_field}
+use Rattle.line_fields.specs.Congestion.{judged_name, all_judged}
 use Rattle.line_fields.specs.Rows.{with_rest}
 use Rattle.line_fields.proofs.ReadsLemmas.{reads_text}
-use Rattle.trace_reader.specs.Headers.{judged_name, all_judged, value_line, next_value}
+use Rattle.trace_reader.specs.Headers.{value_line, next_value}
 use Rattle.trace_reader.proofs.StreamLaw.{value_begins}
 use Rattle.trace_reader.proofs.late_lines.next_congestion.Goals as goal
 

@@ -3,8 +3,9 @@ use Rattle.std.proofs.lemmas.Result.{err_from_is_err_and}
 use Rattle.std.specs.Prelude.{codes}
 use Rattle.line_fields.specs.declared.fault.SourceFault.{SourceFault}
 use Rattle.line_fields.specs.Rows.{with_rest}
+use Rattle.line_fields.specs.Slack.{slack_field}
 use Rattle.line_fields.proofs.ReadsLemmas.{reads_text}
-use Rattle.trace_reader.specs.Headers.{slack_field, value_line, next_value}
+use Rattle.trace_reader.specs.Headers.{value_line, next_value}
 use Rattle.trace_reader.proofs.StreamLaw.{value_begins}
 use Rattle.trace_reader.proofs.late_lines.next_slack.Goals as goal
 

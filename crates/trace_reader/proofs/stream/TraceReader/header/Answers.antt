@@ -18,7 +18,6 @@ returns-in_err-header-clause-fault g c = λ e none is.
 pub returns-clause-header : goal.returns-clause-header
 returns-clause-header g c = λ none.
     let read = sym c.keep_fault.ensures.read ∙ c.in_ok-header.was in
-    let place = c.keep_fault.ensures.place ∙ c.requires none in
-    let before = ap (λ (p : Place). p.0) place in
-    rw (before, c.first_event_line-self.ensures, c.keep_fault.ensures.source)
+    let before = ap (λ (p : Place). p.0) (c.requires none) in
+    rw (before, c.first_event_line-self.ensures)
     (header_begins _ _ c.in_ok-header.header (rw read at c.header-read.ensures.header))

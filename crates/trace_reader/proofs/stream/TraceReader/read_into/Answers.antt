@@ -1,4 +1,4 @@
-use Rattle.std.proofs.Common.{◌≡◌, Err, Ok, ap, subst, ◌∙◌, arith, refl}
+use Rattle.std.proofs.Common.{◌≡◌, Err, Ok, ap, subst, ◌∙◌, arith}
 use Rattle.std.proofs.lemmas.Result.{err_from_is_err_and}
 use Rattle.line_fields.specs.declared.fault.TextFault.{TextFault}
 use Rattle.line_fields.specs.declared.fault.SourceFault.{SourceFault}
@@ -30,13 +30,14 @@ returns-in_err-line-clause-fault g c = λ e is.
     subst (λ (f : TextFault). FailsLeft f (lines_left g.A.Read.remaining c.args.self.now)) same
     (line_fails c.args.self.now.version _ _ _ c.next_line.new.line.items c.in_err-line.field-0.0 took (rw c.as_slice.ensures.value at c.in_err-line.ensures))
 
-pub overflow_add-self : goal.overflow_add-self
-overflow_add-self g c = let s = stands c.args.self.now.version _ _ _ c.in_ok-line.ensures in let few = s.few in omega (arith, few)
+pub after_line-requires : goal.after_line-requires
+after_line-requires g c = let s = stands c.args.self.now.version _ _ _ c.in_ok-line.ensures in let few = s.few in omega (arith, few)
 
 pub returns-clause-next : goal.returns-clause-next
 returns-clause-next g c =
     let took = c.next_line.ensures.line (c.in_ok-next_line.was ∙ ap (λ b. Ok b) c.if-not-branch.false) in
-    line_read c.args.self.now.version _ _ _ c.next_line.new.line.items c.in_ok-line.line took (rw c.as_slice.ensures.value at c.in_ok-line.ensures)
+    rw c.after_line.ensures
+    (line_read c.args.self.now.version _ _ _ c.next_line.new.line.items c.in_ok-line.line took (rw c.as_slice.ensures.value at c.in_ok-line.ensures))
 
 pub returns-clause-place : goal.returns-clause-place
-returns-clause-place g c = (stands c.args.self.now.version _ _ _ c.in_ok-line.ensures, refl)
+returns-clause-place g c = (stands c.args.self.now.version _ _ _ c.in_ok-line.ensures, c.after_line.ensures)
