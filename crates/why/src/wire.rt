@@ -9,7 +9,7 @@ use spec_tcp::Emission;
 
 /// Writes that the host of an O line built no segment of the number that the step names, if that is so.
 pub(crate) fn describe_sent(out: &mut String, scene: &Scene, host: Host) -> Done {
-    let (world, number) = (scene.world(), first_extra(scene.named().extras));
+    let (world, number) = (scene.world, first_extra(scene.named().extras));
     if world.made(host, number).is_some() {
         return Ok(());
     }
@@ -23,7 +23,7 @@ pub(crate) fn describe_sent(out: &mut String, scene: &Scene, host: Host) -> Done
 /// Writes what is wrong with the line that a received segment should copy, if that is no sent segment.
 pub(crate) fn describe_came(out: &mut String, scene: &Scene, host: Host) -> Done {
     let (sender, copied) = (host.other(), u64::from(first_extra(scene.named().extras)));
-    if scene.world().sent(sender, copied).is_some() {
+    if scene.world.sent(sender, copied).is_some() {
         return Ok(());
     }
     let yet = word_if(sender_in(scene, copied) == Some(sender), " used yet; it is");
