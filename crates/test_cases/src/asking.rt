@@ -1,7 +1,7 @@
 //! The ways in which a case is checked.
 
-use crate::report::{Done, Report};
-use crate::table::Case;
+use crate::report::{Report, Text};
+use crate::table::{Case, status_of};
 use checker::{CaseFault, check_case};
 use cli::{run, run_all, run_files};
 use counted::Counted;
@@ -17,12 +17,8 @@ use verdict::Verdict;
 // The command that checks the cases of one input.
 const MANY: [&str; 3] = ["many", "--workers", "4"];
 
-// The commands that check the input with three cases.
-const CREWS: [[&str; 3]; 3] = [
-    ["many", "--workers", "1"],
-    ["many", "--workers", "2"],
-    ["many", "--workers", "64"],
-];
+// How many threads check the input with three cases.
+const CREWS: [&str; 3] = ["1", "2", "64"];
 
 // What is printed for the three cases of `three_cases.txt`, and the status.
 const THREE: &str = "yes 4 2\nno 3 0 no-call\nbad witness 7 0 7 cut\n2";
@@ -52,83 +48,36 @@ const ENDS: [(&str, &str); 10] = [
 
 /// Checks all cases: each on its own, in several ways, and in one input of `many` those that a line `end` can follow.
 /// Also checks the inputs of `many` above.
-pub fn ask_cases<H: Threads + Wait + Sync>(
-    rt: &H,
-    cases: &[Case],
-    report: &mut Report<'_>,
-) -> Done {
-    ask_each(cases, report)?;
-    ask_together(rt, cases, report)?;
-    ask_cut(rt, cases, report)?;
-    ask_ends(rt, report)?;
-    ask_crews(rt, report)
-}
-
-fn ask_each(cases: &[Case], report: &mut Report<'_>) -> Done {
+pub fn ask_cases<H: Threads + Wait + Sync>(rt: &H, cases: &[Case], report: &mut Report<'_>) {
     for case in cases {
-        ask_case(case, report)?;
+        ask_case(case, report);
     }
-    Ok(())
+    ask_together(rt, cases, report);
+    ask_cut(rt, cases, report);
+    ask_ends(rt, report);
+    ask_crews(rt, report);
 }
 
 // Checks a case by `check_case`, by the command `check`, and as two texts.
-fn ask_case(case: &Case, report: &mut Report<'_>) -> Done {
-    let found = judged(report.alloc, case.text.as_slice())?;
-    case.compare("check_case", found.as_str(), report)?;
-    let found = by_check(report.alloc, case.text.as_slice())?;
-    case.compare("check", found.as_str(), report)?;
-    ask_two_texts(case, report)
-}
-
-fn ask_two_texts(case: &Case, report: &mut Report<'_>) -> Done {
-    let texts = Texts::of(case.text.as_slice());
+fn ask_case(case: &Case, report: &mut Report<'_>) {
+    let (alloc, text) = (report.alloc, case.text.as_slice());
+    case.compare("check_case", judged(alloc, text), report);
+    case.compare("check", by_check(alloc, text), report);
+    let texts = Texts::of(text);
     for size in PIECES {
-        let found = by_pair(report.alloc, texts.trace, texts.witness, size)?;
-        case.compare("two texts", found.as_str(), report)?;
+        let found = by_pair(alloc, texts.trace, texts.witness, size);
+        case.compare("two texts", found, report);
     }
-    Ok(())
 }
 
 // Checks all cases that a line `end` can follow, in one input of `many`.
-fn ask_together<H: Threads + Wait + Sync>(rt: &H, cases: &[Case], report: &mut Report<'_>) -> Done {
-    let input = join(report.alloc, cases)?;
-    let found = by_words(rt, report.alloc, &MANY, input.as_slice())?;
-    compare_lines(cases, found.as_str(), report)
+fn ask_together<H: Threads + Wait + Sync>(rt: &H, cases: &[Case], report: &mut Report<'_>) {
+    let found = report.text(by_many(rt, report.alloc, cases));
+    compare_lines(cases, found.as_str(), report);
 }
 
-// Checks each other case as the only one of an input of `many`.
-fn ask_cut<H: Threads + Wait + Sync>(rt: &H, cases: &[Case], report: &mut Report<'_>) -> Done {
-    for case in cases {
-        if !case.is_ended() {
-            let found = by_words(rt, report.alloc, &MANY, case.text.as_slice())?;
-            case.compare("many, alone", found.as_str(), report)?;
-        }
-    }
-    Ok(())
-}
-
-// Checks inputs of `many` that consist only of ends of cases.
-fn ask_ends<H: Threads + Wait + Sync>(rt: &H, report: &mut Report<'_>) -> Done {
-    for (input, wanted) in &ENDS {
-        let found = by_words(rt, report.alloc, &MANY, input.as_bytes())?;
-        report.compare(input, "many", wanted, found.as_str())?;
-    }
-    Ok(())
-}
-
-// Checks an input of three cases with each of several numbers of threads. The expected output and status are the same
-// for each.
-fn ask_crews<H: Threads + Wait + Sync>(rt: &H, report: &mut Report<'_>) -> Done {
-    let input = report.read("three_cases.txt")?;
-    for words in &CREWS {
-        let found = by_words(rt, report.alloc, words, input.as_slice())?;
-        report.compare("three_cases.txt", words[2], THREE, found.as_str())?;
-    }
-    Ok(())
-}
-
-// One input with the cases that a line `end` can follow, each followed by that line.
-fn join(alloc: Global, cases: &[Case]) -> Result<Vec<u8>, AllocError> {
+// What `many` prints for the cases that a line `end` can follow, each followed by that line, then the status.
+fn by_many<H: Threads + Wait + Sync>(rt: &H, alloc: Global, cases: &[Case]) -> Text {
     let mut input = Vec::new(alloc);
     for case in cases {
         if case.is_ended() {
@@ -136,31 +85,56 @@ fn join(alloc: Global, cases: &[Case]) -> Result<Vec<u8>, AllocError> {
             input.extend_from_slice(b"end\n")?;
         }
     }
-    Ok(input)
+    by_words(rt, alloc, &MANY, input.as_slice())
 }
 
 // Compares the lines that `many` printed for these cases, and then the status, which is the greatest of theirs.
-fn compare_lines(cases: &[Case], found: &str, report: &mut Report<'_>) -> Done {
+fn compare_lines(cases: &[Case], found: &str, report: &mut Report<'_>) {
     let mut lines = found.lines();
     let mut greatest = 0;
     for case in cases {
         if case.is_ended() {
             let line = lines.next().unwrap_or("");
-            report.compare(case.name.as_str(), "many", case.line.as_str(), line)?;
-            greatest = case.status().max(greatest);
+            report.compare(case.name.as_str(), "many", case.line(), line);
+            greatest = status_of(case.line()).max(greatest);
         }
     }
-    let wanted = format!(in report.alloc; "{greatest}")?;
-    report.compare(
-        "the status",
-        "many",
-        wanted.as_str(),
-        lines.next().unwrap_or(""),
-    )
+    let wanted = report.text(format!(in report.alloc; "{greatest}"));
+    let status = lines.next().unwrap_or("");
+    report.compare("the status", "many", wanted.as_str(), status);
+}
+
+// Checks each other case as the only one of an input of `many`.
+fn ask_cut<H: Threads + Wait + Sync>(rt: &H, cases: &[Case], report: &mut Report<'_>) {
+    for case in cases {
+        if !case.is_ended() {
+            let found = by_words(rt, report.alloc, &MANY, case.text.as_slice());
+            case.compare("many, alone", found, report);
+        }
+    }
+}
+
+// Checks inputs of `many` that consist only of ends of cases.
+fn ask_ends<H: Threads + Wait + Sync>(rt: &H, report: &mut Report<'_>) {
+    for (input, wanted) in &ENDS {
+        let found = by_words(rt, report.alloc, &MANY, input.as_bytes());
+        report.compare_text(input, "many", wanted, found);
+    }
+}
+
+// Checks an input of three cases with each of several numbers of threads. The expected output and status are the same
+// for each.
+fn ask_crews<H: Threads + Wait + Sync>(rt: &H, report: &mut Report<'_>) {
+    let input = report.read("three_cases.txt");
+    for workers in CREWS {
+        let words = ["many", "--workers", workers];
+        let found = by_words(rt, report.alloc, &words, input.as_slice());
+        report.compare_text("three_cases.txt", workers, THREE, found);
+    }
 }
 
 /// What the checker answers, as it would be printed, then its status.
-pub fn judged(alloc: Global, text: &[u8]) -> Result<String, AllocError> {
+pub fn judged(alloc: Global, text: &[u8]) -> Text {
     match check_case(alloc, text) {
         Ok(verdict) => decided(alloc, verdict),
         Err(CaseFault::Trace(fault)) => refused(alloc, "bad trace ", &fault),
@@ -170,7 +144,7 @@ pub fn judged(alloc: Global, text: &[u8]) -> Result<String, AllocError> {
 }
 
 /// A verdict, as it would be printed, then its status.
-pub fn decided(alloc: Global, verdict: Verdict) -> Result<String, AllocError> {
+pub fn decided(alloc: Global, verdict: Verdict) -> Text {
     let status = match verdict {
         Verdict::Yes { .. } => 0,
         Verdict::No { .. } => 1,
@@ -179,20 +153,20 @@ pub fn decided(alloc: Global, verdict: Verdict) -> Result<String, AllocError> {
 }
 
 // A fault of a text, as it would be printed, then its status.
-fn refused(alloc: Global, refusal: &str, fault: &TextFault) -> Result<String, AllocError> {
+fn refused(alloc: Global, refusal: &str, fault: &TextFault) -> Text {
     let mut line = fault_line(alloc, refusal, fault)?;
     line.push('2')?;
     Ok(line)
 }
 
 // What was printed, then the status.
-fn printed_then_status(alloc: Global, output: &[u8], status: u8) -> Result<String, AllocError> {
+fn printed_then_status(alloc: Global, output: &[u8], status: u8) -> Text {
     let printed = String::from_utf8_lossy(alloc, output)?;
     format!(in alloc; "{printed}{status}")
 }
 
 // What the command `check` prints, then the status.
-fn by_check(alloc: Global, text: &[u8]) -> Result<String, AllocError> {
+fn by_check(alloc: Global, text: &[u8]) -> Text {
     let mut output = Vec::new(alloc);
     let mut reader = Counted::new(text);
     let mut writer = Counted::new(&mut output);
@@ -201,12 +175,7 @@ fn by_check(alloc: Global, text: &[u8]) -> Result<String, AllocError> {
 }
 
 /// What is printed for a trace and a witness as two texts, which are read in pieces, then the status.
-pub fn by_pair(
-    alloc: Global,
-    trace: &[u8],
-    witness: &[u8],
-    size: usize,
-) -> Result<String, AllocError> {
+pub fn by_pair(alloc: Global, trace: &[u8], witness: &[u8], size: usize) -> Text {
     let (Ok(trace), Ok(witness)) = (
         BufReader::with_capacity(alloc, size, trace),
         BufReader::with_capacity(alloc, size, witness),
@@ -230,7 +199,7 @@ pub fn by_words<H: Threads + Wait + Sync>(
     alloc: Global,
     words: &[&str],
     input: &[u8],
-) -> Result<String, AllocError> {
+) -> Text {
     let mut output = Vec::new(alloc);
     let mut reader = Counted::new(input);
     let mut writer = Counted::new(&mut output);

@@ -4,9 +4,9 @@
 //! `beginnings/NAME.txt`, counted from 0, has the line that is expected for the beginning that ends after k whole
 //! lines.
 
-use crate::report::{Done, Report};
-use crate::table::Case;
-use std::alloc::{AllocError, Global};
+use crate::report::{Done, Report, Text};
+use crate::table::{Case, push_case};
+use std::alloc::Global;
 
 // The examples, each with its expected lines.
 const EXAMPLES: [(&str, &str); 2] = [
@@ -42,23 +42,22 @@ impl Place {
     }
 
     // The line that is expected for a beginning that ends inside a line.
-    fn cut(&self, alloc: Global) -> Result<String, AllocError> {
+    fn cut(&self, alloc: Global) -> Text {
         format!(in alloc; "bad {} {} 0 {} cut", self.text, self.number, self.length)
     }
 }
 
 /// Adds each beginning of the examples.
-pub fn push_beginnings(cases: &mut Vec<Case>, report: &mut Report<'_>) -> Done {
+pub fn push_beginnings(cases: &mut Vec<Case>, report: &mut Report<'_>) {
     for (name, lines) in &EXAMPLES {
-        let case = report.read_case(name)?;
-        let lines = report.read_text(lines)?;
-        push_all(report.alloc, name, case.as_slice(), lines.as_str(), cases)?;
+        let case = report.read_case(name);
+        let lines = report.read_text(lines);
+        push_all(name, case.as_slice(), lines.as_str(), cases, report);
     }
-    Ok(())
 }
 
 // Adds each beginning of a case, with the lines that are expected for those that end after whole lines.
-fn push_all(alloc: Global, name: &str, case: &[u8], lines: &str, cases: &mut Vec<Case>) -> Done {
+fn push_all(name: &str, case: &[u8], lines: &str, cases: &mut Vec<Case>, report: &mut Report<'_>) {
     let mut lines = lines.lines();
     let mut place = Place {
         text: "trace",
@@ -75,25 +74,21 @@ fn push_all(alloc: Global, name: &str, case: &[u8], lines: &str, cases: &mut Vec
         } else {
             None
         };
-        cases.push(begun(alloc, name, beginning, &place, whole)?)?;
+        report.note(push_beginning(report.alloc, name, beginning, &place, whole, cases));
     }
-    Ok(())
 }
 
-// A beginning that ends at a place as a case. The line is the expected one if it ends after whole lines.
-fn begun(
+// Adds a beginning that ends at a place. The line is the expected one if it ends after whole lines.
+fn push_beginning(
     alloc: Global,
     name: &str,
     beginning: &[u8],
     place: &Place,
     whole: Option<&str>,
-) -> Result<Case, AllocError> {
+    cases: &mut Vec<Case>,
+) -> Done {
     let cut = place.cut(alloc)?;
+    let line = whole.unwrap_or(cut.as_str());
     let name = format!(in alloc; "the first {} bytes of {name}", beginning.len())?;
-    Case::new(
-        alloc,
-        name.as_str(),
-        beginning,
-        whole.unwrap_or(cut.as_str()),
-    )
+    push_case(alloc, cases, name.as_str(), beginning, line)
 }

@@ -3,7 +3,8 @@
 ghost use Rattle.std.specs.Io.{WritesAtMost};
 
 use crate::asking::by_words;
-use crate::report::{Done, Report};
+use crate::report::{Report, Text};
+use crate::table::answer_of;
 use cli::given_words;
 use std::alloc::{AllocError, Global};
 use std::env::{Args, Env, FillError};
@@ -54,51 +55,31 @@ fn fill(word: &str, buf: &mut [u8]) -> Result<usize, FillError>
 }
 
 /// Runs each row of a table: the expected line, then the words after the program's name, with a tab before each.
-pub fn ask_rows<H: Threads + Wait + Sync>(rt: &H, report: &mut Report<'_>) -> Done {
-    let table = report.read_text("command_lines.txt")?;
+pub fn ask_rows<H: Threads + Wait + Sync>(rt: &H, report: &mut Report<'_>) {
+    let table = report.read_text("command_lines.txt");
     let mut count: usize = 0;
     for row in table.as_str().lines() {
-        ask_row(rt, row, report)?;
+        ask_row(rt, row, report);
         count = count.saturating_add(1);
     }
-    report.count(count, "command lines are answered as wanted, ")
+    report.count(count, "command lines are answered as wanted, ");
 }
 
-fn ask_row<H: Threads + Wait + Sync>(rt: &H, row: &str, report: &mut Report<'_>) -> Done {
-    let line = row.split('\t').next().unwrap_or("");
-    let wanted = format!(in report.alloc; "{line}\n{}", status_of(line))?;
-    let found = by_row(rt, report.alloc, row)?;
-    report.compare(row, "tcpwit", wanted.as_str(), found.as_str())
-}
-
-// The status that belongs to a printed line.
-fn status_of(line: &str) -> u8 {
-    if line.starts_with("src ") {
-        0
-    } else if line == "bad usage" {
-        3
-    } else {
-        2
-    }
+fn ask_row<H: Threads + Wait + Sync>(rt: &H, row: &str, report: &mut Report<'_>) {
+    let wanted = report.text(answer_of(report.alloc, row.split('\t').next().unwrap_or("")));
+    let found = by_row(rt, report.alloc, row);
+    report.compare_text(row, "tcpwit", wanted.as_str(), found);
 }
 
 // What the words of a row print, then the status.
-fn by_row<H: Threads + Wait + Sync>(
-    rt: &H,
-    alloc: Global,
-    row: &str,
-) -> Result<String, AllocError> {
-    let Ok(given) = given_words(&CommandLine { row }, alloc) else {
-        return Err(AllocError);
-    };
-    by_given(rt, alloc, given)
+fn by_row<H: Threads + Wait + Sync>(rt: &H, alloc: Global, row: &str) -> Text {
+    match given_words(&CommandLine { row }, alloc) {
+        Ok(given) => by_given(rt, alloc, given),
+        Err(_) => Err(AllocError),
+    }
 }
 
-fn by_given<H: Threads + Wait + Sync>(
-    rt: &H,
-    alloc: Global,
-    given: Args,
-) -> Result<String, AllocError> {
+fn by_given<H: Threads + Wait + Sync>(rt: &H, alloc: Global, given: Args) -> Text {
     let given: Vec<String> = given.collect(alloc)?;
     let mut words = Vec::new(alloc);
     for word in given.iter().skip(1) {

@@ -1,9 +1,9 @@
 //! Which lines `tcpwit_lab draw` shows of a case with more than 400.
 
 use crate::long_lines::HEADER;
-use crate::report::{Done, Report};
-use drawing::{Range, draw};
-use replayed::Case;
+use crate::pictures::drawn;
+use crate::report::{Done, Report, Text};
+use drawing::Range;
 use std::alloc::{AllocError, Global};
 
 // How many calls the case has. Each has two lines; the first call has lines 7 and 8.
@@ -44,21 +44,28 @@ const PICTURES: [(Fault, Option<u64>, Option<u64>, &str); 13] = [
 ];
 
 /// Draws the case with each fault.
-pub fn ask_drawn(report: &mut Report<'_>) -> Done {
+pub fn ask_drawn(report: &mut Report<'_>) {
     for (number, (fault, from, to, wanted)) in PICTURES.iter().enumerate() {
         let range = Range {
             from: *from,
             to: *to,
         };
-        let name = format!(in report.alloc; "picture {number}")?;
-        let text = case_with(report.alloc, fault)?;
-        let found = drawn(report.alloc, text.as_slice(), range)?;
-        report.compare(name.as_str(), "the lines drawn", wanted, found.as_str())?;
+        let name = report.text(format!(in report.alloc; "picture {number}"));
+        let found = lines_drawn(report.alloc, fault, range);
+        report.compare_text(name.as_str(), "the lines drawn", wanted, found);
     }
     report.count(
         PICTURES.len(),
         "pictures of a long case show the lines that are wanted, and of ",
-    )
+    );
+}
+
+// The first and the last line that the picture of the case with a fault shows; 0 if it shows none.
+fn lines_drawn(alloc: Global, fault: &Fault, range: Range) -> Text {
+    let case = case_with(alloc, fault)?;
+    let picture = drawn(alloc, case.as_slice(), range)?;
+    let (first, last) = ends_of(picture.as_str());
+    format!(in alloc; "{first} {last}")
 }
 
 // The case with a fault.
@@ -101,16 +108,8 @@ fn push_steps(alloc: Global, text: &mut Vec<u8>, call: u64, fault: &Fault) -> Do
     text.extend_from_slice(steps.as_bytes())
 }
 
-// The first and the last line that the picture of a case shows.
-fn drawn(alloc: Global, text: &[u8], range: Range) -> Result<String, AllocError> {
-    match Case::read(alloc, text) {
-        Ok(case) => lines_drawn(alloc, draw(alloc, &case, range)?.as_str()),
-        Err(_) => String::from_str(alloc, "no picture"),
-    }
-}
-
 // The first and the last line that a picture shows; 0 if it shows none.
-fn lines_drawn(alloc: Global, picture: &str) -> Result<String, AllocError> {
+fn ends_of(picture: &str) -> (u64, u64) {
     let mut first: u64 = 0;
     let mut last: u64 = 0;
     for row in picture.lines() {
@@ -121,7 +120,7 @@ fn lines_drawn(alloc: Global, picture: &str) -> Result<String, AllocError> {
             last = number;
         }
     }
-    format!(in alloc; "{first} {last}")
+    (first, last)
 }
 
 // The number of a trace's line that a row of a picture names.

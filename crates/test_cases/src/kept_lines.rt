@@ -1,7 +1,7 @@
 //! Which event lines have every line of a trace. The search adds only lines that show a timeout, so no stored text has
 //! the other answers.
 
-use crate::report::{Done, Report};
+use crate::report::Report;
 use witness_search::Comparison;
 
 const TRACE: &[u8] = b"5 1 B status 9\n6 1 E badsocket\n";
@@ -19,13 +19,12 @@ const CASES: [(&str, Option<(u64, u64)>); 5] = [
 ];
 
 /// Compares them with the trace.
-pub fn ask_kept(report: &mut Report<'_>) -> Done {
+pub fn ask_kept(report: &mut Report<'_>) {
     for (case, wanted) in &CASES {
         if compared(case.as_bytes()) != *wanted {
-            report.compare(case, "the lines of a trace", "its counts", "others")?;
+            report.compare(case, "the lines of a trace", "its counts", "others");
         }
     }
-    Ok(())
 }
 
 fn compared(case: &[u8]) -> Option<(u64, u64)> {

@@ -5,11 +5,12 @@
 //! less is judged, a yes stays the same yes. It also does in version 5 with the slack `any`, which permits more.
 
 use crate::asking::{decided, judged};
-use crate::report::{Done, Report};
+use crate::report::{Report, Text};
 use crate::table::Case;
 use crate::version_four::{Rewritten, moved, rename, rewrite};
 use case_forms::{Judged, Version};
 use checker::{CaseFault, check_case};
+use std::alloc::Global;
 use trace_reader::version_named;
 use verdict::Verdict;
 
@@ -23,39 +24,40 @@ struct Covered {
 }
 
 /// Checks each case as version 4 with each word.
-pub fn ask_version_four(cases: &[Case], report: &mut Report<'_>) -> Done {
+pub fn ask_version_four(cases: &[Case], report: &mut Report<'_>) {
     let mut covered = Covered { same: 0, words: 0 };
     for case in cases {
-        ask_case(case, &mut covered, report)?;
+        ask_case(case, &mut covered, report);
     }
     report.count(
         covered.same,
         "case files of versions 1 to 3 have the same answer in version 4, and of ",
-    )?;
+    );
     report.count(
         covered.words,
         "case files none loses a yes when less is judged, or in version 5 with the slack any\n",
-    )
+    );
 }
 
 // A text with a fault can't be rewritten. But if a line of the header is at fault that version 4 has too, the fault
 // must stay the same after the text names version 4.
-fn ask_case(case: &Case, covered: &mut Covered, report: &mut Report<'_>) -> Done {
+fn ask_case(case: &Case, covered: &mut Covered, report: &mut Report<'_>) {
     let text = case.text.as_slice();
     match check_case(report.alloc, text) {
         Ok(verdict) => ask_words(case, verdict, covered, report),
         Err(CaseFault::Trace(fault)) if is_shared(version_named(text), fault.span.line) => {
             covered.same = covered.same.saturating_add(1);
-            ask_renamed(case, report)
+            let found = judged_renamed(report.alloc, text);
+            case.compare("version 4, by its first line alone", found, report);
         }
-        Err(_) => Ok(()),
+        Err(_) => {}
     }
 }
 
-fn ask_renamed(case: &Case, report: &mut Report<'_>) -> Done {
-    let text = rename(report.alloc, case.text.as_slice())?;
-    let found = judged(report.alloc, text.as_slice())?;
-    case.compare("version 4, by its first line alone", found.as_str(), report)
+// The answer to the same text, except that it names version 4.
+fn judged_renamed(alloc: Global, text: &[u8]) -> Text {
+    let renamed = rename(alloc, text)?;
+    judged(alloc, renamed.as_slice())
 }
 
 // Whether a line of the header has the same form in version 4. Line 1 names the version, and line 8 of version 3 is
@@ -69,15 +71,17 @@ fn is_shared(version: Version, line: u64) -> bool {
 }
 
 // Checks a case that has this verdict as version 4 with each word.
-fn ask_words(
-    case: &Case,
-    verdict: Verdict,
-    covered: &mut Covered,
-    report: &mut Report<'_>,
-) -> Done {
+fn ask_words(case: &Case, verdict: Verdict, covered: &mut Covered, report: &mut Report<'_>) {
     match rewrite(report.alloc, case.text.as_slice()) {
         Ok(mut rewritten) => ask_rewritten(case, verdict, &mut rewritten, covered, report),
-        Err(_) => case.compare("version 4", "a fault", report),
+        Err(_) => {
+            report.compare(
+                case.name.as_str(),
+                "version 4",
+                case.answer.as_str(),
+                "a fault",
+            );
+        }
     }
 }
 
@@ -87,38 +91,38 @@ fn ask_rewritten(
     rewritten: &mut Rewritten,
     covered: &mut Covered,
     report: &mut Report<'_>,
-) -> Done {
-    let full = rewritten.answer(report.alloc, Judged::Full)?;
+) {
+    let full = report.text(rewritten.answer(report.alloc, Judged::Full));
     if is_same(rewritten) {
-        let wanted = decided(report.alloc, moved_verdict(verdict, rewritten.moved_by))?;
+        let wanted = report.text(decided(report.alloc, moved_verdict(verdict, rewritten.moved_by)));
         report.compare(
             case.name.as_str(),
             "version 4, full",
             wanted.as_str(),
             full.as_str(),
-        )?;
+        );
         covered.same = covered.same.saturating_add(1);
     }
     covered.words = covered.words.saturating_add(1);
-    ask_less(case, full.as_str(), rewritten, report)
+    ask_less(case, full.as_str(), rewritten, report);
 }
 
 // Checks that an answer with `full` and that with `recovery` stay if they are a yes and less is judged.
-fn ask_less(case: &Case, full: &str, rewritten: &mut Rewritten, report: &mut Report<'_>) -> Done {
-    let recovery = rewritten.answer(report.alloc, Judged::Recovery)?;
-    compare_yes(case, "version 4, recovery", full, recovery.as_str(), report)?;
-    let nothing = rewritten.answer(report.alloc, Judged::NoControl)?;
+fn ask_less(case: &Case, full: &str, rewritten: &mut Rewritten, report: &mut Report<'_>) {
+    let recovery = report.text(rewritten.answer(report.alloc, Judged::Recovery));
+    compare_yes(case, "version 4, recovery", full, recovery.as_str(), report);
+    let nothing = report.text(rewritten.answer(report.alloc, Judged::NoControl));
     compare_yes(
         case,
         "version 4, none",
         recovery.as_str(),
         nothing.as_str(),
         report,
-    )?;
-    rewritten.permit_more(report.alloc)?;
-    ask_later(case, Judged::Full, full, rewritten, report)?;
-    ask_later(case, Judged::Recovery, recovery.as_str(), rewritten, report)?;
-    ask_later(case, Judged::NoControl, nothing.as_str(), rewritten, report)
+    );
+    report.note(rewritten.permit_more(report.alloc));
+    ask_later(case, Judged::Full, full, rewritten, report);
+    ask_later(case, Judged::Recovery, recovery.as_str(), rewritten, report);
+    ask_later(case, Judged::NoControl, nothing.as_str(), rewritten, report);
 }
 
 // Checks that an answer stays if it is a yes and the case becomes one of version 5 with the slack `any`.
@@ -128,30 +132,17 @@ fn ask_later(
     wanted: &str,
     rewritten: &mut Rewritten,
     report: &mut Report<'_>,
-) -> Done {
-    if !wanted.starts_with("yes ") {
-        return Ok(());
+) {
+    if wanted.starts_with("yes ") {
+        let found = rewritten.answer(report.alloc, congestion);
+        report.compare_text(case.name.as_str(), "version 5, slack any", wanted, found);
     }
-    let found = rewritten.answer(report.alloc, congestion)?;
-    report.compare(
-        case.name.as_str(),
-        "version 5, slack any",
-        wanted,
-        found.as_str(),
-    )
 }
 
-fn compare_yes(
-    case: &Case,
-    word: &str,
-    wanted: &str,
-    found: &str,
-    report: &mut Report<'_>,
-) -> Done {
+fn compare_yes(case: &Case, word: &str, wanted: &str, found: &str, report: &mut Report<'_>) {
     if wanted.starts_with("yes ") {
-        report.compare(case.name.as_str(), word, wanted, found)?;
+        report.compare(case.name.as_str(), word, wanted, found);
     }
-    Ok(())
 }
 
 // Whether version 4 must give the same answer as the version that was read. Version 1 doesn't look at the shift that a

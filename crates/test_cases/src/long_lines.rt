@@ -1,7 +1,7 @@
 //! Lines of the greatest length, and one byte longer. The LF isn't counted, and a line without one is measured whole.
 
 use crate::report::{Done, Report};
-use crate::table::Case;
+use crate::table::{Case, push_case};
 use std::alloc::{AllocError, Global};
 
 /// The header of a trace of version 1.
@@ -89,13 +89,25 @@ const LONG: [(&str, usize, &str, &str); 18] = [
 ];
 
 /// Adds a case for each.
-pub fn push_long_lines(cases: &mut Vec<Case>, report: &mut Report<'_>) -> Done {
+pub fn push_long_lines(cases: &mut Vec<Case>, report: &mut Report<'_>) {
     for (before, letters, after, line) in &LONG {
-        let name = format!(in report.alloc; "{before:?}, {letters} letters, {after:?}")?;
-        let text = text_of(report.alloc, before, *letters, after)?;
-        cases.push(Case::new(report.alloc, name.as_str(), text.as_slice(), line)?)?;
+        report.note(push_long_line(report.alloc, before, *letters, after, line, cases));
     }
-    report.count(LONG.len(), "long lines, ")
+    report.count(LONG.len(), "long lines, ");
+}
+
+// Adds the header, and a line with so many letters.
+fn push_long_line(
+    alloc: Global,
+    before: &str,
+    letters: usize,
+    after: &str,
+    line: &str,
+    cases: &mut Vec<Case>,
+) -> Done {
+    let name = format!(in alloc; "{before:?}, {letters} letters, {after:?}")?;
+    let text = text_of(alloc, before, letters, after)?;
+    push_case(alloc, cases, name.as_str(), text.as_slice(), line)
 }
 
 // The header, and a line with so many letters.

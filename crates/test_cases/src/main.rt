@@ -19,7 +19,8 @@
 //! - `stored`: texts that `tcpwit_lab` must print for a case
 //! - `kernel`: witnesses found for recordings of the Linux kernel and for written traces
 //! - `kept_lines`: which event lines have every line of a trace
-//! - `drawn`: which lines of a long case are drawn; `printed`: bytes that no terminal interprets
+//! - `pictures`: a case as `tcpwit_lab` shows and draws it; `drawn`: which lines of a long case are drawn; `printed`:
+//!   bytes that no terminal interprets
 //! - `version_four`: rewrites a case as version 4, and as version 5
 //! - `less_judged`: each case file as version 4, with more and less of congestion control judged, and as version 5 with
 //!   the slack `any`
@@ -34,6 +35,7 @@ mod kernel;
 mod less_judged;
 mod long_lines;
 mod pairs;
+mod pictures;
 mod printed;
 mod report;
 mod stored;
@@ -41,7 +43,7 @@ mod table;
 mod version_four;
 
 use kernel::ask_folder;
-use report::{Done, Report};
+use report::Report;
 use std::io;
 use std::process::ExitCode;
 use std::sync::Wait;
@@ -52,52 +54,45 @@ use table::Case;
 fn main(rt: HostRuntime) -> io::Result<ExitCode> {
     let mut cases = Vec::new(rt.alloc());
     let mut report = Report::new(&rt);
-    let asked = ask_all(&rt, &mut cases, &mut report);
+    ask_all(&rt, &mut cases, &mut report);
     let untold = table::report_untold(&rt, cases.as_slice(), &mut report);
     let printed = report.print();
     drop(cases);
     drop(report);
-    asked?;
     untold?;
     printed
 }
 
 // Reads the cases, and checks them and all else in several ways.
-fn ask_all<H: Threads + Wait + Sync>(
-    rt: &H,
-    cases: &mut Vec<Case>,
-    report: &mut Report<'_>,
-) -> Done {
-    table::push_files(cases, report)?;
+fn ask_all<H: Threads + Wait + Sync>(rt: &H, cases: &mut Vec<Case>, report: &mut Report<'_>) {
+    table::push_files(cases, report);
     let files = cases.len();
-    report.count(files, "case files, ")?;
-    beginnings::push_beginnings(cases, report)?;
-    report.count(
-        cases.len().saturating_sub(files),
-        "beginnings of two of them, ",
-    )?;
-    long_lines::push_long_lines(cases, report)?;
-    asking::ask_cases(rt, cases.as_slice(), report)?;
-    pairs::ask_pairs(report)?;
-    command_lines::ask_rows(rt, report)?;
+    report.count(files, "case files, ");
+    beginnings::push_beginnings(cases, report);
+    let begun = cases.len().saturating_sub(files);
+    report.count(begun, "beginnings of two of them, ");
+    long_lines::push_long_lines(cases, report);
+    asking::ask_cases(rt, cases.as_slice(), report);
+    pairs::ask_pairs(report);
+    command_lines::ask_rows(rt, report);
     ask_stored(
         "told.txt",
         "cases explained, shown or drawn as wanted, ",
         report,
-    )?;
-    ask_stored("remarked.txt", "cases remarked on as wanted, and ", report)?;
+    );
+    ask_stored("remarked.txt", "cases remarked on as wanted, and ", report);
     ask_folder(
         "kernel",
         "recordings of the kernel explained by what is found\n",
         report,
-    )?;
-    less_judged::ask_version_four(cases.as_slice().get(..files).unwrap_or(&[]), report)?;
+    );
+    less_judged::ask_version_four(cases.as_slice().get(..files).unwrap_or(&[]), report);
     ask_folder(
         "found",
         "written traces are explained by what is found, ",
         report,
-    )?;
-    kept_lines::ask_kept(report)?;
-    drawn::ask_drawn(report)?;
-    printed::ask_printed(report)
+    );
+    kept_lines::ask_kept(report);
+    drawn::ask_drawn(report);
+    printed::ask_printed(report);
 }

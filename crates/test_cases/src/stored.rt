@@ -2,72 +2,58 @@
 //! text. HEAD is `WORD NAME` in `told.txt`, with a command and the name of a case, and `STATUS NAME VERDICT` in
 //! `remarked.txt`, for the command `remark`.
 
-use crate::report::{Done, Report};
-use drawing::{Range, draw, show};
+use crate::pictures::{WHOLE, drawn, shown};
+use crate::report::{Report, Text};
 use plain_words::fault_line;
 use remarks::{Remarked, remark};
 use replayed::{Case, ReplayFault};
-use std::alloc::{AllocError, Global};
+use std::alloc::Global;
 use verdict::Verdict;
 use why::{Origin, explain};
 
 /// Compares each block of a table with what is printed now, and counts them.
-pub fn ask_stored(file: &str, what: &str, report: &mut Report<'_>) -> Done {
-    let table = report.read_text(file)?;
+pub fn ask_stored(file: &str, what: &str, report: &mut Report<'_>) {
+    let table = report.read_text(file);
     let mut count: usize = 0;
     for block in table.as_str().split("== ").skip(1) {
-        ask_block(file, block, report)?;
+        ask_block(file, block, report);
         count = count.saturating_add(1);
     }
-    report.count(count, what)
+    report.count(count, what);
 }
 
-fn ask_block(file: &str, block: &str, report: &mut Report<'_>) -> Done {
+fn ask_block(file: &str, block: &str, report: &mut Report<'_>) {
     let head = block.lines().next().unwrap_or("");
     let name = head.split(' ').nth(1).unwrap_or("");
-    let case = report.read_case(name)?;
-    let found = block_of(report.alloc, head, name, case.as_slice())?;
-    report.compare(head, file, block, found.as_str())
+    let case = report.read_case(name);
+    let found = block_of(report.alloc, head, name, case.as_slice());
+    report.compare_text(head, file, block, found);
 }
 
 // The block with this head as it should be. The word `simulated` means `explain --simulated`.
-fn block_of(alloc: Global, head: &str, name: &str, text: &[u8]) -> Result<String, AllocError> {
+fn block_of(alloc: Global, head: &str, name: &str, text: &[u8]) -> Text {
     match head.split(' ').next() {
         Some("explain") => explained(alloc, head, text, Origin::Captured),
         Some("simulated") => explained(alloc, head, text, Origin::Simulated),
-        Some("show" | "draw") => shown(alloc, head, text),
+        Some("show") => headed(alloc, head, shown(alloc, text)),
+        Some("draw") => headed(alloc, head, drawn(alloc, text, WHOLE)),
         _ => remarked(alloc, name, text),
     }
 }
 
-fn explained(alloc: Global, head: &str, text: &[u8], origin: Origin) -> Result<String, AllocError> {
+fn explained(alloc: Global, head: &str, text: &[u8], origin: Origin) -> Text {
     match explain(alloc, text, origin) {
         Ok(said) => format!(in alloc; "{head}\n{}", said.text),
         Err(fault) => format!(in alloc; "{fault}"),
     }
 }
 
-fn shown(alloc: Global, head: &str, text: &[u8]) -> Result<String, AllocError> {
-    match Case::read(alloc, text) {
-        Ok(case) => show_or_draw(alloc, head, &case),
-        Err(_) => String::from_str(alloc, "the trace can't be read"),
-    }
+fn headed(alloc: Global, head: &str, text: Text) -> Text {
+    format!(in alloc; "{head}\n{}", text?)
 }
 
-fn show_or_draw(alloc: Global, head: &str, case: &Case<'_>) -> Result<String, AllocError> {
-    let range = Range {
-        from: None,
-        to: None,
-    };
-    let text = if head.starts_with("show ") {
-        show(alloc, case)?
-    } else {
-        draw(alloc, case, range)?
-    };
-    format!(in alloc; "{head}\n{text}")
-}
-
-fn remarked(alloc: Global, name: &str, text: &[u8]) -> Result<String, AllocError> {
+// What the command `remark` prints, as its block begins with the status, the name and the verdict.
+fn remarked(alloc: Global, name: &str, text: &[u8]) -> Text {
     match Case::read(alloc, text) {
         Ok(case) => remarks_on(alloc, name, &case),
         Err(fault) => {
@@ -77,7 +63,7 @@ fn remarked(alloc: Global, name: &str, text: &[u8]) -> Result<String, AllocError
     }
 }
 
-fn remarks_on(alloc: Global, name: &str, case: &Case<'_>) -> Result<String, AllocError> {
+fn remarks_on(alloc: Global, name: &str, case: &Case<'_>) -> Text {
     match case.verdict {
         Ok(verdict) => of_remarks(alloc, name, verdict, remark(alloc, case)),
         Err(fault) => fault_line(alloc, "bad witness ", &fault),
@@ -89,7 +75,7 @@ fn of_remarks(
     name: &str,
     verdict: Verdict,
     remarked: Result<Remarked, ReplayFault>,
-) -> Result<String, AllocError> {
+) -> Text {
     match remarked {
         Ok(remarked) if remarked.text.as_str().lines().count() != remarked.places.len() => {
             format!(in alloc; "{name} has another count of remarks than lines")

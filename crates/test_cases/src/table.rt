@@ -1,7 +1,7 @@
 //! Cases, and the table of the files that hold them.
 
-use crate::report::{Done, Report};
-use std::alloc::{AllocError, Global};
+use crate::report::{Done, Report, Text};
+use std::alloc::Global;
 use std::{fs, io};
 
 /// A case: its name, its text, and the expected answer.
@@ -11,29 +11,49 @@ pub struct Case {
     pub name: String,
     /// The whole text, as it would be read.
     pub text: Vec<u8>,
-    /// The line that `tcpwit check` must print, without an LF.
-    pub line: String,
+    /// The line that `tcpwit check` must print, an LF, and the status.
+    pub answer: String,
+}
+
+/// The status that belongs to a printed line: 0 for a yes or a segment, 1 for a no, 2 for a text that is refused, and 3
+/// for bad usage.
+pub fn status_of(line: &str) -> u8 {
+    if line.starts_with("yes ") || line.starts_with("src ") {
+        0
+    } else if line.starts_with("no ") {
+        1
+    } else if line == "bad usage" {
+        3
+    } else {
+        2
+    }
+}
+
+/// A printed line, then its status.
+pub fn answer_of(alloc: Global, line: &str) -> Text {
+    format!(in alloc; "{line}\n{}", status_of(line))
+}
+
+/// Adds a case with this name, this text and this expected line.
+pub fn push_case(
+    alloc: Global,
+    cases: &mut Vec<Case>,
+    name: &str,
+    text: &[u8],
+    line: &str,
+) -> Done {
+    cases.push(Case {
+        name: String::from_str(alloc, name)?,
+        text: Vec::from_slice(alloc, text)?,
+        answer: answer_of(alloc, line)?,
+    })?;
+    Ok(())
 }
 
 impl Case {
-    /// A case with this name, this text and this expected line.
-    pub fn new(alloc: Global, name: &str, text: &[u8], line: &str) -> Result<Case, AllocError> {
-        Ok(Case {
-            name: String::from_str(alloc, name)?,
-            text: Vec::from_slice(alloc, text)?,
-            line: String::from_str(alloc, line)?,
-        })
-    }
-
-    /// The status that belongs to the expected line: 0 for a yes, 1 for a no, 2 for a text that is refused.
-    pub fn status(&self) -> u8 {
-        if self.line.as_str().starts_with("yes ") {
-            0
-        } else if self.line.as_str().starts_with("no ") {
-            1
-        } else {
-            2
-        }
+    /// The line that `tcpwit check` must print, without an LF.
+    pub fn line(&self) -> &str {
+        self.answer.as_str().lines().next().unwrap_or("")
     }
 
     /// Whether the text is empty or ends with an LF, so that a line `end` can follow it.
@@ -42,21 +62,23 @@ impl Case {
     }
 
     /// Compares an answer with the expected one. Both are the output, then the status.
-    pub fn compare(&self, way: &str, found: &str, report: &mut Report<'_>) -> Done {
-        let wanted = format!(in report.alloc; "{}\n{}", self.line, self.status())?;
-        report.compare(self.name.as_str(), way, wanted.as_str(), found)
+    pub fn compare(&self, way: &str, found: Text, report: &mut Report<'_>) {
+        report.compare_text(self.name.as_str(), way, self.answer.as_str(), found);
     }
 }
 
 /// Adds the cases of the table `expected.txt`, each from its file.
-pub fn push_files(cases: &mut Vec<Case>, report: &mut Report<'_>) -> Done {
-    let table = report.read_text("expected.txt")?;
+pub fn push_files(cases: &mut Vec<Case>, report: &mut Report<'_>) {
+    let table = report.read_text("expected.txt");
     for row in table.as_str().lines() {
-        let (name, line) = row.split_once('\t').unwrap_or((row, ""));
-        let text = report.read_case(name)?;
-        cases.push(Case::new(report.alloc, name, text.as_slice(), line)?)?;
+        push_file(row, cases, report);
     }
-    Ok(())
+}
+
+fn push_file(row: &str, cases: &mut Vec<Case>, report: &mut Report<'_>) {
+    let (name, line) = row.split_once('\t').unwrap_or((row, ""));
+    let text = report.read_case(name);
+    report.note(push_case(report.alloc, cases, name, text.as_slice(), line));
 }
 
 /// Reports each case file that has no line in the table.
@@ -64,20 +86,20 @@ pub fn report_untold(rt: &HostRuntime, cases: &[Case], report: &mut Report<'_>) 
     for folder in [".", "examples"] {
         for entry in fs::read_dir(rt, folder)? {
             let entry = entry?;
-            report_if_untold(entry.path().as_str(), cases, report)?;
+            report_if_untold(entry.path().as_str(), cases, report);
         }
     }
     Ok(())
 }
 
 // Reports a file if it is a case that has no line in the table.
-fn report_if_untold(path: &str, cases: &[Case], report: &mut Report<'_>) -> Done {
+fn report_if_untold(path: &str, cases: &[Case], report: &mut Report<'_>) {
     let path = path.strip_prefix("./").unwrap_or(path);
     match path.strip_suffix(".case") {
         Some(name) if !is_told(name, cases) => {
-            report.compare(path, "expected.txt", "a line", "none")
+            report.compare(path, "expected.txt", "a line", "none");
         }
-        _ => Ok(()),
+        _ => {}
     }
 }
 

@@ -5,6 +5,7 @@
 //! the case then becomes one of version 5.
 
 use crate::asking::judged;
+use crate::report::Text;
 use case_forms::{
     Event, Extras, Judged, Label, NamedLine, OutOfMemory, Step, Steps, Trace, Version, Witness,
 };
@@ -62,7 +63,7 @@ impl Rewritten {
     }
 
     /// The answer to the case if this much of congestion control is judged, as it would be printed, then its status.
-    pub fn answer(&mut self, alloc: Global, congestion: Judged) -> Result<String, OutOfMemory> {
+    pub fn answer(&mut self, alloc: Global, congestion: Judged) -> Text {
         self.trace.header.congestion = congestion;
         let text = print_case(alloc, &self.trace, &self.witness)?;
         judged(alloc, text.as_slice())

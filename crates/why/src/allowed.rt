@@ -36,7 +36,7 @@ const WORDS: [Answer; 21] = [
 
 /// Writes the answers that a call may have, with `or` between them.
 pub(crate) fn say_allowed(out: &mut String, scene: &Scene, call: &Call) -> Done {
-    let (world, start) = (scene.world(), out.len());
+    let (world, start) = (scene.world, out.len());
     say_words(out, world, call)?;
     let or = word_if(start < out.len(), " or");
     match call {

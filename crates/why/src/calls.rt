@@ -16,7 +16,7 @@ const SHOWN: usize = 60;
 
 /// Writes the open call of a thread.
 pub(crate) fn describe_thread(out: &mut String, scene: &Scene, thread: u32) -> Done {
-    let world = scene.world();
+    let world = scene.world;
     match (world.pending_call(thread), world.given_answer(thread)) {
         (None, None) => writeln!(out, "thread {thread} has no open call"),
         (Some(call), _) => {
@@ -79,7 +79,7 @@ pub(crate) fn describe_end(out: &mut String, scene: &Scene, thread: u32, answer:
     out.push_str("the line has the answer")?;
     say_answer(out, answer)?;
     describe_thread(out, scene, thread)?;
-    match (answer, scene.world().given_answer(thread)) {
+    match (answer, scene.world.given_answer(thread)) {
         (Answer::Bytes(told), Some(Answer::Bytes(given))) => {
             let (told, given) = (told.as_slice(), given.as_slice());
             first_difference(out, "byte", "in the effect", given, told)
@@ -90,7 +90,7 @@ pub(crate) fn describe_end(out: &mut String, scene: &Scene, thread: u32, answer:
 
 /// Where a socket number was returned before.
 pub(crate) fn socket(out: &mut String, scene: &Scene, number: u32) -> Done {
-    if let Some(host) = giver(scene.world(), number) {
+    if let Some(host) = giver(scene.world, number) {
         let host = HostName(host);
         writeln!(
             out,
@@ -102,7 +102,7 @@ pub(crate) fn socket(out: &mut String, scene: &Scene, number: u32) -> Done {
 
 /// What the call refers to, and the answers that it may have.
 pub(crate) fn call_answer(out: &mut String, scene: &Scene, thread: u32, answer: &Answer) -> Done {
-    let Some(call) = scene.world().pending_call(thread) else {
+    let Some(call) = scene.world.pending_call(thread) else {
         return Ok(());
     };
     describe_object(out, scene, call)?;
@@ -115,7 +115,7 @@ pub(crate) fn call_answer(out: &mut String, scene: &Scene, thread: u32, answer: 
 
 // Writes what a call refers to.
 fn describe_object(out: &mut String, scene: &Scene, call: &Call) -> Done {
-    let world = scene.world();
+    let world = scene.world;
     match call {
         Call::Listen(host, port, _) => match world.body(*host).listener_on(*port) {
             Some(place) => describe_listener(out, world, *host, place),
@@ -147,7 +147,7 @@ pub(crate) fn giver(world: &World, socket: u32) -> Option<Host> {
 
 // Writes what a socket number names at the host that returned it.
 fn describe_named(out: &mut String, scene: &Scene, socket: u32) -> Done {
-    let world = scene.world();
+    let world = scene.world;
     let Some(host) = giver(world, socket) else {
         return writeln!(out, "socket number {socket} was never returned");
     };

@@ -94,7 +94,7 @@ fn of_effect(out: &mut String, scene: &Scene, rule: Rule, thread: u32, answer: &
 
 fn of_building(out: &mut String, scene: &Scene, rule: Rule, it: Building) -> Done {
     match rule {
-        Rule::NoEndpoint | Rule::State => building::state(out, scene.world(), it),
+        Rule::NoEndpoint | Rule::State => building::state(out, scene.world, it),
         Rule::Iss => building::iss(out, it),
         Rule::PayloadRange => building::payload_range(out, it),
         Rule::AckField => building::ack_field(out, it),

@@ -29,7 +29,7 @@ pub(crate) fn describe_ports(
     lport: u16,
     rport: u16,
 ) -> Done {
-    match scene.world().body(host).place_of(lport, rport) {
+    match scene.world.body(host).place_of(lport, rport) {
         Some(number) => describe(out, scene, EndpointId { host, number }),
         None => no_endpoint(out, host, lport, rport),
     }
@@ -37,7 +37,7 @@ pub(crate) fn describe_ports(
 
 /// Writes the values of an endpoint that rules compare, as they are before the step or after the last one.
 pub(crate) fn describe(out: &mut String, scene: &Scene, id: EndpointId) -> Done {
-    let Some(endpoint) = scene.world().body(id.host).endpoint_at(id.number) else {
+    let Some(endpoint) = scene.world.body(id.host).endpoint_at(id.number) else {
         return Ok(());
     };
     let (lport, rport) = (endpoint.lport, endpoint.rport);

@@ -4,7 +4,7 @@ use crate::comparing::compare;
 use crate::described::describe_ports;
 use crate::known::{Origin, say_cause};
 use crate::marks::mark;
-use crate::scene::{Object, Scene};
+use crate::scene::{Object, Past, Scene};
 use crate::unjudged::say_unjudged;
 use crate::{Done, calls, inbox, late, processing, wire};
 use case_forms::{Event, Host, Label, Line, OutOfMemory, Step};
@@ -105,21 +105,22 @@ fn explain_no(
     origin: Origin,
 ) -> Result<u8, ReplayFault> {
     quote(out, case)?;
-    let mut scene = Scene::new(alloc, case);
-    let explained = run_and_explain(out, &mut scene, rule, origin);
-    drop(scene);
+    let mut past = Past::new(alloc, case);
+    let explained = run_and_explain(out, &mut past, rule, origin);
+    drop(past);
     explained
 }
 
 fn run_and_explain(
     out: &mut String,
-    scene: &mut Scene,
+    past: &mut Past,
     rule: Rule,
     origin: Origin,
 ) -> Result<u8, ReplayFault> {
-    scene.run()?;
-    describe(out, scene, rule)?;
-    explain_refusal(out, scene, rule, origin)?;
+    past.run()?;
+    let scene = past.scene();
+    describe(out, &scene, rule)?;
+    explain_refusal(out, &scene, rule, origin)?;
     Ok(1)
 }
 
@@ -186,7 +187,7 @@ fn describe_step(out: &mut String, scene: &Scene, step: &Step) -> Done {
         Label::T { host, line, .. } => {
             inbox::describe_arrival(out, scene, *host, *line)?;
             match scene.object() {
-                Object::Listening(host, m, _) => processing::listener(out, scene.world(), host, m),
+                Object::Listening(host, m, _) => processing::listener(out, scene.world, host, m),
                 _ => Ok(()),
             }
         }

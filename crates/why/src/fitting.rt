@@ -128,7 +128,7 @@ impl OtherWindows {
 /// Writes which other windows the segment of the step would fit; nothing if there are none. A segment of more than SMSS
 /// bytes fits none.
 pub(crate) fn say_fitting(out: &mut String, scene: &Scene, rule: Rule) -> Done {
-    match (scene.object(), &scene.others) {
+    match (scene.object(), scene.others) {
         (Object::Building(it), Some(others)) if rule == Rule::Offered => {
             fits_latest(out, others, end_of(it.plan))
         }

@@ -12,7 +12,7 @@ use spec_tcp::Emission;
 
 /// Writes the segment of a line in an inbox, and its endpoint, or why it isn't there.
 pub(crate) fn describe_arrival(out: &mut String, scene: &Scene, host: Host, line: u64) -> Done {
-    match scene.world().waiting(host, line) {
+    match scene.world.waiting(host, line) {
         Some(m) => describe_waiting(out, scene, host, m),
         None => nothing_waits(out, scene, host, line),
     }

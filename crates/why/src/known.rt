@@ -38,7 +38,7 @@ pub(crate) fn say_cause(out: &mut String, scene: &Scene, rule: Rule, origin: Ori
 fn is_known(scene: &Scene, known: Known) -> bool {
     let is_none = matches!(scene.header().congestion, Judged::NoControl);
     match scene.object() {
-        Object::Effect(thread, _) => is_call(scene.world().pending_call(thread), known),
+        Object::Effect(thread, _) => is_call(scene.world.pending_call(thread), known),
         Object::Building(it) => is_known_of(it, is_none, known),
         Object::Sent(made, _, wire) => is_ack(made, wire, known),
         Object::Expiring(it) => match it.timer {

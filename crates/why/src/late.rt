@@ -37,7 +37,7 @@ pub(crate) fn describe_touched(out: &mut String, scene: &Scene) -> Done {
 /// Since when the segment waits in the inbox, and when it was due.
 pub(crate) fn waiting(out: &mut String, scene: &Scene) -> Done {
     let line = waiting_line(scene);
-    let Some(since) = scene.duties().waiting_since(line) else {
+    let Some(since) = scene.duties.waiting_since(line) else {
         return Ok(());
     };
     write!(out, "the segment of line {line} has waited since {since}; ")?;
@@ -46,7 +46,7 @@ pub(crate) fn waiting(out: &mut String, scene: &Scene) -> Done {
 
 // The line of the segment that waits; 0 if none does.
 fn waiting_line(scene: &Scene) -> u64 {
-    match (scene.refusal(), scene.step.map(|step| &step.label)) {
+    match (scene.refusal(), scene.label()) {
         (Refusal::Late { line, .. }, _) => line,
         (_, Some(Label::T { line, .. } | Label::K { line, .. } | Label::R { line, .. })) => *line,
         _ => 0,
@@ -56,7 +56,7 @@ fn waiting_line(scene: &Scene) -> u64 {
 /// When the segment was built that the step sends, and when it was due.
 pub(crate) fn built(out: &mut String, scene: &Scene, number: u32) -> Done {
     describe_touched(out, scene)?;
-    let Some(since) = scene.duties().built_since(number) else {
+    let Some(since) = scene.duties.built_since(number) else {
         return Ok(());
     };
     write!(out, "segment {number} was built at {since}; ")?;

@@ -17,11 +17,11 @@ const LEAST: TakeChoice = TakeChoice {
 
 /// Why the segment of a line may not be dropped.
 pub(crate) fn dropped(out: &mut String, scene: &Scene) -> Done {
-    let Some(Label::K { host, line }) = scene.step.map(|step| &step.label) else {
+    let Some(Label::K { host, line }) = scene.label() else {
         return Ok(());
     };
     let taken = scene
-        .world()
+        .world
         .admits_taking(*host, scene.moment(), *line, LEAST);
     out.push_str(if taken.is_ok() {
         "processing it would break no rule, so it may not be dropped\n"
@@ -68,5 +68,5 @@ pub(crate) fn ack_excess(out: &mut String, scene: &Scene) -> Done {
 // What the endpoint owes that the step touches.
 fn owed_by_touched(scene: &Scene) -> Option<Owed> {
     let id = scene.touched?;
-    Some(scene.duties().owed_by(id.host, id.number))
+    Some(scene.duties.owed_by(id.host, id.number))
 }

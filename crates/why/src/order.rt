@@ -7,13 +7,18 @@ use case_forms::{Event, Line, NamedLine, Timer};
 /// A line that the trace doesn't have, or extra numbers that it can't have.
 pub(crate) fn line_range(out: &mut String, scene: &Scene) -> Done {
     let NamedLine { number, extras } = scene.named();
-    if let Some(line) = scene.line(number) {
-        let (count, wanted) = (
-            extras.count(),
-            wanted(line, scene.header().version.is_half()),
-        );
-        return writeln!(out, "extra numbers in the step: {count}; {wanted}");
+    match scene.line(number) {
+        Some(line) => extras_off(out, scene, line, extras.count()),
+        None => no_line(out, scene, number),
     }
+}
+
+fn extras_off(out: &mut String, scene: &Scene, line: &Line, count: u8) -> Done {
+    let wanted = wanted(line, scene.header().version.is_half());
+    writeln!(out, "extra numbers in the step: {count}; {wanted}")
+}
+
+fn no_line(out: &mut String, scene: &Scene, number: u64) -> Done {
     let (count, first) = (scene.lines().len(), scene.header().first_event_line());
     writeln!(
         out,
@@ -79,9 +84,10 @@ pub(crate) fn moment_falls(out: &mut String, scene: &Scene) -> Done {
 
 /// When a line may be used.
 pub(crate) fn moment_off(out: &mut String, scene: &Scene) -> Done {
-    let (moment, skew) = (scene.moment(), scene.header().skew);
-    let line = scene.line(scene.named().number);
-    let from = line.map_or(0, |line| line.moment);
+    let Some(line) = scene.line(scene.named().number) else {
+        return Ok(());
+    };
+    let (moment, from, skew) = (scene.moment(), line.moment, scene.header().skew);
     let to = from.saturating_add(skew);
     writeln!(
         out,

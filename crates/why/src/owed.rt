@@ -19,7 +19,7 @@ pub(crate) fn describe_owed(
     };
     out.push_str("  owes:")?;
     let start = out.len();
-    say_debts(out, &debts_of(scene.duties(), id, endpoint))?;
+    say_debts(out, &debts_of(scene.duties, id, endpoint))?;
     if start == out.len() {
         out.push_str(" nothing\n")
     } else {

@@ -30,7 +30,7 @@ impl fmt::Display for EndpointName {
 /// The endpoints that built the segment and that process it.
 pub(crate) fn not_peer(out: &mut String, scene: &Scene, it: Processing, m: &Arrived) -> Done {
     let (host, endpoint) = (it.host, it.endpoint);
-    let body = scene.world().body(host);
+    let body = scene.world.body(host);
     let number = body.place_of(endpoint.lport, endpoint.rport).unwrap_or(0);
     let receiver = EndpointName(EndpointId { host, number });
     let sender = EndpointName(m.sender());
@@ -54,7 +54,7 @@ fn built_for(out: &mut String, sender: EndpointName, peer: EndpointName) -> Done
 
 /// How many children the listen queue has, and how many it has room for.
 pub(crate) fn queue_full(out: &mut String, scene: &Scene, it: Processing) -> Done {
-    let body = scene.world().body(it.host);
+    let body = scene.world.body(it.host);
     let Some(listener) = it
         .endpoint
         .listener

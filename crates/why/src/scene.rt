@@ -12,8 +12,74 @@ use spec_tcp::{Arrived, Emission, EndpointId};
 use std::alloc::Global;
 use std::collections::BTreeMap;
 
-/// What is known at the refused step, or after the last step if none is refused.
+/// The steps before the refused one, or all steps if none is refused, and what they leave.
 #[derive(Drop)]
+pub(crate) struct Past<'c> {
+    alloc: Global,
+    replay: Replay<'c>,
+    /// For each line used, the line of the witness that used it.
+    used: BTreeMap<u64, u64>,
+    /// If the refused step builds a segment, other windows of the endpoint that builds it.
+    others: Option<OtherWindows>,
+}
+
+impl<'c> Past<'c> {
+    /// A case before its first step.
+    pub(crate) fn new(alloc: Global, case: &'c Case<'c>) -> Past<'c> {
+        Past {
+            alloc,
+            replay: Replay::new(alloc, case),
+            used: BTreeMap::new(alloc),
+            others: OtherWindows::of(alloc, case.refused_step()),
+        }
+    }
+
+    /// Does the steps.
+    pub(crate) fn run(&mut self) -> Result<(), ReplayFault> {
+        let steps = self.replay.case().steps_before_refusal();
+        for (place, step) in steps.iter().enumerate() {
+            if let Label::L(named) = &step.label {
+                self.used.insert(named.number, witness_line(Some(place)))?;
+            }
+            self.do_step(step)?;
+        }
+        Ok(())
+    }
+
+    fn do_step(&mut self, step: &Step) -> Result<(), ReplayFault> {
+        let Some(others) = &mut self.others else {
+            return self.replay.apply(step);
+        };
+        others.note(self.replay.world(), step);
+        self.replay.apply(step)?;
+        others.follow(self.replay.world())?;
+        Ok(())
+    }
+
+    /// What is known after the steps.
+    pub(crate) fn scene(&self) -> Scene<'_> {
+        let (replay, case) = (&self.replay, self.replay.case());
+        let step = case.refused_step();
+        Scene {
+            alloc: self.alloc,
+            case,
+            before: case.steps_before_refusal(),
+            step,
+            world: replay.world(),
+            duties: replay.duties(),
+            used: &self.used,
+            others: self.others.as_ref(),
+            touched: match step {
+                Some(step) => replay.touched(step),
+                None => None,
+            },
+            debtor: replay.debtor(),
+        }
+    }
+}
+
+/// What is known at the refused step, or after the last step if none is refused.
+#[derive(Clone, Copy)]
 pub(crate) struct Scene<'c> {
     pub alloc: Global,
     case: &'c Case<'c>,
@@ -21,11 +87,12 @@ pub(crate) struct Scene<'c> {
     pub before: &'c [Step],
     /// The refused step. None: a rule is broken after the last step.
     pub step: Option<&'c Step>,
-    replay: Replay<'c>,
+    pub world: &'c World,
+    pub duties: &'c Duties,
     /// For each line used, the line of the witness that used it.
-    pub used: BTreeMap<u64, u64>,
+    pub used: &'c BTreeMap<u64, u64>,
     /// If the step builds a segment, other windows of the endpoint that builds it.
-    pub others: Option<OtherWindows>,
+    pub others: Option<&'c OtherWindows>,
     /// The endpoint that the step touches. None: it touches none, or creates one.
     pub touched: Option<EndpointId>,
     /// The endpoint whose duty is late at the step or after the last one. None: the rule is none of 44 to 49.
@@ -81,61 +148,6 @@ pub(crate) struct Expiring<'s> {
 }
 
 impl<'c> Scene<'c> {
-    /// A case before its first step.
-    pub(crate) fn new(alloc: Global, case: &'c Case<'c>) -> Scene<'c> {
-        let step = case.refused_step();
-        Scene {
-            alloc,
-            case,
-            before: case.steps_before_refusal(),
-            step,
-            replay: Replay::new(alloc, case),
-            used: BTreeMap::new(alloc),
-            others: OtherWindows::of(alloc, step),
-            touched: None,
-            debtor: None,
-        }
-    }
-
-    /// Does the steps before the refused one, and looks at that.
-    pub(crate) fn run(&mut self) -> Result<(), ReplayFault> {
-        self.do_steps()?;
-        self.touched = match self.step {
-            Some(step) => self.replay.touched(step),
-            None => None,
-        };
-        self.debtor = self.replay.debtor();
-        Ok(())
-    }
-
-    fn do_steps(&mut self) -> Result<(), ReplayFault> {
-        for (place, step) in self.before.iter().enumerate() {
-            if let Label::L(named) = &step.label {
-                self.used.insert(named.number, witness_line(Some(place)))?;
-            }
-            self.do_step(step)?;
-        }
-        Ok(())
-    }
-
-    fn do_step(&mut self, step: &Step) -> Result<(), ReplayFault> {
-        let Some(others) = &mut self.others else {
-            return self.replay.apply(step);
-        };
-        others.note(self.replay.world(), step);
-        self.replay.apply(step)?;
-        others.follow(self.replay.world())?;
-        Ok(())
-    }
-
-    pub(crate) fn world(&self) -> &World {
-        self.replay.world()
-    }
-
-    pub(crate) fn duties(&self) -> &Duties {
-        self.replay.duties()
-    }
-
     pub(crate) fn header(&self) -> &'c Header {
         &self.case.trace.header
     }
@@ -152,12 +164,23 @@ impl<'c> Scene<'c> {
 
     /// The moment of the last step before the refused one.
     pub(crate) fn last_moment(&self) -> u64 {
-        self.before.last().map_or(0, |step| step.moment)
+        match self.before.last() {
+            Some(step) => step.moment,
+            None => 0,
+        }
     }
 
     /// The moment of the step.
     pub(crate) fn moment(&self) -> u64 {
-        self.step.map_or(0, |step| step.moment)
+        match self.step {
+            Some(step) => step.moment,
+            None => 0,
+        }
+    }
+
+    /// The label of the step. None: a rule is broken after the last step.
+    pub(crate) fn label(&self) -> Option<&'c Label<NamedLine>> {
+        Some(&self.step?.label)
     }
 
     /// The line of the witness that used a line of the trace. None: none did before the step.
@@ -172,7 +195,7 @@ impl<'c> Scene<'c> {
 
     /// The endpoint of a host with these ports, closed or not.
     pub(crate) fn endpoint(&self, host: Host, lport: u16, rport: u16) -> Option<&Endpoint> {
-        self.world().body(host).endpoint_of(lport, rport)
+        self.world.body(host).endpoint_of(lport, rport)
     }
 
     /// The endpoint of a segment's ports, closed or not.
@@ -187,7 +210,7 @@ impl<'c> Scene<'c> {
 
     /// The line of the trace that the step uses, by its number; 0 if it uses none.
     pub(crate) fn named(&self) -> NamedLine {
-        match self.step.map(|step| &step.label) {
+        match self.label() {
             Some(Label::L(named)) => *named,
             _ => NamedLine {
                 number: 0,
@@ -207,7 +230,7 @@ impl<'c> Scene<'c> {
     }
 
     fn known_object(&self) -> Option<Object> {
-        Some(match &self.step?.label {
+        Some(match self.label()? {
             Label::L(named) => return self.object_of_line(*named),
             Label::D { thread, answer } => Object::Effect(*thread, answer),
             Label::M { host, plan } => Object::Building(Building {
@@ -216,7 +239,7 @@ impl<'c> Scene<'c> {
                 endpoint: self.endpoint(*host, plan.lport, plan.rport)?,
             }),
             Label::T { host, line, choice } => return self.processed(*host, *line, *choice),
-            Label::R { host, line } => Object::Answered(*host, self.world().waiting(*host, *line)?),
+            Label::R { host, line } => Object::Answered(*host, self.world.waiting(*host, *line)?),
             Label::F { host, recovery } => {
                 let endpoint = self.endpoint(*host, recovery.lport, recovery.rport)?;
                 Object::Recovering(endpoint, *recovery)
@@ -231,10 +254,10 @@ impl<'c> Scene<'c> {
             Event::CallBegin(_) => return None,
             Event::CallEnd(answer) => Object::End(line.thread, answer),
             Event::Sent(host, wire) => {
-                Object::Sent(self.world().made(*host, extra)?.emission(), extra, wire)
+                Object::Sent(self.world.made(*host, extra)?.emission(), extra, wire)
             }
             Event::Came(host, wire) => {
-                Object::Came(self.world().sent(host.other(), u64::from(extra))?, wire)
+                Object::Came(self.world.sent(host.other(), u64::from(extra))?, wire)
             }
             Event::Expired(host, lport, rport, timer) => Object::Expiring(Expiring {
                 endpoint: self.endpoint(*host, *lport, *rport)?,
@@ -244,7 +267,7 @@ impl<'c> Scene<'c> {
     }
 
     fn processed(&self, host: Host, line: u64, choice: TakeChoice) -> Option<Object> {
-        let m = self.world().waiting(host, line)?;
+        let m = self.world.waiting(host, line)?;
         Some(match self.taker(host, m) {
             Some(endpoint) if !endpoint.state.is_closed() => Object::Processing(Processing {
                 host,

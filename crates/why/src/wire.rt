@@ -4,12 +4,12 @@ use crate::Done;
 use crate::scene::{Scene, first_extra};
 use case_forms::{Event, Host, Label, Wire};
 use plain_words::{HostName, word_if};
-use segment::Flag;
+use segment::{Flag, Segment};
 use spec_tcp::Emission;
 
 /// Writes that the host of an O line built no segment of the number that the step names, if that is so.
 pub(crate) fn describe_sent(out: &mut String, scene: &Scene, host: Host) -> Done {
-    let (world, number) = (scene.world(), first_extra(scene.named().extras));
+    let (world, number) = (scene.world, first_extra(scene.named().extras));
     if world.made(host, number).is_some() {
         return Ok(());
     }
@@ -23,7 +23,7 @@ pub(crate) fn describe_sent(out: &mut String, scene: &Scene, host: Host) -> Done
 /// Writes what is wrong with the line that a received segment should copy, if that is no sent segment.
 pub(crate) fn describe_came(out: &mut String, scene: &Scene, host: Host) -> Done {
     let (sender, copied) = (host.other(), u64::from(first_extra(scene.named().extras)));
-    if scene.world().sent(sender, copied).is_some() {
+    if scene.world.sent(sender, copied).is_some() {
         return Ok(());
     }
     let yet = word_if(sender_in(scene, copied) == Some(sender), " used yet; it is");
@@ -86,38 +86,53 @@ pub(crate) fn lifetime(out: &mut String, scene: &Scene, m: &Emission) -> Done {
 
 /// The fields in which the segment and the line differ.
 pub(crate) fn differences(out: &mut String, m: &Emission, wire: &Wire) -> Done {
-    let (seg, is_reply) = (&wire.seg, m.is_reset_reply);
-    let ack = u64::from(if m.flags.ack { m.ack_seq.0 } else { seg.ack.0 });
-    let window = u64::from(if is_reply { seg.window } else { m.window });
-    let (built, shown) = (m.payload.as_slice(), seg.payload.as_slice());
-    for (name, built, shown) in [
-        ("source port", u64::from(m.lport), u64::from(seg.src)),
-        ("destination port", u64::from(m.rport), u64::from(seg.dst)),
-        ("sequence number", u64::from(m.seq.0), u64::from(seg.seq.0)),
-        ("acknowledgment number", ack, u64::from(seg.ack.0)),
-        ("ACK", u64::from(m.flags.ack), u64::from(seg.has(Flag::Ack))),
-        ("RST", u64::from(m.flags.rst), u64::from(seg.has(Flag::Rst))),
-        ("SYN", u64::from(m.flags.syn), u64::from(seg.has(Flag::Syn))),
-        ("FIN", u64::from(m.flags.fin), u64::from(seg.has(Flag::Fin))),
-        ("window", window, u64::from(seg.window)),
-        ("bytes", built.len() as u64, shown.len() as u64),
-    ] {
+    for (name, built, shown) in &fields(m, &wire.seg) {
         if built != shown {
             writeln!(out, "  {name}: built {built}, the line shows {shown}")?;
         }
     }
+    let (built, shown) = (m.payload.as_slice(), wire.seg.payload.as_slice());
     first_difference(out, "payload byte", "built", built, shown)?;
-    match (m.shift, wire.seg.scale) {
-        (Some(built), Some(shown)) if built != shown => {
-            writeln!(out, "  window shift: built {built}, the line shows {shown}")
-        }
-        (None, Some(shown)) => {
-            writeln!(
-                out,
-                "  window shift: built with none, the line shows {shown}"
-            )
-        }
-        (Some(_), Some(_)) | (_, None) => Ok(()),
+    match wire.seg.scale {
+        Some(shown) => shift_difference(out, m.shift, shown),
+        None => Ok(()),
+    }
+}
+
+// The fields of the built segment and of the shown one. A number that nobody reads is that of the shown one.
+fn fields(m: &Emission, seg: &Segment) -> [(&'static str, u64, u64); 10] {
+    let ack = if m.flags.ack { m.ack_seq } else { seg.ack };
+    let window = if m.is_reset_reply {
+        seg.window
+    } else {
+        m.window
+    };
+    [
+        ("source port", u64::from(m.lport), u64::from(seg.src)),
+        ("destination port", u64::from(m.rport), u64::from(seg.dst)),
+        ("sequence number", u64::from(m.seq.0), u64::from(seg.seq.0)),
+        (
+            "acknowledgment number",
+            u64::from(ack.0),
+            u64::from(seg.ack.0),
+        ),
+        ("ACK", u64::from(m.flags.ack), u64::from(seg.has(Flag::Ack))),
+        ("RST", u64::from(m.flags.rst), u64::from(seg.has(Flag::Rst))),
+        ("SYN", u64::from(m.flags.syn), u64::from(seg.has(Flag::Syn))),
+        ("FIN", u64::from(m.flags.fin), u64::from(seg.has(Flag::Fin))),
+        ("window", u64::from(window), u64::from(seg.window)),
+        ("bytes", m.payload.len() as u64, seg.payload.len() as u64),
+    ]
+}
+
+fn shift_difference(out: &mut String, built: Option<u8>, shown: u8) -> Done {
+    match built {
+        Some(built) if built == shown => Ok(()),
+        Some(built) => writeln!(out, "  window shift: built {built}, the line shows {shown}"),
+        None => writeln!(
+            out,
+            "  window shift: built with none, the line shows {shown}"
+        ),
     }
 }
 
