@@ -1,9 +1,11 @@
 pub use Rattle.case_forms.specs.Traces
 pub use Rattle.line_fields.specs.Answers
+pub use Rattle.line_fields.specs.Congestion
 pub use Rattle.line_fields.specs.Faults
 pub use Rattle.line_fields.specs.Hosts
 pub use Rattle.line_fields.specs.Lines
 pub use Rattle.line_fields.specs.Reading
+pub use Rattle.line_fields.specs.Slack
 pub use Rattle.line_fields.specs.Spelling
 pub mod Headers
 pub mod Calls

@@ -13,8 +13,8 @@
 //!
 //! A text has a header of six lines (seven in version 2, eight in version 3, nine in version 4, ten in version 5),
 //! followed by event lines. `specs/TraceText` defines which text is the text of which trace; read it first.
-//! `specs/Headers`, `specs/EventLines`, `specs/Events` and `specs/Calls` define the forms of the lines. This crate only
-//! reads lines; `checker` decides whether a trace can be explained.
+//! `specs/Headers`, `specs/EventLines`, `specs/Events` and `specs/Calls` define the forms of the lines; `line_fields`
+//! those of single fields. This crate only reads lines; `checker` decides whether a trace can be explained.
 //!
 //! Private modules:
 //!
