@@ -157,6 +157,8 @@ fn expired_by(timer: Timer, extras: Extras) -> Option<Expired>
 impl Line {
     /// The line as the model uses it, with a step's extra numbers. `None` means that a line of its kind needs another
     /// count of them.
+    // A call would copy the line and the result.
+    #[inline(always)]
     pub fn taken(self, extras: Extras) -> Option<TakenLine>
         ensures { result ≡ taken_of extras self }
     {
