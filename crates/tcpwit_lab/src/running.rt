@@ -116,11 +116,7 @@ fn write_remarks<H: Eprint, W: Write>(
     remarked: &Remarked,
     w: &mut Counted<W>,
 ) -> u8 {
-    let status = if remarked.places.is_empty() {
-        DONE
-    } else {
-        NO
-    };
+    let status = if remarked.places.is_empty() { DONE } else { NO };
     match form {
         Form::Lines => say(rt, w, remarked.text.as_bytes(), status),
         Form::Json => match RemarkedReport::of(alloc, status, verdict, remarked) {
