@@ -15,6 +15,8 @@ def commands(cases, folder):
     found = {}
     for name in names:
         found["check " + name] = (["check"], text(name)), expected[name]
+    # A fault that comes long before the end.
+    found["check a fault in line 7"] = (["check"], text(names[0]).replace(b" listen ", b" listne ") * 20), "bad trace 7 7 13 field"
     for name in names[:2]:
         trace, witness = text(name).split(b"witness ", 1)
         paths = os.path.join(folder, "trace"), os.path.join(folder, "witness")

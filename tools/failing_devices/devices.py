@@ -1,6 +1,7 @@
 """Inputs and outputs that fail: closed or full ones, directories, missing files, a reader that ends early."""
 import os
 import subprocess
+import tempfile
 
 BAD_DEVICE = "bad device\n"
 
@@ -14,16 +15,18 @@ def shell(program, words, redirections, folder):
 
 def gone(program, words, text, taken):
     """Runs the program while the reader of its output reads this many bytes and ends. Returns the bytes read, and the rest."""
-    child = subprocess.Popen([program, *words], stdin=subprocess.PIPE, stdout=subprocess.PIPE, stderr=subprocess.PIPE)
+    reader, writer = os.pipe()
+    output = open(reader, "rb")
     if taken == 0:
-        child.stdout.close()
-    if text:
-        child.stdin.write(text)
-    child.stdin.close()
-    took = b""
-    if taken:
-        took = child.stdout.read(taken)
-        child.stdout.close()
+        output.close()
+    # The input is no pipe: `many` writes answers before it has read all, so it would wait for a reader of its output.
+    with tempfile.TemporaryFile() as source:
+        source.write(text)
+        source.seek(0)
+        child = subprocess.Popen([program, *words], stdin=source, stdout=writer, stderr=subprocess.PIPE)
+    os.close(writer)
+    took = output.read(taken) if taken else b""
+    output.close()
     error = child.stderr.read()
     child.stderr.close()
     return took.decode(), error.decode(), child.wait(timeout=60)

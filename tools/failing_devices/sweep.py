@@ -8,11 +8,13 @@ with `cc`, and loads it with LD_PRELOAD. Each command runs with unlimited reads 
 need many of them. Then the Nth read, and the Nth write, fails, is interrupted, moves one byte or moves none. This is done for every
 N up to the last, for the Nth alone and together with all later ones.
 
-A failed read must result in `bad device` and status 5. A write that fails or moves nothing must result in status 5, with the output
-before it and no write after it. A read that moves nothing is the end of its text, so the answer must be that for the text so far.
+A failed read must result in `bad device` and status 5; in `many`, answers to the first cases may come before. A write that fails or
+moves nothing must result in status 5, with the output before it and no write after it. A read that moves nothing is the end of its text, so the answer must be that for the text so far.
 After an interruption, the answer must be the right one or that for a failure; after one byte, it must be the right one. `devices`
 tries failing inputs and outputs of the system, without the library. Anything else, a signal, or output on standard error is wrong
 and is printed. The last line has the counts; the exit status is 1 if any run was wrong.
+
+`check` of one text may read no further than the first fault of the trace. So a later read that would fail isn't met.
 """
 import argparse
 import concurrent.futures
@@ -68,6 +70,18 @@ def cut_answer(program, library, command, run, is_from):
         return Run(program, library, (words, text), {}).answer
 
 
+def starts(output):
+    """The output, cut after each count of lines."""
+    lines = output.splitlines(keepends=True)
+    return [b"".join(lines[:count]) for count in range(len(lines) + 1)]
+
+
+def cut_lines(output, piece, writes):
+    """The output of so many writes, each of at most so many bytes of one line."""
+    pieces = [line[at : at + piece] for line in output.splitlines(keepends=True) for at in range(0, len(line), piece)]
+    return b"".join(pieces[:writes])
+
+
 def is_right(program, library, command, plain, environment):
     """Whether the run of a command may end like this; `plain` is the run in which nothing fails."""
     run = Run(program, library, command, environment)
@@ -81,13 +95,24 @@ def is_right(program, library, command, plain, environment):
         elif how == "nothing":
             allowed = [cut_answer(program, library, command, run, "FAIL_FROM" in environment)]
         elif how != "short":
-            allowed.append(BAD_DEVICE)
+            allowed += [(start + BAD_DEVICE[0], BAD_DEVICE[1]) for start in (starts(plain.answer[0]) if "many" in command[0] else [b""])]
     elif int(environment["FAIL_WRITE"]) > plain.writes:
         allowed = [plain.answer]
     elif how != "short":
         whole = int(environment["FAIL_PIECE"] or len(plain.answer[0]))
-        allowed.append((plain.answer[0][: whole * (int(environment["FAIL_WRITE"]) - 1)], 5))
+        writes = int(environment["FAIL_WRITE"]) - 1
+        cut = cut_lines(plain.answer[0], whole, writes) if "many" in command[0] else plain.answer[0][: whole * writes]
+        allowed.append((cut, 5))
     return run.answer in allowed, run
+
+
+def most_reads(command, line, piece):
+    """How many reads of pieces of so many bytes `check` may need for its standard input: up to the end of the line that has a fault."""
+    words, text = command
+    rows, answer = text.splitlines(keepends=True), line.split()
+    is_cut = answer[:2] == ["bad", "trace"] and int(answer[2]) <= len(rows)
+    needed = len(b"".join(rows[: int(answer[2])])) if is_cut else len(text) + int(piece)
+    return -(-needed // int(piece))
 
 
 def failures(plain, piece):
@@ -107,6 +132,8 @@ def swept(program, library, name, command, line, pool):
         plain = Run(program, library, command, {"FAIL_PIECE": piece})
         if plain.answer is None or plain.error or plain.answer[0].decode() != line + "\n":
             return runs + 1, [*wrong, f"{name}: without failures {plain.answer} {plain.error}"]
+        if piece and command[0] == ["check"] and plain.reads > most_reads(command, line, piece):
+            wrong.append(f"{name}: {plain.reads} reads of {piece} bytes, which are more than it needs")
         if piece == "1" and plain.reads > 200:
             continue
         asked = list(failures(plain, piece))

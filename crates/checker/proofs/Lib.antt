@@ -15,6 +15,7 @@ pub mod StreamTurns
 pub mod TurnLemmas
 pub mod EndLemmas
 pub mod TextLemmas
+pub mod OneTextLemmas
 pub mod HeadlineLemmas
 pub mod HeadlineFacts
 pub mod SocketLemmas

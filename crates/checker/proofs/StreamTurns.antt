@@ -17,7 +17,7 @@ use Rattle.verdict.specs.declared.rule.Rule.{Rule}
 use Rattle.verdict.specs.declared.rule.Rule.TheVariants.{LineRange}
 use Rattle.verdict.specs.declared.report.Verdict.TheVariants.{No}
 use Rattle.line_fields.specs.declared.fault.TextFault.{TextFault}
-use Rattle.line_fields.specs.Left.{Yields}
+use Rattle.line_fields.specs.Left.{Yields, in_front}
 use Rattle.interval_order.specs.Orders.{Order, last_moment, order_after, unplaced}
 use Rattle.interval_order.specs.Later.{TakesBelow, AreLater, with_lines, late_rule}
 use Rattle.interval_order.proofs.LaterLemmas.{order_with}
@@ -32,7 +32,9 @@ use Rattle.line_fields.specs.Folding.{read_lines}
 use Rattle.line_fields.proofs.Loop.{spelled_takes}
 use Rattle.line_fields.specs.Rows.{rows_of}
 use Rattle.trace_reader.specs.EventLines.{Place, behind, line_of, IsEventLine}
-use Rattle.trace_reader.specs.TraceLeft.{lines_left, place_of, version_of}
+use Rattle.trace_reader.specs.TextLeft.{rows_left}
+use Rattle.trace_reader.specs.declared.stream.TraceReader.{TraceReader}
+use Rattle.trace_reader.specs.TraceLeft.{lines_left, place_of, version_of, kept_of, lines_after, AreAt, StandsAt}
 use Rattle.trace_reader.proofs.EventLineLaw.{reads_line}
 use Rattle.trace_reader.proofs.TraceLaw.{are_recorded}
 use Rattle.checker.specs.declared.ahead.Ahead.{Ahead}
@@ -212,6 +214,23 @@ left_recorded v place (Some raws) rest is =
     let read : read_lines (line_of v) behind place raws ≡ Ok rest = cc in
     are_recorded v place rest raws (spelled_takes (line_of v) behind (IsEventLine v) (reads_line v) place raws rest read)
 
+-- so do lines that were kept, and those of the text after them
+one_more_recorded : (place : Place) (line : Line) (left : Option (Result (List Line) TextFault)) (rest : List Line) → StandsAt place line
+    → ((more : List Line) → left ≡ Some (Ok more) → IsRecorded (place.1 + 1) line.moment more)
+    → option_map (in_front line) left ≡ Some (Ok rest) → IsRecorded place.1 place.0 rest
+one_more_recorded place line None rest at others is = absurd cc
+one_more_recorded place line (Some (Err e)) rest at others is = absurd cc
+one_more_recorded place line (Some (Ok more)) rest at others is =
+    let whole : line ∷ more ≡ rest = cc in
+    subst (λ (lines : List Line). IsRecorded place.1 place.0 lines) whole (at.number, at.rises, others more refl)
+
+all_recorded : {A : Type 0} (known : A → Option (List ℕ)) (r : TraceReader A) (place : Place) (kept rest : List Line)
+    → AreAt place kept → lines_after known r place kept ≡ Some (Ok rest) → IsRecorded place.1 place.0 rest
+all_recorded known r place [] rest at is = left_recorded (version_of r) place (rows_left known r.text) rest is
+all_recorded known r place (line ∷ kept) rest at is =
+    one_more_recorded place line (lines_after known r (behind place line) kept) rest at.0
+    (λ more same. all_recorded known r (behind place line) kept more at.1 same) is
+
 -- where the line that was read ahead is not reached, none is that is left
 pub left_later : {A : Type 0} (known : A → Option (List ℕ)) (s : Ahead A) (moment : ℕ) → IsAhead s
     → IfSome (line_ahead s) (λ line. moment < line.moment) → AllLater moment (left_ahead known s)
@@ -220,7 +239,7 @@ left_later known s moment h late = later_with moment (line_ahead s) (lines_left 
     let not_reached = subst (λ (l : Option Line). IfSome l (λ line. moment < line.moment)) at late in
     let since : (place_of s.reader).0 ≡ line.moment = ap (λ (p : Place). p.0) place.0 in
     not_before (place_of s.reader).1 (place_of s.reader).0 rest
-    (left_recorded (version_of s.reader) (place_of s.reader) (rows_of (left_of known s.reader.source)) rest is)
+    (all_recorded known s.reader (place_of s.reader) (kept_of s.reader) rest (h.begun h.working).1 is)
     moment (omega (arith, since, not_reached)))
 
 -- ---- a whole turn

@@ -12,7 +12,10 @@ use Rattle.counted.specs.declared.ends.Counted.{Counted}
 use Rattle.counted.specs.Counting.{left_of}
 use Rattle.line_fields.specs.declared.fault.TextFault.{TextFault}
 use Rattle.line_fields.specs.Rows.{rows_of}
-use Rattle.trace_reader.specs.TraceText.{trace_of}
+use Rattle.trace_reader.specs.TraceText.{trace_of, trace_in}
+use Rattle.trace_reader.specs.CaseLines.{trace_rows}
+use Rattle.trace_reader.specs.declared.text_lines.TextEnd.{TextEnd}
+use Rattle.trace_reader.specs.declared.text_lines.TextEnd.TheVariants as ends
 use Rattle.trace_reader.specs.TraceLeft.{Begins, with_header}
 use Rattle.witness.specs.WitnessText.{witness_for}
 use Rattle.witness.specs.StepsLeft.{steps_from, steps_of, steps_left, number_read, source_of, version_of}
@@ -23,7 +26,7 @@ use Rattle.checker.specs.declared.case.CaseFault.{CaseFault}
 use Rattle.checker.specs.declared.case.CaseFault.TheVariants as faults
 use Rattle.checker.specs.Cases.{judged, witness_behind}
 use Rattle.checker.specs.Verdicts.{verdict}
-use Rattle.checker.specs.Ahead.{TraceFails, source_ahead, trace_ahead}
+use Rattle.checker.specs.Ahead.{TraceFails, IsUnread, source_ahead, trace_ahead}
 use Rattle.checker.specs.declared.ahead.Ahead.{Ahead}
 use Rattle.checker.specs.Streaming.{Tells}
 use Rattle.checker.specs.Texts.{GivesTexts, AreOf}
@@ -86,9 +89,22 @@ verdict_of (Ok v) (Some xs) (Some ys) t w gives are =
 
 -- ---- readers of which nothing was read
 
+traces_of : (a : Option (List ℕ)) → option_map trace_in (rows_of a) ≡ option_map trace_of a
+unfolding trace_of
+traces_of None = refl
+traces_of (Some xs) = refl
+
+whole_rows : (a : Option (List (List ℕ))) → option_map (trace_rows ends.Source) a ≡ a
+whole_rows None = refl
+whole_rows (Some raws) = refl
+
 pub fresh_trace : {A : Type 0} (known : A → Option (List ℕ)) (s : Ahead A) (a : Counted A) → source_ahead s ≡ a
-    → trace_ahead known s ≡ option_map trace_of (left_of known a)
-fresh_trace known s a is = ap (λ (x : Counted _). option_map trace_of (left_of known x)) is
+    → IsUnread s → trace_ahead known s ≡ option_map trace_of (left_of known a)
+fresh_trace known s a is unread =
+    ap (λ (end : TextEnd). option_map trace_in (option_map (trace_rows end) (rows_of (left_of known (source_ahead s))))) unread.whole
+    ∙ ap (option_map trace_in) (whole_rows (rows_of (left_of known (source_ahead s))))
+    ∙ traces_of (left_of known (source_ahead s))
+    ∙ ap (λ (x : Counted _). option_map trace_of (left_of known x)) is
 
 pub fresh_steps : {B : Type 0} (known : B → Option (List ℕ)) (s : StepReader B) (v : Version) (b : Counted B)
     → version_of s ≡ v → number_read s ≡ None → source_of s ≡ b

@@ -8,7 +8,9 @@ use Rattle.counted.specs.declared.ends.Counted.{Counted}
 use Rattle.line_fields.specs.declared.fault.TextFault.{TextFault}
 use Rattle.line_fields.specs.Reading.{◌>>=◌}
 use Rattle.line_fields.specs.Left.{in_front, Yields}
-use Rattle.trace_reader.specs.TraceLeft.{source_of, place_of, fault_of, IsFresh, IsBegun, trace_left, lines_left}
+use Rattle.trace_reader.specs.TraceLeft.{source_of, place_of, fault_of, end_of_text, trace_left, lines_left}
+use Rattle.trace_reader.specs.TraceLeft.{IsFresh, IsBegun}
+use Rattle.trace_reader.specs.declared.text_lines.TextEnd.TheVariants as ends
 use Rattle.interval_order.specs.Orders.{Order}
 use Rattle.checker.specs.declared.case.CaseFault.{CaseFault}
 use Rattle.checker.specs.declared.case.CaseFault.TheVariants as faults
@@ -35,8 +37,9 @@ left_ahead known s = left_with s.line (lines_left known s.reader)
 abbrev pub trace_ahead : {A : Type 0} → (A → Option (List ℕ)) → Ahead A → Option (Result Trace TextFault)
 trace_ahead known s = trace_left known s.reader
 
--- nothing was read
+-- nothing was read of a text, which ends with its source
 pub record IsUnread {A : Type 0} (s : Ahead A) : Type 0 where
+  pub whole : end_of_text s.reader ≡ ends.Source
   pub working : fault_of s.reader ≡ None
   pub fresh : IsFresh s.reader
 

@@ -11,6 +11,7 @@ pub mod Ahead
 pub mod Streaming
 pub mod Turns
 pub mod Texts
+pub mod OneText
 pub mod Headline
 pub mod Judging
 pub mod Slack

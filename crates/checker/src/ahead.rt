@@ -1,7 +1,7 @@
 //! A trace that is read one line ahead, so that the checker knows when the next line is reached.
 
-ghost use Rattle.std.specs.Prelude.{◌≡◌, ◌≢◌, ◌≤◌, ◌+◌, List, Err, IfOk, IfErr, IfSome, IsSome, OnOk, None};
-ghost use Rattle.std.specs.Prelude.{nat_le, true};
+ghost use Rattle.std.specs.Prelude.{◌≡◌, ◌≢◌, ◌≤◌, ◌+◌, ℕ, List, Err, Ok, Some, IfOk, IfErr, IfSome, IsSome, OnOk};
+ghost use Rattle.std.specs.Prelude.{None, nat_le, true};
 ghost use Rattle.std.specs.Prelude.{false};
 ghost use Rattle.std.specs.Option.{option_map, option_map_or};
 ghost use Rattle.case_forms.specs.declared.trace.Line.{Line};
@@ -10,7 +10,9 @@ ghost use Rattle.counted.specs.Counting.{failures_of, one_more};
 ghost use Rattle.line_fields.specs.Left.{Yields};
 ghost use Rattle.trace_reader.specs.EventLines.{behind};
 ghost use Rattle.trace_reader.specs.TraceLeft.{place_of, fault_of, reader_failures, IsBegun, lines_left};
-ghost use Rattle.trace_reader.specs.TraceLeft.{Begins, StandsAt};
+ghost use Rattle.trace_reader.specs.TraceLeft.{AreAt, Begins, StandsAt};
+ghost use Rattle.trace_reader.specs.TraceText.{first_place};
+ghost use Rattle.std.specs.Borrow.{Bor};
 ghost use Rattle.checker.specs.Ahead.{source_ahead, line_ahead, left_ahead, trace_ahead, IsUnread, IsAhead, Skips};
 ghost use Rattle.interval_order.specs.Orders.{with_line};
 ghost use Rattle.checker.specs.Ahead.{IsAll, IsInStep, TraceFails, Follows};
@@ -19,6 +21,7 @@ use crate::case::{CaseFault, trace_fault};
 use case_forms::{Header, Line};
 use counted::Counted;
 use interval_order::{Window, is_reached};
+use kept_lines::KeptLines;
 use line_fields::SourceFault;
 use std::alloc::Global;
 use std::io::BufRead;
@@ -66,6 +69,27 @@ impl<A> Ahead<A> {
         ensures { result ≡ option_map (λ line. line.number) (line_ahead self.now) }
     {
         self.line.as_ref().map(|line| line.number)
+    }
+}
+
+impl Ahead<&'static [u8]> {
+    /// A trace whose lines were read before, after this header.
+    pub(crate) fn of_lines(
+        alloc: Global,
+        header: &Header,
+        lines: KeptLines,
+    ) -> Result<Ahead<&'static [u8]>, CaseFault>
+        requires { AreAt (first_place header.now) lines }
+        ensures ahead { IfOk result IsAhead }
+        ensures left { IfOk result (λ ahead. left_ahead (λ (text : Bor (List ℕ)). Some text.now) ahead
+            ≡ Some (Ok lines)) }
+        ensures first { IfOk result (λ ahead. IfSome (line_ahead ahead) (λ line. line.number
+            ≡ first_event_line header.now)) }
+    {
+        let mut reader = TraceReader::of_lines(alloc, header, lines);
+        let mut line = None;
+        read_next(&mut reader, &mut line)?;
+        Ok(Ahead { reader, line })
     }
 }
 

@@ -7,7 +7,7 @@
 //! ```
 //!
 //! - `check_case`: a case in one text, the trace and then its witness; `CaseFault`: why there is no verdict
-//! - `check_streams`: the same for two readers, judged while they are read
+//! - `check_reader`: the same for a reader, judged while it is read; `check_streams`: a case in two texts
 //! - `check`: a trace and a witness that are in memory
 //! - `print_case`: both as one text, which is a case with their verdict
 //! - the laws, such as `explained_is_yes`: what holds for every trace and witness; each is the contract of a call that
@@ -23,6 +23,7 @@
 //! Private modules:
 //!
 //! - `case`: a case in one text, which is split and then judged as in `two_texts`
+//! - `one_text`: a case in one text, judged while it is read
 //! - `two_texts`: a case in two texts, judged while they are read
 //! - `ahead`: a trace that is read one line ahead
 //! - `offering`: the lines that a step's moment reaches, and a line that a step names before it is reached
@@ -40,6 +41,7 @@ mod ahead;
 mod case;
 mod laws;
 mod offering;
+mod one_text;
 mod printed;
 mod replay;
 mod steps;
@@ -53,6 +55,7 @@ pub use laws::{
     streams_at_each_moment, two_witnesses_of_one_trace, verdict_when_read_again,
     yes_counts_all_lines,
 };
+pub use one_text::check_reader;
 pub use printed::print_case;
 pub use replay::check;
 pub use two_texts::check_streams;

@@ -120,9 +120,9 @@ fn judge_texts<A: BufRead, B: BufRead>(
     }
 }
 
-// The verdict on a trace whose header was read and on its witness, before any of it was read; or the first fault of
-// both.
-fn judge<A: BufRead, B: BufRead>(
+/// The verdict on a trace whose header was read and on its witness, before any of its steps was read; or the first
+/// fault of both.
+pub(crate) fn judge<A: BufRead, B: BufRead>(
     alloc: Global,
     header: &Header,
     lines: &mut Ahead<A>,

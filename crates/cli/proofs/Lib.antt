@@ -1,8 +1,5 @@
 pub mod Appended
-pub mod CutCases
 pub mod FileWords
-pub mod ManyAnswers
-pub mod ManyLaw
 pub mod ManyWords
 pub mod Numbers
 pub mod OptionWords

@@ -2,7 +2,7 @@
 use Rattle.std.specs.Prelude.{ℕ, List, Option, IfSome, codes}
 use Rattle.checker.specs.Cases.{case_result}
 use Rattle.cli.specs.HexText.{segment_in}
-use Rattle.cli.specs.Many.{cases_of, EndsMany}
+use Rattle.answer_stream.specs.Endings.{EndsMany}
 use Rattle.answer_lines.specs.Output.{line_of, status_of}
 use Rattle.cli.specs.Output.{Ends}
 use Rattle.cli.specs.Recorded.{EndsRecord}
@@ -14,7 +14,7 @@ use Rattle.cli.specs.declared.request.Request.TheVariants.{Check, Files, Many, R
 abbrev pub EndsFor : Request → Option (List ℕ) → ℕ → Option (List ℕ) → Option (List ℕ) → Type 0
 EndsFor Check input status old new =
     IfSome input (λ text. Ends (status_of (case_result text)) (line_of (case_result text)) status old new)
-EndsFor (Many workers) input status old new = IfSome input (λ text. EndsMany (cases_of text) status old new)
+EndsFor (Many workers) input status old new = IfSome input (λ text. EndsMany text status old new)
 EndsFor (Record plan) input status old new = EndsRecord plan status old new
 EndsFor (Segment text) input status old new =
     Ends (segment_status (segment_in text.now)) (segment_line (segment_in text.now)) status old new

@@ -3,8 +3,6 @@ pub mod Endings
 pub mod FileWords
 pub mod GivenWords
 pub mod HexText
-pub mod Many
-pub mod ManyLaw
 pub mod ManyWords
 pub mod Options
 pub mod Output

@@ -12,11 +12,10 @@
 //! - `lines`: a line of output (`specs/Output`)
 //! - `argument`: the segment that a hex text encodes (`specs/HexText`)
 //! - `segment_line`: the line and the status of a segment (`specs/SegmentText`)
-//! - `running`: the whole run, by request (`specs/Endings`), and the answer if memory runs out before it
+//! - `running`: the whole run, by request (`specs/Endings`), and the answer if memory runs out before it; only `many`,
+//!   which is in `answer_stream`, and `record` start threads
 //! - `files`: the run on a case in two files
-//! - `many`: the run on many cases (`specs/Many`); only `many` and `record` start threads
 //! - `record`: the case that is recorded and printed (`specs/Recorded`)
-//! - `many_laws`: how an input is split into cases (`specs/ManyLaw`)
 //!
 //! `checker` defines which answer a case has, and `counted` what counts as a failure.
 #![tactic(auto)]
@@ -26,8 +25,6 @@ mod file_words;
 mod files;
 mod given;
 mod lines;
-mod many;
-mod many_laws;
 mod options;
 mod record;
 mod record_words;
@@ -38,5 +35,4 @@ mod segment_line;
 pub use file_words::file_names;
 pub use files::{answer_bad_device, run_files};
 pub use given::given_words;
-pub use many_laws::cases_are_cut_back;
 pub use running::{answer_bad_memory, run, run_all};

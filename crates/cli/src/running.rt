@@ -1,14 +1,15 @@
 //! The whole run of the program.
 
-ghost use Rattle.std.specs.Prelude.{◌≡◌, ◌≢◌, ◌⊎◌, ◌<◌, ◌^◌, ℕ, List, false, IfSome, codes, map};
+ghost use Rattle.std.specs.Prelude.{Err, ◌≡◌, ◌≢◌, ◌⊎◌, ◌<◌, ◌^◌, ℕ, List, false, IfSome, codes, map};
 ghost use Rattle.std.specs.Io.KnownBytes.{Appends};
 ghost use Rattle.case_forms.specs.Versions.{is_half};
 ghost use Rattle.checker.specs.Cases.{case_result};
-ghost use Rattle.counted.specs.Counting.{left_of, failures_of};
+ghost use Rattle.checker.specs.OneText.{GivesText};
+ghost use Rattle.counted.specs.Counting.{left_of, failures_of, one_more};
+ghost use Rattle.answer_stream.specs.Endings.{EndsMany, TellsBefore};
 ghost use Rattle.cli.specs.CommandLine.{AsksCheck, AsksNothing, AsksSegment};
 ghost use Rattle.cli.specs.Endings.{EndsFor};
 ghost use Rattle.cli.specs.HexText.{segment_in};
-ghost use Rattle.cli.specs.Many.{cases_of, EndsMany};
 ghost use Rattle.cli.specs.ManyWords.{AsksMany};
 ghost use Rattle.answer_lines.specs.Output.{line_of, status_of};
 ghost use Rattle.cli.specs.Output.{Ends};
@@ -19,19 +20,20 @@ ghost use Rattle.cli.specs.declared.request.Request.{Request};
 ghost use Rattle.two_hosts.specs.declared.plan.Plan.{Plan};
 
 use crate::argument::{ArgumentFault, read_segment};
-use crate::files::answer_bad_device;
+use crate::files::tell_case;
 use crate::lines::{USAGE, say};
-use crate::many::many;
 use crate::record::answer_record;
 use crate::request::{Request, request_of};
 use crate::segment_line::{segment_line, segment_status};
-use answer_lines::{MEMORY, line_of, status_of};
-use checker::{CaseFault, check_case};
-use counted::{Counted, ReadFault};
+use answer_lines::MEMORY;
+use answer_stream::answer_cases;
+use checker::{CaseFault, check_reader};
+use counted::Counted;
 use std::alloc::Global;
 use std::io::{BufRead, Write};
 use std::sync::Wait;
 use std::thread::Threads;
+use verdict::Verdict;
 
 /// Does what the words after the program's name request, and returns the status: 0 if the case is explained or the
 /// segment is printed, 1 if the case isn't explained, 2 if its text or the segment is refused, 3 if the words are
@@ -73,11 +75,11 @@ pub fn run<R: BufRead, W: Write>(
 }
 
 /// Does what the words after the program's name request. For `many`, the cases of the input are checked by so many
-/// threads, a line is written for each in their order, and the result is the greatest of their statuses, or 0 if there
-/// are none. For `record`, two hosts talk, and what was recorded is written as a case; the status is 0 if all rounds
-/// ended, and 1 if a limit was met. All other words do what they do in `run`. Both counts of failures must be below
-/// 2^50 before the call; those of new ends are.
-pub fn run_all<R: BufRead, W: Write, H: Threads + Wait + Sync>(
+/// threads while it is read, a line is written for each in their order, and the result is the greatest of their
+/// statuses, or 0 if there are none. For `record`, two hosts talk, and what was recorded is written as a case; the
+/// status is 0 if all rounds ended, and 1 if a limit was met. All other words do what they do in `run`. Both counts of
+/// failures must be below 2^50 before the call; those of new ends are.
+pub fn run_all<R: BufRead + Send, W: Write + Send, H: Threads + Wait + Sync>(
     rt: &H,
     alloc: Global,
     words: &[&str],
@@ -86,7 +88,7 @@ pub fn run_all<R: BufRead, W: Write, H: Threads + Wait + Sync>(
 ) -> u8
     requires { (failures_of r.old < 2 ^ 50) × (failures_of w.old < 2 ^ 50) }
     ensures many { (n : ℕ) → AsksMany (map (λ word. word.now) words.now) n → result ≢ 5 →
-        IfSome (left_of R.remaining r.old) (λ text. EndsMany (cases_of text) result (left_of W.contents w.old)
+        IfSome (left_of R.remaining r.old) (λ text. EndsMany text result (left_of W.contents w.old)
         (left_of W.contents w.new)) }
     ensures check { AsksCheck (map (λ word. word.now) words.now) → result ≢ 5 →
         IfSome (left_of R.remaining r.old) (λ text.
@@ -105,11 +107,16 @@ pub fn run_all<R: BufRead, W: Write, H: Threads + Wait + Sync>(
         → ((n : ℕ) → ¬ AsksMany (map (λ word. word.now) words.now) n) → r.new ≡ r.old }
 
     // Except for a recording, for which a thread may also be refused, the status is 5 only if a count of failures grew.
-    // The line says so if no write failed.
+    // The last line says so if no write failed; for `many`, the answers to the cases read before stand before it.
     ensures device { ((plan : Plan) → ¬ AsksRecord (map (λ word. word.now) words.now) plan) → result ≡ 5 →
         (failures_of r.old < failures_of r.new) ⊎ (failures_of w.old < failures_of w.new) }
-    ensures told { result ≡ 5 → failures_of w.new ≡ failures_of w.old →
+    ensures told { ((n : ℕ) → ¬ AsksMany (map (λ word. word.now) words.now) n) → result ≡ 5 →
+        failures_of w.new ≡ failures_of w.old →
         Appends (left_of W.contents w.old) (left_of W.contents w.new) (codes "bad device\n") }
+    ensures told_many { (n : ℕ) → AsksMany (map (λ word. word.now) words.now) n → result ≡ 5 →
+        failures_of w.new ≡ failures_of w.old →
+        ∥ TellsBefore (left_of R.remaining r.old) (codes "bad device\n") (left_of W.contents w.old)
+        (left_of W.contents w.new) ∥₁ }
     ensures quiet { result ≢ 5 → (failures_of r.new ≡ failures_of r.old) × (failures_of w.new ≡ failures_of w.old) }
 {
     match request_of(alloc, words) {
@@ -119,7 +126,7 @@ pub fn run_all<R: BufRead, W: Write, H: Threads + Wait + Sync>(
 }
 
 // Does what is requested.
-fn answer<R: BufRead, W: Write, H: Threads + Wait + Sync>(
+fn answer<R: BufRead + Send, W: Write + Send, H: Threads + Wait + Sync>(
     rt: &H,
     alloc: Global,
     request: Request<'_>,
@@ -133,13 +140,16 @@ fn answer<R: BufRead, W: Write, H: Threads + Wait + Sync>(
     ensures unread { request.entry ≢ Request.Check → ((n : ℕ) → request.entry ≢ Request.Many n) → r.new ≡ r.old }
     ensures device { ((plan : Plan) → request.entry ≢ Request.Record plan) → result ≡ 5 →
         (failures_of r.old < failures_of r.new) ⊎ (failures_of w.old < failures_of w.new) }
-    ensures told { result ≡ 5 → failures_of w.new ≡ failures_of w.old →
+    ensures told { ((n : ℕ) → request.entry ≢ Request.Many n) → result ≡ 5 → failures_of w.new ≡ failures_of w.old →
         Appends (left_of W.contents w.old) (left_of W.contents w.new) (codes "bad device\n") }
+    ensures told_many { (n : ℕ) → request.entry ≡ Request.Many n → result ≡ 5 → failures_of w.new ≡ failures_of w.old →
+        ∥ TellsBefore (left_of R.remaining r.old) (codes "bad device\n") (left_of W.contents w.old)
+        (left_of W.contents w.new) ∥₁ }
     ensures quiet { result ≢ 5 → (failures_of r.new ≡ failures_of r.old) × (failures_of w.new ≡ failures_of w.old) }
 {
     match request {
         Request::Check => check(alloc, r, w),
-        Request::Many(workers) => many(rt, alloc, workers, r, w),
+        Request::Many(workers) => answer_cases(rt, alloc, workers, r, w),
         Request::Record(plan) => answer_record(rt, alloc, plan, w),
         Request::Segment(text) => show(alloc, text, w),
         Request::Files(..) | Request::Unknown => answer_bad_usage(w),
@@ -169,7 +179,7 @@ pub fn answer_bad_memory<W: Write>(w: &mut Counted<W>) -> u8
     say(w, b"bad memory\n", MEMORY)
 }
 
-// Reads a case to its end, and answers it.
+// Answers a case, which is judged while it is read.
 fn check<R: BufRead, W: Write>(alloc: Global, r: &mut Counted<R>, w: &mut Counted<W>) -> u8
     requires { (failures_of r.old < 2 ^ 50) × (failures_of w.old < 2 ^ 50) }
     ensures check { result ≢ 5 →
@@ -181,30 +191,20 @@ fn check<R: BufRead, W: Write>(alloc: Global, r: &mut Counted<R>, w: &mut Counte
         Appends (left_of W.contents w.old) (left_of W.contents w.new) (codes "bad device\n") }
     ensures quiet { result ≢ 5 → (failures_of r.new ≡ failures_of r.old) × (failures_of w.new ≡ failures_of w.old) }
 {
-    let mut text = Vec::new(alloc);
-    match r.append_all(&mut text) {
-        Ok(()) => answer_case(alloc, text.as_slice(), w),
-        Err(ReadFault::Read) => answer_bad_device(w),
-        Err(ReadFault::OutOfMemory) => answer_bad_memory(w),
-    }
+    let answer = judge(alloc, r);
+    tell_case(alloc, &answer, w)
 }
 
-// Writes the answer to a case.
-fn answer_case<W: Write>(alloc: Global, text: &[u8], w: &mut Counted<W>) -> u8
-    requires { failures_of w.old < 2 ^ 50 }
-    ensures check { result ≢ 5 →
-        Ends (status_of (case_result text.now)) (line_of (case_result text.now)) result (left_of W.contents w.old)
-        (left_of W.contents w.new) }
-    ensures device { result ≡ 5 → failures_of w.old < failures_of w.new }
-    ensures quiet { result ≢ 5 → failures_of w.new ≡ failures_of w.old }
+// The answer to the case that a reader gives.
+fn judge<R: BufRead>(alloc: Global, r: &mut Counted<R>) -> Result<Verdict, CaseFault>
+    ensures exact { GivesText result (left_of R.remaining r.old) }
+    ensures read { result ≡ Err CaseFault.Read → failures_of r.new ≡ one_more (failures_of r.old) }
+    ensures same { result ≢ Err CaseFault.Read → failures_of r.new ≡ failures_of r.old }
 {
-    match check_case(alloc, text) {
-        Err(CaseFault::OutOfMemory) => answer_bad_memory(w),
-        answer => match line_of(alloc, &answer) {
-            Ok(line) => say(w, line.as_slice(), status_of(&answer)),
-            Err(_) => answer_bad_memory(w),
-        },
-    }
+    let (answer, lent) = check_reader(alloc, r.lent());
+    let counts = lent.counts();
+    r.count_on(counts);
+    answer
 }
 
 // Writes the segment of a hex text, or its fault.

@@ -22,6 +22,15 @@ pub struct Counted<X> {
     ghost at_most: { failures ≤ 2 ^ 60 },
 }
 
+/// The counts of a reader or a writer.
+#[derive(Clone, Copy)]
+pub struct CallCounts {
+    calls: u64,
+    failures: u64,
+    ghost callable: { calls ≤ 2 ^ 50 },
+    ghost at_most: { failures ≤ 2 ^ 60 },
+}
+
 // The error of a call beyond the limit of calls.
 fn spent() -> io::Error {
     io::Error::new(ErrorKind::Other, "too many calls")
@@ -54,6 +63,41 @@ impl<X> Counted<X> {
         ensures { result ≡ failures_of self.now }
     {
         self.failures
+    }
+
+    /// The same reader or writer, lent with its counts. What it counts from then on has to be told: `count_on`.
+    pub fn lent(&mut self) -> Counted<&mut X>
+        ensures inner { (inner_of result).now ≡ inner_of self.old }
+        ensures failures { failures_of result ≡ failures_of self.old }
+        ensures calls { calls_of result ≡ calls_of self.old }
+    {
+        let calls = self.calls;
+        let failures = self.failures;
+        Counted {
+            inner: &mut self.inner,
+            calls,
+            failures,
+        }
+    }
+
+    /// Goes on from these counts, which are those of what was lent.
+    pub fn count_on(&mut self, counts: CallCounts)
+        ensures failures { failures_of self.new ≡ counts.failures }
+        ensures calls { calls_of self.new ≡ counts.calls }
+    {
+        self.calls = counts.calls;
+        self.failures = counts.failures;
+    }
+
+    /// What it has counted.
+    pub fn counts(&self) -> CallCounts
+        ensures failures { result.failures ≡ failures_of self.now }
+        ensures calls { result.calls ≡ calls_of self.now }
+    {
+        CallCounts {
+            calls: self.calls,
+            failures: self.failures,
+        }
     }
 
     // The answer of a read or write; a failure is counted.

@@ -12,4 +12,4 @@
 mod ends;
 mod lines;
 
-pub use ends::{Counted, ReadFault};
+pub use ends::{CallCounts, Counted, ReadFault};

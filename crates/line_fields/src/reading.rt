@@ -1,6 +1,6 @@
 //! The next line of a text whose lines are read on request.
 
-ghost use Rattle.std.specs.Prelude.{◌≡◌, ◌≢◌, ◌<◌, ◌+◌, ◌^◌, Err, true, false, OnOk};
+ghost use Rattle.std.specs.Prelude.{◌≡◌, ◌≢◌, ◌⊎◌, ◌<◌, ◌+◌, ◌^◌, Err, true, false, OnOk};
 ghost use Rattle.counted.specs.Counting.{left_of, failures_of, one_more};
 ghost use Rattle.line_fields.specs.declared.fault.TextFault.{TextFault};
 ghost use Rattle.line_fields.specs.Rows.{rows_of, TakesRow, HasNoRow, next_text, needed_text, FailsAt};
@@ -25,6 +25,8 @@ pub fn next_line<B: BufRead>(
         (rows_of (left_of B.remaining source.new)) }
     ensures fault { (e : TextFault) → result ≡ Err (SourceFault.Text e)
         → FailsAt (next_text number) e (rows_of (left_of B.remaining source.old)) }
+    ensures long { (e : TextFault) → result ≡ Err (SourceFault.Text e)
+        → (e.kind ≡ FaultKind.LineTooLong) ⊎ (e.kind ≡ FaultKind.OutOfMemory) }
     ensures read { result ≡ Err SourceFault.Read → failures_of source.new ≡ one_more (failures_of source.old) }
     ensures same { result ≢ Err SourceFault.Read → failures_of source.new ≡ failures_of source.old }
 {

@@ -37,7 +37,7 @@ fn main(rt: HostRuntime) -> ExitCode {
 }
 
 // Runs with the words after the program's name. If there is no memory for them, nothing is read or written.
-fn run_given<R: BufRead, W: Write, H: Files + Threads + Wait + Sync>(
+fn run_given<R: BufRead + Send, W: Write + Send, H: Files + Threads + Wait + Sync>(
     rt: &H,
     alloc: Global,
     given: Args,

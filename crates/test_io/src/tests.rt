@@ -4,6 +4,7 @@
 //! - `ends`: the reader and the writer that fail
 //! - `counted_calls`: each call of a `Counted` makes one call of its end, and fails if that fails
 //! - `texts`: traces and witnesses that are read in pieces, and up to the call that fails
+//! - `one_text`: a case in one text, up to a call that fails, and not beyond the first fault
 //! - `two_texts`: a case in two texts, judged in pieces, up to a call that fails, and with no more of it read than a
 //!   step needs
 //! - `runs`: what the program answers, and that it flushes
@@ -15,6 +16,7 @@ mod counted_calls;
 mod ends;
 mod first_pages;
 mod line_order;
+mod one_text;
 mod runs;
 mod segments;
 mod telling;

@@ -5,6 +5,7 @@ pub mod EventLineLaw
 pub mod HeaderLaw
 pub mod TraceLaw
 pub mod LinesText
+pub mod CaseLinesLaw
 pub mod StreamLaw
 pub mod HeaderReads
 pub mod EventFaults

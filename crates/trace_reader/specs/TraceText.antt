@@ -29,9 +29,13 @@ pub record IsTraceText (t : Trace) (text : List ℕ) : Type 0 where
 abbrev pub events_of : Header → List (List ℕ) → Result (List Line) TextFault
 events_of h raws = read_lines (line_of h.version) behind (first_place h) raws
 
--- the trace that a text is read as, or its first fault
-unfoldable pub trace_of : List ℕ → Result Trace TextFault
-trace_of text = do
-  header ← header_of (lines_of text)
+-- the trace of these lines, or their first fault
+abbrev pub trace_in : List (List ℕ) → Result Trace TextFault
+trace_in raws = do
+  header ← header_of raws
   lines ← events_of header.0 header.1
   Ok (record { header = header.0; lines = lines })
+
+-- the trace that a text is read as, or its first fault
+unfoldable pub trace_of : List ℕ → Result Trace TextFault
+trace_of text = trace_in (lines_of text)

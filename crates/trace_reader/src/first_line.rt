@@ -1,18 +1,20 @@
 //! The first line of a trace, which names the version.
 
-ghost use Rattle.std.specs.Prelude.{◌≡◌, ◌≢◌, Err};
+ghost use Rattle.std.specs.Prelude.{◌≡◌, ◌≢◌, [], ◌∷◌, Err, IfOk};
 ghost use Rattle.bstr.specs.Text.{lines_of};
-ghost use Rattle.counted.specs.Counting.{left_of, failures_of, one_more};
+ghost use Rattle.counted.specs.Counting.{one_more};
 ghost use Rattle.line_fields.specs.Reading.{Gives};
-ghost use Rattle.line_fields.specs.Rows.{rows_of, with_rest, Reads};
+ghost use Rattle.line_fields.specs.Rows.{with_rest, Reads};
+ghost use Rattle.trace_reader.specs.CaseLines.{KeepsWitness};
+ghost use Rattle.trace_reader.specs.TextLeft.{rows_left, witness_left, text_failures};
 ghost use Rattle.line_fields.specs.Spelling.{joined};
 ghost use Rattle.trace_reader.specs.Headers.{first_words, begins_trace, version_named, first_version, first_line};
 
+use crate::text_lines::TextLines;
 use bstr::ByteSlice;
 use case_forms::Version;
-use counted::Counted;
 use line_fields::{
-    FaultKind, SourceFault, Span, TextFault, checked_line, is_text, require_line, without_line_end,
+    FaultKind, SourceFault, Span, TextFault, checked_line, is_text, without_line_end,
 };
 use std::io::BufRead;
 
@@ -37,17 +39,27 @@ fn begins_trace(version: Version, raw: &[u8]) -> bool
     ended && is_text(text, first_text(version))
 }
 
+/// The version that a first line names, given with its end, which it must have; version 1 if it names none.
+pub(crate) fn version_of_line(raw: &[u8]) -> Version
+    ensures { result ≡ version_named (raw.now ∷ []) }
+{
+    match raw {
+        raw if begins_trace(Version::Two, raw) => Version::Two,
+        raw if begins_trace(Version::Three, raw) => Version::Three,
+        raw if begins_trace(Version::Four, raw) => Version::Four,
+        raw if begins_trace(Version::Five, raw) => Version::Five,
+        _ => Version::One,
+    }
+}
+
 /// The version in the first line of a text, if this line has an end; version 1 if it names none. A trace of version 4
 /// or 5 counts as one of two hosts here, since only its line 8 says how many were recorded.
 pub fn version_named(text: &[u8]) -> Version
     ensures { result ≡ version_named (lines_of text.now) }
 {
     match text.lines_with_terminator().next() {
-        Some(raw) if begins_trace(Version::Two, raw) => Version::Two,
-        Some(raw) if begins_trace(Version::Three, raw) => Version::Three,
-        Some(raw) if begins_trace(Version::Four, raw) => Version::Four,
-        Some(raw) if begins_trace(Version::Five, raw) => Version::Five,
-        _ => Version::One,
+        Some(raw) => version_of_line(raw),
+        None => Version::One,
     }
 }
 
@@ -85,16 +97,15 @@ fn first_version(raw: &[u8]) -> Result<Version, TextFault>
 }
 
 /// The version that the first line names.
-pub(crate) fn first_line<A: BufRead>(
-    source: &mut Counted<A>,
-    line: &mut Vec<u8>,
-) -> Result<Version, SourceFault>
-    ensures line { Reads with_rest first_line (rows_of (left_of A.remaining source.old))
-        (rows_of (left_of A.remaining source.new)) result }
-    ensures read { result ≡ Err SourceFault.Read → failures_of source.new ≡ one_more (failures_of source.old) }
-    ensures same { result ≢ Err SourceFault.Read → failures_of source.new ≡ failures_of source.old }
+pub(crate) fn first_line<A: BufRead>(text: &mut TextLines<A>) -> Result<Version, SourceFault>
+    ensures line { Reads with_rest first_line (rows_left A.remaining text.old)
+        (rows_left A.remaining text.new) result }
+    ensures witness { IfOk result (λ x.
+        KeepsWitness (witness_left A.remaining text.old) (witness_left A.remaining text.new)) }
+    ensures read { result ≡ Err SourceFault.Read → text_failures text.new ≡ one_more (text_failures text.old) }
+    ensures same { result ≢ Err SourceFault.Read → text_failures text.new ≡ text_failures text.old }
 {
-    require_line(source, 1, line)?;
-    let version = first_version(line.as_slice())?;
+    text.require_line(1)?;
+    let version = first_version(text.raw())?;
     Ok(version)
 }

@@ -1,20 +1,22 @@
 //! The lines of the header after line 6, which version 1 doesn't have.
 
-ghost use Rattle.std.specs.Prelude.{◌≡◌, ◌≢◌, Err, codes};
-ghost use Rattle.counted.specs.Counting.{left_of, failures_of, one_more};
+ghost use Rattle.std.specs.Prelude.{◌≡◌, ◌≢◌, Err, codes, IfOk};
+ghost use Rattle.counted.specs.Counting.{one_more};
 ghost use Rattle.line_fields.specs.Choice.{kind_field};
 ghost use Rattle.line_fields.specs.Congestion.{judged_name, all_judged};
 ghost use Rattle.line_fields.specs.Reading.{Gives};
-ghost use Rattle.line_fields.specs.Rows.{rows_of, with_rest, Reads};
+ghost use Rattle.line_fields.specs.Rows.{with_rest, Reads};
+ghost use Rattle.trace_reader.specs.CaseLines.{KeepsWitness};
+ghost use Rattle.trace_reader.specs.TextLeft.{rows_left, witness_left, text_failures};
 ghost use Rattle.line_fields.specs.Slack.{slack_field};
 ghost use Rattle.trace_reader.specs.Headers.{value_line, initial_field, initial_line};
 ghost use Rattle.trace_reader.specs.Headers.{congestion_line, slack_line, last_line};
 ghost use Rattle.trace_reader.specs.Headers.{half_lines, judged_lines, late_lines};
 
 use crate::named_lines::{named_rest, next_number};
+use crate::text_lines::TextLines;
 use case_forms::{Initial, Judged, Version};
-use counted::Counted;
-use line_fields::{FaultKind, Fields, SourceFault, TextFault, hosted, judged, require_line, slack};
+use line_fields::{FaultKind, Fields, SourceFault, TextFault, hosted, judged, slack};
 use std::io::BufRead;
 
 // The number of the line that names the RFC of the first congestion window.
@@ -69,17 +71,16 @@ fn named_initial(raw: &[u8]) -> Result<Initial, TextFault>
 
 // The RFC of the next line, which is `initial` and a number.
 #[tactic(auto, unfolding(crate::specs::Headers::next_value))]
-fn next_initial<A: BufRead>(
-    source: &mut Counted<A>,
-    line: &mut Vec<u8>,
-) -> Result<Initial, SourceFault>
+fn next_initial<A: BufRead>(text: &mut TextLines<A>) -> Result<Initial, SourceFault>
     ensures value { Reads with_rest initial_line
-        (rows_of (left_of A.remaining source.old)) (rows_of (left_of A.remaining source.new)) result }
-    ensures read { result ≡ Err SourceFault.Read → failures_of source.new ≡ one_more (failures_of source.old) }
-    ensures same { result ≢ Err SourceFault.Read → failures_of source.new ≡ failures_of source.old }
+        (rows_left A.remaining text.old) (rows_left A.remaining text.new) result }
+    ensures witness { IfOk result (λ x.
+        KeepsWitness (witness_left A.remaining text.old) (witness_left A.remaining text.new)) }
+    ensures read { result ≡ Err SourceFault.Read → text_failures text.new ≡ one_more (text_failures text.old) }
+    ensures same { result ≢ Err SourceFault.Read → text_failures text.new ≡ text_failures text.old }
 {
-    require_line(source, INITIAL_LINE, line)?;
-    let initial = named_initial(line.as_slice())?;
+    text.require_line(INITIAL_LINE)?;
+    let initial = named_initial(text.raw())?;
     Ok(initial)
 }
 
@@ -99,17 +100,16 @@ fn named_congestion(raw: &[u8]) -> Result<Judged, TextFault>
 
 // How much of congestion control is judged, from the next line, which is `congestion` and a word.
 #[tactic(auto, unfolding(crate::specs::Headers::next_value))]
-fn next_congestion<A: BufRead>(
-    source: &mut Counted<A>,
-    line: &mut Vec<u8>,
-) -> Result<Judged, SourceFault>
+fn next_congestion<A: BufRead>(text: &mut TextLines<A>) -> Result<Judged, SourceFault>
     ensures value { Reads with_rest congestion_line
-        (rows_of (left_of A.remaining source.old)) (rows_of (left_of A.remaining source.new)) result }
-    ensures read { result ≡ Err SourceFault.Read → failures_of source.new ≡ one_more (failures_of source.old) }
-    ensures same { result ≢ Err SourceFault.Read → failures_of source.new ≡ failures_of source.old }
+        (rows_left A.remaining text.old) (rows_left A.remaining text.new) result }
+    ensures witness { IfOk result (λ x.
+        KeepsWitness (witness_left A.remaining text.old) (witness_left A.remaining text.new)) }
+    ensures read { result ≡ Err SourceFault.Read → text_failures text.new ≡ one_more (text_failures text.old) }
+    ensures same { result ≢ Err SourceFault.Read → text_failures text.new ≡ text_failures text.old }
 {
-    require_line(source, CONGESTION_LINE, line)?;
-    let congestion = named_congestion(line.as_slice())?;
+    text.require_line(CONGESTION_LINE)?;
+    let congestion = named_congestion(text.raw())?;
     Ok(congestion)
 }
 
@@ -128,50 +128,49 @@ fn named_slack(raw: &[u8]) -> Result<Option<u64>, TextFault>
 
 // How late a host may be, from the next line, which is `slack` and that field.
 #[tactic(auto, unfolding(crate::specs::Headers::next_value))]
-fn next_slack<A: BufRead>(
-    source: &mut Counted<A>,
-    line: &mut Vec<u8>,
-) -> Result<Option<u64>, SourceFault>
+fn next_slack<A: BufRead>(text: &mut TextLines<A>) -> Result<Option<u64>, SourceFault>
     ensures value { Reads with_rest slack_line
-        (rows_of (left_of A.remaining source.old)) (rows_of (left_of A.remaining source.new)) result }
-    ensures read { result ≡ Err SourceFault.Read → failures_of source.new ≡ one_more (failures_of source.old) }
-    ensures same { result ≢ Err SourceFault.Read → failures_of source.new ≡ failures_of source.old }
+        (rows_left A.remaining text.old) (rows_left A.remaining text.new) result }
+    ensures witness { IfOk result (λ x.
+        KeepsWitness (witness_left A.remaining text.old) (witness_left A.remaining text.new)) }
+    ensures read { result ≡ Err SourceFault.Read → text_failures text.new ≡ one_more (text_failures text.old) }
+    ensures same { result ≢ Err SourceFault.Read → text_failures text.new ≡ text_failures text.old }
 {
-    require_line(source, SLACK_LINE, line)?;
-    let slack = named_slack(line.as_slice())?;
+    text.require_line(SLACK_LINE)?;
+    let slack = named_slack(text.raw())?;
     Ok(slack)
 }
 
 // How late a host may be, from the next line, if the version has that line.
 fn last_line<A: BufRead>(
-    source: &mut Counted<A>,
-    line: &mut Vec<u8>,
+    text: &mut TextLines<A>,
     version: Version,
 ) -> Result<Option<u64>, SourceFault>
     ensures value { Reads with_rest (last_line version)
-        (rows_of (left_of A.remaining source.old)) (rows_of (left_of A.remaining source.new)) result }
-    ensures read { result ≡ Err SourceFault.Read → failures_of source.new ≡ one_more (failures_of source.old) }
-    ensures same { result ≢ Err SourceFault.Read → failures_of source.new ≡ failures_of source.old }
+        (rows_left A.remaining text.old) (rows_left A.remaining text.new) result }
+    ensures witness { IfOk result (λ x.
+        KeepsWitness (witness_left A.remaining text.old) (witness_left A.remaining text.new)) }
+    ensures read { result ≡ Err SourceFault.Read → text_failures text.new ≡ one_more (text_failures text.old) }
+    ensures same { result ≢ Err SourceFault.Read → text_failures text.new ≡ text_failures text.old }
 {
     if version.says_slack() {
-        next_slack(source, line)
+        next_slack(text)
     } else {
         Ok(None)
     }
 }
 
 // The RFC of the first congestion window, and after it the line `half 0`, which says that only host 0 is recorded.
-fn half_lines<A: BufRead>(
-    source: &mut Counted<A>,
-    line: &mut Vec<u8>,
-) -> Result<LateLines, SourceFault>
+fn half_lines<A: BufRead>(text: &mut TextLines<A>) -> Result<LateLines, SourceFault>
     ensures value { Reads with_rest half_lines
-        (rows_of (left_of A.remaining source.old)) (rows_of (left_of A.remaining source.new)) result }
-    ensures read { result ≡ Err SourceFault.Read → failures_of source.new ≡ one_more (failures_of source.old) }
-    ensures same { result ≢ Err SourceFault.Read → failures_of source.new ≡ failures_of source.old }
+        (rows_left A.remaining text.old) (rows_left A.remaining text.new) result }
+    ensures witness { IfOk result (λ x.
+        KeepsWitness (witness_left A.remaining text.old) (witness_left A.remaining text.new)) }
+    ensures read { result ≡ Err SourceFault.Read → text_failures text.new ≡ one_more (text_failures text.old) }
+    ensures same { result ≢ Err SourceFault.Read → text_failures text.new ≡ text_failures text.old }
 {
-    let initial = next_initial(source, line)?;
-    next_number(source, line, HALF_LINE, "half", 0, 0)?;
+    let initial = next_initial(text)?;
+    next_number(text, HALF_LINE, "half", 0, 0)?;
     Ok(LateLines {
         version: Version::Three,
         initial,
@@ -183,19 +182,20 @@ fn half_lines<A: BufRead>(
 // The RFC of the first congestion window, how many hosts were recorded, how much of congestion control is judged, and
 // in version 5 how late a host may be.
 fn judged_lines<A: BufRead>(
-    source: &mut Counted<A>,
-    line: &mut Vec<u8>,
+    text: &mut TextLines<A>,
     version: Version,
 ) -> Result<LateLines, SourceFault>
     ensures value { Reads with_rest (judged_lines version)
-        (rows_of (left_of A.remaining source.old)) (rows_of (left_of A.remaining source.new)) result }
-    ensures read { result ≡ Err SourceFault.Read → failures_of source.new ≡ one_more (failures_of source.old) }
-    ensures same { result ≢ Err SourceFault.Read → failures_of source.new ≡ failures_of source.old }
+        (rows_left A.remaining text.old) (rows_left A.remaining text.new) result }
+    ensures witness { IfOk result (λ x.
+        KeepsWitness (witness_left A.remaining text.old) (witness_left A.remaining text.new)) }
+    ensures read { result ≡ Err SourceFault.Read → text_failures text.new ≡ one_more (text_failures text.old) }
+    ensures same { result ≢ Err SourceFault.Read → text_failures text.new ≡ text_failures text.old }
 {
-    let initial = next_initial(source, line)?;
-    let hosts = next_number(source, line, HOSTS_LINE, "hosts", 1, 2)?;
-    let congestion = next_congestion(source, line)?;
-    let slack = last_line(source, line, version)?;
+    let initial = next_initial(text)?;
+    let hosts = next_number(text, HOSTS_LINE, "hosts", 1, 2)?;
+    let congestion = next_congestion(text)?;
+    let slack = last_line(text, version)?;
     Ok(LateLines {
         version: hosted(version, hosts),
         initial,
@@ -206,14 +206,15 @@ fn judged_lines<A: BufRead>(
 
 /// The content of the late lines, if the version has any.
 pub(crate) fn late_lines<A: BufRead>(
-    source: &mut Counted<A>,
-    line: &mut Vec<u8>,
+    text: &mut TextLines<A>,
     version: Version,
 ) -> Result<LateLines, SourceFault>
     ensures value { Reads with_rest (late_lines version)
-        (rows_of (left_of A.remaining source.old)) (rows_of (left_of A.remaining source.new)) result }
-    ensures read { result ≡ Err SourceFault.Read → failures_of source.new ≡ one_more (failures_of source.old) }
-    ensures same { result ≢ Err SourceFault.Read → failures_of source.new ≡ failures_of source.old }
+        (rows_left A.remaining text.old) (rows_left A.remaining text.new) result }
+    ensures witness { IfOk result (λ x.
+        KeepsWitness (witness_left A.remaining text.old) (witness_left A.remaining text.new)) }
+    ensures read { result ≡ Err SourceFault.Read → text_failures text.new ≡ one_more (text_failures text.old) }
+    ensures same { result ≢ Err SourceFault.Read → text_failures text.new ≡ text_failures text.old }
 {
     match version {
         Version::One => Ok(LateLines {
@@ -223,7 +224,7 @@ pub(crate) fn late_lines<A: BufRead>(
             slack: None,
         }),
         Version::Two => {
-            let initial = next_initial(source, line)?;
+            let initial = next_initial(text)?;
             Ok(LateLines {
                 version,
                 initial,
@@ -231,9 +232,9 @@ pub(crate) fn late_lines<A: BufRead>(
                 slack: None,
             })
         }
-        Version::Three => half_lines(source, line),
+        Version::Three => half_lines(text),
         Version::Four | Version::FourHalf | Version::Five | Version::FiveHalf => {
-            judged_lines(source, line, version)
+            judged_lines(text, version)
         }
     }
 }

@@ -20,6 +20,7 @@
 //!
 //! - `reading`: the reader of a whole text, using the reader of `stream`
 //! - `stream`: the reader of a text whose lines are read on request
+//! - `text_lines`: the lines of the text, which ends before the witness if it is a case
 //! - `header`: the header, by its lines
 //! - `first_line`: the first line, which names the version
 //! - `late_lines`: the lines after line 6, which version 1 doesn't have
@@ -43,6 +44,7 @@ mod named_lines;
 mod printing;
 mod reading;
 mod stream;
+mod text_lines;
 mod wires;
 
 pub use case_forms::{

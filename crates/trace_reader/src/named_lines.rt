@@ -1,13 +1,15 @@
 //! Lines of a header that are a name and a value.
 
 ghost use Rattle.std.specs.Prelude.{◌≡◌, ◌≢◌, ◌≤◌, Err, IfOk};
-ghost use Rattle.counted.specs.Counting.{left_of, failures_of, one_more};
+ghost use Rattle.counted.specs.Counting.{one_more};
 ghost use Rattle.line_fields.specs.Reading.{Gives, number_field};
-ghost use Rattle.line_fields.specs.Rows.{rows_of, with_rest, Reads};
+ghost use Rattle.line_fields.specs.Rows.{with_rest, Reads};
+ghost use Rattle.trace_reader.specs.CaseLines.{KeepsWitness};
+ghost use Rattle.trace_reader.specs.TextLeft.{rows_left, witness_left, text_failures};
 ghost use Rattle.trace_reader.specs.Headers.{named_rest, value_line, next_value};
 
-use counted::Counted;
-use line_fields::{FaultKind, Fields, SourceFault, Span, TextFault, checked_fields, require_line};
+use crate::text_lines::TextLines;
+use line_fields::{FaultKind, Fields, SourceFault, Span, TextFault, checked_fields};
 use std::io::BufRead;
 
 /// The fields of a line after its name, at least one, and the fault for another count of fields. That is Header at the
@@ -57,20 +59,21 @@ fn number_line(number: u64, name: &str, least: u64, most: u64, raw: &[u8]) -> Re
 /// The number of the next line, which is a name and a number.
 #[tactic(auto, unfolding(crate::specs::Headers::next_value))]
 pub(crate) fn next_number<A: BufRead>(
-    source: &mut Counted<A>,
-    line: &mut Vec<u8>,
+    text: &mut TextLines<A>,
     number: u64,
     name: &str,
     least: u64,
     most: u64,
 ) -> Result<u64, SourceFault>
     ensures value { Reads with_rest (next_value number name.now (number_field least most))
-        (rows_of (left_of A.remaining source.old)) (rows_of (left_of A.remaining source.new)) result }
+        (rows_left A.remaining text.old) (rows_left A.remaining text.new) result }
     ensures range { IfOk result (λ n. (least ≤ n) × (n ≤ most)) }
-    ensures read { result ≡ Err SourceFault.Read → failures_of source.new ≡ one_more (failures_of source.old) }
-    ensures same { result ≢ Err SourceFault.Read → failures_of source.new ≡ failures_of source.old }
+    ensures witness { IfOk result (λ x.
+        KeepsWitness (witness_left A.remaining text.old) (witness_left A.remaining text.new)) }
+    ensures read { result ≡ Err SourceFault.Read → text_failures text.new ≡ one_more (text_failures text.old) }
+    ensures same { result ≢ Err SourceFault.Read → text_failures text.new ≡ text_failures text.old }
 {
-    require_line(source, number, line)?;
-    let value = number_line(number, name, least, most, line.as_slice())?;
+    text.require_line(number)?;
+    let value = number_line(number, name, least, most, text.raw())?;
     Ok(value)
 }

@@ -1,6 +1,8 @@
 //! The reader of a trace whose lines are read on request.
 
-ghost use Rattle.std.specs.Prelude.{◌≡◌, ◌≢◌, ◌≤◌, ◌+◌, IfOk, OnOk, IfSome, Some, None, Ok, Err, true, false};
+ghost use Rattle.std.specs.Prelude.{◌≡◌, ◌≢◌, ◌≤◌, ◌+◌, ℕ, List, [], IfOk, OnOk, IfSome, Some, None, Ok, Err};
+ghost use Rattle.std.specs.Prelude.{true, false};
+ghost use Rattle.std.specs.Borrow.{Bor};
 ghost use Rattle.case_forms.specs.declared.trace.Line.{Line};
 ghost use Rattle.counted.specs.Counting.{one_more};
 ghost use Rattle.line_fields.specs.declared.fault.TextFault.{TextFault};
@@ -8,14 +10,18 @@ ghost use Rattle.line_fields.specs.declared.fault.SourceFault.{SourceFault};
 ghost use Rattle.line_fields.specs.Left.{Yields, FailsLeft};
 ghost use Rattle.trace_reader.specs.EventLines.{behind};
 ghost use Rattle.trace_reader.specs.TraceText.{first_place};
-ghost use Rattle.trace_reader.specs.TraceLeft.{source_of, place_of, version_of, fault_of, IsFresh, IsBegun, trace_left};
-ghost use Rattle.trace_reader.specs.TraceLeft.{lines_left, Begins, reader_failures, StandsAt};
+ghost use Rattle.trace_reader.specs.CaseLines.{has_met, KeepsWitness};
+ghost use Rattle.trace_reader.specs.TraceLeft.{source_of, place_of, version_of, fault_of, kept_of, end_of_text};
+ghost use Rattle.trace_reader.specs.TraceLeft.{IsFresh, IsBegun, IsReadThrough, trace_left, lines_left, rows_behind};
+ghost use Rattle.trace_reader.specs.TraceLeft.{Begins, reader_failures, StandsAt, AreAt};
 
 use crate::events::event_line;
 use crate::header::header;
+use crate::text_lines::{TextEnd, TextLines};
 use case_forms::{Header, Line, Version};
 use counted::Counted;
-use line_fields::{SourceFault, after_line, keep_fault, next_line};
+use kept_lines::KeptLines;
+use line_fields::{SourceFault, TextFault, after_line, keep_fault};
 use std::alloc::Global;
 use std::io::BufRead;
 
@@ -24,11 +30,11 @@ use std::io::BufRead;
 #[derive(Drop)]
 pub struct TraceReader<A> {
     alloc: Global,
-    source: Counted<A>,
+    text: TextLines<A>,
+    // Lines that were read before, and come before those of the text.
+    kept: KeptLines,
     // The version that the header names, 1 before it is read.
     version: Version,
-    // The bytes of the line that was read last.
-    line: Vec<u8>,
     // The moment of the event line before, 0 before the first.
     before: u64,
     // The number of the next line, 1 before the header is read.
@@ -40,14 +46,36 @@ impl<A> TraceReader<A> {
     /// A reader of a whole text, of which nothing has been read yet.
     pub fn new(alloc: Global, source: Counted<A>) -> TraceReader<A>
         ensures source { source_of result ≡ source }
+        ensures end { end_of_text result ≡ TextEnd.Source }
+        ensures fresh { IsFresh result }
+        ensures open { fault_of result ≡ None }
+    {
+        TraceReader::before_end(alloc, source, TextEnd::Source)
+    }
+
+    /// A reader of the trace of a case, of which nothing has been read yet. The trace ends before the first line that
+    /// begins a witness of the version that its own first line names, or with the source.
+    pub fn of_case(alloc: Global, source: Counted<A>) -> TraceReader<A>
+        ensures source { source_of result ≡ source }
+        ensures end { end_of_text result ≡ TextEnd.Case }
+        ensures fresh { IsFresh result }
+        ensures open { fault_of result ≡ None }
+    {
+        TraceReader::before_end(alloc, source, TextEnd::Case)
+    }
+
+    // A reader of the text that ends there.
+    fn before_end(alloc: Global, source: Counted<A>, end: TextEnd) -> TraceReader<A>
+        ensures source { source_of result ≡ source }
+        ensures end { end_of_text result ≡ end }
         ensures fresh { IsFresh result }
         ensures open { fault_of result ≡ None }
     {
         TraceReader {
             alloc,
-            source,
+            text: TextLines::new(alloc, source, end),
+            kept: KeptLines::new(alloc),
             version: Version::One,
-            line: Vec::new(alloc),
             before: 0,
             number: 1,
             fault: None,
@@ -58,7 +86,35 @@ impl<A> TraceReader<A> {
     pub fn into_source(self) -> Counted<A>
         ensures { result ≡ source_of self }
     {
-        self.source
+        self.text.into_source()
+    }
+
+    /// Whether the line that begins the case's witness was read.
+    pub fn has_met_witness(&self) -> bool
+        ensures { result ≡ has_met (end_of_text self.now) }
+    {
+        self.text.has_met()
+    }
+}
+
+impl TraceReader<&'static [u8]> {
+    /// A reader of event lines that were read before, after this header.
+    pub fn of_lines(alloc: Global, header: &Header, lines: KeptLines) -> TraceReader<&'static [u8]>
+        requires { AreAt (first_place header.now) lines }
+        ensures lines { lines_left (λ (text : Bor (List ℕ)). Some text.now) result ≡ Some (Ok lines) }
+        ensures place { place_of result ≡ first_place header.now }
+        ensures begun { IsBegun result }
+        ensures open { fault_of result ≡ None }
+    {
+        TraceReader {
+            alloc,
+            text: TextLines::new(alloc, Counted::new(b"".as_slice()), TextEnd::Over),
+            kept: lines,
+            version: header.version,
+            before: 0,
+            number: header.first_event_line(),
+            fault: None,
+        }
     }
 }
 
@@ -72,6 +128,8 @@ impl<A: BufRead> TraceReader<A> {
         ensures version { IfOk result (λ header. version_of self.new ≡ header.version) }
         ensures fault { (e : TextFault) → fault_of self.old ≡ None → result ≡ Err (SourceFault.Text e)
             → FailsLeft e (trace_left A.remaining self.old) }
+        ensures witness { fault_of self.old ≡ None → IfOk result (λ header.
+            KeepsWitness (rows_behind A.remaining self.old) (rows_behind A.remaining self.new)) }
         ensures again { (f : SourceFault) → fault_of self.old ≡ Some f → result ≡ Err f }
         ensures stays { (f : SourceFault) → fault_of self.old ≡ Some f → self.new ≡ self.old }
         ensures kept { (f : SourceFault) → result ≡ Err f → fault_of self.new ≡ Some f }
@@ -84,7 +142,7 @@ impl<A: BufRead> TraceReader<A> {
         if let Some(fault) = self.fault {
             return Err(fault);
         }
-        let read = header(&mut self.source, &mut self.line);
+        let read = header(&mut self.text);
         let header = keep_fault(&mut self.fault, read)?;
         self.version = header.version;
         self.number = header.first_event_line();
@@ -102,6 +160,9 @@ impl<A: BufRead> TraceReader<A> {
             × (place_of self.new ≡ behind (place_of self.old) line))) }
         ensures fault { (e : TextFault) → fault_of self.old ≡ None → result ≡ Err (SourceFault.Text e)
             → FailsLeft e (lines_left A.remaining self.old) }
+        ensures ended { IfOk result (λ item. item ≡ None → IsReadThrough self.new) }
+        ensures witness { fault_of self.old ≡ None → IfOk result (λ item.
+            KeepsWitness (rows_behind A.remaining self.old) (rows_behind A.remaining self.new)) }
         ensures again { (f : SourceFault) → fault_of self.old ≡ Some f → result ≡ Err f }
         ensures stays { (f : SourceFault) → fault_of self.old ≡ Some f → self.new ≡ self.old }
         ensures kept { (f : SourceFault) → result ≡ Err f → fault_of self.new ≡ Some f }
@@ -128,6 +189,9 @@ impl<A: BufRead> TraceReader<A> {
             × (place_of self.new ≡ behind (place_of self.old) line))) }
         ensures fault { (e : TextFault) → fault_of self.old ≡ None → result ≡ Err (SourceFault.Text e)
             → FailsLeft e (lines_left A.remaining self.old) }
+        ensures ended { OnOk result (item.new ≡ None → IsReadThrough self.new) }
+        ensures witness { fault_of self.old ≡ None → OnOk result
+            (KeepsWitness (rows_behind A.remaining self.old) (rows_behind A.remaining self.new)) }
         ensures again { (f : SourceFault) → fault_of self.old ≡ Some f → result ≡ Err f }
         ensures stays { (f : SourceFault) → fault_of self.old ≡ Some f → self.new ≡ self.old }
         ensures kept { (f : SourceFault) → result ≡ Err f → fault_of self.new ≡ Some f }
@@ -177,6 +241,7 @@ impl<A: BufRead> TraceReader<A> {
     // Reads the next event line into the item, if no fault was met.
     #[inline(always)]
     fn read_into(&mut self, item: &mut Option<Line>) -> Result<(), SourceFault>
+        requires { AreAt (place_of self.old) (kept_of self.old) }
         ensures next { OnOk result
             (Yields (lines_left A.remaining self.old) (lines_left A.remaining self.new) item.new) }
         ensures place { OnOk result (IfSome item.new (λ line. StandsAt (place_of self.old) line
@@ -184,12 +249,19 @@ impl<A: BufRead> TraceReader<A> {
         ensures end { OnOk result (item.new ≡ None → place_of self.new ≡ place_of self.old) }
         ensures fault { (e : TextFault) → result ≡ Err (SourceFault.Text e)
             → FailsLeft e (lines_left A.remaining self.old) }
+        ensures ended { OnOk result (item.new ≡ None → IsReadThrough self.new) }
+        ensures witness { OnOk result
+            (KeepsWitness (rows_behind A.remaining self.old) (rows_behind A.remaining self.new)) }
+        ensures kept { OnOk result (AreAt (place_of self.new) (kept_of self.new)) }
         ensures open { fault_of self.new ≡ fault_of self.old }
         ensures version { version_of self.new ≡ version_of self.old }
         ensures read { result ≡ Err SourceFault.Read → reader_failures self.new ≡ one_more (reader_failures self.old) }
         ensures same { result ≢ Err SourceFault.Read → reader_failures self.new ≡ reader_failures self.old }
     {
-        if !next_line(&mut self.source, self.number, &mut self.line)? {
+        if !self.kept.is_empty() {
+            return self.take_kept(item);
+        }
+        if !self.text.next_line(self.number)? {
             *item = None;
             return Ok(());
         }
@@ -198,10 +270,39 @@ impl<A: BufRead> TraceReader<A> {
             self.version,
             self.before,
             self.number,
-            self.line.as_slice(),
+            self.text.raw(),
         )?;
         (self.before, self.number) = after_line(line.moment, self.number);
         *item = Some(line);
+        Ok(())
+    }
+
+    // Takes the first line that was read before.
+    #[inline(never)]
+    fn take_kept(&mut self, item: &mut Option<Line>) -> Result<(), SourceFault>
+        requires lines { AreAt (place_of self.old) (kept_of self.old) }
+        requires some { kept_of self.old ≢ [] }
+        ensures next { OnOk result
+            (Yields (lines_left A.remaining self.old) (lines_left A.remaining self.new) item.new) }
+        ensures place { OnOk result (IfSome item.new (λ line. StandsAt (place_of self.old) line
+            × (place_of self.new ≡ behind (place_of self.old) line))) }
+        ensures item { OnOk result (item.new ≢ None) }
+        ensures fault { (e : TextFault) → result ≡ Err (SourceFault.Text e)
+            → FailsLeft e (lines_left A.remaining self.old) }
+        ensures witness { OnOk result
+            (KeepsWitness (rows_behind A.remaining self.old) (rows_behind A.remaining self.new)) }
+        ensures kept { OnOk result (AreAt (place_of self.new) (kept_of self.new)) }
+        ensures open { fault_of self.new ≡ fault_of self.old }
+        ensures version { version_of self.new ≡ version_of self.old }
+        ensures read { result ≢ Err SourceFault.Read }
+        ensures same { reader_failures self.new ≡ reader_failures self.old }
+    {
+        if self.kept.take_first(item).is_err() {
+            return Err(SourceFault::Text(TextFault::out_of_memory()));
+        }
+        if let Some(line) = item {
+            (self.before, self.number) = after_line(line.moment, self.number);
+        }
         Ok(())
     }
 }

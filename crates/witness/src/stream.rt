@@ -69,6 +69,24 @@ impl<B> StepReader<B> {
         }
     }
 
+    /// A reader of the rest of a text for a trace of this version, of which only the first line was read, and names
+    /// this version.
+    pub fn behind_first_line(alloc: Global, version: Version, source: Counted<B>) -> StepReader<B>
+        ensures source { source_of result ≡ source }
+        ensures version { version_of result ≡ version }
+        ensures first { number_read result ≡ Some 2 }
+        ensures open { fault_of result ≡ None }
+    {
+        StepReader {
+            alloc,
+            version,
+            source,
+            line: Vec::new(alloc),
+            number: Some(FIRST_STEP),
+            fault: None,
+        }
+    }
+
     /// The source, of which only what was requested has been read.
     pub fn into_source(self) -> Counted<B>
         ensures { result ≡ source_of self }

@@ -9,20 +9,22 @@ use std::sync::Wait;
 use std::thread::Threads;
 
 // The words of a run, and the read and the write that fail; at 0 none does.
-const RUNS: [(&[&str], u32, u32); 9] = [
+const RUNS: [(&[&str], u32, u32); 10] = [
     (&["check"], 0, 0),
     (&["segment", "0"], 0, 0),
     (&["many", "--workers", "2"], 0, 0),
     (&["many"], 0, 0),
     (&["check"], 2, 0),
+    (&["check"], 3, 0),
     (&["many", "--workers", "2"], 4, 0),
     (&["check"], 0, 3),
     (&["many", "--workers", "2"], 0, 1),
     (&["many"], 0, 6),
 ];
 
-// The lines that each prints, then the status, how many reads and writes failed, and how many flushes there were. The
-// writer takes two bytes a call, so the line `bad usage` takes five, and the sixth is the flush.
+// The lines that each prints, then the status, how many reads and writes failed, and how many flushes there were. Two
+// reads give the first line, so `check` makes no third one. The writer takes two bytes a call, so the line `bad usage`
+// takes five, and the sixth is the flush.
 const TOLD: &str = "\
 bad trace 1 0 7 header
 2 0 0 1 |
@@ -34,8 +36,11 @@ bad usage
 3 0 0 1 |
 bad device
 5 1 0 1 |
+bad trace 1 0 7 header
+2 0 0 1 |
+bad trace 1 0 7 header
 bad device
-5 1 0 1 |
+5 1 0 2 |
 bad 5 0 1 0 |
 5 0 1 0 |
 bad usage

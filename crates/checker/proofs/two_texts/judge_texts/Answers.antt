@@ -14,7 +14,7 @@ returns-in-Ok-clause-exact g c =
     let left = left_ahead g.A.Read.remaining c.begin.new.self in
     texts_tell c.in-Ok.header (left_of g.A.Read.remaining c.args.a) (left_of g.B.Read.remaining c.args.b) left c.judge-answer.result
     (subst (λ (whole : Option (Result Trace TextFault)). Begins whole left c.in-Ok.header)
-    (fresh_trace g.A.Read.remaining c.new-lines.result c.args.a c.new-lines.ensures.source)
+    (fresh_trace g.A.Read.remaining c.new-lines.result c.args.a c.new-lines.ensures.source c.new-lines.ensures.unread)
     c.in-Ok.ensures.begins)
     (subst (λ (steps : Option (Result (List Step) TextFault)). Tells c.in-Ok.header left steps c.judge-answer.result)
     (fresh_steps g.B.Read.remaining c.new-steps.result c.in-Ok.header.version c.args.b
@@ -25,5 +25,5 @@ pub returns-in-Err-clause-exact : goal.returns-in-Err-clause-exact
 returns-in-Err-clause-exact g c =
     trace_tells (left_of g.A.Read.remaining c.args.a) (left_of g.B.Read.remaining c.args.b) c.in-Err.fault
     (subst (λ (whole : Option (Result Trace TextFault)). TraceFails c.in-Err.fault whole)
-    (fresh_trace g.A.Read.remaining c.new-lines.result c.args.a c.new-lines.ensures.source)
+    (fresh_trace g.A.Read.remaining c.new-lines.result c.args.a c.new-lines.ensures.source c.new-lines.ensures.unread)
     c.in-Err.ensures.fault)

@@ -1,4 +1,5 @@
 use Rattle.std.proofs.Common.{◌≡◌, List, subst}
+use Rattle.answer_stream.proofs.Ending.{ends_at_once}
 use Rattle.clap.specs.Words.{Text}
 use Rattle.cli.specs.Requests.{IsRequested}
 use Rattle.cli.specs.declared.request.Request.{Request}
@@ -45,3 +46,14 @@ returns-in-Ok-clause-unread g c no_check no_many =
 
 pub returns-in-Ok-clause-device : goal.returns-in-Ok-clause-device
 returns-in-Ok-clause-device g c no_record = c.answer.ensures.device (λ plan e. no_record plan (is_this c.in-Ok.request (Record plan) _ c.in-Ok.ensures e))
+
+pub returns-in-Ok-clause-told : goal.returns-in-Ok-clause-told
+returns-in-Ok-clause-told g c no_many = c.answer.ensures.told (λ n e. no_many n (is_this c.in-Ok.request (Many n) _ c.in-Ok.ensures e))
+
+pub returns-in-Ok-clause-told_many : goal.returns-in-Ok-clause-told_many
+returns-in-Ok-clause-told_many g c n asks =
+    let (m, e) = many_only c.in-Ok.request (texts c.args.words.now) n c.in-Ok.ensures asks in c.answer.ensures.told_many m e
+
+pub returns-in-Err-clause-many : goal.returns-in-Err-clause-many
+returns-in-Err-clause-many g c n asks no_device =
+    let said = c.answer_bad_memory.ensures.said no_device in ends_at_once _ _ _ _ (said.0, said.1)

@@ -19,11 +19,11 @@ pub returns-in_err-version-clause-line : goal.returns-in_err-version-clause-line
 unfolding first_line
 returns-in_err-version-clause-line g c =
     let p = err_from_is_err_and c.from_residual-in_err-version.result c.from_residual-in_err-version.ensures.1 in
-    rw (p.1, p.2) (reads_fault with_rest 1 first_version _ _ c.require_line.new.line.items c.in_err-version.field-0.0
-    c.in_ok-require_line.ensures.line (rw c.as_slice.ensures.value at c.in_err-version.ensures))
+    rw (p.1, p.2) (reads_fault with_rest 1 first_version _ _ c.require_line.new.self.line.items c.in_err-version.field-0.0
+    c.in_ok-require_line.ensures.line (rw c.raw.ensures at c.in_err-version.ensures))
 
 pub returns-clause-line : goal.returns-clause-line
 unfolding first_line
 returns-clause-line g c =
-    reads_value with_rest 1 first_version _ _ c.require_line.new.line.items c.in_ok-version.version
-    c.in_ok-require_line.ensures.line (rw c.as_slice.ensures.value at c.in_ok-version.ensures)
+    reads_value with_rest 1 first_version _ _ c.require_line.new.self.line.items c.in_ok-version.version
+    c.in_ok-require_line.ensures.line (rw c.raw.ensures at c.in_ok-version.ensures)

@@ -18,6 +18,7 @@ returns-in_err-header-clause-fault g c = λ e none is.
 pub returns-clause-header : goal.returns-clause-header
 returns-clause-header g c = λ none.
     let read = sym c.keep_fault.ensures.read ∙ c.in_ok-header.was in
-    let before = ap (λ (p : Place). p.0) (c.requires none) in
-    rw (before, c.first_event_line-self.ensures)
+    let fresh = c.requires none in
+    let before = ap (λ (p : Place). p.0) fresh.0 in
+    rw (fresh.1, before, c.first_event_line-self.ensures)
     (header_begins _ _ c.in_ok-header.header (rw read at c.header-read.ensures.header))

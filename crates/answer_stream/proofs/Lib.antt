@@ -1,0 +1,4 @@
+mod Answered
+pub mod Ending
+mod Taking
+mod Telling

@@ -1,0 +1,109 @@
+-- Answers that are printed one after another.
+use Rattle.std.proofs.Common.{◌≡◌, ◌≤◌, ◌+◌, ◌⊎◌, ◌∙◌, sym, ap, ap₂, subst, refl, inl, inr, ℕ, List, [], ◌∷◌, ◌++◌, length, take}
+use Rattle.std.proofs.Common.{Option, None, Some, IfSome, codes, Result, Err, max, arith, append-nil, length-append}
+use Rattle.std.specs.Io.KnownBytes.{Appends}
+use Rattle.std.proofs.KnownBytes.{Appends-trans}
+use Rattle.std.proofs.Math.Logic.{∥∥₁_elim, ∥∥₁_map, ∥∥₁_prop}
+use Rattle.std.proofs.lemmas.List.{take_more}
+use Rattle.parallel_check.proofs.Slots.{gives_answer}
+use Rattle.checker.specs.Cases.{GivesCase, case_result}
+use Rattle.std.proofs.lemmas.Grind.{common_steps}
+use Rattle.verdict.specs.declared.report.Verdict.{Verdict}
+use Rattle.checker.specs.declared.case.CaseFault.{CaseFault}
+use Rattle.checker.specs.declared.case.CaseFault.TheVariants.{OutOfMemory}
+use Rattle.parallel_check.specs.Answers.{IsAnswer}
+use Rattle.answer_lines.specs.Output.{line_of}
+use Rattle.case_stream.specs.Cases.{cases_of}
+use Rattle.answer_stream.specs.Left.{HasNone, IsCaseAt}
+use Rattle.answer_stream.specs.Outcomes.{AreAll, TellsAll, TellsSome}
+use Rattle.answer_stream.specs.Told.{AreFirst, IsAnswerAt, TellsAnswer, TellsFirst, lines_of_all}
+use Rattle.answer_stream.proofs.Answered.{each_pushed, greatest_pushed, lines_pushed, none_answered}
+
+none_appended : (old new : Option (List ℕ)) → old ≡ new → Appends old new []
+none_appended None new is = tt
+none_appended (Some xs) None is = absurd cc
+none_appended (Some xs) (Some ys) is = ap (λ (o : Option (List ℕ)). known o) (sym is) ∙ sym (append-nil xs)
+  where
+    known : Option (List ℕ) → List ℕ
+    known None = []
+    known (Some bytes) = bytes
+
+no_first : (input : Option (List ℕ)) → AreFirst input []
+no_first None = tt
+no_first (Some input) = refl
+
+pub nothing_told : (input old new : Option (List ℕ)) → old ≡ new → TellsFirst input 0 0 old new
+nothing_told input old new is = record {
+  cases = [];
+  first = no_first input;
+  many = refl;
+  told = record { answers = []; each = none_answered; greatest = refl; written = none_appended old new is };
+}
+
+first_more : (input : Option (List ℕ)) (cases : List (List ℕ)) (text : List ℕ) (n : ℕ) → length cases ≡ n → AreFirst input cases → IsCaseAt input n text
+    → AreFirst input (cases ++ text ∷ [])
+first_more None cases text n many first at = tt
+first_more (Some input) cases text n many first at =
+    let long : length (cases ++ text ∷ []) ≡ n + 1 = let both = length-append cases (text ∷ []) in omega (arith, both, many) in
+    let front : cases ≡ take n (cases_of input) = first ∙ ap (λ (k : ℕ). take k (cases_of input)) many in
+    ap₂ (λ (xs : List (List ℕ)) (x : List ℕ). xs ++ x ∷ []) front at.1
+    ∙ sym (take_more (cases_of input) n [] at.0)
+    ∙ ap (λ (k : ℕ). take k (cases_of input)) (sym long)
+
+still_answer : (text : List ℕ) (answer told : Result Verdict CaseFault) → IsAnswer text answer → (told ≡ answer) ⊎ (told ≡ Err OutOfMemory) → IsAnswer text told
+still_answer text answer told is (inl same) = subst (IsAnswer text) (sym same) is
+still_answer text answer told is (inr none) = λ had. absurd (had none)
+
+pub told_more : (input : Option (List ℕ)) (n status more : ℕ) (answer : Result Verdict CaseFault) (old mid new : Option (List ℕ))
+    → TellsAnswer answer more mid new → IsAnswerAt input n answer → TellsFirst input n status old mid
+    → TellsFirst input (n + 1) (max status more) old new
+told_more input n status more answer old mid new last at t =
+    let told : Result Verdict CaseFault = last.0 in
+    let lines = Appends-trans old mid new (lines_of_all t.told.answers) (line_of told) t.told.written last.3 in
+    record {
+      cases = t.cases ++ at.0 ∷ [];
+      first = first_more input t.cases at.0 n t.many t.first at.1;
+      many = let both = length-append t.cases (at.0 ∷ []) in let many = t.many in omega (arith, both, many);
+      told = record {
+        answers = t.told.answers ++ told ∷ [];
+        each = each_pushed t.cases t.told.answers at.0 told t.told.each (still_answer at.0 answer told at.2 last.1);
+        greatest = ap₂ max t.told.greatest last.2 ∙ sym (greatest_pushed t.told.answers told);
+        written = subst (λ (xs : List ℕ). Appends old new xs) (sym (lines_pushed t.told.answers told)) lines;
+      };
+    }
+
+all_of : (input : Option (List ℕ)) (cases : List (List ℕ)) (n : ℕ) → length cases ≡ n → AreFirst input cases → HasNone input n → AreAll input cases
+all_of None cases n many first none = tt
+all_of (Some input) cases n many first none =
+    let long : length (cases_of input) ≤ length cases = omega (arith, many, none) in
+    let whole : take (length cases) (cases_of input) ≡ cases_of input = grind (arith, common_steps) in
+    first ∙ whole
+
+pub all_told : (input : Option (List ℕ)) (n status : ℕ) (old new : Option (List ℕ)) → HasNone input n
+    → TellsFirst input n status old new → TellsAll input status old new
+all_told input n status old new none t = record { cases = t.cases; all = all_of input t.cases n t.many t.first none; told = t.told }
+
+-- if there is no memory for the line of an answer, that is the answer
+pub memory_told : (written : Option ℕ) (answer : Result Verdict CaseFault) (old new : Option (List ℕ))
+    → IfSome written (λ status. (status ≡ 4) × Appends old new (codes "bad memory\n")) → IfSome written (λ status. TellsAnswer answer status old new)
+memory_told None answer old new is = tt
+memory_told (Some status) answer old new is = (Err OutOfMemory, inr refl, is.0, is.1)
+
+-- ---- as far as there is such a list
+
+pub answer_at : (input : Option (List ℕ)) (n : ℕ) (text : List ℕ) (answer : Result Verdict CaseFault) → GivesCase answer (case_result text)
+    → ∥ IsCaseAt input n text ∥₁ → ∥ IsAnswerAt input n answer ∥₁
+answer_at input n text answer gives at = ∥∥₁_map at (λ a. (text, a, gives_answer text answer gives))
+
+pub one_told : (input : Option (List ℕ)) (n status more : ℕ) (answer : Result Verdict CaseFault) (old mid new : Option (List ℕ))
+    → TellsAnswer answer more mid new → ∥ IsAnswerAt input n answer ∥₁ → ∥ TellsFirst input n status old mid ∥₁
+    → ∥ TellsFirst input (n + 1) (max status more) old new ∥₁
+one_told input n status more answer old mid new last at told =
+    ∥∥₁_elim at ∥∥₁_prop (λ a. ∥∥₁_map told (λ t. told_more input n status more answer old mid new last a t))
+
+pub some_told : (input : Option (List ℕ)) (n status : ℕ) (old new : Option (List ℕ)) → ∥ TellsFirst input n status old new ∥₁ → ∥ TellsSome input old new ∥₁
+some_told input n status old new told = ∥∥₁_map told (λ t. (n, status, t))
+
+pub whole_told : (input : Option (List ℕ)) (n status : ℕ) (old new : Option (List ℕ)) → ∥ HasNone input n ∥₁ → ∥ TellsFirst input n status old new ∥₁
+    → ∥ TellsAll input status old new ∥₁
+whole_told input n status old new none told = ∥∥₁_elim none ∥∥₁_prop (λ no. ∥∥₁_map told (λ t. all_told input n status old new no t))

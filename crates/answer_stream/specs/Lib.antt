@@ -1,0 +1,4 @@
+pub mod Endings
+pub mod Left
+pub mod Outcomes
+pub mod Told

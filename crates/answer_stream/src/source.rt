@@ -1,0 +1,96 @@
+//! The input, which one worker at a time reads.
+
+ghost use Rattle.std.specs.Prelude.{◌≡◌, ◌≢◌, ◌<◌, ◌^◌, IfSome};
+ghost use Rattle.counted.specs.Counting.{left_of, failures_of};
+ghost use Rattle.answer_stream.specs.declared.state.State.{State};
+ghost use Rattle.answer_stream.specs.Left.{AreLeftIn, IsCaseAt};
+
+use crate::state::State;
+use crate::stream::{Lent, Stream};
+use case_stream::{Next, next_case};
+use counted::{Counted, ReadFault};
+use std::io::BufRead;
+use std::marker::PhantomData;
+
+/// The reader, with the number of cases that were read.
+#[derive(Drop)]
+pub(crate) struct Source<'a, B: BufRead, S: Stream> {
+    pub at: &'a mut Counted<B>,
+    pub taken: u64,
+    pub state: State,
+    of: PhantomData<S>,
+    pub ghost same: { at.ghost_name ≡ S.reader },
+    pub ghost left: { ∥ AreLeftIn state S.input taken (left_of B.remaining at.now) ∥₁ },
+    pub ghost quiet: { state ≢ State.Failed → failures_of at.now ≡ S.reads },
+    pub ghost failed: { state ≡ State.Failed → S.reads < failures_of at.now },
+    pub ghost few: { S.reads < 2 ^ 50 },
+}
+
+impl<'a, B: BufRead, S: Stream> Source<'a, B, S> {
+    /// A reader from which nothing was read yet.
+    pub fn new(lent: Lent<'a, Counted<B>>) -> Source<'a, B, S>
+        requires same { lent.at.ghost_name ≡ S.reader }
+        requires input { S.input ≡ left_of B.remaining lent.at.now }
+        requires reads { failures_of lent.at.now ≡ S.reads }
+        requires few { S.reads < 2 ^ 50 }
+    {
+        let Lent { at } = lent;
+        Source {
+            at,
+            taken: 0,
+            state: State::Open,
+            of: PhantomData,
+        }
+    }
+
+    /// Reads the next case into `text`, and returns its number. `None`: no further case can be read. `line` is used for
+    /// each line.
+    pub fn take(&mut self, line: &mut Vec<u8>, text: &mut Vec<u8>) -> Option<u64>
+        ensures { IfSome result (λ number. ∥ IsCaseAt S.input number text.new.items ∥₁) }
+    {
+        if self.state != State::Open {
+            return None;
+        }
+        let number = self.taken;
+        let Some(taken) = number.checked_add(1) else {
+            self.state = State::OutOfMemory;
+            return None;
+        };
+        match next_case(self.at, line, text) {
+            Ok(Next::Case) => {
+                self.taken = taken;
+                Some(number)
+            }
+            Ok(Next::Last) => {
+                self.taken = taken;
+                self.state = State::Ended;
+                Some(number)
+            }
+            Ok(Next::Nothing) => {
+                self.state = State::Ended;
+                None
+            }
+            Err(ReadFault::Read) => {
+                self.state = State::Failed;
+                None
+            }
+            Err(ReadFault::OutOfMemory) => {
+                self.state = State::OutOfMemory;
+                None
+            }
+        }
+    }
+
+    /// The reader again.
+    pub fn into_lent(self) -> Lent<'a, Counted<B>>
+        ensures { result.at ≡ self.entry.at }
+    {
+        let Source {
+            at,
+            taken: _,
+            state: _,
+            of: _,
+        } = self;
+        Lent { at }
+    }
+}

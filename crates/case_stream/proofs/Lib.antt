@@ -1,0 +1,2 @@
+mod CaseSoFar
+mod CutBackLaw

@@ -1,0 +1,94 @@
+//! Cases that follow each other in one input, read one at a time.
+//!
+//! ```text
+//! let mut line = Vec::new(alloc);
+//! let mut text = Vec::new(alloc);
+//! while next_case(&mut reader, &mut line, &mut text)? != Next::Nothing {
+//!     answer(text.as_slice());
+//! }
+//! ```
+//!
+//! A line `end` ends a case; what follows the last one is one more case, unless it is empty. `specs/Cases` defines the
+//! cases of a text. Nothing after the line `end` is read before the case is returned, except what the reader buffers.
+#![tactic(auto)]
+
+mod laws;
+
+ghost use Rattle.std.specs.Prelude.{◌≡◌, ◌^◌, true, false, OnOk, Ok, Err};
+ghost use Rattle.counted.specs.Counting.{left_of, failures_of, one_more};
+ghost use Rattle.line_fields.specs.Lines.{is_ended};
+ghost use Rattle.case_stream.specs.Cases.{ends_case};
+ghost use Rattle.case_stream.specs.Left.{HasNoCase, TakesCase, TakesLast};
+ghost use Rattle.case_stream.specs.declared.Next.{Next};
+ghost use Rattle.counted.specs.declared.ends.ReadFault.{ReadFault};
+
+use counted::{Counted, ReadFault};
+pub use laws::cases_are_cut_back;
+use line_fields::without_line_end;
+use std::io::BufRead;
+
+// A longer line isn't kept.
+const LONGEST_LINE: usize = 0xffff_ffff;
+
+// Whether a line, given with its end, ends a case.
+fn ends_case(raw: &[u8]) -> bool
+    ensures { result ≡ ends_case raw.now }
+{
+    let (text, ended) = without_line_end(raw);
+    ended && text == "end".as_bytes()
+}
+
+// Whether a line is given with its end.
+fn has_end(raw: &[u8]) -> bool
+    ensures { result ≡ is_ended raw.now }
+{
+    let (_, ended) = without_line_end(raw);
+    ended
+}
+
+/// What was read of the next case.
+#[derive(Clone, Copy, Debug, PartialEq, Eq)]
+pub enum Next {
+    /// A case that its line `end` ends.
+    Case,
+    /// The last case, which the end of the input ends.
+    Last,
+    /// The input has no further case.
+    Nothing,
+}
+
+/// Reads the next case into `text`, without the line that ends it. `line` is used for each line. A line of 2^32 bytes
+/// or more counts as out of memory.
+pub fn next_case<B: BufRead>(
+    r: &mut Counted<B>,
+    line: &mut Vec<u8>,
+    text: &mut Vec<u8>,
+) -> Result<Next, ReadFault>
+    ensures case { result ≡ Ok Next.Case → TakesCase (left_of B.remaining r.old) (left_of B.remaining r.new)
+        text.new.items }
+    ensures last { result ≡ Ok Next.Last → TakesLast (left_of B.remaining r.old) text.new.items }
+    ensures nothing { result ≡ Ok Next.Nothing → HasNoCase (left_of B.remaining r.old) }
+    ensures ok { OnOk result (failures_of r.new ≡ failures_of r.old) }
+    ensures read { result ≡ Err ReadFault.Read → failures_of r.new ≡ one_more (failures_of r.old) }
+    ensures memory { result ≡ Err ReadFault.OutOfMemory → failures_of r.new ≡ failures_of r.old }
+{
+    text.clear();
+    for _ in 0..u64::MAX {
+        match r.read_line(LONGEST_LINE, line)? {
+            None if text.is_empty() => return Ok(Next::Nothing),
+            None => return Ok(Next::Last),
+            Some(0) => {}
+            Some(_) => return Err(ReadFault::OutOfMemory),
+        }
+        if ends_case(line.as_slice()) {
+            return Ok(Next::Case);
+        }
+        if text.extend_from_slice(line.as_slice()).is_err() {
+            return Err(ReadFault::OutOfMemory);
+        }
+        if !has_end(line.as_slice()) {
+            return Ok(Next::Last);
+        }
+    }
+    Err(ReadFault::OutOfMemory)
+}

@@ -1,0 +1,3 @@
+pub mod RecordLemmas
+pub mod ChunkLemmas
+pub mod TakesLemmas

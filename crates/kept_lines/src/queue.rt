@@ -1,0 +1,133 @@
+//! The lines in order, in chunks.
+
+ghost use Rattle.std.specs.Prelude.{◌≡◌, ◌↔◌, [], ◌∷◌, ◌++◌, IsTrue, OnOk, OnErr};
+ghost use Rattle.kept_lines.specs.Chunks.{AreFilled, joined};
+ghost use Rattle.kept_lines.specs.Lines.{IsPlain, Takes};
+
+use crate::chunk::Chunk;
+use crate::record::bytes_of;
+use case_forms::{Line, OutOfMemory};
+use std::alloc::{AllocError, Global};
+use std::collections::VecDeque;
+use std::marker::Model;
+use std::mem::replace;
+
+/// Event lines of a trace, kept in order until they are taken.
+#[derive(Drop)]
+pub struct KeptLines {
+    /// The first lines, which are taken next.
+    first: Chunk,
+    /// The lines after those, in full chunks.
+    middle: VecDeque<Chunk>,
+    /// The last lines. Further lines go here.
+    last: Chunk,
+}
+
+impl Model for KeptLines {
+    ghost use Rattle.std.specs.Prelude.{List, ◌++◌};
+    ghost use Rattle.case_forms.specs.declared.trace.Line.{Line};
+    ghost use Rattle.kept_lines.specs.Chunks.{AreFilled, joined};
+
+    ghost Value = { List Line };
+
+    ghost view = { λ k. k.first ++ joined k.middle.items ++ k.last };
+
+    ghost invariant = { λ k. AreFilled k.middle.items };
+}
+
+impl KeptLines {
+    /// No lines.
+    pub fn new(alloc: Global) -> KeptLines
+        ensures { result ≡ [] }
+    {
+        KeptLines {
+            first: Chunk::new(alloc),
+            middle: VecDeque::new(alloc),
+            last: Chunk::new(alloc),
+        }
+    }
+
+    /// Whether there is no line.
+    #[inline(always)]
+    pub fn is_empty(&self) -> bool
+        ensures { IsTrue result ↔ (self.now ≡ []) }
+    {
+        self.first.is_empty() && has_none(&self.middle) && self.last.is_empty()
+    }
+
+    /// Appends a line. If memory runs out, the lines don't change. A line with 4 GiB of bytes, which no text has,
+    /// counts as one that there is no memory for.
+    #[inline(always)]
+    pub fn push(&mut self, line: Line) -> Result<(), OutOfMemory>
+        requires { IsPlain line }
+        ensures ok { OnOk result (self.new ≡ self.old ++ line ∷ []) }
+        ensures err { OnErr result (self.new ≡ self.old) }
+    {
+        if !self.last.has_room(bytes_of(&line.event)) {
+            begin_chunk(&mut self.middle, &mut self.last)?;
+        }
+        self.last.push(&line)
+    }
+
+    /// Makes the first line the item, and removes it; the item is None if there is none. The error means that memory
+    /// ran out; the lines and the item then don't change.
+    #[inline(always)]
+    pub fn take_first(&mut self, item: &mut Option<Line>) -> Result<(), OutOfMemory>
+        ensures ok { OnOk result (Takes self.old self.new item.new) }
+        ensures err { OnErr result (self.new ≡ self.old) }
+        ensures kept { OnErr result (item.new ≡ item.old) }
+    {
+        if self.first.is_empty() {
+            self.first = next_chunk(&mut self.middle, &mut self.last);
+        }
+        *item = self.first.next_line()?;
+        Ok(())
+    }
+}
+
+// Whether there is no chunk.
+#[tactic(auto, using(std::proofs::lemmas::List::nil_from_length))]
+#[inline(always)]
+fn has_none(chunks: &VecDeque<Chunk>) -> bool
+    ensures { IsTrue result ↔ (chunks.now.items ≡ []) }
+{
+    chunks.is_empty()
+}
+
+// An empty chunk becomes the last, unless the last one is empty.
+#[inline(never)]
+fn begin_chunk(middle: &mut VecDeque<Chunk>, last: &mut Chunk) -> Result<(), OutOfMemory>
+    requires { AreFilled middle.old.items }
+    ensures filled { AreFilled middle.new.items }
+    ensures lines { joined middle.new.items ++ last.new ≡ joined middle.old.items ++ last.old }
+{
+    if last.is_empty() {
+        return Ok(());
+    }
+    last.shrink();
+    let alloc = last.allocator();
+    match middle.push_back(replace(last, Chunk::new(alloc))) {
+        Ok(()) => Ok(()),
+        Err(failed) => {
+            *last = failed.value;
+            Err(AllocError)
+        }
+    }
+}
+
+// The first of these chunks, which is removed. It is empty only if all of them are.
+#[inline(never)]
+fn next_chunk(middle: &mut VecDeque<Chunk>, last: &mut Chunk) -> Chunk
+    requires { AreFilled middle.old.items }
+    ensures filled { AreFilled middle.new.items }
+    ensures lines { result ++ joined middle.new.items ++ last.new ≡ joined middle.old.items ++ last.old }
+    ensures empty { result ≡ [] → joined middle.new.items ++ last.new ≡ [] }
+{
+    match middle.pop_front() {
+        Some(chunk) => chunk,
+        None => {
+            let alloc = last.allocator();
+            replace(last, Chunk::new(alloc))
+        }
+    }
+}

@@ -1,0 +1,133 @@
+#!/usr/bin/python3
+"""Tests when `tcpwit many` prints its answers, in which order, how much memory it needs, and how it ends if a read or a write fails."""
+import os
+import shlex
+import socket
+import struct
+import subprocess
+import sys
+import tempfile
+import unittest
+
+sys.dont_write_bytecode = True
+
+from unproved import kept
+
+TOP = os.path.dirname(os.path.dirname(os.path.abspath(__file__)))
+TCPWIT = shlex.split(os.environ.get("TCPWIT", f"{TOP}/tcpwit"))
+WORKERS = (1, 2, 4)
+# How many seconds an answer may take. A program that has to wait for the next case never prints it.
+PATIENCE = 60
+REFUSED, NO_DEVICE = 2, 5
+HEADER = "trace 1\nskew 0\nmsl 120000000\ngrain 1000\nminrto 1000000\nextra 0\n"
+EXPLAINED = HEADER + (
+    "10 1 B listen 0 80 4\n12 2 B status 5\n13 1 E ok 5\n14 2 E state LISTEN\n"
+    "witness 1\n10 L 7\n11 D 1 ok 5\n12 L 8\n12 D 2 state LISTEN\n13 L 9\n14 L 10\n"
+)
+YES = "yes 4 2\n"
+SPOILT = "trace 9\n"
+BAD = "bad trace 1 0 7 header\n"
+# A case of a megabyte, which is refused at its first line.
+LARGE = SPOILT + "x\n" * 500_000
+# Runs the program that its words name; prints its status and its peak memory in kilobytes.
+MEASURE = """
+import os, sys
+_, ended, usage = os.wait4(os.spawnvp(os.P_NOWAIT, sys.argv[1], sys.argv[1:]), 0)
+print(os.waitstatus_to_exitcode(ended), usage.ru_maxrss, file=sys.stderr)
+"""
+
+
+def setUpModule():
+    # The script can't start with a directory as its input.
+    if TCPWIT == [f"{TOP}/tcpwit"]:
+        TCPWIT[:] = [kept("tcpwit")]
+
+
+def command(workers):
+    return [*TCPWIT, "many", "--workers", str(workers)]
+
+
+def many_lines(rounds):
+    """A case with many calls, which takes far longer than the small ones."""
+    calls = "".join(f"{2 * n} 1 B status 5\n{2 * n + 1} 1 E badsocket\n" for n in range(rounds))
+    steps = "".join(f"{2 * n} L {7 + 2 * n}\n{2 * n} D 1 badsocket\n{2 * n + 1} L {8 + 2 * n}\n" for n in range(rounds))
+    return HEADER + calls + "witness 1\n" + steps
+
+
+def read_line(program):
+    """The next line that the program prints, or nothing if it takes too long."""
+    timer = subprocess.Popen([sys.executable, "-c", f"import time, os, signal; time.sleep({PATIENCE}); os.kill({program.pid}, signal.SIGKILL)"])
+    line = program.stdout.readline().decode()
+    timer.kill()
+    timer.wait()
+    return line
+
+
+class Many(unittest.TestCase):
+    def test_answers_come_before_the_next_case(self):
+        for workers in WORKERS:
+            with self.subTest(workers=workers), subprocess.Popen(command(workers), stdin=subprocess.PIPE, stdout=subprocess.PIPE) as program:
+                for case, answer in [(EXPLAINED, YES), (SPOILT, BAD), (EXPLAINED, YES), (LARGE, BAD), (EXPLAINED, YES)] * 3:
+                    program.stdin.write(case.encode() + b"end\n")
+                    program.stdin.flush()
+                    self.assertEqual(read_line(program), answer)
+                program.stdin.write(EXPLAINED.encode())
+                program.stdin.close()
+                self.assertEqual(program.stdout.read().decode(), YES)
+                self.assertEqual(program.wait(), REFUSED)
+
+    def test_order(self):
+        # The first case is answered long after thousands of others.
+        cases = [many_lines(100_000), *[EXPLAINED, SPOILT, SPOILT] * 2000, many_lines(20_000), EXPLAINED]
+        wanted = "yes 200000 100000\n" + (YES + BAD + BAD) * 2000 + "yes 40000 20000\n" + YES
+        with tempfile.TemporaryFile() as source:
+            for case in cases:
+                source.write(case.encode() + b"end\n")
+            for workers in (*WORKERS, 64):
+                source.seek(0)
+                ended = subprocess.run(command(workers), stdin=source, stdout=subprocess.PIPE, timeout=20 * PATIENCE)
+                self.assertEqual((ended.stdout.decode(), ended.returncode), (wanted, REFUSED), workers)
+
+    def test_memory(self):
+        count = 400
+        for workers in WORKERS:
+            words = [sys.executable, "-c", MEASURE, *command(workers)]
+            with tempfile.TemporaryFile() as answers:
+                with subprocess.Popen(words, stdin=subprocess.PIPE, stdout=answers, stderr=subprocess.PIPE) as program:
+                    for _ in range(count):
+                        program.stdin.write(LARGE.encode() + b"end\n" + EXPLAINED.encode() + b"end\n")
+                    program.stdin.close()
+                    ended, kilobytes = program.stderr.read().split()[-2:]
+                answers.seek(0)
+                self.assertEqual(answers.read().decode(), (BAD + YES) * count)
+            self.assertEqual(int(ended), REFUSED)
+            # A process has 14 MB until it runs the program; a list doubles as it grows.
+            self.assertLess(int(kilobytes), 16_000 + 2100 * (workers + 2), workers)
+
+    def test_read_that_fails(self):
+        for workers in WORKERS:
+            with socket.create_server(("127.0.0.1", 0)) as server, socket.create_connection(server.getsockname()) as writer:
+                reader = server.accept()[0]
+                with reader, subprocess.Popen(command(workers), stdin=reader, stdout=subprocess.PIPE) as program:
+                    reader.close()
+                    writer.sendall((EXPLAINED + "end\n" + SPOILT + "end\n" + EXPLAINED).encode())
+                    self.assertEqual(read_line(program) + read_line(program), YES + BAD)
+                    # A reset: the next read fails.
+                    writer.setsockopt(socket.SOL_SOCKET, socket.SO_LINGER, struct.pack("ii", 1, 0))
+                    writer.close()
+                    self.assertEqual(program.stdout.read().decode(), "bad device\n")
+                    self.assertEqual(program.wait(), NO_DEVICE)
+            directory = os.open("/", os.O_RDONLY)
+            ended = subprocess.run(command(workers), stdin=directory, stdout=subprocess.PIPE)
+            os.close(directory)
+            self.assertEqual((ended.stdout.decode(), ended.returncode), ("bad device\n", NO_DEVICE))
+
+    def test_write_that_fails(self):
+        cases = ((EXPLAINED + "end\n") * 3000).encode()
+        for workers in WORKERS:
+            with open("/dev/full", "wb", buffering=0) as full:
+                self.assertEqual(subprocess.run(command(workers), input=cases, stdout=full, timeout=PATIENCE).returncode, NO_DEVICE)
+
+
+if __name__ == "__main__":
+    unittest.main()
