@@ -18,7 +18,7 @@
 //! - `command_lines`: command lines, read as the program reads its own
 //! - `stored`: texts that `tcpwit_lab` must print for a case
 //! - `kernel`: witnesses found for recordings of the Linux kernel and for written traces
-//! - `kept_lines`: which event lines have every line of a trace
+//! - `comparisons`: which event lines have every line of a trace
 //! - `pictures`: a case as `tcpwit_lab` shows and draws it; `drawn`: which lines of a long case are drawn; `printed`:
 //!   bytes that no terminal interprets
 //! - `version_four`: rewrites a case as version 4, and as version 5
@@ -29,8 +29,8 @@
 mod asking;
 mod beginnings;
 mod command_lines;
+mod comparisons;
 mod drawn;
-mod kept_lines;
 mod kernel;
 mod less_judged;
 mod long_lines;
@@ -92,7 +92,7 @@ fn ask_all<H: Threads + Wait + Sync>(rt: &H, cases: &mut Vec<Case>, report: &mut
         "written traces are explained by what is found, ",
         report,
     );
-    kept_lines::ask_kept(report);
+    comparisons::ask_kept(report);
     drawn::ask_drawn(report);
     printed::ask_printed(report);
 }
