@@ -1,5 +1,6 @@
--- The lines that records stand for, together with the bytes of all of them, one after another.
-use Rattle.std.specs.Prelude.{◌≡◌, ◌≤◌, ℕ, ◌+◌, List, [], ◌∷◌, length, take, drop, Result, Ok, Err}
+-- The lines that records stand for, together with the bytes of all of them, one after another, and how many these are.
+use Rattle.std.specs.Prelude.{◌≡◌, ◌≤◌, ℕ, ◌+◌, Bool, true, false, if◌then◌else◌, List, [], ◌∷◌, length, take, drop, sum}
+use Rattle.std.specs.Prelude.{Result, Ok, Err}
 use Rattle.segment.specs.declared.fault.SegFault.{SegFault}
 use Rattle.segment.specs.declared.fields.Segment.{Segment}
 use Rattle.segment.specs.Layout.{fields_of}
@@ -54,6 +55,14 @@ event_of (kept.Sent host) bytes = events.Sent host (seen_of bytes)
 event_of (kept.Came host) bytes = events.Came host (seen_of bytes)
 event_of (kept.Expired host local remote timer) bytes = events.Expired host local remote timer
 
+-- whether an event of this kind has bytes, of which there may be none
+abbrev pub has_bytes : KeptEvent → Bool
+has_bytes (kept.Send socket) = true
+has_bytes kept.Bytes = true
+has_bytes (kept.Sent host) = true
+has_bytes (kept.Came host) = true
+has_bytes event = false
+
 -- the bytes of a call
 abbrev pub call_bytes : Call → List ℕ
 call_bytes (calls.Send socket bytes) = bytes
@@ -72,32 +81,54 @@ bytes_of (events.Sent host wire) = wire.bytes
 bytes_of (events.Came host wire) = wire.bytes
 bytes_of (events.Expired host local remote timer) = []
 
--- the line of a record, with its bytes
-unfoldable pub line_of : Record → List ℕ → Line
-line_of r bytes = record {
-  number = r.number;
+-- the line of a record, with its number and its bytes
+unfoldable pub line_of : ℕ → Record → List ℕ → Line
+line_of n r bytes = record {
+  number = n;
   moment = r.moment;
   thread = r.thread;
   event = event_of r.event bytes;
-  span = record { line = r.number; start = 0; stop = r.stop };
+  span = record { line = n; start = 0; stop = r.stop };
 }
 
--- the lines of records, whose bytes follow one another
-unfoldable pub lines_of : List Record → List ℕ → List Line
-lines_of [] bytes = []
-lines_of (r ∷ rs) bytes = line_of r (take r.len bytes) ∷ lines_of rs (drop r.len bytes)
+-- how many lengths are kept for an event: one, if it has bytes
+abbrev pub len_count : KeptEvent → ℕ
+len_count event = if has_bytes event then 1 else 0
 
--- how many bytes records have in all
-unfoldable pub byte_count : List Record → ℕ
-byte_count [] = 0
-byte_count (r ∷ rs) = r.len + byte_count rs
+-- these lengths, for one with so many bytes
+abbrev pub lens_of : KeptEvent → ℕ → List ℕ
+lens_of event len = if has_bytes event then len ∷ [] else []
 
--- the lines that are left, once so many records and bytes are taken
-unfoldable pub lines_left : List Record → List ℕ → ℕ → ℕ → List Line
-lines_left records bytes taken read = lines_of (drop taken records) (drop read bytes)
+-- how many bytes the first of some lines has, if this is its event, and these are the lengths kept for all of them
+abbrev pub first_len : KeptEvent → List ℕ → ℕ
+first_len event lens = sum (take (len_count event) lens)
 
--- so many records and bytes are taken, and the other records have the other bytes
-pub record IsCounted (records : List Record) (bytes : List ℕ) (taken read : ℕ) : Type 0 where
+-- the lines of records, numbered from n on, with the lengths that are kept for them and their bytes, in order
+unfoldable pub lines_of : ℕ → List Record → List ℕ → List ℕ → List Line
+lines_of n [] lens bytes = []
+lines_of n (r ∷ rs) lens bytes = line_of n r (take (first_len r.event lens) bytes)
+    ∷ lines_of (n + 1) rs (drop (len_count r.event) lens) (drop (first_len r.event lens) bytes)
+
+-- how many lengths are kept for records
+unfoldable pub lens_count : List Record → ℕ
+lens_count [] = 0
+lens_count (r ∷ rs) = len_count r.event + lens_count rs
+
+-- these are the lengths kept for the records, and as many bytes as they say; numbered from n on, no line has a number
+-- above what texts can have
+pub record AreWhole (n : ℕ) (records : List Record) (lens bytes : List ℕ) : Type 0 where
+  pub all_lens : lens_count records ≡ length lens
+  pub all_bytes : sum lens ≡ length bytes
+  pub numbers : n + length records ≤ 10000001
+
+-- so many records, lengths and bytes were taken, and the others belong together
+pub record IsCounted (n : ℕ) (records : List Record) (lens bytes : List ℕ) (taken measured read : ℕ) : Type 0 where
   pub taken_within : taken ≤ length records
+  pub measured_within : measured ≤ length lens
   pub read_within : read ≤ length bytes
-  pub others : byte_count (drop taken records) ≡ length (drop read bytes)
+  pub others : AreWhole n (drop taken records) (drop measured lens) (drop read bytes)
+
+-- the lines that are left, of which the first has the number n, once so many records, lengths and bytes were taken
+unfoldable pub lines_left : ℕ → List Record → List ℕ → List ℕ → ℕ → ℕ → ℕ → List Line
+lines_left n records lens bytes taken measured read =
+    lines_of n (drop taken records) (drop measured lens) (drop read bytes)

@@ -1,9 +1,11 @@
-//! Lines in two pieces of memory.
+//! Lines in three pieces of memory.
 
-ghost use Rattle.std.specs.Prelude.{◌≡◌, ◌↔◌, [], ◌∷◌, ◌++◌, ◌<◌, ◌^◌, IfOk, IsTrue, OnOk, OnErr};
-ghost use Rattle.kept_lines.specs.Lines.{IsPlain, Takes};
+ghost use Rattle.std.specs.Prelude.{◌≡◌, ◌≤◌, ◌+◌, ◌↔◌, [], ◌∷◌, ◌++◌, ◌<◌, ◌^◌, false, length, drop};
+ghost use Rattle.std.specs.Prelude.{IfOk, IsTrue, OnOk, OnErr};
+ghost use Rattle.kept_lines.specs.Lines.{IsPlain, Takes, Follows};
+ghost use Rattle.kept_lines.specs.Records.{has_bytes, lens_of, len_count, first_len};
 
-use crate::record::{Record, bytes_of, line_of, record_of};
+use crate::record::{KeptEvent, Record, bytes_of, line_of, record_of};
 use case_forms::{Line, OutOfMemory};
 use std::alloc::{AllocError, Global};
 use std::marker::Model;
@@ -14,15 +16,22 @@ const MOST_LINES: usize = 2048;
 /// How many bytes the lines of a chunk have at most, unless it is a single line that has more.
 const MOST_BYTES: usize = 65_536;
 
-/// Lines in order. They are appended at the end, until the chunk is full, and taken from the front.
+/// Lines in order, whose numbers follow one another. They are appended at the end, until the chunk is full, and taken
+/// from the front.
 #[derive(Drop)]
 pub(crate) struct Chunk {
-    /// Each line without its bytes.
+    /// The number of the first line that is left, any if there is none.
+    number: u64,
+    /// Each line without its number and its bytes.
     records: Vec<Record>,
+    /// How many bytes each line has that can have some.
+    lens: Vec<u32>,
     /// The bytes of the lines, one line's after another's.
     bytes: Vec<u8>,
     /// How many of the lines were taken.
     taken: usize,
+    /// How many lengths were kept for them.
+    measured: usize,
     /// How many bytes they had.
     read: usize,
 }
@@ -34,9 +43,9 @@ impl Model for Chunk {
 
     ghost Value = { List Line };
 
-    ghost view = { λ c. lines_left c.records.items c.bytes.items c.taken c.read };
+    ghost view = { λ c. lines_left c.number c.records.items c.lens.items c.bytes.items c.taken c.measured c.read };
 
-    ghost invariant = { λ c. IsCounted c.records.items c.bytes.items c.taken c.read };
+    ghost invariant = { λ c. IsCounted c.number c.records.items c.lens.items c.bytes.items c.taken c.measured c.read };
 }
 
 impl Chunk {
@@ -46,9 +55,12 @@ impl Chunk {
         ensures { result ≡ [] }
     {
         Chunk {
+            number: 0,
             records: Vec::new(alloc),
+            lens: Vec::new(alloc),
             bytes: Vec::new(alloc),
             taken: 0,
+            measured: 0,
             read: 0,
         }
     }
@@ -67,10 +79,23 @@ impl Chunk {
         self.taken == self.records.len()
     }
 
-    /// Whether a line with these bytes may be appended to a chunk that has lines. To an empty one, any line may.
+    /// Whether a line may be appended to a chunk that has lines. To an empty one, any line may.
     #[inline(always)]
-    pub(crate) fn has_room(&self, bytes: &[u8]) -> bool {
-        self.records.len() < MOST_LINES && self.bytes.len() + bytes.len() <= MOST_BYTES
+    pub(crate) fn has_room(&self, line: &Line) -> bool
+        ensures { IsTrue result → Follows self.now line.now.number }
+    {
+        self.is_next(line.number)
+            && self.records.len() < MOST_LINES
+            && self.bytes.len() + bytes_of(&line.event).len() <= MOST_BYTES
+    }
+
+    // Whether the number is the one after those of the lines that are left.
+    #[inline(always)]
+    fn is_next(&self, number: u64) -> bool
+        ensures { IsTrue result → Follows self.now number }
+    {
+        let left = self.records.len() - self.taken;
+        self.number + left as u64 == number
     }
 
     /// Gives back the memory that no line needs.
@@ -78,6 +103,7 @@ impl Chunk {
         ensures { self.new ≡ self.old }
     {
         self.records.shrink_to_fit();
+        self.lens.shrink_to_fit();
         self.bytes.shrink_to_fit();
     }
 
@@ -85,18 +111,18 @@ impl Chunk {
     /// memory for.
     #[inline(always)]
     pub(crate) fn push(&mut self, line: &Line) -> Result<(), OutOfMemory>
-        requires { IsPlain line.now }
+        requires plain { IsPlain line.now }
+        requires follows { Follows self.old line.now.number }
         ensures ok { OnOk result (self.new ≡ self.old ++ line.now ∷ []) }
         ensures err { OnErr result (self.new ≡ self.old) }
     {
+        let left = self.records.len() - self.taken;
+        let record = record_of(line);
         let bytes = bytes_of(&line.event);
-        let Ok(len) = u32::try_from(bytes.len()) else {
-            return Err(AllocError);
-        };
         self.records.reserve(1)?;
-        reserve_bytes(&mut self.bytes, bytes.len())?;
-        self.bytes.extend_from_slice(bytes)?;
-        self.records.push_reserved(record_of(line, len));
+        keep_bytes(&mut self.lens, &mut self.bytes, record.event, bytes)?;
+        self.records.push_reserved(record);
+        self.number = line.number - left as u64;
         Ok(())
     }
 
@@ -111,9 +137,12 @@ impl Chunk {
             return Ok(None);
         }
         let first = self.records[self.taken];
-        let end = self.read + first.byte_len();
-        let line = line_of(self.allocator(), &first, &self.bytes[self.read..end])?;
+        let end = self.read + len_at(self.lens.as_slice(), self.measured, first.event);
+        let bytes = &self.bytes[self.read..end];
+        let line = line_of(self.allocator(), self.number, &first, bytes)?;
+        self.number += 1;
         self.taken += 1;
+        self.measured += first.event.len_count();
         self.read = end;
         self.free();
         Ok(Some(line))
@@ -128,6 +157,46 @@ impl Chunk {
             *self = Chunk::new(self.allocator());
         }
     }
+}
+
+// How many bytes the first line has that is left, if this is its event and so many lengths are kept for those before it.
+#[inline(always)]
+fn len_at(lens: &[u32], measured: usize, event: KeptEvent) -> usize
+    requires { measured + len_count event ≤ length lens.now }
+    ensures { result ≡ first_len event (drop measured lens.now) }
+{
+    if event.has_bytes() {
+        lens[measured] as usize
+    } else {
+        0
+    }
+}
+
+// Appends the bytes of an event, and their number if it can have some. If memory runs out, nothing changes.
+#[inline(always)]
+fn keep_bytes(
+    lens: &mut Vec<u32>,
+    bytes: &mut Vec<u8>,
+    event: KeptEvent,
+    more: &[u8],
+) -> Result<(), OutOfMemory>
+    requires { has_bytes event ≡ false → more.now ≡ [] }
+    ensures lens { OnOk result (lens.new.items ≡ lens.old.items ++ lens_of event (length more.now)) }
+    ensures bytes { OnOk result (bytes.new.items ≡ bytes.old.items ++ more.now) }
+    ensures same_lens { OnErr result (lens.new.items ≡ lens.old.items) }
+    ensures same_bytes { OnErr result (bytes.new.items ≡ bytes.old.items) }
+{
+    if !event.has_bytes() {
+        return Ok(());
+    }
+    let Ok(len) = u32::try_from(more.len()) else {
+        return Err(AllocError);
+    };
+    lens.reserve(1)?;
+    reserve_bytes(bytes, more.len())?;
+    bytes.extend_from_slice(more)?;
+    lens.push_reserved(len);
+    Ok(())
 }
 
 // Reserves room for so many more bytes. The room is at least doubled, but only up to as many bytes as a chunk has.

@@ -2,10 +2,9 @@
 
 ghost use Rattle.std.specs.Prelude.{◌≡◌, ◌↔◌, [], ◌∷◌, ◌++◌, IsTrue, OnOk, OnErr};
 ghost use Rattle.kept_lines.specs.Chunks.{AreFilled, joined};
-ghost use Rattle.kept_lines.specs.Lines.{IsPlain, Takes};
+ghost use Rattle.kept_lines.specs.Lines.{IsPlain, Takes, Follows};
 
 use crate::chunk::Chunk;
-use crate::record::bytes_of;
 use case_forms::{Line, OutOfMemory};
 use std::alloc::{AllocError, Global};
 use std::collections::VecDeque;
@@ -63,9 +62,7 @@ impl KeptLines {
         ensures ok { OnOk result (self.new ≡ self.old ++ line ∷ []) }
         ensures err { OnErr result (self.new ≡ self.old) }
     {
-        if !self.last.has_room(bytes_of(&line.event)) {
-            begin_chunk(&mut self.middle, &mut self.last)?;
-        }
+        make_room(&mut self.middle, &mut self.last, &line)?;
         self.last.push(&line)
     }
 
@@ -94,12 +91,27 @@ fn has_none(chunks: &VecDeque<Chunk>) -> bool
     chunks.is_empty()
 }
 
+// Makes the last chunk one to which the line may be appended.
+#[inline(always)]
+fn make_room(middle: &mut VecDeque<Chunk>, last: &mut Chunk, line: &Line) -> Result<(), OutOfMemory>
+    requires { AreFilled middle.old.items }
+    ensures filled { AreFilled middle.new.items }
+    ensures lines { joined middle.new.items ++ last.new ≡ joined middle.old.items ++ last.old }
+    ensures room { OnOk result (Follows last.new line.now.number) }
+{
+    if last.has_room(line) {
+        return Ok(());
+    }
+    begin_chunk(middle, last)
+}
+
 // An empty chunk becomes the last, unless the last one is empty.
 #[inline(never)]
 fn begin_chunk(middle: &mut VecDeque<Chunk>, last: &mut Chunk) -> Result<(), OutOfMemory>
     requires { AreFilled middle.old.items }
     ensures filled { AreFilled middle.new.items }
     ensures lines { joined middle.new.items ++ last.new ≡ joined middle.old.items ++ last.old }
+    ensures empty { OnOk result (last.new ≡ []) }
 {
     if last.is_empty() {
         return Ok(());

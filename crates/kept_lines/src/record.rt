@@ -1,8 +1,9 @@
-//! What is kept of one line beside its bytes.
+//! What is kept of one line beside its number and its bytes.
 
-ghost use Rattle.std.specs.Prelude.{◌≡◌, IfOk, Ok};
+ghost use Rattle.std.specs.Prelude.{◌≡◌, IfOk, Ok, false, []};
 ghost use Rattle.kept_lines.specs.Lines.{IsPlain};
 ghost use Rattle.kept_lines.specs.Records.{answer_bytes, bytes_of, call_bytes, event_of, line_of, seen_of};
+ghost use Rattle.kept_lines.specs.Records.{has_bytes, len_count};
 ghost use Rattle.case_forms.specs.declared.trace.Event.TheVariants as events;
 
 use case_forms::{Answer, Call, Event, Host, Line, OutOfMemory, Span, State, Timer, Wire};
@@ -10,27 +11,14 @@ use segment::{Bytes, decode};
 use std::alloc::{AllocError, Global};
 use std::mem::size_of;
 
-/// A line without its bytes: how many they are, and the rest of it.
+/// A line without its number and its bytes.
 #[derive(Clone, Copy)]
 pub(crate) struct Record {
     pub(crate) moment: u64,
-    pub(crate) number: u32,
     pub(crate) thread: u32,
     /// Where the line ends.
     pub(crate) stop: u32,
-    /// How many bytes it has.
-    pub(crate) len: u32,
     pub(crate) event: KeptEvent,
-}
-
-impl Record {
-    /// How many bytes the line has.
-    #[inline(always)]
-    pub(crate) fn byte_len(self) -> usize
-        ensures { result ≡ self.len }
-    {
-        self.len as usize
-    }
 }
 
 /// An event without its bytes. The variants have the names of those of `Call`, `Answer` and `Event`; there is one enum,
@@ -66,8 +54,29 @@ pub(crate) enum KeptEvent {
     Expired(Host, u16, u16, Timer),
 }
 
-// Each of a chunk's lines takes this much.
-const _: () = prove!(size_of::<Record>() == 32);
+// Each of a chunk's lines takes this much, and those with bytes the bytes and their number.
+const _: () = prove!(size_of::<Record>() == 24);
+
+impl KeptEvent {
+    /// Whether an event of this kind has bytes, of which there may be none.
+    #[inline(always)]
+    pub(crate) fn has_bytes(self) -> bool
+        ensures { result ≡ has_bytes self }
+    {
+        matches!(
+            self,
+            KeptEvent::Send(_) | KeptEvent::Bytes | KeptEvent::Sent(_) | KeptEvent::Came(_)
+        )
+    }
+
+    /// How many lengths are kept for it: one, if it has bytes.
+    #[inline(always)]
+    pub(crate) fn len_count(self) -> usize
+        ensures { result ≡ len_count self }
+    {
+        if self.has_bytes() { 1 } else { 0 }
+    }
+}
 
 /// The bytes of an event, or none.
 #[inline(always)]
@@ -83,20 +92,18 @@ pub(crate) fn bytes_of(event: &Event) -> &[u8]
     }
 }
 
-/// What is kept of a line with so many bytes beside these.
+/// What is kept of a line beside its number and its bytes.
 #[tactic(auto, unfolding(crate::specs::Records::line_of))]
 #[inline(always)]
-pub(crate) fn record_of(line: &Line, len: u32) -> Record
+pub(crate) fn record_of(line: &Line) -> Record
     requires { IsPlain line.now }
-    ensures line { line_of result (bytes_of line.now.event) ≡ line.now }
-    ensures len { result.len ≡ len }
+    ensures line { line_of line.now.number result (bytes_of line.now.event) ≡ line.now }
+    ensures none { has_bytes result.event ≡ false → bytes_of line.now.event ≡ [] }
 {
     Record {
         moment: line.moment,
-        number: line.number as u32,
         thread: line.thread,
         stop: line.span.stop as u32,
-        len,
         event: kept_event(&line.event),
     }
 }
@@ -105,7 +112,8 @@ pub(crate) fn record_of(line: &Line, len: u32) -> Record
 #[tactic(auto, using(crate::proofs::RecordLemmas::seen_of_is), unfolding(crate::specs::Records::event_of))]
 #[inline(always)]
 fn kept_event(event: &Event) -> KeptEvent
-    ensures { event_of result (bytes_of event.now) ≡ event.now }
+    ensures event { event_of result (bytes_of event.now) ≡ event.now }
+    ensures none { has_bytes result ≡ false → bytes_of event.now ≡ [] }
 {
     match event {
         Event::CallBegin(call) => kept_call(call),
@@ -127,7 +135,8 @@ fn kept_event(event: &Event) -> KeptEvent
 #[tactic(auto, unfolding(crate::specs::Records::event_of))]
 #[inline(always)]
 fn kept_call(call: &Call) -> KeptEvent
-    ensures { event_of result (call_bytes call.now) ≡ events.CallBegin call.now }
+    ensures event { event_of result (call_bytes call.now) ≡ events.CallBegin call.now }
+    ensures none { has_bytes result ≡ false → call_bytes call.now ≡ [] }
 {
     match call {
         Call::Listen(host, port, backlog) => KeptEvent::Listen(*host, *port, *backlog),
@@ -146,7 +155,8 @@ fn kept_call(call: &Call) -> KeptEvent
 #[tactic(auto, unfolding(crate::specs::Records::event_of))]
 #[inline(always)]
 fn kept_answer(answer: &Answer) -> KeptEvent
-    ensures { event_of result (answer_bytes answer.now) ≡ events.CallEnd answer.now }
+    ensures event { event_of result (answer_bytes answer.now) ≡ events.CallEnd answer.now }
+    ensures none { has_bytes result ≡ false → answer_bytes answer.now ≡ [] }
 {
     match answer {
         Answer::Done => KeptEvent::Done,
@@ -165,14 +175,18 @@ fn kept_answer(answer: &Answer) -> KeptEvent
     }
 }
 
-/// The line of a record with these bytes. The error means that memory ran out.
+/// The line of a record with this number and these bytes. The error means that memory ran out.
 #[tactic(auto, unfolding(crate::specs::Records::line_of))]
 #[inline(always)]
-pub(crate) fn line_of(alloc: Global, kept: &Record, bytes: &[u8]) -> Result<Line, OutOfMemory>
-    ensures { IfOk result (λ line. line ≡ line_of kept.now bytes.now) }
+pub(crate) fn line_of(
+    alloc: Global,
+    number: u64,
+    kept: &Record,
+    bytes: &[u8],
+) -> Result<Line, OutOfMemory>
+    ensures { IfOk result (λ line. line ≡ line_of number kept.now bytes.now) }
 {
     let event = event_of(alloc, kept.event, bytes)?;
-    let number = u64::from(kept.number);
     Ok(Line {
         number,
         moment: kept.moment,

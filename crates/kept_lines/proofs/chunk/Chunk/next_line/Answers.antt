@@ -1,33 +1,27 @@
 use Rattle.std.proofs.Common.{rules, ◌≡◌, ◌+◌, ◌-◌, arith, ◌∙◌, sym, refl}
+use Rattle.kept_lines.specs.Records.{len_count, first_len}
 use Rattle.kept_lines.proofs.RecordLemmas.{left_all, first_left, takes_first}
 use Rattle.kept_lines.proofs.chunk.Chunk.next_line.Goals as goal
 
 pub returns-then-self-len-clause-ok : goal.returns-then-self-len-clause-ok
 returns-then-self-len-clause-ok c =
-    let none = sym c.self.view_is ∙ left_all _ _ _ _ (search rules) in
+    let none = sym c.self.view_is ∙ left_all _ _ _ _ _ _ _ (search rules) in
     search rules
 
-pub overflow_add-end : goal.overflow_add-end
-overflow_add-end c =
-    let first = first_left _ _ _ _ _ c.self.invariant (search rules) c.index.ensures in
-    let within = first.within in
-    search rules
-
-pub slice_bounds-line_of-end : goal.slice_bounds-line_of-end
-slice_bounds-line_of-end c =
-    let first = first_left _ _ _ _ _ c.self.invariant (search rules) c.index.ensures in
-    let within = first.within in
-    search rules
+pub len_at-requires : goal.len_at-requires
+len_at-requires c =
+    let first = first_left _ _ _ _ _ _ _ _ c.self.invariant (search rules) c.index.ensures in
+    rw c.as_slice.ensures.value first.measured
 
 pub invariant_of-self : goal.invariant_of-self
 invariant_of-self c =
-    let first = first_left _ _ _ _ _ c.self.invariant (search rules) c.index.ensures in
-    rw c.byte_len.ensures first.counted
+    let first = first_left _ _ _ _ _ _ _ _ c.self.invariant (search rules) c.index.ensures in
+    rw (c.len_count.ensures, c.len_at.ensures, c.as_slice.ensures.value) first.counted
 
 pub returns-clause-ok : goal.returns-clause-ok
 returns-clause-ok c =
-    let first = first_left _ _ _ _ _ c.self.invariant (search rules) c.index.ensures in
-    let part : c.self.inside.read + c.byte_len.result - c.self.inside.read ≡ c.index.result.now.len = omega arith in
+    let first = first_left _ _ _ _ _ _ _ _ c.self.invariant (search rules) c.index.ensures in
+    let part : c.self.inside.read + c.len_at.result - c.self.inside.read ≡ c.len_at.result = omega arith in
     takes_first _ _ _ _ _ (sym c.self.view_is ∙ first.lines)
-    (c.in_ok-line.ensures ∙ rw (part, c.deref.ensures.value) refl)
-    (c.free.ensures ∙ rw c.byte_len.ensures refl)
+    (c.in_ok-line.ensures ∙ rw (part, c.deref.ensures.value, c.len_at.ensures, c.as_slice.ensures.value) refl)
+    (c.free.ensures ∙ rw (c.len_count.ensures, c.len_at.ensures, c.as_slice.ensures.value) refl)
