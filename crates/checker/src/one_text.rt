@@ -7,7 +7,7 @@ ghost use Rattle.std.specs.Prelude.{◌≡◌, ◌≢◌, ◌↔◌, Err, Ok, If
 ghost use Rattle.case_forms.specs.declared.trace.Trace.{Trace};
 ghost use Rattle.case_forms.specs.declared.steps.Witness.{Witness};
 ghost use Rattle.counted.specs.Counting.{left_of, failures_of, one_more};
-ghost use Rattle.trace_reader.specs.CaseLines.{has_met, KeepsWitness};
+ghost use Rattle.trace_text.specs.CaseLines.{has_met, KeepsWitness};
 ghost use Rattle.trace_reader.specs.TraceText.{first_place};
 ghost use Rattle.trace_reader.specs.TraceLeft.{fault_of, place_of, end_of_text, trace_left, lines_left, rows_behind};
 ghost use Rattle.trace_reader.specs.TraceLeft.{reader_failures, AreAt, IsBegun, IsFresh, IsReadThrough, StandsAt};

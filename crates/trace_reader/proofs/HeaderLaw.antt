@@ -41,10 +41,11 @@ use Rattle.line_fields.proofs.Endings.{ending_again}
 use Rattle.line_fields.proofs.Texts.{lines_of-raw}
 use Rattle.line_fields.proofs.LineRests.{fields_taken, fields_again, is_raw, text_takes, text_again}
 use Rattle.trace_reader.specs.declared.late_lines.LateLines.{LateLines}
-use Rattle.trace_reader.specs.Headers.{first_words, initial_number, initial_words, half_words, hosts_words, congestion_words}
+use Rattle.trace_text.specs.FirstLine.{first_words, version_named}
+use Rattle.trace_reader.specs.Headers.{initial_number, initial_words, half_words, hosts_words, congestion_words}
 use Rattle.trace_reader.specs.Headers.{slack_text, slack_words, judged_words, late_words, header_words, IsHeader, AreLines}
 use Rattle.trace_reader.specs.Headers.{header_fault, some_left, named_rest, alone, value_line, next_value}
-use Rattle.trace_reader.specs.Headers.{version_in, first_version, version_named, first_line, initial_of, initial_value, initial_field, initial_line}
+use Rattle.trace_reader.specs.Headers.{version_in, first_version, first_line, initial_of, initial_value, initial_field, initial_line}
 use Rattle.trace_reader.specs.Headers.{half_line, hosts_line, congestion_line, slack_line, last_line}
 use Rattle.trace_reader.specs.Headers.{late, judged_lines, late_lines, header_with, header_of}
 

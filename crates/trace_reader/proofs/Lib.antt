@@ -5,7 +5,6 @@ pub mod EventLineLaw
 pub mod HeaderLaw
 pub mod TraceLaw
 pub mod LinesText
-pub mod CaseLinesLaw
 pub mod StreamLaw
 pub mod HeaderReads
 pub mod EventFaults

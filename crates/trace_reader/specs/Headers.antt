@@ -1,9 +1,8 @@
 -- The header's lines: six; a seventh in version 2, an eighth in version 3, a ninth in version 4, a tenth in version 5.
-use Rattle.std.specs.Prelude.{◌≡◌, ◌≤◌, ℕ, ◌+◌, ◌==◌, ◌&&◌, Bool, false, if◌then◌else◌, List, [], ◌∷◌}
+use Rattle.std.specs.Prelude.{◌≡◌, ◌≤◌, ℕ, ◌+◌, ◌==◌, false, if◌then◌else◌, List, [], ◌∷◌}
 use Rattle.std.specs.Prelude.{Option, None, Some, IfSome, Result, Ok, Err, codes}
 use Rattle.std.specs.Fmt.{decimal}
 use Rattle.std.specs.Str.{bytes_eq}
-use Rattle.bstr.specs.Text.{without_terminator}
 use Rattle.case_forms.specs.declared.trace.Header.{Header}
 use Rattle.case_forms.specs.declared.version.Version.{Version}
 use Rattle.case_forms.specs.declared.version.Version.TheVariants.{One, Two, Three, Four, FourHalf, Five, FiveHalf}
@@ -20,37 +19,10 @@ use Rattle.line_fields.specs.Choice.{kind_field}
 use Rattle.line_fields.specs.Congestion.{judged_name, all_judged}
 use Rattle.line_fields.specs.Hosts.{hosted}
 use Rattle.line_fields.specs.Slack.{slack_field}
-use Rattle.line_fields.specs.Lines.{IsLine, is_ended, whole_line, line_text, line_rest, next_raw}
+use Rattle.line_fields.specs.Lines.{IsLine, whole_line, line_text, line_rest, next_raw}
 use Rattle.line_fields.specs.Spelling.{joined}
+use Rattle.trace_text.specs.FirstLine.{first_words}
 use Rattle.trace_reader.specs.declared.late_lines.LateLines.{LateLines}
-
--- how the first line names the version
-abbrev pub version_text : Version → List ℕ
-version_text One = codes "1"
-version_text Two = codes "2"
-version_text Three = codes "3"
-version_text Four = codes "4"
-version_text FourHalf = codes "4"
-version_text Five = codes "5"
-version_text FiveHalf = codes "5"
-
--- the fields of the first line
-abbrev pub first_words : Version → List (List ℕ)
-first_words v = codes "trace" ∷ version_text v ∷ []
-
--- the bytes of a line, with its end, are the first line of a trace of this version
-abbrev pub begins_trace : Version → List ℕ → Bool
-begins_trace v raw = is_ended raw && bytes_eq (without_terminator raw) (joined (first_words v))
-
--- the version in the first of these lines, 1 if it names none
-abbrev pub version_named : List (List ℕ) → Version
-version_named [] = One
-version_named (raw ∷ raws) =
-    if begins_trace Two raw then Two
-    else if begins_trace Three raw then Three
-    else if begins_trace Four raw then Four
-    else if begins_trace Five raw then Five
-    else One
 
 -- the number of the RFC that gives the first congestion window
 abbrev pub initial_number : Initial → ℕ

@@ -15,8 +15,6 @@ pub mod Events
 pub mod EventFields
 pub mod EventLines
 pub mod TraceText
-pub mod CaseLines
-pub mod TextLeft
 pub mod TraceLeft
 pub mod Printed
 pub mod EventForms

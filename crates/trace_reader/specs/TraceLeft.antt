@@ -15,9 +15,9 @@ use Rattle.line_fields.specs.Left.{in_front}
 use Rattle.kept_lines.specs.Lines.{IsPlain}
 use Rattle.trace_reader.specs.EventLines.{Place, behind, line_of}
 use Rattle.trace_reader.specs.TraceText.{trace_in}
-use Rattle.trace_reader.specs.CaseLines.{IsAtEnd}
-use Rattle.trace_reader.specs.TextLeft.{lines_source, end_of, rows_left, witness_left}
-use Rattle.trace_reader.specs.declared.text_lines.TextEnd.{TextEnd}
+use Rattle.trace_text.specs.CaseLines.{IsAtEnd}
+use Rattle.trace_text.specs.TextLeft.{lines_source, end_of, rows_left, witness_left}
+use Rattle.trace_text.specs.declared.text_lines.TextEnd.{TextEnd}
 use Rattle.trace_reader.specs.declared.stream.TraceReader.{TraceReader}
 
 -- where it reads

@@ -7,9 +7,9 @@ ghost use Rattle.line_fields.specs.Spelling.{printed};
 ghost use Rattle.trace_reader.specs.Headers.{initial_number, judged_words, last_words, late_words};
 ghost use Rattle.trace_reader.specs.Printed.{header_text};
 
-use crate::first_line::first_text;
 use case_forms::{Header, Host, Initial, Judged, OutOfMemory, Version};
 use line_fields::{host_number, judged_name, push_end, push_number, push_space, push_word};
+use trace_text::first_text;
 
 // Writes a name and a number as a line.
 fn push_number_line(out: &mut Vec<u8>, name: &str, number: u64) -> Result<(), OutOfMemory>

@@ -14,15 +14,15 @@
 //! A text has a header of six lines (seven in version 2, eight in version 3, nine in version 4, ten in version 5),
 //! followed by event lines. `specs/TraceText` defines which text is the text of which trace; read it first.
 //! `specs/Headers`, `specs/EventLines`, `specs/Events` and `specs/Calls` define the forms of the lines; `line_fields`
-//! those of single fields. This crate only reads lines; `checker` decides whether a trace can be explained.
+//! those of single fields. `trace_text` reads the lines of the text, and decides where the trace of a case ends. This
+//! crate only reads lines; `checker` decides whether a trace can be explained.
 //!
 //! Private modules:
 //!
 //! - `reading`: the reader of a whole text, using the reader of `stream`
 //! - `stream`: the reader of a text whose lines are read on request
-//! - `text_lines`: the lines of the text, which ends before the witness if it is a case
 //! - `header`: the header, by its lines
-//! - `first_line`: the first line, which names the version
+//! - `first_line`: the first line, read as the version that it names
 //! - `late_lines`: the lines after line 6, which version 1 doesn't have
 //! - `named_lines`: lines of a header that are a name and a value
 //! - `events`: events, and event lines, each read alone
@@ -44,7 +44,6 @@ mod named_lines;
 mod printing;
 mod reading;
 mod stream;
-mod text_lines;
 mod wires;
 
 pub use case_forms::{
@@ -53,9 +52,9 @@ pub use case_forms::{
 };
 pub use counted::Counted;
 pub use events::event_line;
-pub use first_line::version_named;
 pub use laws::{event_line_faults, first_event_fault, header_faults, trace_faults};
 pub use line_fields::{FaultKind, SegFault, SourceFault, Span, TextFault, Token};
 pub use printing::{event_bytes, line_in_memory, print_law, print_trace, printable_law};
 pub use reading::read_trace;
 pub use stream::TraceReader;
+pub use trace_text::version_named;

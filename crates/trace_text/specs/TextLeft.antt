@@ -4,9 +4,9 @@ use Rattle.std.specs.Option.{option_map}
 use Rattle.counted.specs.declared.ends.Counted.{Counted}
 use Rattle.counted.specs.Counting.{left_of, failures_of}
 use Rattle.line_fields.specs.Rows.{rows_of}
-use Rattle.trace_reader.specs.CaseLines.{trace_rows, witness_rows}
-use Rattle.trace_reader.specs.declared.text_lines.TextEnd.{TextEnd}
-use Rattle.trace_reader.specs.declared.text_lines.TextLines.{TextLines}
+use Rattle.trace_text.specs.CaseLines.{trace_rows, witness_rows}
+use Rattle.trace_text.specs.declared.text_lines.TextEnd.{TextEnd}
+use Rattle.trace_text.specs.declared.text_lines.TextLines.{TextLines}
 
 -- where they are read
 abbrev pub lines_source : {A : Type 0} → TextLines A → Counted A

@@ -16,11 +16,11 @@ use Rattle.line_fields.specs.Lines.{is_ended, line_text, whole_line}
 use Rattle.line_fields.specs.Reading.{Fails}
 use Rattle.line_fields.specs.Rows.{TakesRow, next_text, FailsAt}
 use Rattle.witness.specs.FirstLine.{first_text, begins_witness}
-use Rattle.trace_reader.specs.Headers.{version_named}
-use Rattle.trace_reader.specs.declared.text_lines.TextEnd.{TextEnd}
-use Rattle.trace_reader.specs.declared.text_lines.TextEnd.TheVariants as ends
-use Rattle.trace_reader.specs.CaseLines.{before_witness, behind_witness, trace_rows, witness_rows, end_with, end_after}
-use Rattle.trace_reader.specs.CaseLines.{has_met, IsOpen, KeepsWitness}
+use Rattle.trace_text.specs.FirstLine.{version_named}
+use Rattle.trace_text.specs.declared.text_lines.TextEnd.{TextEnd}
+use Rattle.trace_text.specs.declared.text_lines.TextEnd.TheVariants as ends
+use Rattle.trace_text.specs.CaseLines.{before_witness, behind_witness, trace_rows, witness_rows, end_with, end_after}
+use Rattle.trace_text.specs.CaseLines.{has_met, IsOpen, KeepsWitness}
 
 pub and_both : (x y : Bool) → (x && y) ≡ true → (x ≡ true) × (y ≡ true)
 and_both true true h = (refl, refl)

@@ -2,9 +2,9 @@
 use Rattle.std.specs.Prelude.{◌≡◌, ℕ, Bool, true, false, List, [], ◌∷◌, if◌then◌else◌, Option, None, Some}
 use Rattle.case_forms.specs.declared.version.Version.{Version}
 use Rattle.witness.specs.FirstLine.{begins_witness}
-use Rattle.trace_reader.specs.Headers.{version_named}
-use Rattle.trace_reader.specs.declared.text_lines.TextEnd.{TextEnd}
-use Rattle.trace_reader.specs.declared.text_lines.TextEnd.TheVariants as ends
+use Rattle.trace_text.specs.FirstLine.{version_named}
+use Rattle.trace_text.specs.declared.text_lines.TextEnd.{TextEnd}
+use Rattle.trace_text.specs.declared.text_lines.TextEnd.TheVariants as ends
 
 -- the lines before the first one that begins a witness of this version
 abbrev pub before_witness : Version → List (List ℕ) → List (List ℕ)

@@ -2,8 +2,8 @@ use Rattle.std.proofs.Common.{◌≡◌, Err, Ok, ap, sym, ◌∙◌}
 use Rattle.std.proofs.lemmas.Result.{err_from_is_err_and}
 use Rattle.line_fields.specs.declared.fault.SourceFault.{SourceFault}
 use Rattle.line_fields.specs.declared.fault.SourceFault.TheVariants.{Text}
-use Rattle.trace_reader.proofs.CaseLinesLaw.{long_fails, unmet, takes, keeps}
-use Rattle.trace_reader.proofs.text_lines.TextLines.next_of_case.Goals as goal
+use Rattle.trace_text.proofs.CaseLinesLaw.{long_fails, unmet, takes, keeps}
+use Rattle.trace_text.proofs.text_lines.TextLines.next_of_case.Goals as goal
 
 pub returns-in_err-next_line-clause-fault : goal.returns-in_err-next_line-clause-fault
 returns-in_err-next_line-clause-fault g c = λ e is.

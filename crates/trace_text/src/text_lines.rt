@@ -4,8 +4,8 @@ ghost use Rattle.std.specs.Prelude.{◌≡◌, ◌≢◌, Err, Ok, OnOk, true, f
 ghost use Rattle.counted.specs.Counting.{one_more};
 ghost use Rattle.line_fields.specs.declared.fault.TextFault.{TextFault};
 ghost use Rattle.line_fields.specs.Rows.{TakesRow, HasNoRow, next_text, needed_text, FailsAt};
-ghost use Rattle.trace_reader.specs.CaseLines.{end_with, end_after, has_met, IsOpen, IsAtEnd, KeepsWitness};
-ghost use Rattle.trace_reader.specs.TextLeft.{lines_source, end_of, last_raw, rows_left, witness_left, text_failures};
+ghost use Rattle.trace_text.specs.CaseLines.{end_with, end_after, has_met, IsOpen, IsAtEnd, KeepsWitness};
+ghost use Rattle.trace_text.specs.TextLeft.{lines_source, end_of, last_raw, rows_left, witness_left, text_failures};
 
 use crate::first_line::version_of_line;
 use case_forms::Version;
@@ -17,7 +17,7 @@ use witness::begins_witness;
 
 /// Where the text of a trace ends.
 #[derive(Clone, Copy)]
-pub(crate) enum TextEnd {
+pub enum TextEnd {
     /// With its source.
     Source,
     /// Before the first line that begins a witness of the version that the first line names, or with the source.
@@ -57,7 +57,7 @@ fn before_witness(version: Version, raw: &[u8]) -> TextEnd
 
 /// The lines of a trace's text. Only one line is kept.
 #[derive(Drop)]
-pub(crate) struct TextLines<A> {
+pub struct TextLines<A> {
     source: Counted<A>,
     // The bytes of the line that was read last.
     line: Vec<u8>,
@@ -66,7 +66,7 @@ pub(crate) struct TextLines<A> {
 
 impl<A> TextLines<A> {
     /// The lines of a source, of which nothing was read; the text ends there.
-    pub(crate) fn new(alloc: Global, source: Counted<A>, end: TextEnd) -> TextLines<A>
+    pub fn new(alloc: Global, source: Counted<A>, end: TextEnd) -> TextLines<A>
         ensures source { lines_source result ≡ source }
         ensures end { end_of result ≡ end }
     {
@@ -78,14 +78,14 @@ impl<A> TextLines<A> {
     }
 
     /// The source: what was requested has been read.
-    pub(crate) fn into_source(self) -> Counted<A>
+    pub fn into_source(self) -> Counted<A>
         ensures { result ≡ lines_source self }
     {
         self.source
     }
 
     /// Whether the line that begins the witness was read.
-    pub(crate) fn has_met(&self) -> bool
+    pub fn has_met(&self) -> bool
         ensures { result ≡ has_met (end_of self.now) }
     {
         matches!(self.end, TextEnd::Met)
@@ -93,7 +93,7 @@ impl<A> TextLines<A> {
 
     /// The bytes of the line that was read last, with its end.
     #[inline(always)]
-    pub(crate) fn raw(&self) -> &[u8]
+    pub fn raw(&self) -> &[u8]
         ensures { result.now ≡ last_raw self.now }
     {
         self.line.as_slice()
@@ -104,7 +104,7 @@ impl<A: BufRead> TextLines<A> {
     /// Reads the next line, which has this number. False at the end of the text. The error is a line that is too long,
     /// a failed read, or that memory ran out.
     #[inline(always)]
-    pub(crate) fn next_line(&mut self, number: u64) -> Result<bool, SourceFault>
+    pub fn next_line(&mut self, number: u64) -> Result<bool, SourceFault>
         ensures line { result ≡ Ok true → TakesRow (rows_left A.remaining self.old) (rows_left A.remaining self.new)
             (last_raw self.new) }
         ensures none { result ≡ Ok false → HasNoRow (rows_left A.remaining self.old) (rows_left A.remaining self.new) }
@@ -147,7 +147,7 @@ impl<A: BufRead> TextLines<A> {
     }
 
     /// Reads the next line, which must exist. A missing one is Header at its number, columns 0 to 0.
-    pub(crate) fn require_line(&mut self, number: u64) -> Result<(), SourceFault>
+    pub fn require_line(&mut self, number: u64) -> Result<(), SourceFault>
         ensures line { OnOk result (TakesRow (rows_left A.remaining self.old) (rows_left A.remaining self.new)
             (last_raw self.new)) }
         ensures witness { OnOk result
