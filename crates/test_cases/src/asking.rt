@@ -23,7 +23,7 @@ const CREWS: [&str; 3] = ["1", "2", "64"];
 // What is printed for the three cases of `three_cases.txt`, and the status.
 const THREE: &str = "yes 4 2\nno 3 0 no-call\nbad witness 7 0 7 cut\n2";
 
-/// How many bytes of each of two texts are read at once.
+/// How many bytes of a text are read at once.
 pub const PIECES: [usize; 3] = [1, 7, 4096];
 
 // Inputs with lines that end a case and lines that don't, each with the expected output and status.
@@ -58,13 +58,13 @@ pub fn ask_cases<H: Threads + Wait + Sync>(rt: &H, cases: &[Case], report: &mut 
     ask_crews(rt, report);
 }
 
-// Checks a case by `check_case`, by the command `check`, and as two texts.
+// Checks a case by `check_case`, and in pieces of each size by the command `check` and as two texts.
 fn ask_case(case: &Case, report: &mut Report<'_>) {
     let (alloc, text) = (report.alloc, case.text.as_slice());
     case.compare("check_case", judged(alloc, text), report);
-    case.compare("check", by_check(alloc, text), report);
     let texts = Texts::of(text);
     for size in PIECES {
+        case.compare("check", by_check(alloc, text, size), report);
         let found = by_pair(alloc, texts.trace, texts.witness, size);
         case.compare("two texts", found, report);
     }
@@ -165,8 +165,11 @@ fn printed_then_status(alloc: Global, output: &[u8], status: u8) -> Text {
     format!(in alloc; "{printed}{status}")
 }
 
-// What the command `check` prints, then the status.
-fn by_check(alloc: Global, text: &[u8]) -> Text {
+// What the command `check` prints for a text that is read in pieces, then the status.
+fn by_check(alloc: Global, text: &[u8], size: usize) -> Text {
+    let Ok(text) = BufReader::with_capacity(alloc, size, text) else {
+        return Err(AllocError);
+    };
     let mut output = Vec::new(alloc);
     let mut reader = Counted::new(text);
     let mut writer = Counted::new(&mut output);

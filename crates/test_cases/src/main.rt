@@ -14,7 +14,7 @@
 //! - `beginnings`: each beginning of a case
 //! - `long_lines`: lines of the greatest length, and one byte longer
 //! - `pairs`: a trace and a witness as two texts, into which no case would be split
-//! - `asking`: by `check_case`, by the command `check`, as two texts in pieces, and by the command `many`
+//! - `asking`: by `check_case`, in pieces by the command `check` and as two texts, and by the command `many`
 //! - `command_lines`: command lines, read as the program reads its own
 //! - `stored`: texts that `tcpwit_lab` must print for a case
 //! - `kernel`: witnesses found for recordings of the Linux kernel and for written traces
