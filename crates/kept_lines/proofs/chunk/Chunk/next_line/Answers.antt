@@ -1,5 +1,4 @@
 use Rattle.std.proofs.Common.{rules, ◌≡◌, ◌+◌, ◌-◌, arith, ◌∙◌, sym, refl}
-use Rattle.kept_lines.specs.Records.{len_count, first_len}
 use Rattle.kept_lines.proofs.RecordLemmas.{left_all, first_left, takes_first}
 use Rattle.kept_lines.proofs.chunk.Chunk.next_line.Goals as goal
 
