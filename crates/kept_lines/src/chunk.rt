@@ -159,7 +159,8 @@ impl Chunk {
     }
 }
 
-// How many bytes the first line has that is left, if this is its event and so many lengths are kept for those before it.
+// How many bytes the first line has that is left, if this is its event and so many lengths are kept for the lines
+// before it.
 #[inline(always)]
 fn len_at(lens: &[u32], measured: usize, event: KeptEvent) -> usize
     requires { measured + len_count event ≤ length lens.now }
