@@ -9,8 +9,9 @@ for the n-th allocation alone, for the n-th and all later ones, for every 2nd, 3
 N values of n are tried (default: 4000), evenly spread.
 
 The right answers are the one without refusals, and the line `bad memory` with status 4. With many cases, single lines may also be
-`bad memory`, with status 4, and that line may follow the answers to the first cases. `check` must answer yes to the output of `record`. Anything else (another line, a signal, output on standard
-error, a run of more than 60 seconds) is wrong and is printed. The last line has the counts; the exit status is 1 if any run was wrong.
+`bad memory`, with status 4, and that line may follow the answers to the first cases. `check` must answer yes to the output of
+`record`. Anything else (another line, a signal, output on standard error, a run of more than 60 seconds) is wrong and is printed. The
+last line has the counts; the exit status is 1 if any run was wrong.
 """
 import argparse
 import concurrent.futures
