@@ -374,8 +374,9 @@ class Faults(WithCaptures):
 @unittest.skipUnless(os.environ.get("TCPWIT_LAB"), "TCPWIT_LAB names no program")
 class Verdicts(WithCaptures):
     def judged(self, talk, *words, hosts=(0, 1)):
-        """The lines of a run with tcpwit_lab."""
-        _, out, error = run(*self.files(talk, hosts), *words)
+        """The lines of a run with tcpwit_lab. On a busy machine, no part of the work is shown as one that takes long."""
+        with mock.patch("tcpwit_import.progress.PATIENCE", 600):
+            _, out, error = run(*self.files(talk, hosts), *words)
         self.assertNotIn("tcpwit-judge: ", error)
         return out.splitlines()
 
