@@ -146,9 +146,7 @@ fn read_lines<R: BufRead>(alloc: Global, trace: &mut TraceReader<R>) -> Result<K
     ensures same { result ≢ Err CaseFault.Read → reader_failures trace.new ≡ reader_failures trace.old }
 {
     let mut lines = KeptLines::new(alloc);
-    while let Some(line) = next_line(trace)? {
-        lines.push(line)?;
-    }
+    while keep_next(trace, &mut lines)? {}
     Ok(lines)
 }
 
@@ -169,6 +167,14 @@ fn next_line<R: BufRead>(trace: &mut TraceReader<R>) -> Result<Option<Line>, Cas
     ensures same { result ≢ Err CaseFault.Read → reader_failures trace.new ≡ reader_failures trace.old }
 {
     match trace.next() {
+        Ok(item) => Ok(item),
+        Err(SourceFault::Text(fault)) => Err(trace_fault(fault)),
+        Err(SourceFault::Read) => Err(CaseFault::Read),
+    }
+}
+
+fn keep_next<R: BufRead>(trace: &mut TraceReader<R>, lines: &mut KeptLines) -> Result<bool, CaseFault> {
+    match trace.keep_next(lines) {
         Ok(item) => Ok(item),
         Err(SourceFault::Text(fault)) => Err(trace_fault(fault)),
         Err(SourceFault::Read) => Err(CaseFault::Read),

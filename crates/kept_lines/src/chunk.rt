@@ -5,8 +5,10 @@ ghost use Rattle.std.specs.Prelude.{IfOk, IsTrue, OnOk, OnErr};
 ghost use Rattle.kept_lines.specs.Lines.{IsPlain, Takes, Follows};
 ghost use Rattle.kept_lines.specs.Records.{has_bytes, lens_of, len_count, first_len};
 
-use crate::record::{KeptEvent, Record, bytes_of, line_of, record_of};
-use case_forms::{Line, OutOfMemory};
+use crate::record::{KeptEvent, Record, bytes_event, bytes_of, line_of, plain_event, record_of};
+use case_forms::{Line, OutOfMemory, Span};
+use line_fields::hex_onto;
+use segment::is_segment;
 use std::alloc::{AllocError, Global};
 use std::marker::Model;
 
@@ -81,12 +83,12 @@ impl Chunk {
 
     /// Whether a line may be appended to a chunk that has lines. To an empty one, any line may.
     #[inline(always)]
-    pub(crate) fn has_room(&self, line: &Line) -> bool
-        ensures { IsTrue result → Follows self.now line.now.number }
+    pub(crate) fn has_room(&self, number: u64, count: usize) -> bool
+        ensures { IsTrue result → Follows self.now number }
     {
-        self.is_next(line.number)
+        self.is_next(number)
             && self.records.len() < MOST_LINES
-            && self.bytes.len() + bytes_of(&line.event).len() <= MOST_BYTES
+            && self.bytes.len() + count <= MOST_BYTES
     }
 
     // Whether the number is the one after those of the lines that are left.
@@ -124,6 +126,81 @@ impl Chunk {
         self.records.push_reserved(record);
         self.number = line.number - left as u64;
         Ok(())
+    }
+
+    /// Appends the line of a record, with this number, whose bytes these digits spell. False if they spell none, or no
+    /// segment; then nothing is appended.
+    #[inline(always)]
+    pub(crate) fn push_spelled(&mut self, number: u64, record: Record, digits: &[u8]) -> Result<bool, OutOfMemory>
+    {
+        let left = self.records.len() - self.taken;
+        self.records.reserve(1)?;
+        if record.event.has_bytes() {
+            if !keep_digits(&mut self.lens, &mut self.bytes, record.event, digits)? {
+                return Ok(false);
+            }
+        }
+        self.records.push_reserved(record);
+        self.number = number - left as u64;
+        Ok(true)
+    }
+
+    #[inline(always)]
+    pub(crate) fn next_into(&mut self, item: &mut Option<Line>) -> Result<(), OutOfMemory> {
+        if self.taken == self.records.len() {
+            *item = None;
+            return Ok(());
+        }
+        let first = self.records[self.taken];
+        if first.event.has_bytes() {
+            self.next_with_bytes(first, item)?;
+        } else {
+            let number = self.number;
+            *item = Some(Line {
+                number,
+                moment: first.moment,
+                thread: first.thread,
+                event: plain_event(first.event),
+                span: Span {
+                    line: number,
+                    start: 0,
+                    stop: first.stop as usize,
+                },
+            });
+        }
+        self.number += 1;
+        self.taken += 1;
+        if self.taken == self.records.len() {
+            self.free_all();
+        }
+        Ok(())
+    }
+
+    #[inline(never)]
+    fn next_with_bytes(&mut self, first: Record, item: &mut Option<Line>) -> Result<(), OutOfMemory> {
+        let end = self.read + self.lens[self.measured] as usize;
+        let bytes = &self.bytes[self.read..end];
+        let event = bytes_event(self.allocator(), first.event, bytes)?;
+        let number = self.number;
+        *item = Some(Line {
+            number,
+            moment: first.moment,
+            thread: first.thread,
+            event,
+            span: Span {
+                line: number,
+                start: 0,
+                stop: first.stop as usize,
+            },
+        });
+        self.measured += 1;
+        self.read = end;
+        Ok(())
+    }
+
+    #[inline(never)]
+    fn free_all(&mut self) {
+        *self = Chunk::new(self.allocator());
     }
 
     /// Removes the first line, if there is one. Once no line is left, the memory is freed. If memory runs out, the
@@ -198,6 +275,24 @@ fn keep_bytes(
     bytes.extend_from_slice(more)?;
     lens.push_reserved(len);
     Ok(())
+}
+
+// Appends the bytes that digits spell.
+#[inline(never)]
+fn keep_digits(lens: &mut Vec<u32>, bytes: &mut Vec<u8>, event: KeptEvent, digits: &[u8]) -> Result<bool, OutOfMemory>
+{
+    let from = bytes.len();
+    lens.reserve(1)?;
+    reserve_bytes(bytes, digits.len() / 2)?;
+    if !hex_onto(digits, bytes)? {
+        return Ok(false);
+    }
+    if event.is_seen() && !is_segment(&bytes[from..]) {
+        bytes.truncate(from);
+        return Ok(false);
+    }
+    lens.push_reserved((bytes.len() - from) as u32);
+    Ok(true)
 }
 
 // Reserves room for so many more bytes. The room is at least doubled, but only up to as many bytes as a chunk has.

@@ -19,3 +19,4 @@ mod queue;
 mod record;
 
 pub use queue::KeptLines;
+pub use record::{KeptEvent, Record};

@@ -5,6 +5,7 @@ ghost use Rattle.kept_lines.specs.Chunks.{AreFilled, joined};
 ghost use Rattle.kept_lines.specs.Lines.{IsPlain, Takes, Follows};
 
 use crate::chunk::Chunk;
+use crate::record::{Record, bytes_of};
 use case_forms::{Line, OutOfMemory};
 use std::alloc::{AllocError, Global};
 use std::collections::VecDeque;
@@ -62,8 +63,16 @@ impl KeptLines {
         ensures ok { OnOk result (self.new ≡ self.old ++ line ∷ []) }
         ensures err { OnErr result (self.new ≡ self.old) }
     {
-        make_room(&mut self.middle, &mut self.last, &line)?;
+        make_room(&mut self.middle, &mut self.last, line.number, bytes_of(&line.event).len())?;
         self.last.push(&line)
+    }
+
+    /// Appends the line of a record, with this number, whose bytes these digits spell.
+    #[inline(always)]
+    pub fn push_spelled(&mut self, number: u64, record: Record, digits: &[u8]) -> Result<bool, OutOfMemory>
+    {
+        make_room(&mut self.middle, &mut self.last, number, digits.len() / 2)?;
+        self.last.push_spelled(number, record, digits)
     }
 
     /// Makes the first line the item, and removes it; the item is None if there is none. The error means that memory
@@ -77,8 +86,7 @@ impl KeptLines {
         if self.first.is_empty() {
             self.first = next_chunk(&mut self.middle, &mut self.last);
         }
-        *item = self.first.next_line()?;
-        Ok(())
+        self.first.next_into(item)
     }
 }
 
@@ -93,13 +101,13 @@ fn has_none(chunks: &VecDeque<Chunk>) -> bool
 
 // Makes the last chunk one to which the line may be appended.
 #[inline(always)]
-fn make_room(middle: &mut VecDeque<Chunk>, last: &mut Chunk, line: &Line) -> Result<(), OutOfMemory>
+fn make_room(middle: &mut VecDeque<Chunk>, last: &mut Chunk, number: u64, count: usize) -> Result<(), OutOfMemory>
     requires { AreFilled middle.old.items }
     ensures filled { AreFilled middle.new.items }
     ensures lines { joined middle.new.items ++ last.new ≡ joined middle.old.items ++ last.old }
-    ensures room { OnOk result (Follows last.new line.now.number) }
+    ensures room { OnOk result (Follows last.new number) }
 {
-    if last.has_room(line) {
+    if last.has_room(number, count) {
         return Ok(());
     }
     begin_chunk(middle, last)

@@ -13,19 +13,19 @@ use std::mem::size_of;
 
 /// A line without its number and its bytes.
 #[derive(Clone, Copy)]
-pub(crate) struct Record {
-    pub(crate) moment: u64,
-    pub(crate) thread: u32,
+pub struct Record {
+    pub moment: u64,
+    pub thread: u32,
     /// Where the line ends.
-    pub(crate) stop: u32,
-    pub(crate) event: KeptEvent,
+    pub stop: u32,
+    pub event: KeptEvent,
 }
 
 /// An event without its bytes. The variants have the names of those of `Call`, `Answer` and `Event`; there is one enum,
 /// since a tag within a tag would take more memory. For the same reason, the most that a call receives is before its
 /// socket.
 #[derive(Clone, Copy)]
-pub(crate) enum KeptEvent {
+pub enum KeptEvent {
     Listen(Host, u16, u16),
     Connect(Host, u16, u16),
     Await(u32),
@@ -67,6 +67,13 @@ impl KeptEvent {
             self,
             KeptEvent::Send(_) | KeptEvent::Bytes | KeptEvent::Sent(_) | KeptEvent::Came(_)
         )
+    }
+
+    /// Whether it is a segment.
+    #[inline(always)]
+    pub(crate) fn is_seen(self) -> bool
+    {
+        matches!(self, KeptEvent::Sent(_) | KeptEvent::Came(_))
     }
 
     /// How many lengths are kept for it: one, if it has bytes.
@@ -264,5 +271,45 @@ fn wire_of(alloc: Global, bytes: &[u8]) -> Result<Wire, OutOfMemory>
             seg,
         }),
         Err(_) => Err(AllocError),
+    }
+}
+
+/// The event of a record without bytes.
+#[inline(always)]
+pub(crate) fn plain_event(event: KeptEvent) -> Event {
+    match event {
+        KeptEvent::Listen(host, port, backlog) => Event::CallBegin(Call::Listen(host, port, backlog)),
+        KeptEvent::Connect(host, local, remote) => Event::CallBegin(Call::Connect(host, local, remote)),
+        KeptEvent::Await(socket) => Event::CallBegin(Call::Await(socket)),
+        KeptEvent::Accept(socket) => Event::CallBegin(Call::Accept(socket)),
+        KeptEvent::Recv(most, socket) => Event::CallBegin(Call::Recv(socket, most)),
+        KeptEvent::Shut(socket) => Event::CallBegin(Call::Shut(socket)),
+        KeptEvent::Close(socket) => Event::CallBegin(Call::Close(socket)),
+        KeptEvent::Abort(socket) => Event::CallBegin(Call::Abort(socket)),
+        KeptEvent::Status(socket) => Event::CallBegin(Call::Status(socket)),
+        KeptEvent::Given(number) => Event::CallEnd(Answer::Given(number)),
+        KeptEvent::Again => Event::CallEnd(Answer::Again),
+        KeptEvent::Eof => Event::CallEnd(Answer::Eof),
+        KeptEvent::Closed => Event::CallEnd(Answer::Closed),
+        KeptEvent::NotConn => Event::CallEnd(Answer::NotConn),
+        KeptEvent::Refused => Event::CallEnd(Answer::Refused),
+        KeptEvent::Reset => Event::CallEnd(Answer::Reset),
+        KeptEvent::Timeout => Event::CallEnd(Answer::Timeout),
+        KeptEvent::InUse => Event::CallEnd(Answer::InUse),
+        KeptEvent::BadSocket => Event::CallEnd(Answer::BadSocket),
+        KeptEvent::State(state) => Event::CallEnd(Answer::State(state)),
+        KeptEvent::Expired(host, local, remote, timer) => Event::Expired(host, local, remote, timer),
+        _ => Event::CallEnd(Answer::Done),
+    }
+}
+
+/// The event of a record with bytes.
+#[inline(always)]
+pub(crate) fn bytes_event(alloc: Global, event: KeptEvent, bytes: &[u8]) -> Result<Event, OutOfMemory> {
+    match event {
+        KeptEvent::Send(socket) => Ok(Event::CallBegin(Call::Send(socket, Bytes::from_slice(alloc, bytes)?))),
+        KeptEvent::Sent(host) => Ok(Event::Sent(host, wire_of(alloc, bytes)?)),
+        KeptEvent::Came(host) => Ok(Event::Came(host, wire_of(alloc, bytes)?)),
+        _ => Ok(Event::CallEnd(Answer::Bytes(Bytes::from_slice(alloc, bytes)?))),
     }
 }

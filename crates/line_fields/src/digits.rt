@@ -66,6 +66,22 @@ pub fn hex_bytes(alloc: Global, text: &[u8]) -> Result<Option<Vec<u8>>, OutOfMem
     Ok(Some(bytes))
 }
 
+/// Appends the bytes that a text spells in hex, with digits of either case. False if it spells none; then nothing is
+/// appended. The error means that memory ran out.
+pub fn hex_onto(text: &[u8], bytes: &mut Vec<u8>) -> Result<bool, OutOfMemory>
+{
+    if text.len() % 2 == 1 {
+        return Ok(false);
+    }
+    let from = bytes.len();
+    bytes.resize(from + text.len() / 2, 0)?;
+    if !write_bytes(text, &mut bytes[from..]) {
+        bytes.truncate(from);
+        return Ok(false);
+    }
+    Ok(true)
+}
+
 // Writes the bytes that a text spells, if it spells bytes.
 fn write_bytes(text: &[u8], bytes: &mut [u8]) -> bool
     requires { length text.now ≡ 2 * length bytes.old }

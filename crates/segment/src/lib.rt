@@ -35,7 +35,7 @@ pub use bytes::Bytes;
 pub use fault::{EncFault, SegFault};
 pub use fields::Segment;
 pub use flag::Flag;
-pub use reading::{decode, reading_law};
+pub use reading::{decode, is_segment, reading_law};
 pub use writing::encode;
 
 /// Memory ran out. Nothing was changed.

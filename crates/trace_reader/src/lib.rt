@@ -41,6 +41,7 @@ mod header_printing;
 mod late_lines;
 mod laws;
 mod named_lines;
+mod plain;
 mod printing;
 mod reading;
 mod stream;

@@ -17,6 +17,7 @@ ghost use Rattle.trace_reader.specs.TraceLeft.{Begins, reader_failures, StandsAt
 
 use crate::events::event_line;
 use crate::header::header;
+use crate::plain::plain_line;
 use case_forms::{Header, Line, Version};
 use counted::Counted;
 use kept_lines::KeptLines;
@@ -278,7 +279,7 @@ impl<A: BufRead> TraceReader<A> {
     }
 
     // Takes the first line that was read before.
-    #[inline(never)]
+    #[inline(always)]
     fn take_kept(&mut self, item: &mut Option<Line>) -> Result<(), SourceFault>
         requires lines { AreAt (place_of self.old) (kept_of self.old) }
         requires some { kept_of self.old ≢ [] }
@@ -304,5 +305,46 @@ impl<A: BufRead> TraceReader<A> {
             (self.before, self.number) = after_line(line.moment, self.number);
         }
         Ok(())
+    }
+
+    /// Reads the next event line and keeps it. False at the end of the text.
+    #[inline(always)]
+    pub fn keep_next(&mut self, lines: &mut KeptLines) -> Result<bool, SourceFault> {
+        if let Some(fault) = self.fault {
+            return Err(fault);
+        }
+        let read = self.keep_line(lines);
+        keep_fault(&mut self.fault, read)
+    }
+
+    #[inline(always)]
+    fn keep_line(&mut self, lines: &mut KeptLines) -> Result<bool, SourceFault> {
+        if !self.text.next_line(self.number)? {
+            return Ok(false);
+        }
+        if let Some(line) = plain_line(self.version, self.before, self.number, self.text.raw()) {
+            if lines.push_spelled(self.number, line.record, line.digits).is_ok_and(|kept| kept) {
+                (self.before, self.number) = after_line(line.record.moment, self.number);
+                return Ok(true);
+            }
+        }
+        self.keep_exactly(lines)
+    }
+
+    #[inline(never)]
+    fn keep_exactly(&mut self, lines: &mut KeptLines) -> Result<bool, SourceFault> {
+        let line = event_line(
+            self.alloc,
+            self.version,
+            self.before,
+            self.number,
+            self.text.raw(),
+        )?;
+        let moment = line.moment;
+        if lines.push(line).is_err() {
+            return Err(SourceFault::Text(TextFault::out_of_memory()));
+        }
+        (self.before, self.number) = after_line(moment, self.number);
+        Ok(true)
     }
 }
