@@ -17,6 +17,12 @@ pub record Spells (n : ℕ) (before after : Rest) : Type 0 where
   pub next : next_field before ≡ Ok (word, after)
   pub text : word.text ≡ decimal n
 
+-- the next field has this text, and this is the rest after it
+pub record IsNext (bytes : List ℕ) (before after : Rest) : Type 0 where
+  pub word : Word
+  pub next : next_field before ≡ Ok (word, after)
+  pub text : word.text ≡ bytes
+
 -- the number that a field spells, which is not below the one before
 abbrev pub rising_value : ℕ → ℕ → Word → Result ℕ TextFault
 rising_value before most w =

@@ -1,6 +1,6 @@
 //! The first field of a text: where it ends, and the number that it spells.
 
-ghost use Rattle.std.specs.Prelude.{◌≡◌, ◌<◌, ◌≤◌, ℕ, length, slice_index, take};
+ghost use Rattle.std.specs.Prelude.{◌≡◌, ◌<◌, ◌≤◌, ℕ, length, slice_index, take, IfSome};
 ghost use Rattle.std.specs.Fmt.{decimal};
 ghost use Rattle.std.specs.Int.{IsInRange};
 ghost use Rattle.std.specs.Str.Parse.{digits_value};
@@ -49,6 +49,21 @@ fn long_field_len(text: &[u8]) -> usize
     ensures { result ≡ field_len text.now }
 {
     memchr(b' ', text).unwrap_or(text.len())
+}
+
+/// The number that the first field of a text spells, if it has one digit.
+#[inline(always)]
+pub(crate) fn one_digit(text: &[u8]) -> Option<u64>
+    ensures place { IfSome result (λ n. field_len text.now ≡ 1) }
+    ensures value { IfSome result (λ n. take 1 text.now ≡ decimal n) }
+{
+    let [digit, ..] = text else {
+        return None;
+    };
+    if *digit < b'0' || *digit > b'9' || (text.len() > 1 && text[1] != b' ') {
+        return None;
+    }
+    Some(u64::from(*digit - b'0'))
 }
 
 /// The number that the first field of a text spells, and its count of digits. The count is 0 if the field spells no

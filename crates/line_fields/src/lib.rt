@@ -10,6 +10,7 @@
 //! - `first_field`: where the first field of a text ends, and the number that it spells
 //! - `hex_digits`: bytes as digits in hex
 //! - `fields`: the cursor, and the numbers, hosts and bytes that it reads
+//! - `plain`: fields as they are usually written, read without a fault
 //! - `hosts`: the numbers of hosts, and how many were recorded
 //! - `lines`: a line's end and its limits, and lines with a fixed text; `first_line`: the first line of a witness
 //! - `reading`: the next line of a text, of which only one line is kept in memory
@@ -31,6 +32,7 @@ mod hex_digits;
 mod hosts;
 mod lateness;
 mod lines;
+mod plain;
 mod printing;
 mod reading;
 mod states;
