@@ -1,3 +1,4 @@
 pub mod RecordLemmas
 pub mod ChunkLemmas
+pub mod SpelledLemmas
 pub mod TakesLemmas

@@ -1,5 +1,5 @@
 -- What records, lengths and bytes stand for, one record more or less.
-use Rattle.std.proofs.Common.{◌≡◌, ◌≤◌, ◌+◌, ◌-◌, ℕ, List, [], ◌∷◌, ◌++◌, length, take, drop, Result, Ok, Some, refl, sym, ap, ◌∙◌, arith}
+use Rattle.std.proofs.Common.{◌≡◌, ◌≤◌, ◌+◌, ◌-◌, ℕ, List, [], ◌∷◌, ◌++◌, length, take, drop, Result, Ok, Option, Some, refl, sym, ap, ◌∙◌, arith}
 use Rattle.std.proofs.Common.{Bool, true, false, if◌then◌else◌, sum, length-append, length-drop, drop-cons, add-one, get_or, ◌<◌, suc, subst}
 use Rattle.std.proofs.lemmas.List.{take_all, take-append-le, drop-append-le, drop-drop, drop_all}
 use Rattle.std.proofs.lemmas.List.Sums.{sum_by-take-drop, sum_by-append}
@@ -271,8 +271,8 @@ first_left n rs lens bytes t m d r h below is =
     }
 
 -- the item is the first line, and the others are left
-pub takes_first : (old rest new : List Line) (line item : Line) → old ≡ line ∷ rest → item ≡ line → new ≡ rest
-    → Takes old new (Some item)
+pub takes_first : (old rest new : List Line) (line : Line) (item : Option Line) → old ≡ line ∷ rest → item ≡ Some line → new ≡ rest
+    → Takes old new item
 takes_first old rest new line item o i n =
-    let P : List Line → Type 0 = λ xs. Takes xs new (Some item) in
-    subst P (sym o) (ap (λ (x : Line). Some x) i, n)
+    let P : List Line → Type 0 = λ xs. Takes xs new item in
+    subst P (sym o) (i, n)

@@ -1,12 +1,15 @@
 //! Lines in three pieces of memory.
 
-ghost use Rattle.std.specs.Prelude.{◌≡◌, ◌≤◌, ◌+◌, ◌↔◌, [], ◌∷◌, ◌++◌, ◌<◌, ◌^◌, false, length, drop};
+ghost use Rattle.std.specs.Prelude.{◌≡◌, ◌≢◌, ◌≤◌, ◌+◌, ◌↔◌, ℕ, List, [], ◌∷◌, ◌++◌, ◌<◌, ◌^◌, true, false, length, drop, Ok};
 ghost use Rattle.std.specs.Prelude.{IfOk, IsTrue, OnOk, OnErr};
 ghost use Rattle.kept_lines.specs.Lines.{IsPlain, Takes, Follows};
-ghost use Rattle.kept_lines.specs.Records.{has_bytes, lens_of, len_count, first_len};
+ghost use Rattle.kept_lines.specs.Records.{has_bytes, lens_of, len_count, first_len, line_of};
+ghost use Rattle.kept_lines.specs.Spelled.{is_seen, IsSpelled};
+ghost use Rattle.segment.specs.declared.fields.Segment.{Segment};
+ghost use Rattle.segment.specs.Layout.{IsSegment};
 
-use crate::record::{KeptEvent, Record, bytes_event, bytes_of, line_of, plain_event, record_of};
-use case_forms::{Line, OutOfMemory, Span};
+use crate::record::{KeptEvent, Record, bytes_of, line_into, record_of};
+use case_forms::{Line, OutOfMemory};
 use line_fields::hex_onto;
 use segment::is_segment;
 use std::alloc::{AllocError, Global};
@@ -17,6 +20,9 @@ const MOST_LINES: usize = 2048;
 
 /// How many bytes the lines of a chunk have at most, unless it is a single line that has more.
 const MOST_BYTES: usize = 65_536;
+
+/// How many bytes a line has at most. No text has a line with so many.
+const LONGEST: usize = 0xffff_ffff;
 
 /// Lines in order, whose numbers follow one another. They are appended at the end, until the chunk is full, and taken
 /// from the front.
@@ -81,9 +87,11 @@ impl Chunk {
         self.taken == self.records.len()
     }
 
-    /// Whether a line may be appended to a chunk that has lines. To an empty one, any line may.
+    /// Whether a line with this number and so many bytes may be appended to a chunk that has lines. To an empty one, any
+    /// line may.
     #[inline(always)]
     pub(crate) fn has_room(&self, number: u64, count: usize) -> bool
+        requires { count < 2 ^ 63 }
         ensures { IsTrue result → Follows self.now number }
     {
         self.is_next(number)
@@ -128,101 +136,53 @@ impl Chunk {
         Ok(())
     }
 
-    /// Appends the line of a record, with this number, whose bytes these digits spell. False if they spell none, or no
-    /// segment; then nothing is appended.
+    /// Appends the line of a record, with this number, whose bytes these digits spell. False if they spell none, or too
+    /// many, or no segment; then, and if memory runs out, the lines don't change.
     #[inline(always)]
-    pub(crate) fn push_spelled(&mut self, number: u64, record: Record, digits: &[u8]) -> Result<bool, OutOfMemory>
+    pub(crate) fn push_spelled(
+        &mut self,
+        number: u64,
+        kept: Record,
+        digits: &[u8],
+    ) -> Result<bool, OutOfMemory>
+        requires number { number ≤ 10000000 }
+        requires follows { Follows self.old number }
+        ensures kept { result ≡ Ok true → (bytes : List ℕ) × IsSpelled kept.event digits.now bytes
+            × (self.new ≡ self.old ++ line_of number kept bytes ∷ []) }
+        ensures same { result ≢ Ok true → self.new ≡ self.old }
     {
         let left = self.records.len() - self.taken;
         self.records.reserve(1)?;
-        if record.event.has_bytes() {
-            if !keep_digits(&mut self.lens, &mut self.bytes, record.event, digits)? {
-                return Ok(false);
-            }
+        if !keep_spelled(&mut self.lens, &mut self.bytes, kept.event, digits)? {
+            return Ok(false);
         }
-        self.records.push_reserved(record);
+        self.records.push_reserved(kept);
         self.number = number - left as u64;
         Ok(true)
     }
 
+    /// Makes the first line the item, and removes it; the item is None if there is none. Once no line is left, the
+    /// memory is freed. If memory runs out, the lines and the item don't change.
     #[inline(always)]
-    pub(crate) fn next_into(&mut self, item: &mut Option<Line>) -> Result<(), OutOfMemory> {
+    pub(crate) fn next_into(&mut self, item: &mut Option<Line>) -> Result<(), OutOfMemory>
+        ensures ok { OnOk result (Takes self.old self.new item.new) }
+        ensures err { OnErr result (self.new ≡ self.old) }
+        ensures kept { OnErr result (item.new ≡ item.old) }
+    {
         if self.taken == self.records.len() {
             *item = None;
             return Ok(());
         }
         let first = self.records[self.taken];
-        if first.event.has_bytes() {
-            self.next_with_bytes(first, item)?;
-        } else {
-            let number = self.number;
-            *item = Some(Line {
-                number,
-                moment: first.moment,
-                thread: first.thread,
-                event: plain_event(first.event),
-                span: Span {
-                    line: number,
-                    start: 0,
-                    stop: first.stop as usize,
-                },
-            });
-        }
-        self.number += 1;
-        self.taken += 1;
-        if self.taken == self.records.len() {
-            self.free_all();
-        }
-        Ok(())
-    }
-
-    #[inline(never)]
-    fn next_with_bytes(&mut self, first: Record, item: &mut Option<Line>) -> Result<(), OutOfMemory> {
-        let end = self.read + self.lens[self.measured] as usize;
-        let bytes = &self.bytes[self.read..end];
-        let event = bytes_event(self.allocator(), first.event, bytes)?;
-        let number = self.number;
-        *item = Some(Line {
-            number,
-            moment: first.moment,
-            thread: first.thread,
-            event,
-            span: Span {
-                line: number,
-                start: 0,
-                stop: first.stop as usize,
-            },
-        });
-        self.measured += 1;
-        self.read = end;
-        Ok(())
-    }
-
-    #[inline(never)]
-    fn free_all(&mut self) {
-        *self = Chunk::new(self.allocator());
-    }
-
-    /// Removes the first line, if there is one. Once no line is left, the memory is freed. If memory runs out, the
-    /// lines don't change.
-    #[inline(always)]
-    pub(crate) fn next_line(&mut self) -> Result<Option<Line>, OutOfMemory>
-        ensures ok { IfOk result (λ item. Takes self.old self.new item) }
-        ensures err { OnErr result (self.new ≡ self.old) }
-    {
-        if self.taken == self.records.len() {
-            return Ok(None);
-        }
-        let first = self.records[self.taken];
         let end = self.read + len_at(self.lens.as_slice(), self.measured, first.event);
         let bytes = &self.bytes[self.read..end];
-        let line = line_of(self.allocator(), self.number, &first, bytes)?;
+        line_into(self.allocator(), self.number, &first, bytes, item)?;
         self.number += 1;
         self.taken += 1;
         self.measured += first.event.len_count();
         self.read = end;
         self.free();
-        Ok(Some(line))
+        Ok(())
     }
 
     // Frees the memory if no line is left.
@@ -277,9 +237,39 @@ fn keep_bytes(
     Ok(())
 }
 
-// Appends the bytes that digits spell.
+// Appends the bytes that digits spell, and their number, if an event of this kind has some. False if they spell none, or
+// too many, or no segment; then, and if memory runs out, nothing changes.
+#[inline(always)]
+fn keep_spelled(
+    lens: &mut Vec<u32>,
+    bytes: &mut Vec<u8>,
+    event: KeptEvent,
+    digits: &[u8],
+) -> Result<bool, OutOfMemory>
+    ensures kept { result ≡ Ok true → (more : List ℕ) × IsSpelled event digits.now more
+        × (lens.new.items ≡ lens.old.items ++ lens_of event (length more)) × (bytes.new.items ≡ bytes.old.items ++ more) }
+    ensures same_lens { result ≢ Ok true → lens.new.items ≡ lens.old.items }
+    ensures same_bytes { result ≢ Ok true → bytes.new.items ≡ bytes.old.items }
+{
+    if !event.has_bytes() {
+        return Ok(true);
+    }
+    keep_digits(lens, bytes, event, digits)
+}
+
+// The same for an event of a kind that has bytes.
 #[inline(never)]
-fn keep_digits(lens: &mut Vec<u32>, bytes: &mut Vec<u8>, event: KeptEvent, digits: &[u8]) -> Result<bool, OutOfMemory>
+fn keep_digits(
+    lens: &mut Vec<u32>,
+    bytes: &mut Vec<u8>,
+    event: KeptEvent,
+    digits: &[u8],
+) -> Result<bool, OutOfMemory>
+    requires { has_bytes event ≡ true }
+    ensures kept { result ≡ Ok true → (more : List ℕ) × IsSpelled event digits.now more
+        × (lens.new.items ≡ lens.old.items ++ length more ∷ []) × (bytes.new.items ≡ bytes.old.items ++ more) }
+    ensures same_lens { result ≢ Ok true → lens.new.items ≡ lens.old.items }
+    ensures same_bytes { result ≢ Ok true → bytes.new.items ≡ bytes.old.items }
 {
     let from = bytes.len();
     lens.reserve(1)?;
@@ -287,12 +277,21 @@ fn keep_digits(lens: &mut Vec<u32>, bytes: &mut Vec<u8>, event: KeptEvent, digit
     if !hex_onto(digits, bytes)? {
         return Ok(false);
     }
-    if event.is_seen() && !is_segment(&bytes[from..]) {
+    let len = bytes.len() - from;
+    if len > LONGEST || !may_be_of(event, &bytes[from..]) {
         bytes.truncate(from);
         return Ok(false);
     }
-    lens.push_reserved((bytes.len() - from) as u32);
+    lens.push_reserved(len as u32);
     Ok(true)
+}
+
+// Whether an event of this kind can have these bytes: those of a segment have to encode one.
+#[inline(always)]
+fn may_be_of(event: KeptEvent, bytes: &[u8]) -> bool
+    ensures { result ≡ true → is_seen event ≡ true → (s : Segment) × IsSegment bytes.now s }
+{
+    !event.is_seen() || is_segment(bytes)
 }
 
 // Reserves room for so many more bytes. The room is at least doubled, but only up to as many bytes as a chunk has.

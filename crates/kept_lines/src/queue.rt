@@ -1,8 +1,10 @@
 //! The lines in order, in chunks.
 
-ghost use Rattle.std.specs.Prelude.{◌≡◌, ◌↔◌, [], ◌∷◌, ◌++◌, IsTrue, OnOk, OnErr};
+ghost use Rattle.std.specs.Prelude.{◌≡◌, ◌≢◌, ◌↔◌, ◌≤◌, ◌<◌, ◌^◌, ℕ, List, [], ◌∷◌, ◌++◌, IsTrue, Ok, OnOk, OnErr, true};
 ghost use Rattle.kept_lines.specs.Chunks.{AreFilled, joined};
 ghost use Rattle.kept_lines.specs.Lines.{IsPlain, Takes, Follows};
+ghost use Rattle.kept_lines.specs.Records.{line_of};
+ghost use Rattle.kept_lines.specs.Spelled.{IsSpelled};
 
 use crate::chunk::Chunk;
 use crate::record::{Record, bytes_of};
@@ -63,16 +65,28 @@ impl KeptLines {
         ensures ok { OnOk result (self.new ≡ self.old ++ line ∷ []) }
         ensures err { OnErr result (self.new ≡ self.old) }
     {
-        make_room(&mut self.middle, &mut self.last, line.number, bytes_of(&line.event).len())?;
+        let count = bytes_of(&line.event).len();
+        make_room(&mut self.middle, &mut self.last, line.number, count)?;
         self.last.push(&line)
     }
 
-    /// Appends the line of a record, with this number, whose bytes these digits spell.
+    /// Appends the line of a record, with this number, whose bytes these digits spell in hex, if an event of its kind
+    /// has bytes. False if they spell none, or 4 GiB, or those of a segment don't encode one. Then, and if memory runs
+    /// out, the lines don't change.
     #[inline(always)]
-    pub fn push_spelled(&mut self, number: u64, record: Record, digits: &[u8]) -> Result<bool, OutOfMemory>
+    pub fn push_spelled(
+        &mut self,
+        number: u64,
+        kept: Record,
+        digits: &[u8],
+    ) -> Result<bool, OutOfMemory>
+        requires { number ≤ 10000000 }
+        ensures kept { result ≡ Ok true → (bytes : List ℕ) × IsSpelled kept.event digits.now bytes
+            × (self.new ≡ self.old ++ line_of number kept bytes ∷ []) }
+        ensures same { result ≢ Ok true → self.new ≡ self.old }
     {
         make_room(&mut self.middle, &mut self.last, number, digits.len() / 2)?;
-        self.last.push_spelled(number, record, digits)
+        self.last.push_spelled(number, kept, digits)
     }
 
     /// Makes the first line the item, and removes it; the item is None if there is none. The error means that memory
@@ -99,10 +113,16 @@ fn has_none(chunks: &VecDeque<Chunk>) -> bool
     chunks.is_empty()
 }
 
-// Makes the last chunk one to which the line may be appended.
+// Makes the last chunk one to which a line with this number and so many bytes may be appended.
 #[inline(always)]
-fn make_room(middle: &mut VecDeque<Chunk>, last: &mut Chunk, number: u64, count: usize) -> Result<(), OutOfMemory>
-    requires { AreFilled middle.old.items }
+fn make_room(
+    middle: &mut VecDeque<Chunk>,
+    last: &mut Chunk,
+    number: u64,
+    count: usize,
+) -> Result<(), OutOfMemory>
+    requires filled { AreFilled middle.old.items }
+    requires count { count < 2 ^ 63 }
     ensures filled { AreFilled middle.new.items }
     ensures lines { joined middle.new.items ++ last.new ≡ joined middle.old.items ++ last.old }
     ensures room { OnOk result (Follows last.new number) }

@@ -1,9 +1,10 @@
 //! What is kept of one line beside its number and its bytes.
 
-ghost use Rattle.std.specs.Prelude.{◌≡◌, IfOk, Ok, false, []};
+ghost use Rattle.std.specs.Prelude.{◌≡◌, ℕ, List, IfOk, OnOk, OnErr, Ok, Some, false, []};
 ghost use Rattle.kept_lines.specs.Lines.{IsPlain};
 ghost use Rattle.kept_lines.specs.Records.{answer_bytes, bytes_of, call_bytes, event_of, line_of, seen_of};
 ghost use Rattle.kept_lines.specs.Records.{has_bytes, len_count};
+ghost use Rattle.kept_lines.specs.Spelled.{is_seen};
 ghost use Rattle.case_forms.specs.declared.trace.Event.TheVariants as events;
 
 use case_forms::{Answer, Call, Event, Host, Line, OutOfMemory, Span, State, Timer, Wire};
@@ -14,9 +15,10 @@ use std::mem::size_of;
 /// A line without its number and its bytes.
 #[derive(Clone, Copy)]
 pub struct Record {
+    /// When the line was recorded, in microseconds.
     pub moment: u64,
     pub thread: u32,
-    /// Where the line ends.
+    /// The column at which the line ends.
     pub stop: u32,
     pub event: KeptEvent,
 }
@@ -69,9 +71,10 @@ impl KeptEvent {
         )
     }
 
-    /// Whether it is a segment.
+    /// Whether it is a segment that was seen.
     #[inline(always)]
     pub(crate) fn is_seen(self) -> bool
+        ensures { result ≡ is_seen self }
     {
         matches!(self, KeptEvent::Sent(_) | KeptEvent::Came(_))
     }
@@ -182,19 +185,52 @@ fn kept_answer(answer: &Answer) -> KeptEvent
     }
 }
 
-/// The line of a record with this number and these bytes. The error means that memory ran out.
+/// Makes the line of a record with this number and these bytes the item. The error means that memory ran out; the item
+/// then doesn't change.
 #[tactic(auto, unfolding(crate::specs::Records::line_of))]
 #[inline(always)]
-pub(crate) fn line_of(
+pub(crate) fn line_into(
     alloc: Global,
     number: u64,
     kept: &Record,
     bytes: &[u8],
-) -> Result<Line, OutOfMemory>
-    ensures { IfOk result (λ line. line ≡ line_of number kept.now bytes.now) }
+    item: &mut Option<Line>,
+) -> Result<(), OutOfMemory>
+    ensures ok { OnOk result (item.new ≡ Some (line_of number kept.now bytes.now)) }
+    ensures err { OnErr result (item.new ≡ item.old) }
+{
+    if kept.event.has_bytes() {
+        return line_with_bytes(alloc, number, kept, bytes, item);
+    }
+    *item = Some(Line {
+        number,
+        moment: kept.moment,
+        thread: kept.thread,
+        event: event_alone(kept.event),
+        span: Span {
+            line: number,
+            start: 0,
+            stop: kept.stop as usize,
+        },
+    });
+    Ok(())
+}
+
+// The same, for any event.
+#[tactic(auto, unfolding(crate::specs::Records::line_of))]
+#[inline(never)]
+fn line_with_bytes(
+    alloc: Global,
+    number: u64,
+    kept: &Record,
+    bytes: &[u8],
+    item: &mut Option<Line>,
+) -> Result<(), OutOfMemory>
+    ensures ok { OnOk result (item.new ≡ Some (line_of number kept.now bytes.now)) }
+    ensures err { OnErr result (item.new ≡ item.old) }
 {
     let event = event_of(alloc, kept.event, bytes)?;
-    Ok(Line {
+    *item = Some(Line {
         number,
         moment: kept.moment,
         thread: kept.thread,
@@ -204,11 +240,53 @@ pub(crate) fn line_of(
             start: 0,
             stop: kept.stop as usize,
         },
-    })
+    });
+    Ok(())
+}
+
+// The event of a record whose kind of event has no bytes.
+#[tactic(auto, unfolding(crate::specs::Records::event_of))]
+#[inline(always)]
+fn event_alone(event: KeptEvent) -> Event
+    requires { has_bytes event ≡ false }
+    ensures { (bytes : List ℕ) → result ≡ event_of event bytes }
+{
+    match event {
+        KeptEvent::Listen(host, port, backlog) => {
+            Event::CallBegin(Call::Listen(host, port, backlog))
+        }
+        KeptEvent::Connect(host, local, remote) => {
+            Event::CallBegin(Call::Connect(host, local, remote))
+        }
+        KeptEvent::Await(socket) => Event::CallBegin(Call::Await(socket)),
+        KeptEvent::Accept(socket) => Event::CallBegin(Call::Accept(socket)),
+        KeptEvent::Recv(most, socket) => Event::CallBegin(Call::Recv(socket, most)),
+        KeptEvent::Shut(socket) => Event::CallBegin(Call::Shut(socket)),
+        KeptEvent::Close(socket) => Event::CallBegin(Call::Close(socket)),
+        KeptEvent::Abort(socket) => Event::CallBegin(Call::Abort(socket)),
+        KeptEvent::Status(socket) => Event::CallBegin(Call::Status(socket)),
+        KeptEvent::Done => Event::CallEnd(Answer::Done),
+        KeptEvent::Given(number) => Event::CallEnd(Answer::Given(number)),
+        KeptEvent::Again => Event::CallEnd(Answer::Again),
+        KeptEvent::Eof => Event::CallEnd(Answer::Eof),
+        KeptEvent::Closed => Event::CallEnd(Answer::Closed),
+        KeptEvent::NotConn => Event::CallEnd(Answer::NotConn),
+        KeptEvent::Refused => Event::CallEnd(Answer::Refused),
+        KeptEvent::Reset => Event::CallEnd(Answer::Reset),
+        KeptEvent::Timeout => Event::CallEnd(Answer::Timeout),
+        KeptEvent::InUse => Event::CallEnd(Answer::InUse),
+        KeptEvent::BadSocket => Event::CallEnd(Answer::BadSocket),
+        KeptEvent::State(state) => Event::CallEnd(Answer::State(state)),
+        KeptEvent::Expired(host, local, remote, timer) => {
+            Event::Expired(host, local, remote, timer)
+        }
+        KeptEvent::Send(_) | KeptEvent::Bytes | KeptEvent::Sent(_) | KeptEvent::Came(_) => {
+            unreachable!()
+        }
+    }
 }
 
 #[tactic(auto, unfolding(crate::specs::Records::event_of))]
-#[inline(always)]
 fn event_of(alloc: Global, event: KeptEvent, bytes: &[u8]) -> Result<Event, OutOfMemory>
     ensures { IfOk result (λ whole. whole ≡ event_of event bytes.now) }
 {
@@ -271,45 +349,5 @@ fn wire_of(alloc: Global, bytes: &[u8]) -> Result<Wire, OutOfMemory>
             seg,
         }),
         Err(_) => Err(AllocError),
-    }
-}
-
-/// The event of a record without bytes.
-#[inline(always)]
-pub(crate) fn plain_event(event: KeptEvent) -> Event {
-    match event {
-        KeptEvent::Listen(host, port, backlog) => Event::CallBegin(Call::Listen(host, port, backlog)),
-        KeptEvent::Connect(host, local, remote) => Event::CallBegin(Call::Connect(host, local, remote)),
-        KeptEvent::Await(socket) => Event::CallBegin(Call::Await(socket)),
-        KeptEvent::Accept(socket) => Event::CallBegin(Call::Accept(socket)),
-        KeptEvent::Recv(most, socket) => Event::CallBegin(Call::Recv(socket, most)),
-        KeptEvent::Shut(socket) => Event::CallBegin(Call::Shut(socket)),
-        KeptEvent::Close(socket) => Event::CallBegin(Call::Close(socket)),
-        KeptEvent::Abort(socket) => Event::CallBegin(Call::Abort(socket)),
-        KeptEvent::Status(socket) => Event::CallBegin(Call::Status(socket)),
-        KeptEvent::Given(number) => Event::CallEnd(Answer::Given(number)),
-        KeptEvent::Again => Event::CallEnd(Answer::Again),
-        KeptEvent::Eof => Event::CallEnd(Answer::Eof),
-        KeptEvent::Closed => Event::CallEnd(Answer::Closed),
-        KeptEvent::NotConn => Event::CallEnd(Answer::NotConn),
-        KeptEvent::Refused => Event::CallEnd(Answer::Refused),
-        KeptEvent::Reset => Event::CallEnd(Answer::Reset),
-        KeptEvent::Timeout => Event::CallEnd(Answer::Timeout),
-        KeptEvent::InUse => Event::CallEnd(Answer::InUse),
-        KeptEvent::BadSocket => Event::CallEnd(Answer::BadSocket),
-        KeptEvent::State(state) => Event::CallEnd(Answer::State(state)),
-        KeptEvent::Expired(host, local, remote, timer) => Event::Expired(host, local, remote, timer),
-        _ => Event::CallEnd(Answer::Done),
-    }
-}
-
-/// The event of a record with bytes.
-#[inline(always)]
-pub(crate) fn bytes_event(alloc: Global, event: KeptEvent, bytes: &[u8]) -> Result<Event, OutOfMemory> {
-    match event {
-        KeptEvent::Send(socket) => Ok(Event::CallBegin(Call::Send(socket, Bytes::from_slice(alloc, bytes)?))),
-        KeptEvent::Sent(host) => Ok(Event::Sent(host, wire_of(alloc, bytes)?)),
-        KeptEvent::Came(host) => Ok(Event::Came(host, wire_of(alloc, bytes)?)),
-        _ => Ok(Event::CallEnd(Answer::Bytes(Bytes::from_slice(alloc, bytes)?))),
     }
 }

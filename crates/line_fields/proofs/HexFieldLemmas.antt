@@ -1,8 +1,8 @@
 -- Fields in hex, the last of their line among them.
-use Rattle.std.proofs.Common.{◌≡◌, ℕ, ◌+◌, ◌-◌, ◌<◌, ◌==◌, false, IsTrue, List, length, take, drop, Some, Result, Ok, Err, refl, sym, ap, subst, ◌∙◌, arith}
+use Rattle.std.proofs.Common.{◌≡◌, ℕ, ◌+◌, ◌-◌, ◌<◌, ◌==◌, false, IsTrue, List, [], length, take, drop, Some, Result, Ok, Err, refl, sym, ap, subst, ◌∙◌, arith}
 use Rattle.std.specs.List.{position_or_len}
 use Rattle.std.specs.Result.{result_ok}
-use Rattle.std.proofs.lemmas.Bool.{ne_eqb}
+use Rattle.std.proofs.lemmas.Bool.{lt-leb, ne_eqb}
 use Rattle.std.proofs.lemmas.List.Elements.{All-get_or}
 use Rattle.std.proofs.lemmas.List.{length-drop, take_all}
 use Rattle.hex.specs.Hex.{decode_of, is_hex_digit}
@@ -11,7 +11,7 @@ use Rattle.hex.proofs.HexLemmas.{decode_of-ok}
 use Rattle.line_fields.specs.declared.fault.TextFault.{TextFault}
 use Rattle.line_fields.specs.Word.{Word, Rest, words_left}
 use Rattle.line_fields.specs.Reading.{◌>>=◌, next_field}
-use Rattle.line_fields.specs.HexFields.{at_most, hex_field, hex_value, hex_word}
+use Rattle.line_fields.specs.HexFields.{at_most, hex_field, hex_value, hex_word, EndsInHex}
 use Rattle.line_fields.proofs.Columns.{ends_at, is_space, next_is}
 
 -- what is made of the next field
@@ -57,6 +57,10 @@ decoded : (r : Result (List ℕ) FromHexError) (bytes : List ℕ) → Some bytes
 decoded (Ok x) bytes e = cc
 decoded (Err bad) bytes e = cc
 
+-- one past its end, a line has no field
+none_left : (line : ℕ) (text : List ℕ) → words_left line (length text + 1) text ≡ []
+none_left line text = rw (lt-leb (length text + 1) (length text) (omega arith)) refl
+
 -- what is left of a line is its next field, if it spells bytes
 pub last_is : (line at : ℕ) (text rest bytes : List ℕ) → at < length text → rest ≡ drop at text → Some bytes ≡ result_ok (decode_of rest)
     → hex_word (record { line = line; stop = length text; words = words_left line at text })
@@ -73,6 +77,16 @@ last_is line at text rest bytes lt e spelled =
     let all : rest ≡ take (length rest) rest = sym (take_all (length rest) rest (omega arith)) in
     let next = next_is line at text rest rest (length rest) (omega arith) e (sym (no_space rest bytes decodes)) all in
     rw (next, end, some, decodes) refl
+
+-- the same, and no other field follows
+pub ends_in_hex : (line at : ℕ) (text rest bytes : List ℕ) → at < length text → rest ≡ drop at text → decode_of rest ≡ Ok bytes
+    → EndsInHex bytes (record { line = line; stop = length text; words = words_left line at text })
+ends_in_hex line at text rest bytes lt e decodes = record {
+  word = record { text = rest; line = line; start = at; stop = length text };
+  after = record { line = line; stop = length text; words = words_left line (length text + 1) text };
+  next = last_is line at text rest bytes lt e (sym (ap result_ok decodes));
+  last = none_left line text;
+}
 
 -- bytes in hex, within a limit
 pub hex_field_is : (most : ℕ) (r : Rest) → hex_field most r ≡ (hex_word r >>= bytes_then (at_most most))

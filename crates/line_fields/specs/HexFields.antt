@@ -1,5 +1,5 @@
 -- Bytes in hex.
-use Rattle.std.specs.Prelude.{ℕ, ◌==◌, nat_lt, if◌then◌else◌, List, length, Result, Ok, Err}
+use Rattle.std.specs.Prelude.{◌≡◌, ℕ, ◌==◌, nat_lt, if◌then◌else◌, List, [], length, Result, Ok, Err}
 use Rattle.hex.specs.Hex.{decode_of}
 use Rattle.hex.specs.declared.error.FromHexError.{FromHexError}
 use Rattle.line_fields.specs.declared.fault.FaultKind.TheVariants.{Field, Hex}
@@ -22,6 +22,13 @@ hex_word r = do
   w ← next_field r
   bytes ← hex_value w.0
   Ok ((w.0, bytes), w.1)
+
+-- the next field spells these bytes, and no other follows
+pub record EndsInHex (bytes : List ℕ) (r : Rest) : Type 0 where
+  pub word : Word
+  pub after : Rest
+  pub next : hex_word r ≡ Ok ((word, bytes), after)
+  pub last : after.words ≡ []
 
 -- no more bytes than this, else Hex
 abbrev pub at_most : ℕ → Word → List ℕ → Result (List ℕ) TextFault

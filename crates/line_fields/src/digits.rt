@@ -1,7 +1,7 @@
 //! The digits of a field: a number in decimal, and bytes in hex.
 
 ghost use Rattle.std.specs.Prelude.{◌≡◌, ◌≢◌, ◌*◌, ◌<◌, ◌≤◌, ◌^◌, ℕ, length, unwrap_or, IfOk, IfSome, IfNone, Some};
-ghost use Rattle.std.specs.Prelude.{None, option_map};
+ghost use Rattle.std.specs.Prelude.{None, Ok, List, ◌++◌, true, false, option_map};
 ghost use Rattle.std.specs.Bool.{MatchBool};
 ghost use Rattle.std.specs.Fmt.{decimal};
 ghost use Rattle.std.specs.Result.{result_ok};
@@ -69,13 +69,18 @@ pub fn hex_bytes(alloc: Global, text: &[u8]) -> Result<Option<Vec<u8>>, OutOfMem
 /// Appends the bytes that a text spells in hex, with digits of either case. False if it spells none; then nothing is
 /// appended. The error means that memory ran out.
 pub fn hex_onto(text: &[u8], bytes: &mut Vec<u8>) -> Result<bool, OutOfMemory>
+    ensures spelled { result ≡ Ok true → (more : List ℕ) × (decode_of text.now ≡ Ok more)
+        × (bytes.new.items ≡ bytes.old.items ++ more) }
+    ensures none { result ≡ Ok false → result_ok (decode_of text.now) ≡ None }
+    ensures same { result ≢ Ok true → bytes.new.items ≡ bytes.old.items }
 {
     if text.len() % 2 == 1 {
         return Ok(false);
     }
     let from = bytes.len();
     bytes.resize(from + text.len() / 2, 0)?;
-    if !write_bytes(text, &mut bytes[from..]) {
+    let (_before, more) = bytes.as_mut_slice().split_at_mut(from);
+    if !write_bytes(text, more) {
         bytes.truncate(from);
         return Ok(false);
     }

@@ -11,6 +11,7 @@
 //! - `hex_digits`: bytes as digits in hex
 //! - `fields`: the cursor, and the numbers, hosts and bytes that it reads
 //! - `plain`: fields as they are usually written, read without a fault
+//! - `last_field`: the last field of a line, whose digits are read later
 //! - `hosts`: the numbers of hosts, and how many were recorded
 //! - `lines`: a line's end and its limits, and lines with a fixed text; `first_line`: the first line of a witness
 //! - `reading`: the next line of a text, of which only one line is kept in memory
@@ -30,6 +31,7 @@ mod first_field;
 mod first_line;
 mod hex_digits;
 mod hosts;
+mod last_field;
 mod lateness;
 mod lines;
 mod plain;
@@ -41,6 +43,7 @@ mod timers;
 pub use answers::{answer, answer_law};
 pub use case_forms::{OutOfMemory, Span};
 pub use congestion::{judged, judged_name};
+pub use digits::hex_onto;
 pub use fault::{FaultKind, SourceFault, TextFault, keep_fault, none_kept};
 pub use fields::{Fields, Token, is_text};
 pub use first_line::first_text;

@@ -1,6 +1,6 @@
 use Rattle.std.proofs.Common.{rules, ◌≡◌, ◌+◌, ◌-◌, arith, ◌∙◌, sym, refl}
 use Rattle.kept_lines.proofs.RecordLemmas.{left_all, first_left, takes_first}
-use Rattle.kept_lines.proofs.chunk.Chunk.next_line.Goals as goal
+use Rattle.kept_lines.proofs.chunk.Chunk.next_into.Goals as goal
 
 pub returns-then-self-len-clause-ok : goal.returns-then-self-len-clause-ok
 returns-then-self-len-clause-ok c =
@@ -22,5 +22,5 @@ returns-clause-ok c =
     let first = first_left _ _ _ _ _ _ _ _ c.self.invariant (search rules) c.index.ensures in
     let part : c.self.inside.read + c.len_at.result - c.self.inside.read ≡ c.len_at.result = omega arith in
     takes_first _ _ _ _ _ (sym c.self.view_is ∙ first.lines)
-    (c.in_ok-line.ensures ∙ rw (part, c.deref.ensures.value, c.len_at.ensures, c.as_slice.ensures.value) refl)
+    (c.in_ok-line_into.ensures.ok ∙ rw (part, c.deref.ensures.value, c.len_at.ensures, c.as_slice.ensures.value) refl)
     (c.free.ensures ∙ rw (c.len_count.ensures, c.len_at.ensures, c.as_slice.ensures.value) refl)
