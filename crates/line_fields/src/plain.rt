@@ -3,7 +3,8 @@
 
 ghost use Rattle.std.specs.Prelude.{◌≡◌, ◌≢◌, true, false, [], ◌∷◌, IfSome, IfNone, Ok};
 ghost use Rattle.line_fields.specs.Reading.{number_field};
-ghost use Rattle.line_fields.specs.FirstField.{IsNext, rising_field};
+ghost use Rattle.line_fields.specs.FirstField.{IsNext, fields_of, rising_field};
+ghost use Rattle.line_fields.specs.Reader.{texts};
 
 use crate::fields::Fields;
 use crate::first_field::{field_len, one_digit};
@@ -83,5 +84,17 @@ impl<'a> Fields<'a> {
             }
             _ => false,
         }
+    }
+
+    /// The bytes that are left of the line, if a field is left.
+    #[inline(always)]
+    pub fn rest(&self) -> Option<&'a [u8]>
+        ensures { IfSome result (λ text. texts self.now ≡ fields_of text.now) }
+    {
+        if self.at > self.text.len() {
+            return None;
+        }
+        let (_before, rest) = self.text.split_at(self.at);
+        Some(rest)
     }
 }
