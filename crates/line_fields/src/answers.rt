@@ -10,13 +10,13 @@ ghost use Rattle.line_fields.specs.FirstField.{fields_of};
 ghost use Rattle.hex.specs.Hex.{decode_of};
 ghost use Rattle.std.specs.Fmt.{decimal};
 
+use crate::digits::hex_bytes;
 use crate::fault::{FaultKind, TextFault};
 use crate::fields::{Fields, is_text};
-use crate::digits::hex_bytes;
 use crate::first_field::plain_number;
-use segment::Bytes;
 use crate::states::state;
 use case_forms::Answer;
+use segment::Bytes;
 use std::alloc::Global;
 
 // The greatest count of bytes of one answer.

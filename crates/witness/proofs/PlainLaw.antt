@@ -19,7 +19,6 @@ use Rattle.line_fields.specs.Hosts.{host_field}
 use Rattle.line_fields.proofs.Readers.{no_words}
 use Rattle.line_fields.proofs.AnswerLaw.{reads_answer}
 use Rattle.witness.specs.declared.labels.LabelWord.{LabelWord}
-use Rattle.witness.specs.declared.labels.LabelWord.TheVariants as words
 use Rattle.witness.specs.Flags.{flags_field}
 use Rattle.witness.specs.Labels.{label_name, all_label_words}
 use Rattle.witness.specs.LabelFields.{effect_label, segment_label, label_behind, label_field}
@@ -70,8 +69,14 @@ pub segment_is : (v : Version) (host : Host) (lport rport pos len window : ℕ) 
     → segment_label v r
     ≡ Ok (
       M host (record {
-        lport = lport; rport = rport; pos = pos; len = len; flags = record { ack = true; rst = false; syn = false; fin = false };
-        window = window; iss = None; shift = None;
+        lport = lport;
+        rport = rport;
+        pos = pos;
+        len = len;
+        flags = record { ack = true; rst = false; syn = false; fin = false };
+        window = window;
+        iss = None;
+        shift = None;
       }),
       last,
     )

@@ -9,8 +9,8 @@ ghost use Rattle.witness.specs.Steps.{step_of};
 ghost use Rattle.witness.specs.Plain.{IsPlaced};
 
 use case_forms::{
-    Extras, Flags, GREATEST_MOMENT, GREATEST_POSITION, Host, Label, NamedLine, SegmentPlan,
-    Span, Step, TakeChoice, Version,
+    Extras, Flags, GREATEST_MOMENT, GREATEST_POSITION, Host, Label, NamedLine, SegmentPlan, Span,
+    Step, TakeChoice, Version,
 };
 use line_fields::{Fields, checked_fields, plain_answer};
 use std::alloc::Global;

@@ -1,4 +1,4 @@
-use Rattle.std.proofs.Common.{◌<◌, ◌∙◌, arith}
+use Rattle.std.proofs.Common.{◌<◌, arith}
 use Rattle.line_fields.proofs.LastFields.{alone}
 use Rattle.line_fields.proofs.Columns.{ends_within}
 use Rattle.line_fields.proofs.answers.last_count.Goals as goal

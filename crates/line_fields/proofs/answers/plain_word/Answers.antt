@@ -1,4 +1,4 @@
-use Rattle.std.proofs.Common.{◌≡◌, [], ◌∷◌, refl, sym, subst, arith}
+use Rattle.std.proofs.Common.{refl, sym, subst, arith}
 use Rattle.std.specs.Prelude.{codes}
 use Rattle.case_forms.specs.declared.calls.Answer.TheVariants.{Closed, BadSocket}
 use Rattle.line_fields.specs.FirstField.{fields_of}
