@@ -22,7 +22,7 @@ place_is bytes None h =
     position_or_len_is is_space bytes (length bytes) 0 (omega arith)
     (λ i lt. false_from_ne_true (is_space (get_or bytes i 0)) (h i (omega arith) lt)) (λ lt. absurd (omega arith))
 
-words_left-within : (line at : ℕ) (text : List ℕ) → at ≤ length text → words_left line at text ≡ words_from line at (slice_split is_space (drop at text))
+pub words_left-within : (line at : ℕ) (text : List ℕ) → at ≤ length text → words_left line at text ≡ words_from line at (slice_split is_space (drop at text))
 words_left-within line at text le = let test = le-leb at (length text) le in rw test refl
 
 pub words_left-past : (line at : ℕ) (text : List ℕ) → length text < at → words_left line at text ≡ []

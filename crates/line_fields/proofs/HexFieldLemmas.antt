@@ -46,14 +46,14 @@ space_is_none : IsTrue (is_hex_digit 32) → ⊥
 space_is_none is = cc is
 
 -- digits have no space among them
-no_space : (text bytes : List ℕ) → decode_of text ≡ Ok bytes → position_or_len is_space text ≡ length text
+pub no_space : (text bytes : List ℕ) → decode_of text ≡ Ok bytes → position_or_len is_space text ≡ length text
 no_space text bytes decodes =
     let digits = (decode_of-ok text bytes decodes).1 in
     ends_at text (length text) (omega arith)
     (λ i lt is. space_is_none (subst (λ b. IsTrue (is_hex_digit b)) is (All-get_or (λ b. IsTrue (is_hex_digit b)) text i 0 lt digits)))
     (λ lt. absurd (omega arith))
 
-decoded : (r : Result (List ℕ) FromHexError) (bytes : List ℕ) → Some bytes ≡ result_ok r → r ≡ Ok bytes
+pub decoded : (r : Result (List ℕ) FromHexError) (bytes : List ℕ) → Some bytes ≡ result_ok r → r ≡ Ok bytes
 decoded (Ok x) bytes e = cc
 decoded (Err bad) bytes e = cc
 

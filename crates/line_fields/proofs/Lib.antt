@@ -15,6 +15,7 @@ pub mod HexLaw
 pub mod HostLaw
 pub mod Joined
 pub mod Lanes
+pub mod LastFields
 pub mod LeftLemmas
 pub mod LineRests
 pub mod Loop

@@ -1,6 +1,6 @@
 -- The first field of a text, and numbers that are read from it.
 use Rattle.std.specs.Prelude.{◌≡◌, ℕ, ◌==◌, nat_lt, if◌then◌else◌, List, Result, Ok, Err}
-use Rattle.std.specs.List.{position_or_len}
+use Rattle.std.specs.List.{position_or_len, slice_split}
 use Rattle.std.specs.Fmt.{decimal}
 use Rattle.line_fields.specs.declared.fault.FaultKind.TheVariants.{MomentFalls}
 use Rattle.line_fields.specs.declared.fault.TextFault.{TextFault}
@@ -10,6 +10,10 @@ use Rattle.line_fields.specs.Reading.{◌>>=◌, fault_at, next_field, number_va
 -- the length of a text's first field, which ends at a space or at the text's end
 abbrev pub field_len : List ℕ → ℕ
 field_len text = position_or_len (λ b. b == 32) text
+
+-- the texts of the fields of a text
+abbrev pub fields_of : List ℕ → List (List ℕ)
+fields_of text = slice_split (λ b. b == 32) text
 
 -- the next field spells this number, and this is the rest after it
 pub record Spells (n : ℕ) (before after : Rest) : Type 0 where

@@ -1,20 +1,29 @@
 //! The answers of calls.
 
-ghost use Rattle.std.specs.Prelude.{◌≡◌};
+ghost use Rattle.std.specs.Prelude.{◌≡◌, ◌≤◌, [], ◌∷◌, length, IfSome, Ok};
 ghost use Rattle.line_fields.specs.Reading.{Gives};
 ghost use Rattle.line_fields.specs.Choice.{kind_named, kind_field};
 ghost use Rattle.line_fields.specs.Reader.{IsLastReader};
 ghost use Rattle.line_fields.specs.Answers.{answer_name, all_answer_words, IsSpelledAnswer};
 ghost use Rattle.line_fields.specs.AnswerFields.{answer_field};
+ghost use Rattle.line_fields.specs.FirstField.{fields_of};
+ghost use Rattle.hex.specs.Hex.{decode_of};
+ghost use Rattle.std.specs.Fmt.{decimal};
 
+use crate::digits::hex_bytes;
 use crate::fault::{FaultKind, TextFault};
 use crate::fields::{Fields, is_text};
+use crate::first_field::plain_number;
 use crate::states::state;
 use case_forms::Answer;
+use segment::Bytes;
 use std::alloc::Global;
 
 // The greatest count of bytes of one answer.
 const MAX_DATA: usize = 65_535;
+
+// The greatest number of an answer.
+const MAX_COUNT: u64 = 4_294_967_295;
 
 // The first word of an answer.
 #[derive(Clone, Copy)]
@@ -101,6 +110,62 @@ pub fn answer(alloc: Global, fields: &mut Fields) -> Result<Answer, TextFault>
         AnswerWord::InUse => Ok(Answer::InUse),
         AnswerWord::BadSocket => Ok(Answer::BadSocket),
     }
+}
+
+/// The answer that these bytes, the last of their line, spell as it is usually written. `None` for any other bytes, or
+/// if memory runs out.
+#[inline(always)]
+pub fn plain_answer(alloc: Global, text: &[u8]) -> Option<Answer>
+    ensures { IfSome result (λ answer. IsSpelledAnswer answer (fields_of text.now)) }
+{
+    if let [b'o', b'k', b' ', count @ ..] = text {
+        return Some(Answer::Given(last_count(count)?));
+    }
+    if let [b'd', b'a', b't', b'a', b' ', digits @ ..] = text {
+        return Some(Answer::Bytes(last_bytes(alloc, digits)?));
+    }
+    plain_word(text)
+}
+
+// The answer that is this one word.
+#[inline(always)]
+fn plain_word(text: &[u8]) -> Option<Answer>
+    ensures { IfSome result (λ answer. IsSpelledAnswer answer (fields_of text.now)) }
+{
+    match text {
+        b"ok" => Some(Answer::Done),
+        b"again" => Some(Answer::Again),
+        b"eof" => Some(Answer::Eof),
+        b"closed" => Some(Answer::Closed),
+        b"badsocket" => Some(Answer::BadSocket),
+        _ => None,
+    }
+}
+
+// The count that these bytes, the last of their line, spell.
+fn last_count(text: &[u8]) -> Option<u32>
+    ensures value { IfSome result (λ n. text.now ≡ decimal n) }
+    ensures alone { IfSome result (λ n. fields_of text.now ≡ text.now ∷ []) }
+{
+    let (value, len) = plain_number(text);
+    if len == 0 || len < text.len() || value > MAX_COUNT {
+        return None;
+    }
+    Some(value as u32)
+}
+
+// The bytes that these digits, the last bytes of their line, spell.
+#[tactic(auto, using(crate::proofs::LastFields::hex_alone))]
+fn last_bytes(alloc: Global, digits: &[u8]) -> Option<Bytes>
+    ensures value { IfSome result (λ bytes. decode_of digits.now ≡ Ok bytes) }
+    ensures count { IfSome result (λ bytes. (1 ≤ length bytes) × (length bytes ≤ 65535)) }
+    ensures alone { IfSome result (λ bytes. fields_of digits.now ≡ digits.now ∷ []) }
+{
+    let bytes = hex_bytes(alloc, digits).ok()??;
+    if bytes.is_empty() || bytes.len() > MAX_DATA {
+        return None;
+    }
+    Some(Bytes::from(bytes))
 }
 
 /// What is read as an answer is spelled so, and what is spelled so is read.

@@ -40,7 +40,7 @@ mod reading;
 mod states;
 mod timers;
 
-pub use answers::{answer, answer_law};
+pub use answers::{answer, answer_law, plain_answer};
 pub use case_forms::{OutOfMemory, Span};
 pub use congestion::{judged, judged_name};
 pub use digits::hex_onto;

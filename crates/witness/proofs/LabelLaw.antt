@@ -178,7 +178,7 @@ reads_recovery v =
 
 -- ---- a label
 
-labels_named : AreNamed label_name all_label_words
+pub labels_named : AreNamed label_name all_label_words
 labels_named words.Line = refl
 labels_named words.Effect = refl
 labels_named words.Making = refl

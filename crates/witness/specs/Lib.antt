@@ -1,6 +1,7 @@
 pub mod FirstLine
 pub mod Flags
 pub mod Parts
+pub mod Plain
 pub mod Labels
 pub mod LabelFields
 pub mod Steps

@@ -24,6 +24,7 @@
 //! - `reading`: one step, and a whole witness, using the reader of `stream`
 //! - `stream`: the reader of a text whose steps are read on request
 //! - `first_line`: the first line of a witness
+//! - `plain`: a step as it is usually written, read without a fault to return
 //! - `labels`: what a step does
 //! - `parts`: the parts of labels: endpoints, inbox entries, yes or no, optional numbers
 //! - `flags`: the flags of a segment to build, as letters
@@ -36,6 +37,7 @@ mod flags;
 mod labels;
 mod laws;
 mod parts;
+mod plain;
 mod printing;
 mod reading;
 mod stream;
@@ -51,5 +53,5 @@ pub use line_fields::{FaultKind, SourceFault, TextFault};
 pub use printing::{
     label_bytes, print_law, print_witness, printable_law, push_witness, step_in_memory,
 };
-pub use reading::{read_step, read_witness, read_witness_for};
+pub use reading::{read_step, read_step_into, read_witness, read_witness_for};
 pub use stream::StepReader;

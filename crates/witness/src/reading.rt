@@ -1,15 +1,17 @@
 //! One step, and a whole witness, from bytes.
 
-ghost use Rattle.std.specs.Prelude.{◌≡◌, Ok, IfOk};
+ghost use Rattle.std.specs.Prelude.{◌≡◌, Ok, IfOk, IfErr, OnOk};
 ghost use Rattle.bstr.specs.Text.{lines_of};
 ghost use Rattle.case_forms.specs.declared.steps.Witness.{Witness};
 ghost use Rattle.case_forms.specs.Witnesses.{IsWitness};
-ghost use Rattle.line_fields.specs.Reading.{Gives};
+ghost use Rattle.line_fields.specs.Reading.{Fails, Gives};
 ghost use Rattle.witness.specs.Steps.{step_of};
+ghost use Rattle.witness.specs.Plain.{IsPlaced};
 ghost use Rattle.witness.specs.WitnessText.{IsWitnessText, seen_alone, witness_for, version_named, witness_of};
 
 use crate::first_line::begins_witness;
 use crate::labels::label;
+use crate::plain::plain_step;
 use crate::stream::StepReader;
 use bstr::ByteSlice;
 use case_forms::{GREATEST_MOMENT, Span, Step, Steps, Version, Witness};
@@ -20,7 +22,7 @@ use std::alloc::Global;
 /// The step in the line with that number in this version, whose bytes are given with the line's end. Its span is the
 /// whole line. The error is the line's first fault.
 #[tactic(auto, unfolding(crate::specs::Steps::step_of))]
-#[inline(always)]
+#[inline(never)]
 pub fn read_step(
     alloc: Global,
     version: Version,
@@ -44,6 +46,41 @@ pub fn read_step(
         label,
         span,
     })
+}
+
+/// Reads the same step into its place, which avoids moving it from call to call. After a fault, the place may contain
+/// anything.
+#[inline(always)]
+pub fn read_step_into(
+    alloc: Global,
+    version: Version,
+    number: u64,
+    raw: &[u8],
+    place: &mut Option<Step>,
+) -> Result<(), TextFault>
+    ensures step { OnOk result (IsPlaced place.new (step_of version number raw.now)) }
+    ensures fault { IfErr result (λ e. Fails e.kind e (step_of version number raw.now)) }
+{
+    if plain_step(alloc, version, number, raw, place).is_some() {
+        return Ok(());
+    }
+    read_any_step(alloc, version, number, raw, place)
+}
+
+// The same, however the step is written.
+#[inline(never)]
+fn read_any_step(
+    alloc: Global,
+    version: Version,
+    number: u64,
+    raw: &[u8],
+    place: &mut Option<Step>,
+) -> Result<(), TextFault>
+    ensures step { OnOk result (IsPlaced place.new (step_of version number raw.now)) }
+    ensures fault { IfErr result (λ e. Fails e.kind e (step_of version number raw.now)) }
+{
+    *place = Some(read_step(alloc, version, number, raw)?);
+    Ok(())
 }
 
 // The witness of a text in this version.

@@ -10,7 +10,7 @@ ghost use Rattle.witness.specs.WitnessText.{number_after};
 ghost use Rattle.witness.specs.StepsLeft.{first_line, source_of, version_of, number_read, number_of, fault_of};
 ghost use Rattle.witness.specs.StepsLeft.{steps_left, reader_failures, StandsAt};
 
-use crate::reading::read_step;
+use crate::reading::read_step_into;
 use answers::FIRST_STEP;
 use case_forms::{Step, Version};
 use counted::Counted;
@@ -115,17 +115,41 @@ impl<B: BufRead> StepReader<B> {
             → reader_failures self.new ≡ one_more (reader_failures self.old) }
         ensures same { result ≢ Err SourceFault.Read → reader_failures self.new ≡ reader_failures self.old }
     {
+        let mut item = None;
+        self.next_into(&mut item)?;
+        Ok(item)
+    }
+
+    /// Reads the next step into the item, or `None` at the end of the text. After a fault, the item may be anything.
+    /// This avoids moving the step from call to call.
+    #[inline(always)]
+    pub fn next_into(&mut self, item: &mut Option<Step>) -> Result<(), SourceFault>
+        ensures next { fault_of self.old ≡ None → OnOk result
+            (Yields (steps_left B.remaining self.old) (steps_left B.remaining self.new) item.new) }
+        ensures place { OnOk result (IfSome item.new (λ step. StandsAt (version_of self.old) (number_of self.old) step
+            × (number_of self.new ≡ number_after (number_of self.old) step))) }
+        ensures fault { (e : TextFault) → fault_of self.old ≡ None → result ≡ Err (SourceFault.Text e)
+            → FailsLeft e (steps_left B.remaining self.old) }
+        ensures again { (f : SourceFault) → fault_of self.old ≡ Some f → result ≡ Err f }
+        ensures stays { (f : SourceFault) → fault_of self.old ≡ Some f → self.new ≡ self.old }
+        ensures kept { (f : SourceFault) → result ≡ Err f → fault_of self.new ≡ Some f }
+        ensures open { OnOk result (fault_of self.new ≡ None) }
+        ensures version { version_of self.new ≡ version_of self.old }
+        ensures read { fault_of self.old ≡ None → result ≡ Err SourceFault.Read
+            → reader_failures self.new ≡ one_more (reader_failures self.old) }
+        ensures same { result ≢ Err SourceFault.Read → reader_failures self.new ≡ reader_failures self.old }
+    {
         none_kept(self.fault)?;
-        let read = self.read();
+        let read = self.read(item);
         keep_fault(&mut self.fault, read)
     }
 
-    // The next step, if no fault was met.
+    // Reads the next step into the item, if no fault was met.
     #[inline(always)]
-    fn read(&mut self) -> Result<Option<Step>, SourceFault>
-        ensures next { IfOk result (Yields (steps_left B.remaining self.old) (steps_left B.remaining self.new)) }
-        ensures place { IfOk result (λ item. IfSome item
-            (λ step. StandsAt (version_of self.old) (number_of self.old) step
+    fn read(&mut self, item: &mut Option<Step>) -> Result<(), SourceFault>
+        ensures next { OnOk result
+            (Yields (steps_left B.remaining self.old) (steps_left B.remaining self.new) item.new) }
+        ensures place { OnOk result (IfSome item.new (λ step. StandsAt (version_of self.old) (number_of self.old) step
             × (number_of self.new ≡ number_after (number_of self.old) step))) }
         ensures fault { (e : TextFault) → result ≡ Err (SourceFault.Text e)
             → FailsLeft e (steps_left B.remaining self.old) }
@@ -135,7 +159,7 @@ impl<B: BufRead> StepReader<B> {
         ensures same { result ≢ Err SourceFault.Read → reader_failures self.new ≡ reader_failures self.old }
     {
         let number = self.begin()?;
-        self.read_line(number)
+        self.read_line(number, item)
     }
 
     // The number of the next line. Before the first step the first line is read.
@@ -158,12 +182,13 @@ impl<B: BufRead> StepReader<B> {
         Ok(FIRST_STEP)
     }
 
-    // The step of the next line, which has this number.
+    // Reads the step of the next line, which has this number, into the item.
     #[inline(always)]
-    fn read_line(&mut self, number: u64) -> Result<Option<Step>, SourceFault>
+    fn read_line(&mut self, number: u64, item: &mut Option<Step>) -> Result<(), SourceFault>
         requires { number_read self.old ≡ Some number }
-        ensures next { IfOk result (Yields (steps_left B.remaining self.old) (steps_left B.remaining self.new)) }
-        ensures place { IfOk result (λ item. IfSome item (λ step. StandsAt (version_of self.old) number step ×
+        ensures next { OnOk result
+            (Yields (steps_left B.remaining self.old) (steps_left B.remaining self.new) item.new) }
+        ensures place { OnOk result (IfSome item.new (λ step. StandsAt (version_of self.old) number step ×
             (number_read self.new ≡ Some (number_after number step)))) }
         ensures fault { (e : TextFault) → result ≡ Err (SourceFault.Text e)
             → FailsLeft e (steps_left B.remaining self.old) }
@@ -173,10 +198,11 @@ impl<B: BufRead> StepReader<B> {
         ensures same { result ≢ Err SourceFault.Read → reader_failures self.new ≡ reader_failures self.old }
     {
         if !next_line(&mut self.source, number, &mut self.line)? {
-            return Ok(None);
+            *item = None;
+            return Ok(());
         }
-        let step = read_step(self.alloc, self.version, number, self.line.as_slice())?;
+        read_step_into(self.alloc, self.version, number, self.line.as_slice(), item)?;
         self.number = Some(number + 1);
-        Ok(Some(step))
+        Ok(())
     }
 }

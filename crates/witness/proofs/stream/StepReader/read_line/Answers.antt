@@ -22,25 +22,32 @@ returns-then-not-branch-clause-next g c =
     rw c.requires (all_read c.args.self.now.version c.args.number _ _
     (c.next_line.ensures.none (c.in_ok-next_line.was ∙ ap (λ b. Ok b) c.if-not-branch.true)))
 
-pub returns-in_err-step-clause-fault : goal.returns-in_err-step-clause-fault
-returns-in_err-step-clause-fault g c = λ e is.
-    let p = err_from_is_err_and c.from_residual-in_err-step.result c.from_residual-in_err-step.ensures.1 in
+pub returns-in_err-read_step_into-clause-fault : goal.returns-in_err-read_step_into-clause-fault
+returns-in_err-read_step_into-clause-fault g c = λ e is.
+    let p = err_from_is_err_and c.from_residual-in_err-read_step_into.result c.from_residual-in_err-read_step_into.ensures.1 in
     let took = c.next_line.ensures.line (c.in_ok-next_line.was ∙ ap (λ b. Ok b) c.if-not-branch.false) in
     let made = p.1 in
     let gave = p.2 in
-    let same : c.in_err-step.field-0.0 ≡ e = cc in
+    let same : c.in_err-read_step_into.field-0.0 ≡ e = cc in
     subst (λ (f : TextFault). FailsLeft f (steps_left g.B.Read.remaining c.args.self.now)) same
     (rw c.requires (line_fails c.args.self.now.version c.args.number _ _ c.next_line.new.line.items
-    c.in_err-step.field-0.0 took (rw c.as_slice.ensures.value at c.in_err-step.ensures)))
+    c.in_err-read_step_into.field-0.0 took (rw c.as_slice.ensures.value at c.in_err-read_step_into.ensures.fault)))
 
 pub overflow_add-self : goal.overflow_add-self
-overflow_add-self g c = let s = stands c.args.self.now.version _ _ _ c.in_ok-step.ensures in let few = s.few in omega (arith, few)
+overflow_add-self g c =
+    let s = stands c.args.self.now.version _ _ _ c.in_ok-read_step_into.ensures.step.is in
+    let few = s.few in omega (arith, few)
 
 pub returns-clause-next : goal.returns-clause-next
 returns-clause-next g c =
     let took = c.next_line.ensures.line (c.in_ok-next_line.was ∙ ap (λ b. Ok b) c.if-not-branch.false) in
-    rw c.requires (step_read c.args.self.now.version c.args.number _ _ c.next_line.new.line.items c.in_ok-step.step took
-    (rw c.as_slice.ensures.value at c.in_ok-step.ensures))
+    let read = c.in_ok-read_step_into.ensures.step in
+    let placed = read.placed in
+    rw (c.requires, placed) (step_read c.args.self.now.version c.args.number _ _ c.next_line.new.line.items read.step took
+    (rw c.as_slice.ensures.value at read.is))
 
 pub returns-clause-place : goal.returns-clause-place
-returns-clause-place g c = (stands c.args.self.now.version _ _ _ c.in_ok-step.ensures, refl)
+returns-clause-place g c =
+    let read = c.in_ok-read_step_into.ensures.step in
+    let placed = read.placed in
+    rw placed (stands c.args.self.now.version _ _ _ read.is, refl)
