@@ -21,3 +21,4 @@ pub mod EventForms
 pub mod Printable
 pub mod HeaderForms
 pub mod TraceFaults
+pub mod Plain

@@ -1,12 +1,13 @@
 //! The calls that a thread may begin.
 
+ghost use Rattle.std.specs.Prelude.{◌≡◌};
 ghost use Rattle.line_fields.specs.Reading.{Gives};
-ghost use Rattle.line_fields.specs.Choice.{kind_field};
+ghost use Rattle.line_fields.specs.Choice.{kind_named, kind_field};
 ghost use Rattle.trace_reader.specs.Calls.{call_name, all_call_words};
 ghost use Rattle.trace_reader.specs.CallFields.{listen_fields, open_fields, send_fields, recv_fields, call_field};
 
 use case_forms::{Call, Version};
-use line_fields::{FaultKind, Fields, TextFault};
+use line_fields::{FaultKind, Fields, TextFault, is_text};
 use std::alloc::Global;
 
 const MAX_BACKLOG: u64 = 65_535;
@@ -17,9 +18,9 @@ const MAX_SEND: usize = 65_535;
 // The greatest count of bytes that one `recv` may request.
 const MAX_RECV: u64 = 65_535;
 
-// The first word of a call.
+/// The first word of a call.
 #[derive(Clone, Copy)]
-enum CallWord {
+pub(crate) enum CallWord {
     Listen,
     Open,
     Await,
@@ -32,33 +33,44 @@ enum CallWord {
     Status,
 }
 
+/// The first word of a call that a field spells.
+#[inline(always)]
+pub(crate) fn call_word_named(text: &[u8]) -> Option<CallWord>
+    ensures { result ≡ kind_named call_name all_call_words text.now }
+{
+    if is_text(text, "listen") {
+        Some(CallWord::Listen)
+    } else if is_text(text, "open") {
+        Some(CallWord::Open)
+    } else if is_text(text, "await") {
+        Some(CallWord::Await)
+    } else if is_text(text, "accept") {
+        Some(CallWord::Accept)
+    } else if is_text(text, "send") {
+        Some(CallWord::Send)
+    } else if is_text(text, "recv") {
+        Some(CallWord::Recv)
+    } else if is_text(text, "shut") {
+        Some(CallWord::Shut)
+    } else if is_text(text, "close") {
+        Some(CallWord::Close)
+    } else if is_text(text, "abort") {
+        Some(CallWord::Abort)
+    } else if is_text(text, "status") {
+        Some(CallWord::Status)
+    } else {
+        None
+    }
+}
+
 // The next field, which is the first word of a call.
 fn call_word(fields: &mut Fields) -> Result<CallWord, TextFault>
     ensures { Gives (λ word. (word, fields.new)) result (kind_field call_name all_call_words fields.old) }
 {
     let name = fields.next()?;
-    if name.is("listen") {
-        Ok(CallWord::Listen)
-    } else if name.is("open") {
-        Ok(CallWord::Open)
-    } else if name.is("await") {
-        Ok(CallWord::Await)
-    } else if name.is("accept") {
-        Ok(CallWord::Accept)
-    } else if name.is("send") {
-        Ok(CallWord::Send)
-    } else if name.is("recv") {
-        Ok(CallWord::Recv)
-    } else if name.is("shut") {
-        Ok(CallWord::Shut)
-    } else if name.is("close") {
-        Ok(CallWord::Close)
-    } else if name.is("abort") {
-        Ok(CallWord::Abort)
-    } else if name.is("status") {
-        Ok(CallWord::Status)
-    } else {
-        Err(name.fault(FaultKind::Field))
+    match call_word_named(name.text) {
+        Some(word) => Ok(word),
+        None => Err(name.fault(FaultKind::Field)),
     }
 }
 
