@@ -11,5 +11,6 @@
 
 mod ends;
 mod lines;
+mod taken;
 
 pub use ends::{CallCounts, Counted, ReadFault};
