@@ -43,9 +43,9 @@ feed_in bytes at lt none is =
     let feed : get_or bytes at 0 ≡ 10 = eqb-true _ _ is in (
       take at bytes,
       (λ k d within found.
-        let here : get_or (take at bytes) k d ≡ get_or bytes k d = get_or-take at bytes k d (omega arith) in
-        let same : get_or bytes k d ≡ get_or bytes k 0 = get_or_default bytes k d 0 (omega arith) in
-        none k (omega arith) (omega arith) (eq-eqb _ _ (sym same ∙ sym here ∙ found))),
+          let here : get_or (take at bytes) k d ≡ get_or bytes k d = get_or-take at bytes k d (omega arith) in
+          let same : get_or bytes k d ≡ get_or bytes k 0 = get_or_default bytes k d 0 (omega arith) in
+          none k (omega arith) (omega arith) (eq-eqb _ _ (sym same ∙ sym here ∙ found))),
       take_more bytes at 0 (omega arith) ∙ ap (λ (b : ℕ). take at bytes ++ b ∷ []) feed,
     )
 

@@ -1,13 +1,12 @@
 -- Lines among bytes that were taken from a reader before they are given.
-use Rattle.std.proofs.Common.{◌≡◌, ◌<◌, ◌≤◌, ◌+◌, ◌⊎◌, inl, inr, refl, sym, ap, subst, ◌∙◌, arith, ℕ, zero, suc, List, []}
-use Rattle.std.proofs.Common.{◌∷◌, ◌++◌, Option, None, Some, OnSome, length, take, drop, append_assoc, append-nil}
+use Rattle.std.proofs.Common.{◌≡◌, ◌<◌, ◌+◌, ◌⊎◌, inl, inr, refl, sym, ap, subst, ◌∙◌, arith, ℕ, zero, suc, List, []}
+use Rattle.std.proofs.Common.{◌++◌, Option, None, Some, OnSome, length, take, drop, min, append_assoc}
 use Rattle.std.proofs.Common.{length-append}
 use Rattle.std.proofs.Math.Seq.{drop-append_seam, drop-append-add, drop-nil, take-append_seam, take-add, take-nil}
 use Rattle.std.proofs.lemmas.List.{take-append-drop, length-take-le}
 use Rattle.std.specs.Io.{StartsWith}
 use Rattle.std.specs.Io.KnownBytes.{Consumes, IsAtEnd, prepend_known}
 use Rattle.std.proofs.KnownBytes.{starts_with_rest}
-use Rattle.std.proofs.lemmas.Grind.{common_steps}
 use Rattle.counted.specs.LineParts.{HasNoFeed, EndsAtFeed, EndsThere, IsKept, GivesLine, discarded}
 use Rattle.counted.proofs.LineSoFar.{SoFar, line_ended, none_read}
 
@@ -54,24 +53,31 @@ ended_there most before line app a b c stop s took there =
   where
     rest : Option (List ℕ)
     rest = prepend_known (drop stop app) c
+
     next : List ℕ
     next = line ++ take stop app
+
     behind : drop (length line) next ≡ take stop app
     behind = drop-append_seam line (take stop app)
+
     starts : StartsWith next line
     starts = take-append_seam line (take stop app)
+
     taken : Consumes b rest (take stop app)
     taken = keeps_rest b c app (take stop app) (drop stop app) (sym (take-append-drop stop app)) took
+
     ended : EndsAtFeed (take stop app) ⊎ ((take stop app ≡ []) × OnSome b (IsAtEnd rest))
     ended = elim there.1 [
       | inl feed ↦ inl feed
       | inr none ↦ inr (
-          ap (take stop) none.0 ∙ take-nil stop,
-          subst (λ (xs : List ℕ). OnSome b (IsAtEnd (prepend_known xs c))) (sym (ap (drop stop) none.0 ∙ drop-nil stop)) (end_kept b c none.1),
-        )
+        ap (take stop) none.0 ∙ take-nil stop,
+        subst (λ (xs : List ℕ). OnSome b (IsAtEnd (prepend_known xs c))) (sym (ap (drop stop) none.0 ∙ drop-nil stop)) (end_kept b c none.1),
+      )
     ]
+
     size : length next ≡ length line + stop
     size = length-append line (take stop app) ∙ ap (λ (n : ℕ). length line + n) (length-take-le stop app there.0)
+
     by : (before n : ℕ) → n ≡ length line + stop → SoFar most before line a b → GivesLine most a rest (discarded before n) next
     by zero zero none s =
         none_read most line next a b rest s starts (subst (Consumes b rest) (sym behind) taken)
@@ -91,9 +97,9 @@ line_there most before begin line next a b c stop s count starts took there =
     let app : List ℕ = drop (length line) next in
     let is : next ≡ line ++ app = starts_with_rest next line starts in
     let behind : drop (begin + stop) next ≡ drop stop app =
-        ap (λ (n : ℕ). drop (n + stop) next) count ∙ ap (drop (length line + stop)) is ∙ drop-append-add line app stop in
+    ap (λ (n : ℕ). drop (n + stop) next) count ∙ ap (drop (length line + stop)) is ∙ drop-append-add line app stop in
     let front : take (begin + stop) next ≡ line ++ take stop app =
-        ap (λ (n : ℕ). take (n + stop) next) count ∙ take-add (length line) stop next ∙ ap (λ (xs : List ℕ). xs ++ take stop app) starts in
+    ap (λ (n : ℕ). take (n + stop) next) count ∙ take-add (length line) stop next ∙ ap (λ (xs : List ℕ). xs ++ take stop app) starts in
     subst (λ (xs : List ℕ). GivesLine most a (prepend_known xs c) (discarded before (begin + stop)) (take (begin + stop) next)) (sym behind)
     (subst (λ (xs : List ℕ). GivesLine most a (prepend_known (drop stop app) c) (discarded before (begin + stop)) xs) (sym front)
     (subst (λ (n : ℕ). GivesLine most a (prepend_known (drop stop app) c) (discarded before (n + stop)) (line ++ take stop app)) (sym count)
@@ -103,3 +109,43 @@ pub is_discarded : (before stop : ℕ) → 0 < before + stop → discarded befor
 is_discarded zero zero some = absurd (omega arith)
 is_discarded zero (suc n) some = refl
 is_discarded (suc m) n some = refl
+
+-- the bytes that are given are a line
+pub given : (most before stop n : ℕ) (a b : Option (List ℕ)) (unread items new line rest : List ℕ)
+    → GivesLine most (prepend_known items a) (prepend_known (drop stop new) b) (discarded before stop) (take stop new)
+    → items ≡ unread → n ≡ 0 → line ≡ take stop (drop n new) → rest ≡ drop stop (drop n new)
+    → GivesLine most (prepend_known unread a) (prepend_known rest b) (discarded before stop) line
+given most before stop n a b unread items new line rest gives all front is behind =
+    subst (λ (xs : List ℕ). GivesLine most (prepend_known xs a) (prepend_known rest b) (discarded before stop) line) all
+    (subst (λ (xs : List ℕ). GivesLine most (prepend_known items a) (prepend_known xs b) (discarded before stop) line)
+    (sym (behind ∙ ap (λ (m : ℕ). drop stop (drop m new)) front))
+    (subst (λ (xs : List ℕ). GivesLine most (prepend_known items a) (prepend_known (drop stop new) b) (discarded before stop) xs)
+    (sym (is ∙ ap (λ (m : ℕ). take stop (drop m new)) front)) gives))
+
+pub given_some : (most before stop n : ℕ) (a b : Option (List ℕ)) (unread items new line rest : List ℕ)
+    → GivesLine most (prepend_known items a) (prepend_known (drop stop new) b) (discarded before stop) (take stop new)
+    → items ≡ unread → n ≡ 0 → line ≡ take stop (drop n new) → rest ≡ drop stop (drop n new) → 0 < before + stop
+    → GivesLine most (prepend_known unread a) (prepend_known rest b) (Some before) line
+given_some most before stop n a b unread items new line rest gives all front is behind some =
+    subst (λ (x : Option ℕ). GivesLine most (prepend_known unread a) (prepend_known rest b) x line) (is_discarded before stop some)
+    (given most before stop n a b unread items new line rest gives all front is behind)
+
+pub given_none : (most before stop n : ℕ) (a b : Option (List ℕ)) (unread items new line rest : List ℕ)
+    → GivesLine most (prepend_known items a) (prepend_known (drop stop new) b) (discarded before stop) (take stop new)
+    → items ≡ unread → n ≡ 0 → line ≡ take stop (drop n new) → rest ≡ drop stop (drop n new) → before ≡ 0 → stop ≡ 0
+    → GivesLine most (prepend_known unread a) (prepend_known rest b) None line
+given_none most before stop n a b unread items new line rest gives all front is behind none ended =
+    subst (λ (x : Option ℕ). GivesLine most (prepend_known unread a) (prepend_known rest b) x line)
+    (ap (λ (m : ℕ). discarded m stop) none ∙ ap (discarded 0) ended)
+    (given most before stop n a b unread items new line rest gives all front is behind)
+
+-- so many bytes are copied as there is room for
+pub copied : (a b : Option (List ℕ)) (before unread rest buf : List ℕ) (n room : ℕ) → b ≡ a → before ≡ unread → n ≡ min (length unread) room
+    → take n buf ≡ take n unread → rest ≡ drop n unread → 0 < length unread → length buf ≡ room
+    → Consumes (prepend_known before a) (prepend_known rest b) (take n buf) × (n ≡ 0 → 0 < length buf → IsAtEnd (prepend_known rest b))
+copied a b before unread rest buf n room stays was count same left some size = (
+  subst (λ (x : Option (List ℕ)). Consumes (prepend_known before a) (prepend_known rest x) (take n buf)) (sym stays)
+      (loses_front a before (take n buf) rest (was ∙ sym (take-append-drop n unread) ∙ ap (λ (xs : List ℕ). xs ++ drop n unread) (sym same)
+      ∙ ap (λ (xs : List ℕ). take n buf ++ xs) (sym left))),
+  λ none more. absurd (omega arith),
+)

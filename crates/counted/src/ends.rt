@@ -188,7 +188,9 @@ impl<R: Read> Read for Counted<R> {
         if !self.end.may_call() {
             return self.end.tallied(Err(spent()));
         }
-        if let Some(taken) = &mut self.taken && taken.has_unread() {
+        if let Some(taken) = &mut self.taken
+            && taken.has_unread()
+        {
             return Ok(taken.give_to(buf));
         }
         let answer = self.end.inner.read(buf);

@@ -248,7 +248,9 @@ impl<B: BufRead> Counted<B> {
         ensures read { result ≡ Err ReadFault.Read → failures_of self.new ≡ one_more (failures_of self.old) }
         ensures memory { result ≡ Err ReadFault.OutOfMemory → failures_of self.new ≡ failures_of self.old }
     {
-        if let Some(taken) = &mut self.taken && taken.give_line() {
+        if let Some(taken) = &mut self.taken
+            && taken.give_line()
+        {
             return Ok(Some(0));
         }
         self.read_on(alloc, most)
@@ -291,7 +293,9 @@ impl<B: BufRead> Counted<B> {
         ensures read { result ≡ Err ReadFault.Read → failures_of self.new ≡ one_more (failures_of self.old) }
         ensures memory { result ≡ Err ReadFault.OutOfMemory → failures_of self.new ≡ failures_of self.old }
     {
-        if let Some(taken) = &mut self.taken && taken.has_unread() {
+        if let Some(taken) = &mut self.taken
+            && taken.has_unread()
+        {
             return taken.append_to(most, buf);
         }
         self.end.append_line_piece(most, buf)

@@ -98,7 +98,7 @@ impl Taken {
     // Drops what was given.
     pub(crate) fn drop_given(&mut self)
         ensures bytes { self.new.bytes.items ≡ unread_in self.old }
-        ensures unread { unread_in self.new ≡ unread_in self.old }
+        ensures front { self.new.next ≡ 0 }
     {
         let count = self.bytes.len() - self.next;
         self.bytes.copy_within(self.next.., 0);

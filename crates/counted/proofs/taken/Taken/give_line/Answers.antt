@@ -1,4 +1,4 @@
-use Rattle.std.proofs.Common.{◌∙◌, ◌+◌, ◌++◌, subst, sym, ap, refl, take, drop}
+use Rattle.std.proofs.Common.{◌+◌, subst, sym, refl}
 use Rattle.std.proofs.lemmas.List.{take-append-drop}
 use Rattle.counted.specs.LineParts.{HasNoFeed, EndsAtFeed}
 use Rattle.counted.proofs.LineParts.{feed_in, no_feed_in}
