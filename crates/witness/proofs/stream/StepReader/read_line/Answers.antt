@@ -1,5 +1,6 @@
 use Rattle.std.proofs.Common.{◌≡◌, ◌∙◌, Err, Ok, ap, refl, arith, subst}
 use Rattle.std.proofs.lemmas.Result.{err_from_is_err_and}
+use Rattle.counted.specs.Counting.{line_of}
 use Rattle.line_fields.specs.declared.fault.TextFault.{TextFault}
 use Rattle.line_fields.specs.declared.fault.SourceFault.{SourceFault}
 use Rattle.line_fields.specs.declared.fault.SourceFault.TheVariants.{Text}
@@ -30,8 +31,8 @@ returns-in_err-step-clause-fault g c = λ e is.
     let gave = p.2 in
     let same : c.in_err-step.field-0.0 ≡ e = cc in
     subst (λ (f : TextFault). FailsLeft f (steps_left g.B.Read.remaining c.args.self.now)) same
-    (rw c.requires (line_fails c.args.self.now.version c.args.number _ _ c.next_line.new.line.items
-    c.in_err-step.field-0.0 took (rw c.as_slice.ensures.value at c.in_err-step.ensures)))
+    (rw c.requires (line_fails c.args.self.now.version c.args.number _ _ (line_of c.next_line.new.source)
+    c.in_err-step.field-0.0 took (rw c.line.ensures at c.in_err-step.ensures)))
 
 pub overflow_add-self : goal.overflow_add-self
 overflow_add-self g c = let s = stands c.args.self.now.version _ _ _ c.in_ok-step.ensures in let few = s.few in omega (arith, few)
@@ -39,8 +40,8 @@ overflow_add-self g c = let s = stands c.args.self.now.version _ _ _ c.in_ok-ste
 pub returns-clause-next : goal.returns-clause-next
 returns-clause-next g c =
     let took = c.next_line.ensures.line (c.in_ok-next_line.was ∙ ap (λ b. Ok b) c.if-not-branch.false) in
-    rw c.requires (step_read c.args.self.now.version c.args.number _ _ c.next_line.new.line.items c.in_ok-step.step took
-    (rw c.as_slice.ensures.value at c.in_ok-step.ensures))
+    rw c.requires (step_read c.args.self.now.version c.args.number _ _ (line_of c.next_line.new.source) c.in_ok-step.step took
+    (rw c.line.ensures at c.in_ok-step.ensures))
 
 pub returns-clause-place : goal.returns-clause-place
 returns-clause-place g c = (stands c.args.self.now.version _ _ _ c.in_ok-step.ensures, refl)
