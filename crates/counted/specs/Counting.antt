@@ -2,7 +2,7 @@
 use Rattle.std.specs.Prelude.{◌≡◌, ℕ, ◌+◌, ◌^◌, List, Option, Result, MatchResult, min}
 use Rattle.std.specs.Io.KnownBytes.{prepend_known}
 use Rattle.counted.specs.declared.ends.Counted.{Counted}
-use Rattle.counted.specs.TakenBytes.{line_if, unread_if}
+use Rattle.counted.specs.Buffered.{line_if, unread_if}
 
 -- `c.failures()`
 abbrev pub failures_of : {X : Type 0} → Counted X → ℕ
@@ -20,13 +20,13 @@ one_call_more n = min (n + 1) (2 ^ 50)
 abbrev pub inner_of : {X : Type 0} → Counted X → X
 inner_of c = c.end.inner
 
--- the bytes that were taken from it and not given yet
+-- the bytes that it has buffered and not given yet
 abbrev pub unread_of : {X : Type 0} → Counted X → List ℕ
-unread_of c = unread_if c.taken
+unread_of c = unread_if c.buffer
 
 -- the line that was given last
 abbrev pub line_of : {X : Type 0} → Counted X → List ℕ
-line_of c = line_if c.taken
+line_of c = line_if c.buffer
 
 -- the bytes that are left to read, if they are known
 abbrev pub left_of : {X : Type 0} → (X → Option (List ℕ)) → Counted X → Option (List ℕ)

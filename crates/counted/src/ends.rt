@@ -2,7 +2,7 @@
 
 ghost use Rattle.std.specs.Prelude.{◌≡◌, ◌≤◌, ◌^◌};
 
-use crate::taken::Taken;
+use crate::buffer::Buffer;
 use std::io;
 use std::io::{ErrorKind, Read, Write};
 
@@ -17,8 +17,8 @@ const MOST_FAILURES: u64 = 1 << 60;
 #[derive(Drop)]
 pub struct Counted<X> {
     pub(crate) end: End<X>,
-    // What was taken from the reader to be given later; nothing, as long as no line was asked for.
-    pub(crate) taken: Option<Taken>,
+    // None before the first call of `next_line`.
+    pub(crate) buffer: Option<Buffer>,
 }
 
 // A reader or a writer, and its counts.
@@ -67,7 +67,7 @@ impl<X> Counted<X> {
                 calls: 0,
                 failures: 0,
             },
-            taken: None,
+            buffer: None,
         }
     }
 
@@ -78,18 +78,18 @@ impl<X> Counted<X> {
         self.end.failures
     }
 
-    /// The same reader or writer, lent with its counts and with what was taken from the reader and not given. What it
-    /// counts from then on has to be told: `count_on`. What it takes from then on and doesn't give is lost.
+    /// The same reader or writer, lent with its counts and with the bytes that it has buffered. What it counts from then
+    /// on has to be told: `count_on`. Bytes that it has buffered in the end are lost.
     pub fn lent(&mut self) -> Counted<&mut X>
         ensures inner { (inner_of result).now ≡ inner_of self.old }
         ensures unread { unread_of result ≡ unread_of self.old }
         ensures failures { failures_of result ≡ failures_of self.old }
         ensures calls { calls_of result ≡ calls_of self.old }
     {
-        let taken = self.taken.take();
+        let buffer = self.buffer.take();
         Counted {
             end: self.end.lent(),
-            taken,
+            buffer,
         }
     }
 
@@ -188,10 +188,10 @@ impl<R: Read> Read for Counted<R> {
         if !self.end.may_call() {
             return self.end.tallied(Err(spent()));
         }
-        if let Some(taken) = &mut self.taken
-            && taken.has_unread()
+        if let Some(buffer) = &mut self.buffer
+            && buffer.has_unread()
         {
-            return Ok(taken.give_to(buf));
+            return Ok(buffer.give_to(buf));
         }
         let answer = self.end.inner.read(buf);
         self.end.tallied(answer)

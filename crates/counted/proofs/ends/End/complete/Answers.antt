@@ -1,6 +1,6 @@
 use Rattle.std.proofs.Common.{◌<◌, ◌∙◌, Ok, ap, arith, rules, length}
 use Rattle.counted.proofs.LineSoFar.{more_so_far, dropped_so_far, not_longer}
-use Rattle.counted.proofs.TakenLines.{line_there}
+use Rattle.counted.proofs.BufferLines.{line_there}
 use Rattle.counted.proofs.ends.End.complete.Goals.{then-len-most, else-len-most}
 use Rattle.counted.proofs.ends.End.complete.Goals as goal
 

@@ -1,4 +1,4 @@
-//! Bytes that were taken from a reader before they are given.
+//! The buffer of a reader, which gives lines.
 
 ghost use Rattle.std.specs.Prelude.{◌≡◌, ◌≤◌, ◌<◌, ◌+◌, ◌++◌, ◌↔◌, IsTrue, true, false, [], length, take, drop, min};
 ghost use Rattle.counted.specs.LineParts.{HasNoFeed, EndsAtFeed};
@@ -6,9 +6,9 @@ ghost use Rattle.counted.specs.LineParts.{HasNoFeed, EndsAtFeed};
 use memchr::memchr;
 use std::alloc::Global;
 
-// Bytes of a reader: the line that was given last, and behind it those that were not given yet.
+// Bytes of a reader: the line that was given last, and behind it those that weren't given yet, the unread ones.
 #[derive(Drop)]
-pub(crate) struct Taken {
+pub(crate) struct Buffer {
     pub(crate) bytes: Vec<u8>,
     // Where that line begins.
     line: usize,
@@ -18,14 +18,14 @@ pub(crate) struct Taken {
     ghost within: { next ≤ length bytes.items },
 }
 
-impl Taken {
-    ghost use Rattle.counted.specs.TakenBytes.{line_in, unread_in};
+impl Buffer {
+    ghost use Rattle.counted.specs.Buffered.{line_in, unread_in};
 
-    // Nothing was taken.
-    pub(crate) fn new(alloc: Global) -> Taken
+    // An empty buffer.
+    pub(crate) fn new(alloc: Global) -> Buffer
         ensures { unread_in result ≡ [] }
     {
-        Taken {
+        Buffer {
             bytes: Vec::new(alloc),
             line: 0,
             next: 0,
@@ -40,7 +40,7 @@ impl Taken {
         &self.bytes.as_slice()[self.line..self.next]
     }
 
-    // What was not given yet.
+    // The bytes that weren't given yet.
     #[inline(always)]
     pub(crate) fn unread(&self) -> &[u8]
         ensures { result.now ≡ unread_in self.now }
@@ -48,7 +48,7 @@ impl Taken {
         &self.bytes.as_slice()[self.next..]
     }
 
-    // Whether there is something that was not given yet.
+    // Whether there are any.
     pub(crate) fn has_unread(&self) -> bool
         ensures { IsTrue result ↔ (0 < length (unread_in self.now)) }
     {
@@ -66,7 +66,7 @@ impl Taken {
         self.next += count;
     }
 
-    // Gives the next line, if its LF was taken, too.
+    // Gives the next line, if the buffer has all of it.
     #[inline(always)]
     pub(crate) fn give_line(&mut self) -> bool
         ensures line { result ≡ true → EndsAtFeed (line_in self.new)
@@ -82,7 +82,7 @@ impl Taken {
         }
     }
 
-    // Copies what was not given yet, as far as there is room, and returns how many bytes that are.
+    // Gives bytes as far as there is room, and returns how many.
     pub(crate) fn give_to(&mut self, buf: &mut [u8]) -> usize
         ensures count { result ≡ min (length (unread_in self.old)) (length buf.old) }
         ensures bytes { take result buf.new ≡ take result (unread_in self.old) }
@@ -95,7 +95,7 @@ impl Taken {
         count
     }
 
-    // Drops what was given.
+    // Drops the bytes that were given.
     pub(crate) fn drop_given(&mut self)
         ensures bytes { self.new.bytes.items ≡ unread_in self.old }
         ensures front { self.new.next ≡ 0 }

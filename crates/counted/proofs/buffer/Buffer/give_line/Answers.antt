@@ -2,7 +2,7 @@ use Rattle.std.proofs.Common.{◌+◌, subst, sym, refl}
 use Rattle.std.proofs.lemmas.List.{take-append-drop}
 use Rattle.counted.specs.LineParts.{HasNoFeed, EndsAtFeed}
 use Rattle.counted.proofs.LineParts.{feed_in, no_feed_in}
-use Rattle.counted.proofs.taken.Taken.give_line.Goals as goal
+use Rattle.counted.proofs.buffer.Buffer.give_line.Goals as goal
 
 pub returns-in-Some-clause-line : goal.returns-in-Some-clause-line
 returns-in-Some-clause-line c = λ _.

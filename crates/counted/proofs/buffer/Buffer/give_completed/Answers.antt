@@ -1,8 +1,8 @@
 use Rattle.std.proofs.Common.{arith}
-use Rattle.counted.specs.TakenBytes.{line_in, unread_in}
-use Rattle.counted.proofs.TakenLines.{given_some, given_none}
-use Rattle.counted.proofs.taken.Taken.give_completed.Goals.{else-before-eq0-via-then-before-eq0+else-stop-eq0, else-before-eq0-via-else-before-eq0}
-use Rattle.counted.proofs.taken.Taken.give_completed.Goals as goal
+use Rattle.counted.specs.Buffered.{line_in, unread_in}
+use Rattle.counted.proofs.BufferLines.{given_some, given_none}
+use Rattle.counted.proofs.buffer.Buffer.give_completed.Goals.{else-before-eq0-via-then-before-eq0+else-stop-eq0, else-before-eq0-via-else-before-eq0}
+use Rattle.counted.proofs.buffer.Buffer.give_completed.Goals as goal
 
 pub returns-then-stop-eq0-clause-line : goal.returns-then-stop-eq0-clause-line
 returns-then-stop-eq0-clause-line g c =

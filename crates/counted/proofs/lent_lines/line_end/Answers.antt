@@ -1,6 +1,6 @@
 use Rattle.std.proofs.Common.{arith, inl}
 use Rattle.counted.proofs.LineParts.{feed_in, no_feed_in}
-use Rattle.counted.proofs.lines.line_end.Goals as goal
+use Rattle.counted.proofs.lent_lines.line_end.Goals as goal
 
 pub returns-in-Some : goal.returns-in-Some
 returns-in-Some c =

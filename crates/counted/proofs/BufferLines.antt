@@ -1,4 +1,4 @@
--- Lines among bytes that were taken from a reader before they are given.
+-- Lines that are given from a buffer.
 use Rattle.std.proofs.Common.{◌≡◌, ◌<◌, ◌+◌, ◌⊎◌, inl, inr, refl, sym, ap, subst, ◌∙◌, arith, ℕ, zero, suc, List, []}
 use Rattle.std.proofs.Common.{◌++◌, Option, None, Some, OnSome, length, take, drop, min, append_assoc}
 use Rattle.std.proofs.Common.{length-append}
@@ -26,12 +26,12 @@ keeps_rest (Some x) (Some y) read front rest is took = took ∙ ap (λ (xs : Lis
 nothing_kept : (most : ℕ) (line : List ℕ) → IsKept most [] 0 line
 nothing_kept most line = record { count = refl; past = λ some. absurd (omega (arith, some)); begins = λ some. absurd (omega (arith, some)) }
 
--- a line is given whose LF was taken, too
+-- a line is given that the buffer has
 pub line_given : (most : ℕ) (a : Option (List ℕ)) (unread line rest : List ℕ) → EndsAtFeed line → unread ≡ line ++ rest
     → GivesLine most (prepend_known unread a) (prepend_known rest a) (Some 0) line
 line_given most a unread line rest feed is = ([], nothing_kept most line, (loses_front a unread line rest is, inl feed))
 
--- a line begins with what was taken, which has no LF
+-- a line begins with what the buffer has, which has no LF
 pub begun : (most : ℕ) (a : Option (List ℕ)) (line : List ℕ) → HasNoFeed line → SoFar most 0 line (prepend_known line a) a
 begun most a line none = ([], nothing_kept most line, none, by a)
   where
@@ -63,8 +63,8 @@ ended_there most before line app a b c stop s took there =
     starts : StartsWith next line
     starts = take-append_seam line (take stop app)
 
-    taken : Consumes b rest (take stop app)
-    taken = keeps_rest b c app (take stop app) (drop stop app) (sym (take-append-drop stop app)) took
+    lost : Consumes b rest (take stop app)
+    lost = keeps_rest b c app (take stop app) (drop stop app) (sym (take-append-drop stop app)) took
 
     ended : EndsAtFeed (take stop app) ⊎ ((take stop app ≡ []) × OnSome b (IsAtEnd rest))
     ended = elim there.1 [
@@ -80,13 +80,13 @@ ended_there most before line app a b c stop s took there =
 
     by : (before n : ℕ) → n ≡ length line + stop → SoFar most before line a b → GivesLine most a rest (discarded before n) next
     by zero zero none s =
-        none_read most line next a b rest s starts (subst (Consumes b rest) (sym behind) taken)
+        none_read most line next a b rest s starts (subst (Consumes b rest) (sym behind) lost)
         (subst (λ (xs : List ℕ). EndsAtFeed xs ⊎ ((xs ≡ []) × OnSome b (IsAtEnd rest))) (sym behind) ended) (size ∙ sym none)
     by zero (suc n) some s =
-        line_ended most zero line next a b rest s starts (subst (Consumes b rest) (sym behind) taken)
+        line_ended most zero line next a b rest s starts (subst (Consumes b rest) (sym behind) lost)
         (subst (λ (xs : List ℕ). EndsAtFeed xs ⊎ ((xs ≡ []) × OnSome b (IsAtEnd rest))) (sym behind) ended) (omega (arith, size, some))
     by (suc m) n some s =
-        line_ended most (suc m) line next a b rest s starts (subst (Consumes b rest) (sym behind) taken)
+        line_ended most (suc m) line next a b rest s starts (subst (Consumes b rest) (sym behind) lost)
         (subst (λ (xs : List ℕ). EndsAtFeed xs ⊎ ((xs ≡ []) × OnSome b (IsAtEnd rest))) (sym behind) ended) (omega arith)
 
 -- the same of what was appended
