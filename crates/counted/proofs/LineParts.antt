@@ -33,3 +33,23 @@ pub no_feed : (bytes : List ℕ) (m : ℕ)
     → ((k : ℕ) → 0 ≤ k → k < length (take m bytes) → (slice_index (take m bytes) k == 10) ≡ true → ⊥)
     → HasNoFeed (take (length (take m bytes)) bytes)
 no_feed bytes m none = none_before bytes m (length (take m bytes)) (omega arith) none
+
+-- the same in all of the bytes
+pub feed_in : (bytes : List ℕ) (at : ℕ) → at < length bytes
+    → ((k : ℕ) → 0 ≤ k → k < at → (slice_index bytes k == 10) ≡ true → ⊥)
+    → (slice_index bytes at == 10) ≡ true → EndsAtFeed (take (at + 1) bytes)
+feed_in bytes at lt none is =
+    let short : length (take at bytes) ≡ at = grind (arith, common_steps) in
+    let feed : get_or bytes at 0 ≡ 10 = eqb-true _ _ is in (
+      take at bytes,
+      (λ k d within found.
+          let here : get_or (take at bytes) k d ≡ get_or bytes k d = get_or-take at bytes k d (omega arith) in
+          let same : get_or bytes k d ≡ get_or bytes k 0 = get_or_default bytes k d 0 (omega arith) in
+          none k (omega arith) (omega arith) (eq-eqb _ _ (sym same ∙ sym here ∙ found))),
+      take_more bytes at 0 (omega arith) ∙ ap (λ (b : ℕ). take at bytes ++ b ∷ []) feed,
+    )
+
+pub no_feed_in : (bytes : List ℕ) → ((k : ℕ) → 0 ≤ k → k < length bytes → (slice_index bytes k == 10) ≡ true → ⊥) → HasNoFeed bytes
+no_feed_in bytes none = λ k d within found.
+    let same : get_or bytes k d ≡ get_or bytes k 0 = get_or_default bytes k d 0 (omega arith) in
+    none k (omega arith) within (eq-eqb _ _ (sym same ∙ found))

@@ -1,6 +1,6 @@
 -- What was read of a line.
 use Rattle.std.specs.Prelude.{◌≡◌, ◌≢◌, ◌<◌, ◌+◌, ◌⊎◌, ℕ, Bool, true, false, List, [], ◌∷◌, ◌++◌, length, All, Option}
-use Rattle.std.specs.Prelude.{Some, None, OnSome}
+use Rattle.std.specs.Prelude.{Some, None, OnSome, ◌≤◌, zero, take}
 use Rattle.std.specs.Io.KnownBytes.{Consumes, IsAtEnd}
 
 -- no byte is LF
@@ -15,6 +15,15 @@ EndsAtFeed bytes = (text : List ℕ) × HasNoFeed text × (bytes ≡ text ++ 10 
 abbrev pub IsPart : Bool → List ℕ → Type 0
 IsPart true bytes = EndsAtFeed bytes
 IsPart false bytes = HasNoFeed bytes
+
+-- a line that goes on in these bytes ends after so many: at its LF, or at once if there are none
+abbrev pub IsEnd : ℕ → List ℕ → Type 0
+IsEnd stop bytes = (stop ≤ length bytes) × (EndsAtFeed (take stop bytes) ⊎ (bytes ≡ []))
+
+-- the same for bytes that were read; there are none only at the end of the input
+abbrev pub EndsThere : Option (List ℕ) → Option (List ℕ) → ℕ → List ℕ → Type 0
+EndsThere old new stop bytes =
+    (stop ≤ length bytes) × (EndsAtFeed (take stop bytes) ⊎ ((bytes ≡ []) × OnSome old (IsAtEnd new)))
 
 -- known bytes lose their first line: up to its LF, or all that is left
 abbrev pub LosesLine : Option (List ℕ) → Option (List ℕ) → List ℕ → Type 0
@@ -32,3 +41,8 @@ abbrev pub GivesLine : ℕ → Option (List ℕ) → Option (List ℕ) → Optio
 GivesLine most old new None kept = Consumes old new [] × OnSome old (IsAtEnd new)
 GivesLine most old new (Some before) kept =
     (front : List ℕ) × IsKept most front before kept × LosesLine old new (front ++ kept)
+
+-- how many bytes of a line were discarded, if it has bytes
+abbrev pub discarded : ℕ → ℕ → Option ℕ
+discarded zero zero = None
+discarded before stop = Some before

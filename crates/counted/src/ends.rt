@@ -2,8 +2,9 @@
 
 ghost use Rattle.std.specs.Prelude.{◌≡◌, ◌≤◌, ◌^◌};
 
+use crate::buffer::Buffer;
 use std::io;
-use std::io::{BufRead, ErrorKind, Read, Write};
+use std::io::{ErrorKind, Read, Write};
 
 // After this many calls, every call fails.
 pub(crate) const MOST_CALLS: u64 = 1 << 50;
@@ -15,6 +16,14 @@ const MOST_FAILURES: u64 = 1 << 60;
 /// that writes none of its bytes; these failures are counted, too. Nothing else is counted.
 #[derive(Drop)]
 pub struct Counted<X> {
+    pub(crate) end: End<X>,
+    // None before the first call of `next_line`.
+    pub(crate) buffer: Option<Buffer>,
+}
+
+// A reader or a writer, and its counts.
+#[derive(Drop)]
+pub(crate) struct End<X> {
     pub(crate) inner: X,
     calls: u64,
     failures: u64,
@@ -42,19 +51,23 @@ fn nothing_taken() -> io::Error {
 }
 
 impl<X> Counted<X> {
-    ghost use Rattle.std.specs.Prelude.{◌<◌, ◌↔◌, IsTrue};
-    ghost use Rattle.counted.specs.Counting.{failures_of, calls_of, one_call_more, inner_of, one_more, Counts};
+    ghost use Rattle.std.specs.Prelude.{List, Option, [], ℕ};
+    ghost use Rattle.counted.specs.Counting.{failures_of, calls_of, inner_of, left_of, unread_of};
 
     /// A reader or a writer with no failures yet.
     pub fn new(inner: X) -> Counted<X>
         ensures inner { inner_of result ≡ inner }
+        ensures unread { unread_of result ≡ [] }
         ensures none { failures_of result ≡ 0 }
         ensures uncalled { calls_of result ≡ 0 }
     {
         Counted {
-            inner,
-            calls: 0,
-            failures: 0,
+            end: End {
+                inner,
+                calls: 0,
+                failures: 0,
+            },
+            buffer: None,
         }
     }
 
@@ -62,21 +75,21 @@ impl<X> Counted<X> {
     pub fn failures(&self) -> u64
         ensures { result ≡ failures_of self.now }
     {
-        self.failures
+        self.end.failures
     }
 
-    /// The same reader or writer, lent with its counts. What it counts from then on has to be told: `count_on`.
+    /// The same reader or writer, lent with its counts and with the bytes that it has buffered. What it counts from then
+    /// on has to be told: `count_on`. Bytes that it has buffered in the end are lost.
     pub fn lent(&mut self) -> Counted<&mut X>
         ensures inner { (inner_of result).now ≡ inner_of self.old }
+        ensures unread { unread_of result ≡ unread_of self.old }
         ensures failures { failures_of result ≡ failures_of self.old }
         ensures calls { calls_of result ≡ calls_of self.old }
     {
-        let calls = self.calls;
-        let failures = self.failures;
+        let buffer = self.buffer.take();
         Counted {
-            inner: &mut self.inner,
-            calls,
-            failures,
+            end: self.end.lent(),
+            buffer,
         }
     }
 
@@ -85,8 +98,8 @@ impl<X> Counted<X> {
         ensures failures { failures_of self.new ≡ counts.failures }
         ensures calls { calls_of self.new ≡ counts.calls }
     {
-        self.calls = counts.calls;
-        self.failures = counts.failures;
+        self.end.calls = counts.calls;
+        self.end.failures = counts.failures;
     }
 
     /// What it has counted.
@@ -95,17 +108,37 @@ impl<X> Counted<X> {
         ensures calls { result.calls ≡ calls_of self.now }
     {
         CallCounts {
-            calls: self.calls,
-            failures: self.failures,
+            calls: self.end.calls,
+            failures: self.end.failures,
+        }
+    }
+}
+
+impl<X> End<X> {
+    ghost use Rattle.std.specs.Prelude.{◌<◌, ◌↔◌, IsTrue};
+    ghost use Rattle.counted.specs.Counting.{one_call_more, one_more, Counts};
+
+    // The same reader or writer, lent with its counts.
+    fn lent(&mut self) -> End<&mut X>
+        ensures inner { result.inner.now ≡ self.old.inner }
+        ensures failures { result.failures ≡ self.old.failures }
+        ensures calls { result.calls ≡ self.old.calls }
+    {
+        let calls = self.calls;
+        let failures = self.failures;
+        End {
+            inner: &mut self.inner,
+            calls,
+            failures,
         }
     }
 
     // The answer of a read or write; a failure is counted.
     fn tallied<T>(&mut self, answer: io::Result<T>) -> io::Result<T>
         ensures answer { result ≡ answer }
-        ensures inner { inner_of self.new ≡ inner_of self.old }
-        ensures calls { calls_of self.new ≡ calls_of self.old }
-        ensures counts { Counts result (failures_of self.old) (failures_of self.new) }
+        ensures inner { self.new.inner ≡ self.old.inner }
+        ensures calls { self.new.calls ≡ self.old.calls }
+        ensures counts { Counts result self.old.failures self.new.failures }
     {
         if answer.is_err() {
             self.count_failure();
@@ -115,19 +148,19 @@ impl<X> Counted<X> {
 
     // Counts one failure.
     pub(crate) fn count_failure(&mut self)
-        ensures inner { inner_of self.new ≡ inner_of self.old }
-        ensures calls { calls_of self.new ≡ calls_of self.old }
-        ensures one { failures_of self.new ≡ one_more (failures_of self.old) }
+        ensures inner { self.new.inner ≡ self.old.inner }
+        ensures calls { self.new.calls ≡ self.old.calls }
+        ensures one { self.new.failures ≡ one_more self.old.failures }
     {
         self.failures = (self.failures + 1).min(MOST_FAILURES);
     }
 
     // Whether one more call may be made; the call is counted.
     pub(crate) fn may_call(&mut self) -> bool
-        ensures may { IsTrue result ↔ (calls_of self.old < 2 ^ 50) }
-        ensures calls { calls_of self.new ≡ one_call_more (calls_of self.old) }
-        ensures inner { inner_of self.new ≡ inner_of self.old }
-        ensures same { failures_of self.new ≡ failures_of self.old }
+        ensures may { IsTrue result ↔ (self.old.calls < 2 ^ 50) }
+        ensures calls { self.new.calls ≡ one_call_more self.old.calls }
+        ensures inner { self.new.inner ≡ self.old.inner }
+        ensures same { self.new.failures ≡ self.old.failures }
     {
         if self.calls >= MOST_CALLS {
             return false;
@@ -152,11 +185,16 @@ impl<R: Read> Read for Counted<R> {
         ensures spent { 2 ^ 50 ≤ calls_of self.old → IsErr result }
         ensures calls { calls_of self.new ≡ one_call_more (calls_of self.old) }
     {
-        if !self.may_call() {
-            return self.tallied(Err(spent()));
+        if !self.end.may_call() {
+            return self.end.tallied(Err(spent()));
         }
-        let answer = self.inner.read(buf);
-        self.tallied(answer)
+        if let Some(buffer) = &mut self.buffer
+            && buffer.has_unread()
+        {
+            return Ok(buffer.give_to(buf));
+        }
+        let answer = self.end.inner.read(buf);
+        self.end.tallied(answer)
     }
 }
 
@@ -176,14 +214,14 @@ impl<W: Write> Write for Counted<W> {
         ensures spent { 2 ^ 50 ≤ calls_of self.old → IsErr result }
         ensures calls { calls_of self.new ≡ one_call_more (calls_of self.old) }
     {
-        if !self.may_call() {
-            return self.tallied(Err(spent()));
+        if !self.end.may_call() {
+            return self.end.tallied(Err(spent()));
         }
-        let answer = match self.inner.write(buf) {
+        let answer = match self.end.inner.write(buf) {
             Ok(0) if !buf.is_empty() => Err(nothing_taken()),
             answer => answer,
         };
-        self.tallied(answer)
+        self.end.tallied(answer)
     }
 
     // It ends at the first call that fails, including an interrupted one.
@@ -204,11 +242,11 @@ impl<W: Write> Write for Counted<W> {
         ensures spent { 2 ^ 50 ≤ calls_of self.old → IsErr result }
         ensures calls { calls_of self.new ≡ one_call_more (calls_of self.old) }
     {
-        if !self.may_call() {
-            return self.tallied(Err(spent()));
+        if !self.end.may_call() {
+            return self.end.tallied(Err(spent()));
         }
-        let answer = self.inner.flush();
-        self.tallied(answer)
+        let answer = self.end.inner.flush();
+        self.end.tallied(answer)
     }
 }
 
@@ -219,62 +257,4 @@ pub enum ReadFault {
     Read,
     /// There was no memory for the bytes that were read. Nothing was counted.
     OutOfMemory,
-}
-
-impl<B: BufRead> Counted<B> {
-    ghost use Rattle.std.specs.Prelude.{◌≡◌, ◌≤◌, ◌^◌, OnOk, IfSome, OnSome, ◌++◌, true};
-    ghost use Rattle.std.specs.Io.{StartsWith, appended_bytes};
-    ghost use Rattle.std.specs.Io.KnownBytes.{Consumes, IsAtEnd};
-    ghost use Rattle.counted.specs.Counting.{left_of, failures_of, calls_of, one_call_more, one_more};
-
-    /// Appends the bytes of one read, and returns whether the input is at its end, which is so if there are none. After
-    /// an error, `buf` doesn't change.
-    pub fn append_piece(&mut self, buf: &mut Vec<u8>) -> Result<bool, ReadFault>
-        ensures appends { StartsWith buf.new.items buf.old.items }
-        ensures bytes { Consumes (left_of B.remaining self.old) (left_of B.remaining self.new)
-            (appended_bytes buf.old.items buf.new.items) }
-        ensures end { result ≡ Ok true → OnSome (left_of B.remaining self.old)
-            (IsAtEnd (left_of B.remaining self.new)) }
-        ensures ok { OnOk result (failures_of self.new ≡ failures_of self.old) }
-        ensures read { result ≡ Err ReadFault.Read → failures_of self.new ≡ one_more (failures_of self.old) }
-        ensures memory { result ≡ Err ReadFault.OutOfMemory → failures_of self.new ≡ failures_of self.old }
-        ensures spent { 2 ^ 50 ≤ calls_of self.old → result ≡ Err ReadFault.Read }
-        ensures calls { calls_of self.new ≡ one_call_more (calls_of self.old) }
-    {
-        if !self.may_call() {
-            self.count_failure();
-            return Err(ReadFault::Read);
-        }
-        let available = match self.inner.fill_buf() {
-            Ok(available) => available,
-            Err(_) => {
-                self.count_failure();
-                return Err(ReadFault::Read);
-            }
-        };
-        let count = available.len();
-        if buf.extend_from_slice(available).is_err() {
-            return Err(ReadFault::OutOfMemory);
-        }
-        self.inner.consume(count);
-        Ok(count == 0)
-    }
-
-    /// Appends all remaining bytes. After an error, `buf` has what was read before it.
-    pub fn append_all(&mut self, buf: &mut Vec<u8>) -> Result<(), ReadFault>
-        ensures appends { StartsWith buf.new.items buf.old.items }
-        ensures bytes { OnOk result (IfSome (left_of B.remaining self.old) (λ xs. buf.new.items ≡ buf.old.items
-            ++ xs)) }
-        ensures ok { OnOk result (failures_of self.new ≡ failures_of self.old) }
-        ensures read { result ≡ Err ReadFault.Read → failures_of self.new ≡ one_more (failures_of self.old) }
-        ensures memory { result ≡ Err ReadFault.OutOfMemory → failures_of self.new ≡ failures_of self.old }
-    {
-        for _ in 0..MOST_CALLS {
-            if self.append_piece(buf)? {
-                return Ok(());
-            }
-        }
-        self.count_failure();
-        Err(ReadFault::Read)
-    }
 }

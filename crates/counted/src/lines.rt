@@ -1,21 +1,23 @@
-//! One line of a reader, read a piece at a time.
+//! One line of a reader, appended to a `Vec` a piece at a time.
 
-ghost use Rattle.std.specs.Prelude.{◌≡◌, ◌+◌, ◌≤◌, ◌<◌, ◌⊎◌, ◌^◌, [], OnOk, IfOk, IfSome, OnSome, ◌++◌, true, false};
+ghost use Rattle.std.specs.Prelude.{◌≡◌, ◌≢◌, ◌+◌, ◌≤◌, ◌<◌, ◌⊎◌, ◌^◌, [], OnOk, IfOk, IfSome, OnSome, ◌++◌, true, false};
 ghost use Rattle.std.specs.Prelude.{length, take};
 ghost use Rattle.std.specs.Io.{StartsWith, appended_bytes};
 ghost use Rattle.std.specs.Io.KnownBytes.{Consumes, IsAtEnd};
 ghost use Rattle.counted.specs.Counting.{left_of, failures_of, one_more};
 ghost use Rattle.counted.specs.LineParts.{HasNoFeed, EndsAtFeed, IsPart, GivesLine};
+ghost use Rattle.counted.specs.Buffered.{unread_in};
 
-use crate::ends::{Counted, MOST_CALLS, ReadFault};
+use crate::buffer::Buffer;
+use crate::ends::{Counted, End, MOST_CALLS, ReadFault};
 use memchr::memchr;
 use std::io::BufRead;
 
 // How many bytes of a line one read returns at most, so that 2^50 reads can be counted.
-const PIECE: usize = 8192;
+pub(crate) const MOST_AT_ONCE: usize = 8192;
 
 // Discards all bytes but the last, and returns how many.
-fn keep_last(line: &mut Vec<u8>) -> u64
+pub(crate) fn keep_last(line: &mut Vec<u8>) -> u64
     requires { 0 < length line.old.items }
     ensures count { result + 1 ≡ length line.old.items }
     ensures last { line.old.items ≡ take result line.old.items ++ line.new.items }
@@ -66,6 +68,53 @@ fn append_part<B: BufRead>(inner: &mut B, most: usize, buf: &mut Vec<u8>) -> Res
     Ok(is_ended || count == 0)
 }
 
+impl<B: BufRead> End<B> {
+    // Appends the bytes of one read of a line, as `append_part`; the call and its failure are counted.
+    fn append_line_piece(&mut self, most: usize, buf: &mut Vec<u8>) -> Result<bool, ReadFault>
+        requires { 0 < most }
+        ensures appends { StartsWith buf.new.items buf.old.items }
+        ensures most { length (appended_bytes buf.old.items buf.new.items) ≤ most }
+        ensures bytes { Consumes (B.remaining self.old.inner) (B.remaining self.new.inner)
+            (appended_bytes buf.old.items buf.new.items) }
+        ensures more { result ≡ Ok false → HasNoFeed (appended_bytes buf.old.items buf.new.items) }
+        ensures ended { result ≡ Ok true → EndsAtFeed (appended_bytes buf.old.items buf.new.items)
+            ⊎ ((appended_bytes buf.old.items buf.new.items ≡ [])
+            × OnSome (B.remaining self.old.inner) (IsAtEnd (B.remaining self.new.inner))) }
+        ensures ok { OnOk result (self.new.failures ≡ self.old.failures) }
+        ensures read { result ≡ Err ReadFault.Read → self.new.failures ≡ one_more self.old.failures }
+        ensures memory { result ≡ Err ReadFault.OutOfMemory → self.new.failures ≡ self.old.failures }
+    {
+        if !self.may_call() {
+            self.count_failure();
+            return Err(ReadFault::Read);
+        }
+        let piece = append_part(&mut self.inner, most, buf);
+        if let Err(ReadFault::Read) = piece {
+            self.count_failure();
+        }
+        piece
+    }
+}
+
+impl Buffer {
+    // Appends the unread bytes of a line, as `append_part`.
+    fn append_to(&mut self, most: usize, buf: &mut Vec<u8>) -> Result<bool, ReadFault>
+        requires { 0 < most }
+        ensures appends { StartsWith buf.new.items buf.old.items }
+        ensures most { length (appended_bytes buf.old.items buf.new.items) ≤ most }
+        ensures bytes { unread_in self.old ≡ appended_bytes buf.old.items buf.new.items ++ unread_in self.new }
+        ensures part { IfOk result (λ is_ended. IsPart is_ended (appended_bytes buf.old.items buf.new.items)) }
+        ensures fault { result ≢ Err ReadFault.Read }
+    {
+        let (count, is_ended) = line_part(self.unread(), most);
+        if buf.extend_from_slice(&self.unread()[..count]).is_err() {
+            return Err(ReadFault::OutOfMemory);
+        }
+        self.give(count);
+        Ok(is_ended)
+    }
+}
+
 impl<B: BufRead> Counted<B> {
     // Appends the bytes of one read of a line, up to a limit, and returns whether the line is at its end: after its LF,
     // or at the end of the input, if there are no bytes.
@@ -83,15 +132,12 @@ impl<B: BufRead> Counted<B> {
         ensures read { result ≡ Err ReadFault.Read → failures_of self.new ≡ one_more (failures_of self.old) }
         ensures memory { result ≡ Err ReadFault.OutOfMemory → failures_of self.new ≡ failures_of self.old }
     {
-        if !self.may_call() {
-            self.count_failure();
-            return Err(ReadFault::Read);
+        if let Some(buffer) = &mut self.buffer
+            && buffer.has_unread()
+        {
+            return buffer.append_to(most, buf);
         }
-        let piece = append_part(&mut self.inner, most, buf);
-        if let Err(ReadFault::Read) = piece {
-            self.count_failure();
-        }
-        piece
+        self.end.append_line_piece(most, buf)
     }
 
     /// Reads one line with its LF, or all that is left if no LF follows. Of a line of more than `most` bytes, only the
@@ -110,7 +156,7 @@ impl<B: BufRead> Counted<B> {
         line.clear();
         let mut before = 0;
         for _ in 0..MOST_CALLS {
-            if self.append_line_piece(PIECE, line)? {
+            if self.append_line_piece(MOST_AT_ONCE, line)? {
                 if before == 0 && line.is_empty() {
                     return Ok(None);
                 }
@@ -120,7 +166,7 @@ impl<B: BufRead> Counted<B> {
                 before += keep_last(line);
             }
         }
-        self.count_failure();
+        self.end.count_failure();
         Err(ReadFault::Read)
     }
 }

@@ -1,7 +1,7 @@
 //! The next line of a text whose lines are read on request.
 
 ghost use Rattle.std.specs.Prelude.{◌≡◌, ◌≢◌, ◌⊎◌, ◌<◌, ◌+◌, ◌^◌, Err, true, false, OnOk};
-ghost use Rattle.counted.specs.Counting.{left_of, failures_of, one_more};
+ghost use Rattle.counted.specs.Counting.{left_of, line_of, failures_of, one_more};
 ghost use Rattle.line_fields.specs.declared.fault.TextFault.{TextFault};
 ghost use Rattle.line_fields.specs.Rows.{rows_of, TakesRow, HasNoRow, next_text, needed_text, FailsAt};
 
@@ -9,18 +9,19 @@ use crate::fault::{FaultKind, SourceFault, TextFault};
 use crate::lines::{MAX_LINE, without_line_end};
 use case_forms::Span;
 use counted::Counted;
+use std::alloc::Global;
 use std::io::BufRead;
 
-/// The next line with its end, of a text whose next line has this number; the answer is whether there is one. A line
-/// that is too long isn't kept. The error is a failed read, or that memory ran out.
+/// Reads the next line with its end, of a text whose next line has this number; the answer is whether there is one. The
+/// source's `line` gives it. A line that is too long isn't kept. The error is a failed read, or that memory ran out.
 #[inline(always)]
 pub fn next_line<B: BufRead>(
     source: &mut Counted<B>,
+    alloc: Global,
     number: u64,
-    line: &mut Vec<u8>,
 ) -> Result<bool, SourceFault>
     ensures line { result ≡ Ok true → TakesRow (rows_of (left_of B.remaining source.old))
-        (rows_of (left_of B.remaining source.new)) line.new.items }
+        (rows_of (left_of B.remaining source.new)) (line_of source.new) }
     ensures none { result ≡ Ok false → HasNoRow (rows_of (left_of B.remaining source.old))
         (rows_of (left_of B.remaining source.new)) }
     ensures fault { (e : TextFault) → result ≡ Err (SourceFault.Text e)
@@ -31,11 +32,11 @@ pub fn next_line<B: BufRead>(
     ensures same { result ≢ Err SourceFault.Read → failures_of source.new ≡ failures_of source.old }
 {
     // An end has at most two bytes.
-    match source.read_line(MAX_LINE + 2, line) {
+    match source.next_line(alloc, MAX_LINE + 2) {
         Ok(None) => Ok(false),
         Ok(Some(0)) => Ok(true),
         Ok(Some(before)) => {
-            let (text, _) = without_line_end(line.as_slice());
+            let (text, _) = without_line_end(source.line());
             Err(SourceFault::Text(TextFault {
                 kind: FaultKind::LineTooLong,
                 span: Span {
@@ -50,20 +51,20 @@ pub fn next_line<B: BufRead>(
     }
 }
 
-/// The next line with its end, which must exist. A missing one is Header at its number, columns 0 to 0.
+/// Reads the next line with its end, which must exist; the source's `line` gives it. A missing one is Header at its number, columns 0 to 0.
 pub fn require_line<B: BufRead>(
     source: &mut Counted<B>,
+    alloc: Global,
     number: u64,
-    line: &mut Vec<u8>,
 ) -> Result<(), SourceFault>
     ensures line { OnOk result (TakesRow (rows_of (left_of B.remaining source.old))
-        (rows_of (left_of B.remaining source.new)) line.new.items) }
+        (rows_of (left_of B.remaining source.new)) (line_of source.new)) }
     ensures fault { (e : TextFault) → result ≡ Err (SourceFault.Text e)
         → FailsAt (needed_text number) e (rows_of (left_of B.remaining source.old)) }
     ensures read { result ≡ Err SourceFault.Read → failures_of source.new ≡ one_more (failures_of source.old) }
     ensures same { result ≢ Err SourceFault.Read → failures_of source.new ≡ failures_of source.old }
 {
-    if next_line(source, number, line)? {
+    if next_line(source, alloc, number)? {
         return Ok(());
     }
     Err(SourceFault::Text(TextFault::missing_line(number)))

@@ -14,8 +14,6 @@ pub(crate) struct UnusedLines<A> {
     alloc: Global,
     version: Version,
     source: Counted<A>,
-    /// The bytes of the line that was read last.
-    raw: Vec<u8>,
     /// The number of the next line.
     next: u64,
     /// The lines before it, by their numbers.
@@ -29,7 +27,6 @@ impl<A: BufRead> UnusedLines<A> {
             alloc,
             version: header.version,
             source,
-            raw: Vec::new(alloc),
             next: header.first_event_line(),
             read: BTreeMap::new(alloc),
         }
@@ -48,10 +45,10 @@ impl<A: BufRead> UnusedLines<A> {
     // Reads the next line. The result is whether there is one.
     fn read_next(&mut self) -> Result<bool, ReplayFault> {
         let number = self.next;
-        if !next_line(&mut self.source, number, &mut self.raw)? {
+        if !next_line(&mut self.source, self.alloc, number)? {
             return Ok(false);
         }
-        let line = event_line(self.alloc, self.version, 0, number, self.raw.as_slice())?;
+        let line = event_line(self.alloc, self.version, 0, number, self.source.line())?;
         self.read.insert(number, line)?;
         self.next = number.saturating_add(1);
         Ok(true)

@@ -19,7 +19,8 @@ use Rattle.line_fields.proofs.LeftLemmas.{left_in, yields_item, yields_none, fai
 use Rattle.trace_reader.specs.Headers.{named_rest, value_line, first_version, header_of}
 use Rattle.trace_reader.specs.EventLines.{Place, behind, line_of}
 use Rattle.trace_reader.specs.TraceText.{events_of, trace_in, trace_of}
-use Rattle.counted.specs.Counting.{left_of}
+use Rattle.counted.specs.declared.ends.Counted.{Counted}
+use Rattle.counted.specs.Counting.{left_of, inner_of, unread_of}
 use Rattle.bstr.specs.Text.{lines_of}
 use Rattle.trace_text.specs.CaseLines.{trace_rows}
 use Rattle.trace_text.specs.declared.text_lines.TextEnd.{TextEnd}
@@ -166,8 +167,16 @@ more_in h front line a b left total is yields so_far = by b (subst (λ (x : Opti
           ∙ ap (with_header h) (regroup front line rest),
     )
 
+-- what is left of a text in memory
+abbrev pub memory_left : Counted (Bor (List ℕ)) → List ℕ
+memory_left s = unread_of s ++ (inner_of s).now
+
+pub new_in_memory : (s : Counted (Bor (List ℕ))) (text : Bor (List ℕ)) → inner_of s ≡ text → unread_of s ≡ []
+    → memory_left s ≡ text.now
+new_in_memory s text inner unread = rw (unread, inner) refl
+
 -- what a reader of a text in memory has left
-pub left_in_memory : (r : TraceReader (Bor (List ℕ))) (xs : List ℕ) → (source_of r).inner.now ≡ xs
-    → end_of_text r ≡ Source → trace_in (trace_rows (end_of_text r) (lines_of (source_of r).inner.now)) ≡ trace_of xs
+pub left_in_memory : (r : TraceReader (Bor (List ℕ))) (xs : List ℕ) → memory_left (source_of r) ≡ xs
+    → end_of_text r ≡ Source → trace_in (trace_rows (end_of_text r) (lines_of (memory_left (source_of r)))) ≡ trace_of xs
 unfolding trace_of
 left_in_memory r xs source end = rw (source, end) refl

@@ -2,7 +2,7 @@
 use Rattle.std.specs.Prelude.{ℕ, List, Option}
 use Rattle.std.specs.Option.{option_map}
 use Rattle.counted.specs.declared.ends.Counted.{Counted}
-use Rattle.counted.specs.Counting.{left_of, failures_of}
+use Rattle.counted.specs.Counting.{left_of, line_of, failures_of}
 use Rattle.line_fields.specs.Rows.{rows_of}
 use Rattle.trace_text.specs.CaseLines.{trace_rows, witness_rows}
 use Rattle.trace_text.specs.declared.text_lines.TextEnd.{TextEnd}
@@ -18,7 +18,7 @@ end_of t = t.end
 
 -- the bytes of the line that was read last
 abbrev pub last_raw : {A : Type 0} → TextLines A → List ℕ
-last_raw t = t.line.items
+last_raw t = line_of t.source
 
 -- how many reads failed
 abbrev pub text_failures : {A : Type 0} → TextLines A → ℕ

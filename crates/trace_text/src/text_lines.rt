@@ -33,6 +33,7 @@ pub enum TextEnd {
 
 impl TextEnd {
     // Where it ends after this line, which may begin the witness.
+    #[inline(always)]
     fn after(self, raw: &[u8]) -> TextEnd
         ensures { result ≡ end_after self raw.now }
     {
@@ -45,6 +46,7 @@ impl TextEnd {
 }
 
 // Where the text of a case ends after this line.
+#[inline(always)]
 fn before_witness(version: Version, raw: &[u8]) -> TextEnd
     ensures { result ≡ end_with version raw.now }
 {
@@ -55,12 +57,11 @@ fn before_witness(version: Version, raw: &[u8]) -> TextEnd
     }
 }
 
-/// The lines of a trace's text. Only one line is kept.
+/// The lines of a trace's text. Only the line that was read last is kept.
 #[derive(Drop)]
 pub struct TextLines<A> {
+    alloc: Global,
     source: Counted<A>,
-    // The bytes of the line that was read last.
-    line: Vec<u8>,
     end: TextEnd,
 }
 
@@ -71,8 +72,8 @@ impl<A> TextLines<A> {
         ensures end { end_of result ≡ end }
     {
         TextLines {
+            alloc,
             source,
-            line: Vec::new(alloc),
             end,
         }
     }
@@ -96,7 +97,7 @@ impl<A> TextLines<A> {
     pub fn raw(&self) -> &[u8]
         ensures { result.now ≡ last_raw self.now }
     {
-        self.line.as_slice()
+        self.source.line()
     }
 }
 
@@ -117,14 +118,14 @@ impl<A: BufRead> TextLines<A> {
         ensures same { result ≢ Err SourceFault.Read → text_failures self.new ≡ text_failures self.old }
     {
         match self.end {
-            TextEnd::Source => next_line(&mut self.source, number, &mut self.line),
+            TextEnd::Source => next_line(&mut self.source, self.alloc, number),
             TextEnd::Met | TextEnd::Over => Ok(false),
             TextEnd::Case | TextEnd::Witness(_) => self.next_of_case(number),
         }
     }
 
     // The same for a case whose witness wasn't met.
-    #[inline(never)]
+    #[inline(always)]
     fn next_of_case(&mut self, number: u64) -> Result<bool, SourceFault>
         requires { IsOpen (end_of self.old) }
         ensures line { result ≡ Ok true → TakesRow (rows_left A.remaining self.old) (rows_left A.remaining self.new)
@@ -138,11 +139,11 @@ impl<A: BufRead> TextLines<A> {
         ensures read { result ≡ Err SourceFault.Read → text_failures self.new ≡ one_more (text_failures self.old) }
         ensures same { result ≢ Err SourceFault.Read → text_failures self.new ≡ text_failures self.old }
     {
-        if !next_line(&mut self.source, number, &mut self.line)? {
+        if !next_line(&mut self.source, self.alloc, number)? {
             self.end = TextEnd::Over;
             return Ok(false);
         }
-        self.end = self.end.after(self.line.as_slice());
+        self.end = self.end.after(self.source.line());
         Ok(!self.has_met())
     }
 

@@ -8,7 +8,20 @@ use case_forms::Version;
 use line_fields::{first_text, without_line_end};
 
 /// Whether a line, given with its end, is exactly the first line of a witness of this version, ended with LF or CR LF.
+#[inline(always)]
 pub fn begins_witness(version: Version, raw: &[u8]) -> bool
+    ensures value { result ≡ begins_witness version raw.now }
+    ensures exact { IsTrue result ↔ Ends raw.now (first_text version) }
+{
+    // All other lines are told by their first byte.
+    match raw {
+        [b'w', ..] => is_first_line(version, raw),
+        _ => false,
+    }
+}
+
+// The same for any line.
+fn is_first_line(version: Version, raw: &[u8]) -> bool
     ensures value { result ≡ begins_witness version raw.now }
     ensures exact { IsTrue result ↔ Ends raw.now (first_text version) }
 {

@@ -20,15 +20,13 @@ use line_fields::{
 use std::alloc::Global;
 use std::io::BufRead;
 
-/// A witness of some version, whose steps are read on request. Only one line of the text is kept in memory. After a
+/// A witness of some version, whose steps are read on request. Only one line of the text is kept in memory, and what was taken of it at once. After a
 /// fault, each later call returns that fault.
 #[derive(Drop)]
 pub struct StepReader<B> {
     alloc: Global,
     version: Version,
     source: Counted<B>,
-    // The bytes of the line that was read last.
-    line: Vec<u8>,
     // The number of the next line, none before the first line is read.
     number: Option<u64>,
     fault: Option<SourceFault>,
@@ -37,7 +35,7 @@ pub struct StepReader<B> {
 // The first line, which has a fixed text.
 fn first_line<B: BufRead>(
     source: &mut Counted<B>,
-    line: &mut Vec<u8>,
+    alloc: Global,
     version: Version,
 ) -> Result<(), SourceFault>
     ensures line { Reads rest_alone (first_line version) (rows_of (left_of B.remaining source.old))
@@ -45,8 +43,8 @@ fn first_line<B: BufRead>(
     ensures read { result ≡ Err SourceFault.Read → failures_of source.new ≡ one_more (failures_of source.old) }
     ensures same { result ≢ Err SourceFault.Read → failures_of source.new ≡ failures_of source.old }
 {
-    require_line(source, 1, line)?;
-    expect_line(1, first_text(version), line.as_slice())?;
+    require_line(source, alloc, 1)?;
+    expect_line(1, first_text(version), source.line())?;
     Ok(())
 }
 
@@ -63,7 +61,6 @@ impl<B> StepReader<B> {
             alloc,
             version,
             source,
-            line: Vec::new(alloc),
             number: None,
             fault: None,
         }
@@ -81,7 +78,6 @@ impl<B> StepReader<B> {
             alloc,
             version,
             source,
-            line: Vec::new(alloc),
             number: Some(FIRST_STEP),
             fault: None,
         }
@@ -177,7 +173,7 @@ impl<B: BufRead> StepReader<B> {
         if let Some(number) = self.number {
             return Ok(number);
         }
-        first_line(&mut self.source, &mut self.line, self.version)?;
+        first_line(&mut self.source, self.alloc, self.version)?;
         self.number = Some(FIRST_STEP);
         Ok(FIRST_STEP)
     }
@@ -197,11 +193,11 @@ impl<B: BufRead> StepReader<B> {
         ensures read { result ≡ Err SourceFault.Read → reader_failures self.new ≡ one_more (reader_failures self.old) }
         ensures same { result ≢ Err SourceFault.Read → reader_failures self.new ≡ reader_failures self.old }
     {
-        if !next_line(&mut self.source, number, &mut self.line)? {
+        if !next_line(&mut self.source, self.alloc, number)? {
             *item = None;
             return Ok(());
         }
-        read_step_into(self.alloc, self.version, number, self.line.as_slice(), item)?;
+        read_step_into(self.alloc, self.version, number, self.source.line(), item)?;
         self.number = Some(number + 1);
         Ok(())
     }

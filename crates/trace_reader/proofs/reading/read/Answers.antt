@@ -7,7 +7,7 @@ use Rattle.line_fields.specs.declared.fault.SourceFault.{SourceFault}
 use Rattle.line_fields.proofs.ReadsLemmas.{text_fault}
 use Rattle.trace_reader.specs.TraceText.{trace_of}
 use Rattle.trace_reader.specs.TraceLeft.{lines_left, Begins}
-use Rattle.trace_reader.proofs.StreamLaw.{whole_fails, begun_in, more_in, left_in_memory}
+use Rattle.trace_reader.proofs.StreamLaw.{whole_fails, begun_in, more_in, memory_left, new_in_memory, left_in_memory}
 use Rattle.trace_reader.proofs.reading.read.Goals as goal
 
 pub returns-in_err-line : goal.returns-in_err-line
@@ -22,7 +22,7 @@ returns-in_err-line c =
 pub returns-in_err-header : goal.returns-in_err-header
 returns-in_err-header c =
     let p = err_from_is_err_and c.from_residual.result c.from_residual.ensures.1 in
-    let text = ap (λ (s : Counted (Bor (List ℕ))). s.inner.now) c.new-reader.ensures.source ∙ ap (λ (b : Bor (List ℕ)). b.now) c.new.ensures.inner in
+    let text = ap memory_left c.new-reader.ensures.source ∙ new_in_memory c.new.result _ c.new.ensures.inner c.new.ensures.unread in
     let memory = left_in_memory c.new-reader.result c.args.text.now text c.new-reader.ensures.end in
     let fails = text_fault c.in_err-header.field-0.0 p.0 (trace_of c.args.text.now) p.2
     (λ d is. rw memory at c.header.ensures.fault d c.new-reader.ensures.open
@@ -31,7 +31,7 @@ returns-in_err-header c =
 
 pub loop-lines-init : goal.loop-lines-init
 loop-lines-init c =
-    let text = ap (λ (s : Counted (Bor (List ℕ))). s.inner.now) c.new-reader.ensures.source ∙ ap (λ (b : Bor (List ℕ)). b.now) c.new.ensures.inner in
+    let text = ap memory_left c.new-reader.ensures.source ∙ new_in_memory c.new.result _ c.new.ensures.inner c.new.ensures.unread in
     let memory = left_in_memory c.new-reader.result c.args.text.now text c.new-reader.ensures.end in
     let begins = c.in_ok-header.ensures.header c.new-reader.ensures.open in
     let left = lines_left (λ (text : Bor (List ℕ)). Some text.now) c.header.new.self in

@@ -17,6 +17,7 @@ loop-steps-init c = record {
         c.new-reader.ensures.version,
         c.new-reader.ensures.source,
         c.new.ensures.inner,
+        c.new.ensures.unread,
       ) (whole_begins c.args.version c.args.text.now);
 }
 

@@ -1,5 +1,6 @@
-use Rattle.std.proofs.Common.{◌≡◌, ◌-◌, None}
+use Rattle.std.proofs.Common.{◌≡◌, ◌-◌, ◌++◌, None}
 use Rattle.bstr.specs.Text.{lines_of}
+use Rattle.counted.specs.Counting.{inner_of, unread_of}
 use Rattle.line_fields.proofs.Loop.{with_front}
 use Rattle.witness.specs.WitnessText.{witness_for}
 use Rattle.witness.specs.StepsLeft.{fault_of, number_of, steps_of, steps_from}
@@ -9,7 +10,7 @@ use Rattle.witness.proofs.reading.read.Given as goal
 abbrev pub invariant-loop-steps : goal.invariant-loop-steps
 invariant-loop-steps l = record {
   well : fault_of l.reader ≡ None;
-  whole : steps_of (witness_for l.version l.text) ≡ with_front l.steps (steps_from l.reader.version l.reader.number (lines_of l.reader.source.inner.now));
+  whole : steps_of (witness_for l.version l.text) ≡ with_front l.steps (steps_from l.reader.version l.reader.number (lines_of (unread_of l.reader.source ++ (inner_of l.reader.source).now)));
 }
 
 abbrev pub decreases-loop-steps : goal.decreases-loop-steps

@@ -4,6 +4,7 @@ use Rattle.line_fields.specs.declared.fault.TextFault.{TextFault}
 use Rattle.line_fields.specs.declared.fault.SourceFault.{SourceFault}
 use Rattle.line_fields.specs.declared.fault.SourceFault.TheVariants.{Text}
 use Rattle.line_fields.specs.Left.{FailsLeft}
+use Rattle.trace_text.specs.TextLeft.{last_raw}
 use Rattle.trace_reader.specs.TraceLeft.{lines_left}
 use Rattle.trace_reader.proofs.StreamLaw.{next_fails, line_fails, line_read, all_read, stands, text_yields, text_fails_left}
 use Rattle.trace_reader.proofs.stream.TraceReader.read_into.Goals as goal
@@ -34,7 +35,7 @@ returns-in_err-line-clause-fault g c = λ e is.
     let none = c.is_empty.ensures.0 c.if-not-is_empty.false in
     subst (λ (f : TextFault). FailsLeft f (lines_left g.A.Read.remaining c.args.self.now)) same
     (text_fails_left g.A.Read.remaining c.args.self.now c.in_err-line.field-0.0 none
-    (line_fails c.args.self.now.version _ _ _ c.next_line.new.self.line.items c.in_err-line.field-0.0 took (rw c.raw.ensures at c.in_err-line.ensures)))
+    (line_fails c.args.self.now.version _ _ _ (last_raw c.next_line.new.self) c.in_err-line.field-0.0 took (rw c.raw.ensures at c.in_err-line.ensures)))
 
 pub after_line-requires : goal.after_line-requires
 after_line-requires g c = let s = stands c.args.self.now.version _ _ _ c.in_ok-line.ensures in let few = s.few in omega (arith, few)
@@ -49,7 +50,7 @@ returns-clause-next g c =
       before = c.in_ok-line.line.moment;
       number = c.args.self.now.number + 1;
     }) (Some c.in_ok-line.line) none none
-    (line_read c.args.self.now.version _ _ _ c.next_line.new.self.line.items c.in_ok-line.line took (rw c.raw.ensures at c.in_ok-line.ensures)))
+    (line_read c.args.self.now.version _ _ _ (last_raw c.next_line.new.self) c.in_ok-line.line took (rw c.raw.ensures at c.in_ok-line.ensures)))
 
 pub returns-clause-place : goal.returns-clause-place
 returns-clause-place g c = (stands c.args.self.now.version _ _ _ c.in_ok-line.ensures, c.after_line.ensures)

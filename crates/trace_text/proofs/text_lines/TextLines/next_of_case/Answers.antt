@@ -17,12 +17,12 @@ returns-in_err-next_line-clause-fault g c = λ e is.
 pub returns-clause-line : goal.returns-clause-line
 returns-clause-line g c = λ is.
     let took = c.next_line.ensures.line (c.in_ok-next_line.was ∙ ap (λ b. Ok b) c.if-not-branch.false) in
-    let after = rw c.as_slice.ensures.value at c.after-self.ensures in
+    let after = rw c.line.ensures at c.after-self.ensures in
     let on = sym (rw after at c.has_met.ensures) ∙ unmet c.has_met.result is in
     rw after (takes c.args.self.now.end _ _ _ c.requires on took)
 
 pub returns-clause-witness : goal.returns-clause-witness
 returns-clause-witness g c =
     let took = c.next_line.ensures.line (c.in_ok-next_line.was ∙ ap (λ b. Ok b) c.if-not-branch.false) in
-    let after = rw c.as_slice.ensures.value at c.after-self.ensures in
+    let after = rw c.line.ensures at c.after-self.ensures in
     rw after (keeps c.args.self.now.end _ _ _ c.requires took)

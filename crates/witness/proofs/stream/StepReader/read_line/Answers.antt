@@ -1,5 +1,6 @@
 use Rattle.std.proofs.Common.{◌≡◌, ◌∙◌, Err, Ok, ap, refl, arith, subst}
 use Rattle.std.proofs.lemmas.Result.{err_from_is_err_and}
+use Rattle.counted.specs.Counting.{line_of}
 use Rattle.line_fields.specs.declared.fault.TextFault.{TextFault}
 use Rattle.line_fields.specs.declared.fault.SourceFault.{SourceFault}
 use Rattle.line_fields.specs.declared.fault.SourceFault.TheVariants.{Text}
@@ -30,8 +31,8 @@ returns-in_err-read_step_into-clause-fault g c = λ e is.
     let gave = p.2 in
     let same : c.in_err-read_step_into.field-0.0 ≡ e = cc in
     subst (λ (f : TextFault). FailsLeft f (steps_left g.B.Read.remaining c.args.self.now)) same
-    (rw c.requires (line_fails c.args.self.now.version c.args.number _ _ c.next_line.new.line.items
-    c.in_err-read_step_into.field-0.0 took (rw c.as_slice.ensures.value at c.in_err-read_step_into.ensures.fault)))
+    (rw c.requires (line_fails c.args.self.now.version c.args.number _ _ (line_of c.next_line.new.source)
+    c.in_err-read_step_into.field-0.0 took (rw c.line.ensures at c.in_err-read_step_into.ensures.fault)))
 
 pub overflow_add-self : goal.overflow_add-self
 overflow_add-self g c =
@@ -43,8 +44,8 @@ returns-clause-next g c =
     let took = c.next_line.ensures.line (c.in_ok-next_line.was ∙ ap (λ b. Ok b) c.if-not-branch.false) in
     let read = c.in_ok-read_step_into.ensures.step in
     let placed = read.placed in
-    rw (c.requires, placed) (step_read c.args.self.now.version c.args.number _ _ c.next_line.new.line.items read.step took
-    (rw c.as_slice.ensures.value at read.is))
+    rw (c.requires, placed) (step_read c.args.self.now.version c.args.number _ _ (line_of c.next_line.new.source) read.step took
+    (rw c.line.ensures at read.is))
 
 pub returns-clause-place : goal.returns-clause-place
 returns-clause-place g c =

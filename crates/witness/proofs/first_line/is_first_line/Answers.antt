@@ -1,6 +1,6 @@
 use Rattle.std.proofs.Common.{sym, ◌∙◌}
 use Rattle.witness.proofs.TextLaw.{begins_exactly}
-use Rattle.witness.proofs.first_line.begins_witness.Goals as goal
+use Rattle.witness.proofs.first_line.is_first_line.Goals as goal
 
 pub returns-then-ended-clause-exact : goal.returns-then-ended-clause-exact
 returns-then-ended-clause-exact c =
