@@ -25,9 +25,9 @@ const MAX_DATA: usize = 65_535;
 // The greatest number of an answer.
 const MAX_COUNT: u64 = 4_294_967_295;
 
-// The first word of an answer.
+/// The first word of an answer.
 #[derive(Clone, Copy)]
-enum AnswerWord {
+pub enum AnswerWord {
     Done,
     Data,
     Again,
@@ -42,8 +42,9 @@ enum AnswerWord {
     State,
 }
 
-// The answer's first word with this spelling.
-fn answer_word_named(text: &[u8]) -> Option<AnswerWord>
+/// The answer's first word with this spelling.
+#[inline(always)]
+pub fn answer_word_named(text: &[u8]) -> Option<AnswerWord>
     ensures { result ≡ kind_named answer_name all_answer_words text.now }
 {
     if is_text(text, "ok") {

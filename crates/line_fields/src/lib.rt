@@ -40,7 +40,7 @@ mod reading;
 mod states;
 mod timers;
 
-pub use answers::{answer, answer_law, plain_answer};
+pub use answers::{AnswerWord, answer, answer_law, answer_word_named, plain_answer};
 pub use case_forms::{OutOfMemory, Span};
 pub use congestion::{judged, judged_name};
 pub use digits::hex_onto;
@@ -55,5 +55,5 @@ pub use printing::{
 };
 pub use reading::{after_line, next_line, require_line};
 pub use segment::SegFault;
-pub use states::state_name;
+pub use states::{state_name, state_named};
 pub use timers::{timer, timer_name};

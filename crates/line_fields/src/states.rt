@@ -28,8 +28,8 @@ pub fn state_name(state: State) -> &'static str
     }
 }
 
-// The state with that name.
-fn state_named(text: &[u8]) -> Option<State>
+/// The state with that name.
+pub fn state_named(text: &[u8]) -> Option<State>
     ensures { result ≡ kind_named state_name all_states text.now }
 {
     if is_text(text, "CLOSED") {

@@ -11,5 +11,6 @@ pub mod EventFaults
 pub mod TextFaults
 pub mod ShortLines
 pub mod PrintableLaw
+pub mod PlainLaw
 pub mod HeaderFaults
 pub mod WireLemmas

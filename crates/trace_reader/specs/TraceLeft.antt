@@ -1,5 +1,5 @@
 -- What a reader of a trace has left.
-use Rattle.std.specs.Prelude.{◌≡◌, ◌≤◌, ◌<◌, ℕ, List, [], ◌∷◌, Option, None, Some, Result, Ok}
+use Rattle.std.specs.Prelude.{◌≡◌, ◌≤◌, ◌<◌, ℕ, List, [], ◌∷◌, ◌++◌, Option, None, Some, Result, Ok}
 use Rattle.std.specs.Option.{option_map}
 use Rattle.case_forms.specs.declared.trace.Header.{Header}
 use Rattle.case_forms.specs.declared.trace.Line.{Line}
@@ -11,7 +11,7 @@ use Rattle.line_fields.specs.declared.fault.TextFault.{TextFault}
 use Rattle.line_fields.specs.declared.fault.SourceFault.{SourceFault}
 use Rattle.line_fields.specs.Reading.{◌>>=◌}
 use Rattle.line_fields.specs.Folding.{read_lines}
-use Rattle.line_fields.specs.Left.{in_front}
+use Rattle.line_fields.specs.Left.{in_front, Yields}
 use Rattle.kept_lines.specs.Lines.{IsPlain}
 use Rattle.trace_reader.specs.EventLines.{Place, behind, line_of}
 use Rattle.trace_reader.specs.TraceText.{trace_in}
@@ -108,3 +108,12 @@ abbrev pub Begins : Option (Result Trace TextFault) → Option (Result (List Lin
 Begins None lines h = Unit {0}
 Begins (Some whole) None h = ⊥
 Begins (Some whole) (Some lines) h = whole ≡ with_header h lines
+
+-- the next line was appended to those that are kept
+pub record KeepsLine (left rest : Option (Result (List Line) TextFault)) (place after : Place) (old new : List Line)
+    : Type 0 where
+  pub line : Line
+  pub next : Yields left rest (Some line)
+  pub stands : StandsAt place line
+  pub moves : after ≡ behind place line
+  pub kept : new ≡ old ++ line ∷ []

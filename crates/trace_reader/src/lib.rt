@@ -38,6 +38,7 @@ mod events;
 mod first_line;
 mod header;
 mod header_printing;
+mod keeping;
 mod late_lines;
 mod laws;
 mod named_lines;

@@ -13,11 +13,11 @@ ghost use Rattle.trace_reader.specs.TraceText.{first_place};
 ghost use Rattle.trace_text.specs.CaseLines.{has_met, KeepsWitness};
 ghost use Rattle.trace_reader.specs.TraceLeft.{source_of, place_of, version_of, fault_of, kept_of, end_of_text};
 ghost use Rattle.trace_reader.specs.TraceLeft.{IsFresh, IsBegun, IsReadThrough, trace_left, lines_left, rows_behind};
-ghost use Rattle.trace_reader.specs.TraceLeft.{Begins, reader_failures, StandsAt, AreAt};
+ghost use Rattle.trace_reader.specs.TraceLeft.{Begins, reader_failures, StandsAt, AreAt, KeepsLine};
 
 use crate::events::event_line;
 use crate::header::header;
-use crate::plain::plain_line;
+use crate::keeping::keep_event_line;
 use case_forms::{Header, Line, Version};
 use counted::Counted;
 use kept_lines::KeptLines;
@@ -127,6 +127,7 @@ impl<A: BufRead> TraceReader<A> {
             → IfOk result (Begins (trace_left A.remaining self.old) (lines_left A.remaining self.new)) }
         ensures place { IfOk result (λ header. place_of self.new ≡ first_place header) }
         ensures version { IfOk result (λ header. version_of self.new ≡ header.version) }
+        ensures none { kept_of self.new ≡ kept_of self.old }
         ensures fault { (e : TextFault) → fault_of self.old ≡ None → result ≡ Err (SourceFault.Text e)
             → FailsLeft e (trace_left A.remaining self.old) }
         ensures witness { fault_of self.old ≡ None → IfOk result (λ header.
@@ -307,9 +308,35 @@ impl<A: BufRead> TraceReader<A> {
         Ok(())
     }
 
-    /// Reads the next event line and keeps it. False at the end of the text.
+    /// Reads the next event line and appends it to the lines. False at the end of the text. The header must have been
+    /// read, and no line may have been read before it. What is kept of a line that is written as usual is read into its
+    /// place. The error is the first fault, or a failed read; the lines then don't change.
     #[inline(always)]
-    pub fn keep_next(&mut self, lines: &mut KeptLines) -> Result<bool, SourceFault> {
+    pub fn keep_next(&mut self, lines: &mut KeptLines) -> Result<bool, SourceFault>
+        requires begun { IsBegun self.old }
+        requires none { kept_of self.old ≡ [] }
+        ensures next { fault_of self.old ≡ None → result ≡ Ok true →
+            KeepsLine (lines_left A.remaining self.old) (lines_left A.remaining self.new) (place_of self.old)
+            (place_of self.new) lines.old lines.new }
+        ensures end { fault_of self.old ≡ None → result ≡ Ok false
+            → Yields (lines_left A.remaining self.old) (lines_left A.remaining self.new) None }
+        ensures ended { result ≡ Ok false → IsReadThrough self.new }
+        ensures left { result ≢ Ok true → lines.new ≡ lines.old }
+        ensures fault { (e : TextFault) → fault_of self.old ≡ None → result ≡ Err (SourceFault.Text e)
+            → FailsLeft e (lines_left A.remaining self.old) }
+        ensures witness { fault_of self.old ≡ None → OnOk result
+            (KeepsWitness (rows_behind A.remaining self.old) (rows_behind A.remaining self.new)) }
+        ensures again { (f : SourceFault) → fault_of self.old ≡ Some f → result ≡ Err f }
+        ensures stays { (f : SourceFault) → fault_of self.old ≡ Some f → self.new ≡ self.old }
+        ensures kept { (f : SourceFault) → result ≡ Err f → fault_of self.new ≡ Some f }
+        ensures open { OnOk result (fault_of self.new ≡ None) }
+        ensures begun { IsBegun self.new }
+        ensures none { kept_of self.new ≡ [] }
+        ensures version { version_of self.new ≡ version_of self.old }
+        ensures read { fault_of self.old ≡ None → result ≡ Err SourceFault.Read
+            → reader_failures self.new ≡ one_more (reader_failures self.old) }
+        ensures same { result ≢ Err SourceFault.Read → reader_failures self.new ≡ reader_failures self.old }
+    {
         if let Some(fault) = self.fault {
             return Err(fault);
         }
@@ -317,33 +344,39 @@ impl<A: BufRead> TraceReader<A> {
         keep_fault(&mut self.fault, read)
     }
 
+    // Appends the next event line to the lines, if no fault was met.
     #[inline(always)]
-    fn keep_line(&mut self, lines: &mut KeptLines) -> Result<bool, SourceFault> {
+    fn keep_line(&mut self, lines: &mut KeptLines) -> Result<bool, SourceFault>
+        requires { kept_of self.old ≡ [] }
+        ensures next { result ≡ Ok true →
+            KeepsLine (lines_left A.remaining self.old) (lines_left A.remaining self.new) (place_of self.old)
+            (place_of self.new) lines.old lines.new }
+        ensures end { result ≡ Ok false
+            → Yields (lines_left A.remaining self.old) (lines_left A.remaining self.new) None }
+        ensures stays { result ≡ Ok false → place_of self.new ≡ place_of self.old }
+        ensures ended { result ≡ Ok false → IsReadThrough self.new }
+        ensures left { result ≢ Ok true → lines.new ≡ lines.old }
+        ensures fault { (e : TextFault) → result ≡ Err (SourceFault.Text e)
+            → FailsLeft e (lines_left A.remaining self.old) }
+        ensures witness { OnOk result
+            (KeepsWitness (rows_behind A.remaining self.old) (rows_behind A.remaining self.new)) }
+        ensures none { kept_of self.new ≡ [] }
+        ensures open { fault_of self.new ≡ fault_of self.old }
+        ensures version { version_of self.new ≡ version_of self.old }
+        ensures read { result ≡ Err SourceFault.Read → reader_failures self.new ≡ one_more (reader_failures self.old) }
+        ensures same { result ≢ Err SourceFault.Read → reader_failures self.new ≡ reader_failures self.old }
+    {
         if !self.text.next_line(self.number)? {
             return Ok(false);
         }
-        if let Some(line) = plain_line(self.version, self.before, self.number, self.text.raw()) {
-            if lines.push_spelled(self.number, line.record, line.digits).is_ok_and(|kept| kept) {
-                (self.before, self.number) = after_line(line.record.moment, self.number);
-                return Ok(true);
-            }
-        }
-        self.keep_exactly(lines)
-    }
-
-    #[inline(never)]
-    fn keep_exactly(&mut self, lines: &mut KeptLines) -> Result<bool, SourceFault> {
-        let line = event_line(
+        let moment = keep_event_line(
             self.alloc,
             self.version,
             self.before,
             self.number,
             self.text.raw(),
+            lines,
         )?;
-        let moment = line.moment;
-        if lines.push(line).is_err() {
-            return Err(SourceFault::Text(TextFault::out_of_memory()));
-        }
         (self.before, self.number) = after_line(moment, self.number);
         Ok(true)
     }

@@ -1,0 +1,60 @@
+use Rattle.std.proofs.Common.{◌≡◌, Err, None, Ok, Some, ap, subst, sym, ◌∙◌, ◌+◌, arith}
+use Rattle.std.proofs.lemmas.Result.{err_from_is_err_and}
+use Rattle.line_fields.specs.declared.fault.TextFault.{TextFault}
+use Rattle.line_fields.specs.declared.fault.SourceFault.{SourceFault}
+use Rattle.line_fields.specs.declared.fault.SourceFault.TheVariants.{Text}
+use Rattle.line_fields.specs.Left.{FailsLeft}
+use Rattle.trace_text.specs.TextLeft.{last_raw}
+use Rattle.trace_reader.specs.EventLines.{behind}
+use Rattle.trace_reader.specs.TraceLeft.{lines_left, place_of}
+use Rattle.trace_reader.proofs.StreamLaw.{next_fails, line_fails, line_read, all_read, stands, text_yields, text_fails_left}
+use Rattle.trace_reader.proofs.stream.TraceReader.keep_line.Goals as goal
+
+pub returns-in_err-next_line-clause-fault : goal.returns-in_err-next_line-clause-fault
+returns-in_err-next_line-clause-fault g c = λ e is.
+    let p = err_from_is_err_and c.from_residual.result c.from_residual.ensures.1 in
+    let made = p.1 in
+    let gave = p.2 in
+    let same : c.in_err-next_line.field-0.0 ≡ Text e = cc in
+    text_fails_left g.A.Read.remaining c.args.self.now e c.requires
+    (next_fails c.args.self.now.version _ _ e (c.next_line.ensures.fault e (c.in_err-next_line.was ∙ ap (λ (f : SourceFault). Err f) same)))
+
+pub returns-then-not-branch-clause-end : goal.returns-then-not-branch-clause-end
+returns-then-not-branch-clause-end g c = λ end.
+    text_yields g.A.Read.remaining c.args.self.now (record c.args.self.now { text = c.next_line.new.self }) None c.requires c.requires
+    (all_read c.args.self.now.version _ _ _ (c.next_line.ensures.none (c.in_ok-next_line.was ∙ ap (λ b. Ok b) c.if-not-branch.true)))
+
+pub returns-in_err-moment-clause-fault : goal.returns-in_err-moment-clause-fault
+returns-in_err-moment-clause-fault g c = λ e is.
+    let p = err_from_is_err_and c.from_residual-in_err-moment.result c.from_residual-in_err-moment.ensures.1 in
+    let took = c.next_line.ensures.line (c.in_ok-next_line.was ∙ ap (λ b. Ok b) c.if-not-branch.false) in
+    let made = p.1 in
+    let gave = p.2 in
+    let same : c.in_err-moment.field-0.0 ≡ e = cc in
+    subst (λ (f : TextFault). FailsLeft f (lines_left g.A.Read.remaining c.args.self.now)) same
+    (text_fails_left g.A.Read.remaining c.args.self.now c.in_err-moment.field-0.0 c.requires
+    (line_fails c.args.self.now.version _ _ _ (last_raw c.next_line.new.self) c.in_err-moment.field-0.0 took (rw c.raw.ensures at c.in_err-moment.ensures.fault)))
+
+pub after_line-requires : goal.after_line-requires
+after_line-requires g c =
+    let kept = c.in_ok-moment.ensures.kept in
+    let s = stands c.args.self.now.version _ _ _ kept.is in let few = s.few in omega (arith, few)
+
+pub returns-clause-next : goal.returns-clause-next
+returns-clause-next g c = λ more.
+    let took = c.next_line.ensures.line (c.in_ok-next_line.was ∙ ap (λ b. Ok b) c.if-not-branch.false) in
+    let kept = c.in_ok-moment.ensures.kept in
+    let moves = c.after_line.ensures ∙ ap (λ m. (m, c.args.self.now.number + 1)) (sym kept.timed) in
+    record {
+      line = kept.line;
+      next = rw moves
+          (text_yields g.A.Read.remaining c.args.self.now (record c.args.self.now {
+            text = c.next_line.new.self;
+            before = kept.line.moment;
+            number = c.args.self.now.number + 1;
+          }) (Some kept.line) c.requires c.requires
+          (line_read c.args.self.now.version _ _ _ (last_raw c.next_line.new.self) kept.line took (rw c.raw.ensures at kept.is)));
+      stands = stands c.args.self.now.version _ _ _ kept.is;
+      moves = moves;
+      kept = kept.lines;
+    }
