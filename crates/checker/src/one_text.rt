@@ -3,15 +3,15 @@
 //! The witness comes after the whole trace, so the lines of the trace are kept until steps take them. The steps are
 //! read as they come.
 
-ghost use Rattle.std.specs.Prelude.{◌≡◌, ◌≢◌, ◌↔◌, Err, Ok, IfErr, IfOk, IfSome, Some, None};
+ghost use Rattle.std.specs.Prelude.{◌≡◌, ◌≢◌, ◌↔◌, [], true, false, Err, Ok, IfErr, IfOk, IfSome, Some, None};
 ghost use Rattle.case_forms.specs.declared.trace.Trace.{Trace};
 ghost use Rattle.case_forms.specs.declared.steps.Witness.{Witness};
 ghost use Rattle.counted.specs.Counting.{left_of, failures_of, one_more};
 ghost use Rattle.trace_text.specs.CaseLines.{has_met, KeepsWitness};
 ghost use Rattle.trace_reader.specs.TraceText.{first_place};
 ghost use Rattle.trace_reader.specs.TraceLeft.{fault_of, place_of, end_of_text, trace_left, lines_left, rows_behind};
-ghost use Rattle.trace_reader.specs.TraceLeft.{reader_failures, AreAt, IsBegun, IsFresh, IsReadThrough, StandsAt};
-ghost use Rattle.trace_reader.specs.EventLines.{behind};
+ghost use Rattle.trace_reader.specs.TraceLeft.{kept_of, reader_failures, AreAt, IsBegun, IsFresh, IsReadThrough};
+ghost use Rattle.trace_reader.specs.TraceLeft.{KeepsLine};
 ghost use Rattle.line_fields.specs.Left.{Yields};
 ghost use Rattle.checker.specs.Ahead.{IsAll, TraceFails};
 ghost use Rattle.checker.specs.Explains.{Explains, IsYes};
@@ -27,7 +27,7 @@ use crate::ahead::Ahead;
 use crate::case::{CaseFault, trace_fault, witness_fault};
 use crate::laws::{explained_follows, receives_begin_sends};
 use crate::two_texts::judge;
-use case_forms::{Header, Line};
+use case_forms::Header;
 use counted::Counted;
 use kept_lines::KeptLines;
 use line_fields::{SourceFault, TextFault};
@@ -136,6 +136,7 @@ fn read_trace<R: BufRead>(
 fn read_lines<R: BufRead>(alloc: Global, trace: &mut TraceReader<R>) -> Result<KeptLines, CaseFault>
     requires working { fault_of trace.old ≡ None }
     requires begun { IsBegun trace.old }
+    requires none { kept_of trace.old ≡ [] }
     ensures all { IfOk result (λ lines. IsAll (lines_left R.remaining trace.old) lines) }
     ensures at { IfOk result (λ lines. AreAt (place_of trace.old) lines) }
     ensures ended { IfOk result (λ lines. IsReadThrough trace.new) }
@@ -150,32 +151,33 @@ fn read_lines<R: BufRead>(alloc: Global, trace: &mut TraceReader<R>) -> Result<K
     Ok(lines)
 }
 
-// The next event line of a trace whose header was read.
-fn next_line<R: BufRead>(trace: &mut TraceReader<R>) -> Result<Option<Line>, CaseFault>
+// Appends the next event line of a trace whose header was read. False at the end.
+#[inline(always)]
+fn keep_next<R: BufRead>(
+    trace: &mut TraceReader<R>,
+    lines: &mut KeptLines,
+) -> Result<bool, CaseFault>
     requires working { fault_of trace.old ≡ None }
     requires begun { IsBegun trace.old }
-    ensures next { IfOk result (Yields (lines_left R.remaining trace.old) (lines_left R.remaining trace.new)) }
-    ensures place { IfOk result (λ item. IfSome item (λ line. StandsAt (place_of trace.old) line
-        × (place_of trace.new ≡ behind (place_of trace.old) line))) }
-    ensures ended { IfOk result (λ item. item ≡ None → IsReadThrough trace.new) }
-    ensures witness { IfOk result (λ item.
+    requires none { kept_of trace.old ≡ [] }
+    ensures next { result ≡ Ok true →
+        KeepsLine (lines_left R.remaining trace.old) (lines_left R.remaining trace.new) (place_of trace.old)
+        (place_of trace.new) lines.old lines.new }
+    ensures end { result ≡ Ok false
+        → Yields (lines_left R.remaining trace.old) (lines_left R.remaining trace.new) None }
+    ensures ended { result ≡ Ok false → IsReadThrough trace.new }
+    ensures left { result ≡ Ok false → lines.new ≡ lines.old }
+    ensures witness { IfOk result (λ more.
         KeepsWitness (rows_behind R.remaining trace.old) (rows_behind R.remaining trace.new)) }
-    ensures working { IfOk result (λ item. fault_of trace.new ≡ None) }
+    ensures working { IfOk result (λ more. fault_of trace.new ≡ None) }
     ensures begun { IsBegun trace.new }
+    ensures none { kept_of trace.new ≡ [] }
     ensures fault { IfErr result (λ e. TraceFails e (lines_left R.remaining trace.old)) }
     ensures read { result ≡ Err CaseFault.Read → reader_failures trace.new ≡ one_more (reader_failures trace.old) }
     ensures same { result ≢ Err CaseFault.Read → reader_failures trace.new ≡ reader_failures trace.old }
 {
-    match trace.next() {
-        Ok(item) => Ok(item),
-        Err(SourceFault::Text(fault)) => Err(trace_fault(fault)),
-        Err(SourceFault::Read) => Err(CaseFault::Read),
-    }
-}
-
-fn keep_next<R: BufRead>(trace: &mut TraceReader<R>, lines: &mut KeptLines) -> Result<bool, CaseFault> {
     match trace.keep_next(lines) {
-        Ok(item) => Ok(item),
+        Ok(more) => Ok(more),
         Err(SourceFault::Text(fault)) => Err(trace_fault(fault)),
         Err(SourceFault::Read) => Err(CaseFault::Read),
     }

@@ -1,4 +1,4 @@
-use Rattle.std.proofs.Common.{◌≡◌, rules, sym, subst, ◌∙◌}
+use Rattle.std.proofs.Common.{◌≡◌, Ok, ap, rules, sym, subst, ◌∙◌}
 use Rattle.trace_reader.specs.EventLines.{Place}
 use Rattle.trace_reader.specs.TraceLeft.{StandsAt, place_of}
 use Rattle.checker.proofs.AheadLemmas.{one_passed}
@@ -8,16 +8,15 @@ use Rattle.checker.proofs.one_text.read_lines.Goals as goal
 pub loop-lines-preserved : goal.loop-lines-preserved
 loop-lines-preserved g c =
     let loop = c.loop-lines.invariant in
-    let line = c.in-Some.line in
-    let yields = rw c.in-Some.is at c.in_ok-line.ensures.next in
-    let place = rw c.in-Some.is at c.in_ok-line.ensures.place in
-    let stands = subst (λ (p : Place). StandsAt p line) loop.behind place.0 in
+    let kept = c.keep_next.ensures.next (c.in_ok-keep_next.was ∙ ap (λ b. Ok b) c.if-branch.true) in
+    let stands = subst (λ (p : Place). StandsAt p kept.line) loop.behind kept.stands in
     record {
-      working = c.in_ok-line.ensures.working;
-      begun = c.next_line.ensures.begun;
-      passed = rw c.in_ok-push.ensures.ok (one_passed _ _ _ c.loop-lines.lines line loop.passed yields);
-      at = rw c.in_ok-push.ensures.ok (at_more _ c.loop-lines.lines line loop.at stands);
-      behind = rw c.in_ok-push.ensures.ok (rw (behind_more (place_of c.args.trace.now) c.loop-lines.lines line, sym loop.behind) place.1);
-      kept = λ w is. c.in_ok-line.ensures.witness w (loop.kept w is);
+      working = c.in_ok-keep_next.ensures.working;
+      begun = c.keep_next.ensures.begun;
+      none = c.keep_next.ensures.none;
+      passed = rw kept.kept (one_passed _ _ _ c.loop-lines.lines kept.line loop.passed kept.next);
+      at = rw kept.kept (at_more _ c.loop-lines.lines kept.line loop.at stands);
+      behind = rw kept.kept (rw (behind_more (place_of c.args.trace.now) c.loop-lines.lines kept.line, sym loop.behind) kept.moves);
+      kept = λ w is. c.in_ok-keep_next.ensures.witness w (loop.kept w is);
       counts = search rules;
     }

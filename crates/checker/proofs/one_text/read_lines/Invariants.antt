@@ -1,8 +1,8 @@
-use Rattle.std.proofs.Common.{◌≡◌, ◌-◌, List, None}
+use Rattle.std.proofs.Common.{◌≡◌, ◌-◌, List, [], None}
 use Rattle.case_forms.specs.declared.trace.Line.{Line}
 use Rattle.trace_reader.specs.TraceText.{first_place}
 use Rattle.trace_text.specs.CaseLines.{KeepsWitness}
-use Rattle.trace_reader.specs.TraceLeft.{place_of, fault_of, reader_failures, AreAt, IsBegun, lines_left, rows_behind}
+use Rattle.trace_reader.specs.TraceLeft.{kept_of, place_of, fault_of, reader_failures, AreAt, IsBegun, lines_left, rows_behind}
 use Rattle.trace_reader.specs.TraceLeft.{place_behind}
 use Rattle.checker.specs.Ahead.{Passes}
 use Rattle.checker.proofs.one_text.read_lines.Given as goal
@@ -12,6 +12,7 @@ abbrev pub invariant-loop-lines : goal.invariant-loop-lines
 invariant-loop-lines g l = record {
   working : fault_of l.trace ≡ None;
   begun : IsBegun l.trace;
+  none : kept_of l.trace ≡ [];
   passed : Passes (lines_left g.R.Read.remaining l.fn.trace) (lines_left g.R.Read.remaining l.trace) l.lines;
   at : AreAt (place_of l.fn.trace) l.lines;
   behind : place_of l.trace ≡ place_behind (place_of l.fn.trace) l.lines;
