@@ -203,6 +203,7 @@ fn judge<R: BufRead>(alloc: Global, r: &mut Counted<R>) -> Result<Verdict, CaseF
 {
     let (answer, lent) = check_reader(alloc, r.lent());
     let counts = lent.counts();
+    drop(lent);
     r.count_on(counts);
     answer
 }

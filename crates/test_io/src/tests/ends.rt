@@ -1,5 +1,6 @@
 //! A reader and a writer that count their calls, handle a few bytes a call, and fail at one call.
 
+use memchr::memchr;
 use std::alloc::Global;
 use std::io;
 use std::io::{BufRead, ErrorKind, Read, Write};
@@ -13,7 +14,7 @@ fn count_one(calls: &mut u32, fails_at: u32) -> io::Result<()> {
     Ok(())
 }
 
-/// A reader that gives at most so many bytes a call.
+/// A reader that gives at most so many bytes a call; at 0, one line.
 #[derive(Drop)]
 pub(crate) struct Source<'a> {
     pub(crate) left: &'a [u8],
@@ -50,7 +51,11 @@ impl Read for Source<'_> {
 impl BufRead for Source<'_> {
     fn fill_buf(&mut self) -> io::Result<&[u8]> {
         count_one(&mut self.calls, self.fails_at)?;
-        let count = self.left.len().min(self.size);
+        let count = match memchr(b'\n', self.left) {
+            _ if self.size > 0 => self.left.len().min(self.size),
+            Some(at) => at + 1,
+            None => self.left.len(),
+        };
         Ok(&self.left[..count])
     }
 

@@ -55,7 +55,7 @@ fn word(answer: &Result<Verdict, CaseFault>) -> &'static str {
 
 // Tells the answer to this text, then how many of the calls failed.
 fn tell_judged(alloc: Global, told: &mut Vec<u8>, text: &str, fails_at: u32) {
-    let mut source = Source::new(text.as_bytes(), 4096, fails_at);
+    let mut source = Source::new(text.as_bytes(), 0, fails_at);
     let (answer, reader) = check_reader(alloc, Counted::new(&mut source));
     let failures = reader.failures();
     tell(told, word(&answer));

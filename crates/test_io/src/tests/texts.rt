@@ -116,7 +116,7 @@ fn is_same_witness(alloc: Global, size: usize) -> bool {
 
 // Which text isn't the same for some number of bytes.
 fn first_changed(alloc: Global) -> &'static str {
-    for size in [1, 7, 4096] {
+    for size in [0, 1, 7, 4096] {
         if !is_same_trace(alloc, size) {
             return "the trace";
         }
@@ -158,7 +158,7 @@ fn trace_words(reader: &mut TraceReader<&mut Source<'_>>) -> [&'static str; 3]
 
 // What is read from this trace, then how many of the calls failed.
 fn tell_trace(alloc: Global, told: &mut Vec<u8>, text: &str, fails_at: u32) {
-    let mut source = Source::new(text.as_bytes(), 4096, fails_at);
+    let mut source = Source::new(text.as_bytes(), 0, fails_at);
     let mut reader = TraceReader::new(alloc, Counted::new(&mut source));
     let [header, first, second] = trace_words(&mut reader);
     let failures = reader.into_source().failures();
@@ -170,7 +170,7 @@ fn tell_trace(alloc: Global, told: &mut Vec<u8>, text: &str, fails_at: u32) {
 
 // The same of this witness of version 1, and two steps.
 fn tell_witness(alloc: Global, told: &mut Vec<u8>, text: &str, fails_at: u32) {
-    let mut source = Source::new(text.as_bytes(), 4096, fails_at);
+    let mut source = Source::new(text.as_bytes(), 0, fails_at);
     let mut reader = StepReader::new(alloc, Version::One, Counted::new(&mut source));
     let (first, second) = (word(&reader.next()), word(&reader.next()));
     let failures = reader.into_source().failures();

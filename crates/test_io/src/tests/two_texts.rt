@@ -109,7 +109,7 @@ fn first_other(alloc: Global, is_witness: bool, calls: Range<u32>, wanted: &str)
     for call in calls {
         let fails = if is_witness { (0, call) } else { (call, 0) };
         let mut told = Vec::new(alloc);
-        tell_judged(alloc, &mut told, (TRACE, WITNESS), 4096, fails);
+        tell_judged(alloc, &mut told, (TRACE, WITNESS), 0, fails);
         if told.as_slice() != wanted.as_bytes() {
             return call;
         }

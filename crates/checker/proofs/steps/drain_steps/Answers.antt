@@ -1,8 +1,15 @@
-use Rattle.std.proofs.Common.{Bool, subst, rules}
+use Rattle.std.proofs.Common.{Bool, [], refl, subst, rules}
 use Rattle.witness.specs.StepsLeft.{steps_left}
 use Rattle.checker.specs.Ahead.{Skips}
-use Rattle.checker.proofs.AheadLemmas.{skipped}
+use Rattle.checker.proofs.AheadLemmas.{none_passed, skipped}
 use Rattle.checker.proofs.steps.drain_steps.Goals as goal
+
+pub loop-init : goal.loop-init
+loop-init g c = record {
+  working = c.requires;
+  passed = ([], none_passed (steps_left g.B.Read.remaining c.args.steps.now));
+  counts = refl;
+}
 
 pub loop-preserved : goal.loop-preserved
 loop-preserved g c =
