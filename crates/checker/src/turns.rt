@@ -1,6 +1,6 @@
 //! The replay of a witness while both texts are read: one turn for each step, up to the first that is refused.
 
-ghost use Rattle.std.specs.Prelude.{◌≡◌, ◌≢◌, ◌<◌, ◌≤◌, ◌+◌, ◌^◌, List, [], Err, IfOk, IfErr, IfSome, None, Option};
+ghost use Rattle.std.specs.Prelude.{◌≡◌, ◌≢◌, ◌<◌, ◌≤◌, ◌+◌, ◌^◌, List, [], Err, IfOk, IfErr, IfSome, None, OnOk, Option};
 ghost use Rattle.std.specs.Prelude.{Result, MatchOption};
 ghost use Rattle.std.specs.Option.{IfNone};
 ghost use Rattle.case_forms.specs.declared.trace.Header.{Header};
@@ -80,19 +80,20 @@ impl StepCounts {
     }
 }
 
-// The next step. A fault of the witness comes after all faults of the trace.
+// Reads the next step into the item, or `None` at the end. A fault of the witness comes after all faults of the trace.
 fn next_step<A: BufRead, B: BufRead>(
     lines: &mut Ahead<A>,
     steps: &mut StepReader<B>,
-) -> Result<Option<Step>, CaseFault>
+    item: &mut Option<Step>,
+) -> Result<(), CaseFault>
     requires ahead { IsAhead lines.old }
     requires working { fault_of steps.old ≡ None }
-    ensures next { IfOk result (Yields (steps_left B.remaining steps.old) (steps_left B.remaining steps.new)) }
-    ensures working { IfOk result (λ item. fault_of steps.new ≡ None) }
-    ensures within { IfOk result (λ item. IfSome item (λ step. IsWithinLimits step.label)) }
-    ensures place { IfOk result (λ item. IfSome item (λ step. (number_of steps.new ≡ number_of steps.old + 1)
+    ensures next { OnOk result (Yields (steps_left B.remaining steps.old) (steps_left B.remaining steps.new) item.new) }
+    ensures working { OnOk result (fault_of steps.new ≡ None) }
+    ensures within { OnOk result (IfSome item.new (λ step. IsWithinLimits step.label)) }
+    ensures place { OnOk result (IfSome item.new (λ step. (number_of steps.new ≡ number_of steps.old + 1)
         × (number_of steps.old ≤ 10000000))) }
-    ensures lines { IfOk result (λ item. lines.new ≡ lines.old) }
+    ensures lines { OnOk result (lines.new ≡ lines.old) }
     ensures fault { IfErr result (λ e. CaseFails e (left_ahead A.remaining lines.old)
         (steps_left B.remaining steps.old)) }
     ensures read { result ≡ Err CaseFault.Read →
@@ -102,8 +103,8 @@ fn next_step<A: BufRead, B: BufRead>(
         → failures_of (source_ahead lines.new) ≡ failures_of (source_ahead lines.old) }
     ensures same_steps { result ≢ Err CaseFault.Read → reader_failures steps.new ≡ reader_failures steps.old }
 {
-    match steps.next() {
-        Ok(item) => Ok(item),
+    match steps.next_into(item) {
+        Ok(()) => Ok(()),
         Err(SourceFault::Text(fault)) => {
             lines.drain()?;
             Err(witness_fault(fault))
@@ -180,18 +181,20 @@ fn replay_next<A: BufRead, B: BufRead>(
         → failures_of (source_ahead lines.new) ≡ failures_of (source_ahead lines.old) }
     ensures same_steps { result ≢ Err CaseFault.Read → reader_failures steps.new ≡ reader_failures steps.old }
 {
-    let Some(step) = next_step(lines, steps)? else {
+    let mut item = None;
+    next_step(lines, steps, &mut item)?;
+    let Some(step) = &item else {
         return Ok(StepOutcome::End);
     };
     offer_reached(window, lines, step.moment)?;
-    let broken = judge_step(alloc, window, world, lines, &step)?;
+    let broken = judge_step(alloc, window, world, lines, step)?;
     Ok(turn_of(broken, step))
 }
 
 // The result of a turn, given the rule that its step breaks.
-fn turn_of(broken: Option<Rule>, step: Step) -> StepOutcome
-    ensures { MatchOption broken (result ≡ StepOutcome.More (takes_line step.label)) (λ rule. result
-        ≡ StepOutcome.Refused (line_named step.label) rule) }
+fn turn_of(broken: Option<Rule>, step: &Step) -> StepOutcome
+    ensures { MatchOption broken (result ≡ StepOutcome.More (takes_line step.now.label)) (λ rule. result
+        ≡ StepOutcome.Refused (line_named step.now.label) rule) }
 {
     match broken {
         None => StepOutcome::More(takes_line(&step.label)),

@@ -10,13 +10,13 @@ returns-clause-tells g c = λ header t s offered earlier so_far.
     let next =
     subst (λ (item : Option Step).
     Yields (steps_left g.B.Read.remaining c.args.steps.now)
-    (steps_left g.B.Read.remaining c.next_step.new.steps) item) c.in-Some.is c.in_ok-step.ensures.next in
+    (steps_left g.B.Read.remaining c.next_step.new.steps) item) c.in-Some.is c.in_ok-next_step.ensures.next in
     let lines = c.in_ok-offer_reached.ensures.offered in
     turn_is g.A.Read.remaining header t s offered earlier c.args.lines.now c.next_step.new.lines
     c.offer_reached.new.lines c.judge_step.new.lines _ _ c.args.window.now c.offer_reached.new.window
     c.judge_step.new.window c.args.world.now c.judge_step.new.world
     lines.0 c.in-Some.step c.in_ok-broken.broken c.turn_of.result
-    so_far c.in_ok-step.ensures.lines next lines.1 lines.2 c.in_ok-offer_reached.ensures.ahead
+    so_far c.in_ok-next_step.ensures.lines next lines.1 lines.2 c.in_ok-offer_reached.ensures.ahead
     c.in_ok-offer_reached.ensures.later c.in_ok-broken.ensures.done c.in_ok-broken.ensures.refused
     c.turn_of.ensures
 
@@ -33,4 +33,4 @@ returns-clause-steps g c =
     c.in_ok-broken.ensures.done c.turn_of.ensures
 
 pub returns-clause-place : goal.returns-clause-place
-returns-clause-place g c = λ _. rw c.in-Some.is at c.in_ok-step.ensures.place
+returns-clause-place g c = λ _. rw c.in-Some.is at c.in_ok-next_step.ensures.place
