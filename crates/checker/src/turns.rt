@@ -148,13 +148,14 @@ fn judge_step<A: BufRead>(
     Ok(replay(window, world, step)?)
 }
 
-// The next step of the witness, with the lines that are reached by then.
+// The next step of the witness, which is read into the item, with the lines that are reached by then.
 fn replay_next<A: BufRead, B: BufRead>(
     alloc: Global,
     window: &mut Window,
     world: &mut Case,
     lines: &mut Ahead<A>,
     steps: &mut StepReader<B>,
+    item: &mut Option<Step>,
 ) -> Result<StepOutcome, CaseFault>
     requires ahead { IsAhead lines.old }
     requires in_step { IsInStep window.old (line_ahead lines.old) }
@@ -181,9 +182,8 @@ fn replay_next<A: BufRead, B: BufRead>(
         → failures_of (source_ahead lines.new) ≡ failures_of (source_ahead lines.old) }
     ensures same_steps { result ≢ Err CaseFault.Read → reader_failures steps.new ≡ reader_failures steps.old }
 {
-    let mut item = None;
-    next_step(lines, steps, &mut item)?;
-    let Some(step) = &item else {
+    next_step(lines, steps, item)?;
+    let Some(step) = item else {
         return Ok(StepOutcome::End);
     };
     offer_reached(window, lines, step.moment)?;
@@ -238,8 +238,9 @@ pub(crate) fn replay_steps<A: BufRead, B: BufRead>(
         lines: 0,
         hidden: 0,
     };
+    let mut item = None;
     loop {
-        match replay_next(alloc, window, world, lines, steps)? {
+        match replay_next(alloc, window, world, lines, steps, &mut item)? {
             StepOutcome::More(takes_line) => tally = tally.with(takes_line),
             StepOutcome::End => return Ok(ReplayOutcome::All(tally)),
             StepOutcome::Refused(named, rule) => {
