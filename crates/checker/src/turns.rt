@@ -9,7 +9,7 @@ ghost use Rattle.case_forms.specs.declared.steps.Step.{Step};
 ghost use Rattle.case_forms.specs.Witnesses.{IsWithinLimits};
 ghost use Rattle.counted.specs.Counting.{failures_of, one_more};
 ghost use Rattle.line_fields.specs.declared.fault.TextFault.{TextFault};
-ghost use Rattle.line_fields.specs.Left.{Yields};
+ghost use Rattle.line_fields.specs.Left.{FailsLeft, Yields};
 ghost use Rattle.witness.specs.StepsLeft.{steps_left, fault_of, number_of, reader_failures};
 ghost use Rattle.spec_tcp.specs.Bounds.{most_steps};
 ghost use Rattle.checker.specs.Ahead.{source_ahead, line_ahead, left_ahead, IsAhead, IsInStep, TraceFails};
@@ -80,36 +80,25 @@ impl StepCounts {
     }
 }
 
-// Reads the next step into the item, or `None` at the end. A fault of the witness comes after all faults of the trace.
-fn next_step<A: BufRead, B: BufRead>(
-    lines: &mut Ahead<A>,
-    steps: &mut StepReader<B>,
-    item: &mut Option<Step>,
-) -> Result<(), CaseFault>
-    requires ahead { IsAhead lines.old }
-    requires working { fault_of steps.old ≡ None }
-    ensures next { OnOk result (Yields (steps_left B.remaining steps.old) (steps_left B.remaining steps.new) item.new) }
-    ensures working { OnOk result (fault_of steps.new ≡ None) }
-    ensures within { OnOk result (IfSome item.new (λ step. IsWithinLimits step.label)) }
-    ensures place { OnOk result (IfSome item.new (λ step. (number_of steps.new ≡ number_of steps.old + 1)
-        × (number_of steps.old ≤ 10000000))) }
-    ensures lines { OnOk result (lines.new ≡ lines.old) }
-    ensures fault { IfErr result (λ e. CaseFails e (left_ahead A.remaining lines.old)
-        (steps_left B.remaining steps.old)) }
-    ensures read { result ≡ Err CaseFault.Read →
-        OneFailed (failures_of (source_ahead lines.old)) (reader_failures steps.old)
-        (failures_of (source_ahead lines.new)) (reader_failures steps.new) }
-    ensures same_lines { result ≢ Err CaseFault.Read
+// The fault of a case whose witness has this one: a fault of the trace, which comes first, else this one.
+#[inline(never)]
+fn late_fault<A: BufRead>(lines: &mut Ahead<A>, fault: SourceFault) -> CaseFault
+    requires { IsAhead lines.old }
+    ensures fault { (left : Option (Result (List Step) TextFault))
+        → ((e : TextFault) → fault ≡ SourceFault.Text e → FailsLeft e left)
+        → CaseFails result (left_ahead A.remaining lines.old) left }
+    ensures read { fault ≢ SourceFault.Read → result ≡ CaseFault.Read
+        → failures_of (source_ahead lines.new) ≡ one_more (failures_of (source_ahead lines.old)) }
+    ensures told { fault ≡ SourceFault.Read → (result ≡ CaseFault.Read) × (lines.new ≡ lines.old) }
+    ensures same { result ≢ CaseFault.Read
         → failures_of (source_ahead lines.new) ≡ failures_of (source_ahead lines.old) }
-    ensures same_steps { result ≢ Err CaseFault.Read → reader_failures steps.new ≡ reader_failures steps.old }
 {
-    match steps.next_into(item) {
-        Ok(()) => Ok(()),
-        Err(SourceFault::Text(fault)) => {
-            lines.drain()?;
-            Err(witness_fault(fault))
-        }
-        Err(SourceFault::Read) => Err(CaseFault::Read),
+    match fault {
+        SourceFault::Text(fault) => match lines.drain() {
+            Ok(_) => witness_fault(fault),
+            Err(earlier) => earlier,
+        },
+        SourceFault::Read => CaseFault::Read,
     }
 }
 
@@ -182,7 +171,10 @@ fn replay_next<A: BufRead, B: BufRead>(
         → failures_of (source_ahead lines.new) ≡ failures_of (source_ahead lines.old) }
     ensures same_steps { result ≢ Err CaseFault.Read → reader_failures steps.new ≡ reader_failures steps.old }
 {
-    next_step(lines, steps, item)?;
+    match steps.next_into(item) {
+        Ok(()) => {}
+        Err(fault) => return Err(late_fault(lines, fault)),
+    }
     let Some(step) = item else {
         return Ok(StepOutcome::End);
     };
