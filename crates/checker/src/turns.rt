@@ -1,6 +1,6 @@
 //! The replay of a witness while both texts are read: one turn for each step, up to the first that is refused.
 
-ghost use Rattle.std.specs.Prelude.{◌≡◌, ◌≢◌, ◌<◌, ◌≤◌, ◌+◌, ◌^◌, List, [], Err, IfOk, IfErr, IfSome, None, OnOk, Option};
+ghost use Rattle.std.specs.Prelude.{◌≡◌, ◌≢◌, ◌<◌, ◌≤◌, ◌+◌, ◌^◌, List, [], Err, IfOk, IfErr, IfSome, None, Option};
 ghost use Rattle.std.specs.Prelude.{Result, MatchOption};
 ghost use Rattle.std.specs.Option.{IfNone};
 ghost use Rattle.case_forms.specs.declared.trace.Header.{Header};
@@ -9,7 +9,7 @@ ghost use Rattle.case_forms.specs.declared.steps.Step.{Step};
 ghost use Rattle.case_forms.specs.Witnesses.{IsWithinLimits};
 ghost use Rattle.counted.specs.Counting.{failures_of, one_more};
 ghost use Rattle.line_fields.specs.declared.fault.TextFault.{TextFault};
-ghost use Rattle.line_fields.specs.Left.{FailsLeft, Yields};
+ghost use Rattle.line_fields.specs.Left.{FailsLeft};
 ghost use Rattle.witness.specs.StepsLeft.{steps_left, fault_of, number_of, reader_failures};
 ghost use Rattle.spec_tcp.specs.Bounds.{most_steps};
 ghost use Rattle.checker.specs.Ahead.{source_ahead, line_ahead, left_ahead, IsAhead, IsInStep, TraceFails};
