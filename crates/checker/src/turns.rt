@@ -9,7 +9,7 @@ ghost use Rattle.case_forms.specs.declared.steps.Step.{Step};
 ghost use Rattle.case_forms.specs.Witnesses.{IsWithinLimits};
 ghost use Rattle.counted.specs.Counting.{failures_of, one_more};
 ghost use Rattle.line_fields.specs.declared.fault.TextFault.{TextFault};
-ghost use Rattle.line_fields.specs.Left.{Yields};
+ghost use Rattle.line_fields.specs.Left.{FailsLeft};
 ghost use Rattle.witness.specs.StepsLeft.{steps_left, fault_of, number_of, reader_failures};
 ghost use Rattle.spec_tcp.specs.Bounds.{most_steps};
 ghost use Rattle.checker.specs.Ahead.{source_ahead, line_ahead, left_ahead, IsAhead, IsInStep, TraceFails};
@@ -80,35 +80,25 @@ impl StepCounts {
     }
 }
 
-// The next step. A fault of the witness comes after all faults of the trace.
-fn next_step<A: BufRead, B: BufRead>(
-    lines: &mut Ahead<A>,
-    steps: &mut StepReader<B>,
-) -> Result<Option<Step>, CaseFault>
-    requires ahead { IsAhead lines.old }
-    requires working { fault_of steps.old ≡ None }
-    ensures next { IfOk result (Yields (steps_left B.remaining steps.old) (steps_left B.remaining steps.new)) }
-    ensures working { IfOk result (λ item. fault_of steps.new ≡ None) }
-    ensures within { IfOk result (λ item. IfSome item (λ step. IsWithinLimits step.label)) }
-    ensures place { IfOk result (λ item. IfSome item (λ step. (number_of steps.new ≡ number_of steps.old + 1)
-        × (number_of steps.old ≤ 10000000))) }
-    ensures lines { IfOk result (λ item. lines.new ≡ lines.old) }
-    ensures fault { IfErr result (λ e. CaseFails e (left_ahead A.remaining lines.old)
-        (steps_left B.remaining steps.old)) }
-    ensures read { result ≡ Err CaseFault.Read →
-        OneFailed (failures_of (source_ahead lines.old)) (reader_failures steps.old)
-        (failures_of (source_ahead lines.new)) (reader_failures steps.new) }
-    ensures same_lines { result ≢ Err CaseFault.Read
+// The fault of a case whose witness has this one: a fault of the trace, which comes first, else this one.
+#[inline(never)]
+fn late_fault<A: BufRead>(lines: &mut Ahead<A>, fault: SourceFault) -> CaseFault
+    requires { IsAhead lines.old }
+    ensures fault { (left : Option (Result (List Step) TextFault))
+        → ((e : TextFault) → fault ≡ SourceFault.Text e → FailsLeft e left)
+        → CaseFails result (left_ahead A.remaining lines.old) left }
+    ensures read { fault ≢ SourceFault.Read → result ≡ CaseFault.Read
+        → failures_of (source_ahead lines.new) ≡ one_more (failures_of (source_ahead lines.old)) }
+    ensures told { fault ≡ SourceFault.Read → (result ≡ CaseFault.Read) × (lines.new ≡ lines.old) }
+    ensures same { result ≢ CaseFault.Read
         → failures_of (source_ahead lines.new) ≡ failures_of (source_ahead lines.old) }
-    ensures same_steps { result ≢ Err CaseFault.Read → reader_failures steps.new ≡ reader_failures steps.old }
 {
-    match steps.next() {
-        Ok(item) => Ok(item),
-        Err(SourceFault::Text(fault)) => {
-            lines.drain()?;
-            Err(witness_fault(fault))
-        }
-        Err(SourceFault::Read) => Err(CaseFault::Read),
+    match fault {
+        SourceFault::Text(fault) => match lines.drain() {
+            Ok(_) => witness_fault(fault),
+            Err(earlier) => earlier,
+        },
+        SourceFault::Read => CaseFault::Read,
     }
 }
 
@@ -147,13 +137,14 @@ fn judge_step<A: BufRead>(
     Ok(replay(window, world, step)?)
 }
 
-// The next step of the witness, with the lines that are reached by then.
+// The next step of the witness, which is read into the item, with the lines that are reached by then.
 fn replay_next<A: BufRead, B: BufRead>(
     alloc: Global,
     window: &mut Window,
     world: &mut Case,
     lines: &mut Ahead<A>,
     steps: &mut StepReader<B>,
+    item: &mut Option<Step>,
 ) -> Result<StepOutcome, CaseFault>
     requires ahead { IsAhead lines.old }
     requires in_step { IsInStep window.old (line_ahead lines.old) }
@@ -180,18 +171,22 @@ fn replay_next<A: BufRead, B: BufRead>(
         → failures_of (source_ahead lines.new) ≡ failures_of (source_ahead lines.old) }
     ensures same_steps { result ≢ Err CaseFault.Read → reader_failures steps.new ≡ reader_failures steps.old }
 {
-    let Some(step) = next_step(lines, steps)? else {
+    match steps.next_into(item) {
+        Ok(()) => {}
+        Err(fault) => return Err(late_fault(lines, fault)),
+    }
+    let Some(step) = item else {
         return Ok(StepOutcome::End);
     };
     offer_reached(window, lines, step.moment)?;
-    let broken = judge_step(alloc, window, world, lines, &step)?;
+    let broken = judge_step(alloc, window, world, lines, step)?;
     Ok(turn_of(broken, step))
 }
 
 // The result of a turn, given the rule that its step breaks.
-fn turn_of(broken: Option<Rule>, step: Step) -> StepOutcome
-    ensures { MatchOption broken (result ≡ StepOutcome.More (takes_line step.label)) (λ rule. result
-        ≡ StepOutcome.Refused (line_named step.label) rule) }
+fn turn_of(broken: Option<Rule>, step: &Step) -> StepOutcome
+    ensures { MatchOption broken (result ≡ StepOutcome.More (takes_line step.now.label)) (λ rule. result
+        ≡ StepOutcome.Refused (line_named step.now.label) rule) }
 {
     match broken {
         None => StepOutcome::More(takes_line(&step.label)),
@@ -235,8 +230,9 @@ pub(crate) fn replay_steps<A: BufRead, B: BufRead>(
         lines: 0,
         hidden: 0,
     };
+    let mut item = None;
     loop {
-        match replay_next(alloc, window, world, lines, steps)? {
+        match replay_next(alloc, window, world, lines, steps, &mut item)? {
             StepOutcome::More(takes_line) => tally = tally.with(takes_line),
             StepOutcome::End => return Ok(ReplayOutcome::All(tally)),
             StepOutcome::Refused(named, rule) => {

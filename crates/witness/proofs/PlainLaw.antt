@@ -49,7 +49,11 @@ pub step_is : (v : Version) (number moment stop : ℕ) (raw : List ℕ) (word : 
 unfolding step_of label_field no_more
 step_is v number moment stop raw word label r behind_moment behind_word last line is next behind none ends =
     let kind = kind_is word behind_moment behind_word next in
-    record { step = record { moment = moment; label = label; span = record { line = number; start = 0; stop = stop } }; placed = refl; is = rw (line, is, kind, behind, none, ends) refl }
+    record {
+      step = record { moment = moment; label = label; span = record { line = number; start = 0; stop = stop } };
+      placed = refl;
+      is = rw (line, is, kind, behind, none, ends) refl;
+    }
 
 -- an effect whose answer is the last of its line
 pub effect_is : (thread : ℕ) (answer : Answer) (text : List ℕ) (before behind_thread : Rest)

@@ -3,7 +3,7 @@
 
 ghost use Rattle.std.specs.Prelude.{◌≡◌, [], IfSome, Ok};
 ghost use Rattle.case_forms.specs.declared.steps.Label.TheVariants.{L, D, M, T};
-ghost use Rattle.witness.specs.Parts.{extras_field};
+ghost use Rattle.witness.specs.Parts.{bit_field, entry_field, extras_field};
 ghost use Rattle.witness.specs.LabelFields.{line_label, effect_label, segment_label, taking_label};
 ghost use Rattle.witness.specs.Steps.{step_of};
 ghost use Rattle.witness.specs.Plain.{IsPlaced};
@@ -129,17 +129,36 @@ fn plain_extras(fields: &mut Fields) -> Option<Extras>
     Some(Extras::Two(first, second))
 }
 
+// A host, and the number of the line by which a segment arrived in its inbox.
+#[tactic(auto, unfolding(crate::specs::Parts::entry_field))]
+#[inline(always)]
+fn plain_entry(version: Version, fields: &mut Fields) -> Option<(Host, u64)>
+    ensures { IfSome result (λ entry. entry_field version fields.old ≡ Ok (entry, fields.new)) }
+{
+    let host = fields.plain_host(version)?;
+    let line = fields.plain_number(0, MAX_NUMBER)?;
+    Some((host, line))
+}
+
+// Yes or no, written 1 or 0.
+#[tactic(auto, unfolding(crate::specs::Parts::bit_field))]
+#[inline(always)]
+fn plain_bit(fields: &mut Fields) -> Option<bool>
+    ensures { IfSome result (λ bit. bit_field fields.old ≡ Ok (bit, fields.new)) }
+{
+    Some(fields.plain_small(0, 1)? == 1)
+}
+
 // An inbox entry, and the choice when it is processed.
-#[tactic(auto, unfolding(crate::specs::LabelFields::taking_label, crate::specs::Parts::entry_field, crate::specs::Parts::bit_field))]
+#[tactic(auto, unfolding(crate::specs::LabelFields::taking_label))]
 #[inline(always)]
 fn plain_taking(version: Version, fields: &mut Fields) -> Option<(Host, u64, TakeChoice)>
     ensures { IfSome result (λ took. taking_label version fields.old ≡ Ok (T took.0 took.1 took.2, fields.new)) }
 {
-    let host = fields.plain_host(version)?;
-    let line = fields.plain_number(0, MAX_NUMBER)?;
+    let (host, line) = plain_entry(version, fields)?;
     let cwnd = fields.plain_number(0, MAX_NUMBER)? as u32;
-    let keep = fields.plain_small(0, 1)? == 1;
-    let sample = fields.plain_small(0, 1)? == 1;
+    let keep = plain_bit(fields)?;
+    let sample = plain_bit(fields)?;
     let choice = TakeChoice { cwnd, keep, sample };
     Some((host, line, choice))
 }

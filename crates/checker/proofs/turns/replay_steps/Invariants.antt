@@ -10,8 +10,8 @@ use Rattle.checker.specs.Streaming.{SoFar, Tallied}
 use Rattle.checker.proofs.turns.replay_steps.Given as goal
 
 -- so many steps were done
-abbrev pub invariant-loop-takes_line : goal.invariant-loop-takes_line
-invariant-loop-takes_line g l = record {
+abbrev pub invariant-loop-item : goal.invariant-loop-item
+invariant-loop-item g l = record {
   ahead : IsAhead l.lines;
   in_step : IsInStep l.window (line_ahead l.lines);
   working : fault_of l.steps ≡ None;
@@ -28,5 +28,5 @@ invariant-loop-takes_line g l = record {
       × Tallied earlier l.tally.lines l.tally.hidden × (length earlier ≡ l.tally.lines + l.tally.hidden);
 }
 
-abbrev pub decreases-loop-takes_line : goal.decreases-loop-takes_line
-decreases-loop-takes_line g l = 10000001 - (l.tally.lines + l.tally.hidden)
+abbrev pub decreases-loop-item : goal.decreases-loop-item
+decreases-loop-item g l = 10000001 - (l.tally.lines + l.tally.hidden)
