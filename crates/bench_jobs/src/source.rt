@@ -3,7 +3,7 @@
 use crate::calls::calls;
 use crate::case_text::CaseText;
 use crate::connection::MSS;
-use crate::draws::Draws;
+use crate::draws::{Draws, part};
 use crate::jobs::Job;
 use crate::pieces::write_pieces;
 use crate::transfer::Transfer;
@@ -19,9 +19,12 @@ const LATE: u64 = 500_000 + SLACK;
 // How many bytes a message has.
 #[derive(Clone, Copy)]
 enum Size {
-    // 64 to 100 bytes, which are drawn.
+    // 64 to 100, drawn.
     Small,
-    Exactly(u64),
+    // 1,000.
+    Large,
+    // As many as a segment may have.
+    Full,
 }
 
 /// A source of cases: the drawn numbers, and the texts that are written.
@@ -88,11 +91,13 @@ impl Source {
         for index in 0..count {
             let bytes = match size {
                 Size::Small => 64 + self.draws.below(37),
-                Size::Exactly(bytes) => bytes,
+                Size::Large => 1_000,
+                Size::Full => MSS,
             };
+            let start = self.draws.below(500_000) as usize;
+            let digits = part(self.pool.as_slice(), 2 * start, 2 * bytes as usize);
             let wait = if late == Some(index) { LATE } else { 0 };
-            let pool = self.pool.as_slice();
-            transfer.message(&mut self.draws, &mut self.case, pool, bytes, wait)?;
+            transfer.message(&mut self.case, digits, wait)?;
         }
         Ok(())
     }
@@ -137,7 +142,7 @@ impl Source {
     fn write_text(&mut self) -> Result<(), OutOfMemory> {
         match self.written % 5 {
             0 => self.messages(3_000, Size::Small),
-            1 => self.messages(1_500, Size::Exactly(1_000)),
+            1 => self.messages(1_500, Size::Large),
             2 => self.calls(1, 20_000),
             3 => self.calls(20_000, 1),
             _ => self.pieces(1, 5_000),
@@ -149,7 +154,7 @@ impl Source {
         if self.written % 2 == 0 {
             self.messages_with_duties(3_000, Size::Small)
         } else {
-            self.messages_with_duties(1_000, Size::Exactly(MSS))
+            self.messages_with_duties(1_000, Size::Full)
         }
     }
 

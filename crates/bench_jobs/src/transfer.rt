@@ -89,21 +89,18 @@ impl Transfer {
         })
     }
 
-    /// A message of so many bytes in one segment, which is received, and acknowledged so many microseconds later.
+    /// A message of these bytes in hex, in one segment, which is received, and acknowledged so many microseconds later.
     pub fn message(
         &mut self,
-        draws: &mut Draws,
         case: &mut CaseText,
-        pool: &[u8],
-        size: u64,
+        digits: &[u8],
         wait: u64,
     ) -> Result<(), OutOfMemory> {
-        let digits = part(pool, 2 * draws.below(500_000) as usize, 2 * size as usize);
         give(case, &self.connection, digits)?;
         let sending = self.sending(digits, 0);
         self.connection.carry(case, &sending, kept())?;
         receive(case, &self.connection, digits)?;
-        self.sent = self.sent.wrapping_add(size);
+        self.sent = self.sent.wrapping_add(digits.len() as u64 / 2);
         if wait > 0 {
             case.pass(wait);
         }
