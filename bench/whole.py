@@ -6,8 +6,8 @@
 OLD, NEW and START are programs: all proved, or all built by `stand_in.py`. START is an early one: compared with it, small losses
 don't add up. Each row is a kind of case and a way to pass it. The script counts the instructions of one run on a small case, by
 valgrind's tool callgrind. Then it runs the programs alternately on a larger one, N times (default: 5), and prints the medians of
-processor time, including system time, and of peak memory. A dash means that the program refuses these words as `bad usage`. If the
-programs print different answers, or end with different statuses, the last lines report it, and the status is 1.
+processor time, including system time, and of peak memory. A dash means that an old program refuses these words as `bad usage`. If
+the programs print different answers, or end with different statuses, the last lines report it, and the status is 1.
 
 A busy machine doesn't change the instructions. The Debian packages `valgrind` and `time` are needed: `time` starts the programs,
 since the peak memory of a child of Python is at least Python's.
@@ -65,8 +65,11 @@ class Result:
         words = ["valgrind", "--tool=callgrind", "--callgrind-out-file=/dev/null", *command]
         with open(case, "rb") as given:
             done = subprocess.run(words, stdin=given, stdout=subprocess.PIPE, stderr=subprocess.PIPE, check=False)
+        collected = re.search(rb"Collected : (\d+)", done.stderr)
+        if collected is None:
+            sys.exit(f"{' '.join(words)}:\n{done.stderr.decode()}")
         self.counted = done.returncode, done.stdout
-        self.instructions = int(re.search(rb"Collected : (\d+)", done.stderr)[1])
+        self.instructions = int(collected[1])
 
     def run(self, command, case):
         """Measures a run. The time of `time` itself, below a millisecond, is included."""
@@ -167,6 +170,8 @@ def main():
             continue
         results = measured(programs, script, sizes, arguments, words.runs)
         print(row_of(name, results), flush=True)
+        if results[1] is None:
+            wrong.append(f"{name}: NEW refuses the words")
         if not agree(results):
             wrong.append(f"{name}: the outputs differ")
     for line in wrong:
