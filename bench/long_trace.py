@@ -1,8 +1,11 @@
 #!/usr/bin/env python3
-"""Writes a trace of 1,000,000 event lines of about 30 bytes to standard output, in all forms.
+"""Writes a long trace of event lines of about 30 bytes to standard output, in all forms.
 
-The last line lacks its LF, so the trace is read to its end and then refused: `bad trace 1000006 0 14 cut`. No step is checked,
-so this times only the reading. The text has 31.8 million bytes.
+    python3 bench/long_trace.py [LINES]
+
+LINES is the number of event lines (default: 1,000,000, a text of 31.8 million bytes). The last line lacks its LF, so the trace is
+read to its end and then refused; with N lines, the answer is `bad trace A 0 14 cut` with A = N + 6. No step is checked, so this
+times only the reading.
 """
 
 import sys
@@ -28,9 +31,13 @@ FORMS = [
 
 
 def main():
+    if "--help" in sys.argv:
+        print(__doc__.strip())
+        return
+    lines = int(sys.argv[1]) if len(sys.argv) > 1 else LINES
     write = sys.stdout.write
     write("".join(line + "\n" for line in HEADER))
-    for place in range(LINES - 1):
+    for place in range(lines - 1):
         write(f"{1_000_000 + place} {FORMS[place % len(FORMS)]}\n")
     write("2000000 1 E ok")
 

@@ -37,6 +37,7 @@ LEFT_OUT = {
     "bench/run ": "measures two builds",
     "python3 bench/stand_in.py": "builds two programs",
     "python3 bench/many_cases.py": "writes a large file",
+    "python3 bench/whole.py": "measures built programs",
     "time crates/": "needs proved programs",
     "python3 tools/soak/": "takes minutes",
 }

@@ -53,22 +53,39 @@ impl CaseText {
         }
     }
 
-    /// The header of a new case of version 2, with a skew of so many microseconds.
-    pub fn begin(&mut self, skew: u64) -> Result<(), OutOfMemory> {
+    // A new case, whose header will have so many lines.
+    fn restart(&mut self, lines: u64) {
         self.trace.clear();
         self.witness.clear();
+        self.moment = 1_000_000;
+        self.stamp.clear();
+        self.lines = lines;
+        self.made = 0;
+    }
+
+    /// The header of a new case of version 2, with a skew of so many microseconds.
+    pub fn begin(&mut self, skew: u64) -> Result<(), OutOfMemory> {
+        self.restart(7);
         push_word(&mut self.trace, "trace 2\nskew ")?;
         push_number(&mut self.trace, skew)?;
         push_word(
             &mut self.trace,
             "\nmsl 60000000\ngrain 4000\nminrto 200000\nextra 1\ninitial 6928\n",
         )?;
-        push_word(&mut self.witness, "witness 2\n")?;
-        self.moment = 1_000_000;
-        self.stamp.clear();
-        self.lines = 7;
-        self.made = 0;
-        Ok(())
+        push_word(&mut self.witness, "witness 2\n")
+    }
+
+    /// The header of a new case of version 5, in which hosts may be so many microseconds late with their duties.
+    pub fn begin_with_duties(&mut self, slack: u64) -> Result<(), OutOfMemory> {
+        self.restart(10);
+        push_word(
+            &mut self.trace,
+            "trace 5\nskew 0\nmsl 60000000\ngrain 4000\nminrto 200000\nextra 1\ninitial 6928\n",
+        )?;
+        push_word(&mut self.trace, "hosts 2\ncongestion full\nslack ")?;
+        push_number(&mut self.trace, slack)?;
+        push_end(&mut self.trace)?;
+        push_word(&mut self.witness, "witness 5\n")
     }
 
     /// Lets so many microseconds pass.

@@ -1,13 +1,10 @@
 //! The jobs, each on texts generated from a seed.
 
-use crate::calls::calls;
-use crate::case_text::CaseText;
-use crate::draws::Draws;
-use crate::pieces::write_pieces;
 use crate::results::Results;
-use crate::transfer::Transfer;
+use crate::source::Source;
+use answer_stream::answer_cases;
 use case_forms::OutOfMemory;
-use checker::{CaseFault, check_case, check_streams};
+use checker::{CaseFault, check_case, check_reader, check_streams};
 use counted::Counted;
 use parallel_check::{Gate, check_many_slices};
 use std::alloc::{AllocError, Global};
@@ -17,7 +14,7 @@ use std::thread::Threads;
 use verdict::Verdict;
 use witness_search::find;
 
-// How many workers check a suite: one, so that its time doesn't depend on other processors.
+// How many workers check cases: one, so that its time doesn't depend on other processors.
 const WORKERS: usize = 1;
 
 // How many bytes of a text are requested at once, as in the program.
@@ -38,7 +35,40 @@ pub enum Job {
     Pieces,
     /// Transfers of which only the trace exists: a witness is found, and then checked.
     Witness,
+    /// Cases of five shapes, each as one text that is read in pieces.
+    Text,
+    /// Cases of 3,000 event lines, some of which are no or bad, in one input that a worker reads in pieces.
+    Batch,
+    /// The same with cases of some 200 bytes.
+    Tiny,
+    /// Cases that judge duties, each as one text that is read in pieces. Some are no.
+    Duties,
 }
+
+impl Job {
+    /// Whether some of its cases are spoiled.
+    pub fn is_spoiled(self) -> bool {
+        match self {
+            Job::Suite | Job::Batch | Job::Tiny => true,
+            Job::Transfer | Job::Messages | Job::Calls | Job::Pieces => false,
+            Job::Witness | Job::Text | Job::Duties => false,
+        }
+    }
+}
+
+/// A small run of all jobs, each with a number of cases.
+pub const SMALL: [(&str, u64); 10] = [
+    ("suite", 20),
+    ("transfer", 1),
+    ("messages", 1),
+    ("calls", 1),
+    ("pieces", 1),
+    ("witness", 1),
+    ("text", 5),
+    ("batch", 12),
+    ("tiny", 1_000),
+    ("duties", 6),
+];
 
 /// The job of this name.
 pub fn job_named(name: &str) -> Option<Job> {
@@ -49,112 +79,11 @@ pub fn job_named(name: &str) -> Option<Job> {
         "calls" => Some(Job::Calls),
         "pieces" => Some(Job::Pieces),
         "witness" => Some(Job::Witness),
+        "text" => Some(Job::Text),
+        "batch" => Some(Job::Batch),
+        "tiny" => Some(Job::Tiny),
+        "duties" => Some(Job::Duties),
         _ => None,
-    }
-}
-
-/// A source of cases: the drawn numbers, and the texts that are written.
-#[derive(Drop)]
-pub struct Source {
-    alloc: Global,
-    draws: Draws,
-    pool: Vec<u8>,
-    case: CaseText,
-}
-
-impl Source {
-    /// The cases drawn from a seed.
-    pub fn new(alloc: Global, seed: u64) -> Result<Source, OutOfMemory> {
-        let mut draws = Draws::new(seed);
-        let pool = draws.digits(alloc)?;
-        Ok(Source {
-            alloc,
-            draws,
-            pool,
-            case: CaseText::new(alloc),
-        })
-    }
-
-    // A transfer of so many flights.
-    fn flights(&mut self, count: u64) -> Result<(), OutOfMemory> {
-        let mut transfer = Transfer::open(self.alloc, &mut self.draws, &mut self.case)?;
-        for _ in 0..count {
-            transfer.flight(&mut self.draws, &mut self.case, self.pool.as_slice())?;
-        }
-        Ok(())
-    }
-
-    // A connection with so many messages.
-    fn messages(&mut self, count: u64) -> Result<(), OutOfMemory> {
-        let mut transfer = Transfer::open(self.alloc, &mut self.draws, &mut self.case)?;
-        for _ in 0..count {
-            transfer.message(&mut self.draws, &mut self.case, self.pool.as_slice())?;
-        }
-        Ok(())
-    }
-
-    fn calls(&mut self, threads: usize, rounds: u64) -> Result<(), OutOfMemory> {
-        calls(self.alloc, &mut self.draws, &mut self.case, threads, rounds)
-    }
-
-    fn pieces(&mut self, connections: u16, count: usize) -> Result<(), OutOfMemory> {
-        write_pieces(
-            self.alloc,
-            &mut self.draws,
-            &mut self.case,
-            self.pool.as_slice(),
-            connections,
-            count,
-        )
-    }
-
-    // The next case of a job. Those of a suite are of all kinds.
-    fn write_next(&mut self, job: Job) -> Result<(), OutOfMemory> {
-        match job {
-            Job::Suite => self.write_small(),
-            Job::Transfer | Job::Witness => self.flights(200),
-            Job::Messages => self.messages(20_000),
-            Job::Calls => self.calls(20_000, 3),
-            Job::Pieces => self.pieces(4, 4_000),
-        }
-    }
-
-    // A case of a suite.
-    fn write_small(&mut self) -> Result<(), OutOfMemory> {
-        match self.draws.below(8) {
-            0 | 1 => {
-                let count = 1 + self.draws.below(8);
-                self.flights(count)
-            }
-            2 | 3 | 4 => {
-                let count = 10 + self.draws.below(600);
-                self.messages(count)
-            }
-            5 | 6 => {
-                let threads = 2 + self.draws.below(100) as usize;
-                let rounds = 1 + self.draws.below(20);
-                self.calls(threads, rounds)
-            }
-            _ => {
-                let count = 10 + self.draws.below(150) as usize;
-                self.pieces(3, count)
-            }
-        }
-    }
-
-    // Changes a digit somewhere in the witness, in one of six cases of a suite.
-    fn spoil(&mut self) {
-        if self.draws.below(6) > 0 {
-            return;
-        }
-        let start = self.draws.below(self.case.witness.len() as u64) as usize;
-        let digit = b'0' + self.draws.below(10) as u8;
-        for byte in self.case.witness.iter_mut().skip(start) {
-            if byte.is_ascii_digit() {
-                *byte = digit;
-                return;
-            }
-        }
     }
 }
 
@@ -170,9 +99,11 @@ pub fn run<H: Threads + Wait + Sync>(
     let mut results = Results::new();
     match job {
         Job::Suite => suite(rt, &mut source, cases, &mut results)?,
+        Job::Batch | Job::Tiny => many(rt, &mut source, job, cases, &mut results)?,
         Job::Transfer | Job::Messages | Job::Calls | Job::Pieces | Job::Witness => {
             judge_each(&mut source, job, cases, &mut results)?;
         }
+        Job::Text | Job::Duties => judge_each(&mut source, job, cases, &mut results)?,
     }
     Ok(results)
 }
@@ -196,12 +127,24 @@ fn judge(source: &mut Source, job: Job, results: &mut Results) -> Result<(), Out
     match job {
         Job::Messages => streams(source, results),
         Job::Witness => found(source, results),
-        Job::Suite | Job::Transfer | Job::Calls | Job::Pieces => {
+        Job::Text | Job::Duties => read(source, results),
+        Job::Suite | Job::Transfer | Job::Calls | Job::Pieces | Job::Batch | Job::Tiny => {
             let text = source.case.joined()?;
             let answer = check_case(source.alloc, text);
             results.add(source.alloc, text.len(), &answer)
         }
     }
+}
+
+// The answer to a case as one text that is read in pieces.
+fn read(source: &mut Source, results: &mut Results) -> Result<(), OutOfMemory> {
+    let alloc = source.alloc;
+    let text = source.case.joined()?;
+    let Ok(lines) = BufReader::with_capacity(alloc, INPUT_BYTES, text) else {
+        return Err(AllocError);
+    };
+    let (answer, _) = check_reader(alloc, Counted::new(lines));
+    results.add(alloc, text.len(), &answer)
 }
 
 // The answer to a case as two texts that are read in pieces.
@@ -266,7 +209,6 @@ fn write_suite(
 ) -> Result<(), OutOfMemory> {
     for _ in 0..cases {
         source.write_next(Job::Suite)?;
-        source.spoil();
         text.extend_from_slice(source.case.joined()?)?;
         ends.push(text.len())?;
     }
@@ -310,21 +252,44 @@ fn cut<'a>(alloc: Global, text: &'a [u8], ends: &[usize]) -> Result<Vec<&'a [u8]
     Ok(slices)
 }
 
+// The answers to so many cases in one input.
+fn many<H: Threads + Wait + Sync>(
+    rt: &H,
+    source: &mut Source,
+    job: Job,
+    cases: u64,
+    results: &mut Results,
+) -> Result<(), OutOfMemory> {
+    let alloc = source.alloc;
+    let text = write_all(source, job, cases)?;
+    let Ok(lines) = BufReader::with_capacity(alloc, INPUT_BYTES, text.as_slice()) else {
+        return Err(AllocError);
+    };
+    let mut reader = Counted::new(lines);
+    let mut output = Vec::new(alloc);
+    let mut writer = Counted::new(&mut output);
+    let _ = answer_cases(rt, alloc, WORKERS, &mut reader, &mut writer);
+    results.add_lines(text.len(), output.as_slice());
+    Ok(())
+}
+
 /// Prints so many cases of a job, each ended by a line `end`.
 pub fn print(alloc: Global, job: Job, seed: u64, cases: u64) -> Result<Vec<u8>, OutOfMemory> {
     let mut source = Source::new(alloc, seed)?;
-    let mut out = Vec::new(alloc);
+    write_all(&mut source, job, cases)
+}
+
+// Writes so many cases, each ended by a line `end`.
+fn write_all(source: &mut Source, job: Job, cases: u64) -> Result<Vec<u8>, OutOfMemory> {
+    let mut out = Vec::new(source.alloc);
     for _ in 0..cases {
-        print_next(&mut source, job, &mut out)?;
+        write_ended(source, job, &mut out)?;
     }
     Ok(out)
 }
 
-fn print_next(source: &mut Source, job: Job, out: &mut Vec<u8>) -> Result<(), OutOfMemory> {
+fn write_ended(source: &mut Source, job: Job, out: &mut Vec<u8>) -> Result<(), OutOfMemory> {
     source.write_next(job)?;
-    if job == Job::Suite {
-        source.spoil();
-    }
     out.extend_from_slice(source.case.joined()?)?;
     out.extend_from_slice(b"end\n")
 }

@@ -70,6 +70,29 @@ impl Results {
         Ok(())
     }
 
+    /// Adds answers, each as its line, to a text of so many bytes.
+    pub fn add_lines(&mut self, bytes: usize, lines: &[u8]) {
+        self.bytes = self.bytes.wrapping_add(bytes as u64);
+        let mut last = b'\n';
+        for byte in lines {
+            if last == b'\n' {
+                self.count(*byte);
+            }
+            last = *byte;
+        }
+        self.mix(lines);
+    }
+
+    // Counts an answer, whose line begins with this letter.
+    fn count(&mut self, letter: u8) {
+        self.cases = self.cases.wrapping_add(1);
+        match letter {
+            b'y' => self.yes = self.yes.wrapping_add(1),
+            b'n' => self.no = self.no.wrapping_add(1),
+            _ => self.bad = self.bad.wrapping_add(1),
+        }
+    }
+
     /// Mixes bytes into the digest.
     pub fn mix(&mut self, bytes: &[u8]) {
         for byte in bytes {

@@ -74,13 +74,12 @@ struct Flight<'a> {
 }
 
 impl Transfer {
-    /// Opens a new connection.
+    /// Opens the connection of a case that was just begun.
     pub fn open(
         alloc: Global,
         draws: &mut Draws,
         case: &mut CaseText,
     ) -> Result<Transfer, OutOfMemory> {
-        case.begin(0)?;
         listen(case)?;
         let port = 1_024 + draws.below(60_000) as u16;
         Ok(Transfer {
@@ -90,20 +89,21 @@ impl Transfer {
         })
     }
 
-    /// A small message, which is received and acknowledged.
+    /// A message of these bytes in hex, in one segment, which is received, and acknowledged so many microseconds later.
     pub fn message(
         &mut self,
-        draws: &mut Draws,
         case: &mut CaseText,
-        pool: &[u8],
+        digits: &[u8],
+        wait: u64,
     ) -> Result<(), OutOfMemory> {
-        let size = 64 + draws.below(37);
-        let digits = part(pool, 2 * draws.below(500_000) as usize, 2 * size as usize);
         give(case, &self.connection, digits)?;
         let sending = self.sending(digits, 0);
         self.connection.carry(case, &sending, kept())?;
         receive(case, &self.connection, digits)?;
-        self.sent = self.sent.wrapping_add(size);
+        self.sent = self.sent.wrapping_add(digits.len() as u64 / 2);
+        if wait > 0 {
+            case.pass(wait);
+        }
         let answer = control(false, 1, Kind::Ack, self.sent.wrapping_add(1));
         self.connection
             .carry(case, &answer, taken(self.window, true))
