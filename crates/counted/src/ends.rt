@@ -3,7 +3,7 @@
 ghost use Rattle.std.specs.Prelude.{◌≡◌, ◌≤◌, ◌^◌};
 
 use std::io;
-use std::io::{BufRead, ErrorKind, Read, Write};
+use std::io::{ErrorKind, Read, Write};
 
 // After this many calls, every call fails.
 pub(crate) const MOST_CALLS: u64 = 1 << 50;
@@ -219,62 +219,4 @@ pub enum ReadFault {
     Read,
     /// There was no memory for the bytes that were read. Nothing was counted.
     OutOfMemory,
-}
-
-impl<B: BufRead> Counted<B> {
-    ghost use Rattle.std.specs.Prelude.{◌≡◌, ◌≤◌, ◌^◌, OnOk, IfSome, OnSome, ◌++◌, true};
-    ghost use Rattle.std.specs.Io.{StartsWith, appended_bytes};
-    ghost use Rattle.std.specs.Io.KnownBytes.{Consumes, IsAtEnd};
-    ghost use Rattle.counted.specs.Counting.{left_of, failures_of, calls_of, one_call_more, one_more};
-
-    /// Appends the bytes of one read, and returns whether the input is at its end, which is so if there are none. After
-    /// an error, `buf` doesn't change.
-    pub fn append_piece(&mut self, buf: &mut Vec<u8>) -> Result<bool, ReadFault>
-        ensures appends { StartsWith buf.new.items buf.old.items }
-        ensures bytes { Consumes (left_of B.remaining self.old) (left_of B.remaining self.new)
-            (appended_bytes buf.old.items buf.new.items) }
-        ensures end { result ≡ Ok true → OnSome (left_of B.remaining self.old)
-            (IsAtEnd (left_of B.remaining self.new)) }
-        ensures ok { OnOk result (failures_of self.new ≡ failures_of self.old) }
-        ensures read { result ≡ Err ReadFault.Read → failures_of self.new ≡ one_more (failures_of self.old) }
-        ensures memory { result ≡ Err ReadFault.OutOfMemory → failures_of self.new ≡ failures_of self.old }
-        ensures spent { 2 ^ 50 ≤ calls_of self.old → result ≡ Err ReadFault.Read }
-        ensures calls { calls_of self.new ≡ one_call_more (calls_of self.old) }
-    {
-        if !self.may_call() {
-            self.count_failure();
-            return Err(ReadFault::Read);
-        }
-        let available = match self.inner.fill_buf() {
-            Ok(available) => available,
-            Err(_) => {
-                self.count_failure();
-                return Err(ReadFault::Read);
-            }
-        };
-        let count = available.len();
-        if buf.extend_from_slice(available).is_err() {
-            return Err(ReadFault::OutOfMemory);
-        }
-        self.inner.consume(count);
-        Ok(count == 0)
-    }
-
-    /// Appends all remaining bytes. After an error, `buf` has what was read before it.
-    pub fn append_all(&mut self, buf: &mut Vec<u8>) -> Result<(), ReadFault>
-        ensures appends { StartsWith buf.new.items buf.old.items }
-        ensures bytes { OnOk result (IfSome (left_of B.remaining self.old) (λ xs. buf.new.items ≡ buf.old.items
-            ++ xs)) }
-        ensures ok { OnOk result (failures_of self.new ≡ failures_of self.old) }
-        ensures read { result ≡ Err ReadFault.Read → failures_of self.new ≡ one_more (failures_of self.old) }
-        ensures memory { result ≡ Err ReadFault.OutOfMemory → failures_of self.new ≡ failures_of self.old }
-    {
-        for _ in 0..MOST_CALLS {
-            if self.append_piece(buf)? {
-                return Ok(());
-            }
-        }
-        self.count_failure();
-        Err(ReadFault::Read)
-    }
 }

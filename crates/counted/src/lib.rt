@@ -5,11 +5,14 @@
 //! the count stops there. Running out of memory is never counted. `Counted` has its own methods for reading a piece at
 //! a time, which lend nothing. `specs/Counting` has the definitions that the contracts use.
 //!
+//! - `at_hand`: the lines that one read has at hand, up to the line of a word (`specs/AtHand`)
 //! - `ends`: a reader or a writer and its count
 //! - `lines`: one line of a reader, at most a bounded part of which is kept (`specs/LineParts`)
 #![tactic(auto)]
 
+mod at_hand;
 mod ends;
 mod lines;
 
+pub use at_hand::{Taken, Wanted};
 pub use ends::{CallCounts, Counted, ReadFault};
