@@ -19,6 +19,7 @@
 //! - `run`: the whole run, with its status
 #![tactic(auto)]
 
+mod batch;
 mod printer;
 mod run;
 mod source;

@@ -5,7 +5,7 @@ ghost use Rattle.std.specs.Io.KnownBytes.{Appends};
 ghost use Rattle.counted.specs.Counting.{left_of, failures_of};
 ghost use Rattle.answer_stream.specs.Endings.{EndsMany, TellsBefore};
 
-use crate::printer::write_line;
+use crate::printer::write_lines;
 use crate::work::{Outcome, answer_all};
 use answer_lines::{DEVICE, MEMORY};
 use counted::Counted;
@@ -42,10 +42,10 @@ pub fn answer_cases<B: BufRead + Send, W: Write + Send, H: Threads + Wait + Sync
     match answer_all(rt, alloc, workers, r, w) {
         Outcome::All(status) => status,
         Outcome::ReadFailed => {
-            let _ = write_line(w, b"bad device\n", DEVICE);
+            let _ = write_lines(w, b"bad device\n", DEVICE);
             DEVICE
         }
-        Outcome::OutOfMemory => match write_line(w, b"bad memory\n", MEMORY) {
+        Outcome::OutOfMemory => match write_lines(w, b"bad memory\n", MEMORY) {
             Some(status) => status,
             None => DEVICE,
         },
