@@ -105,7 +105,8 @@ whole_told input n status old new none told = ∥∥₁_elim none ∥∥₁_prop
 
 -- ---- lines that are gathered before they are written
 
-pub none_continue : (input : Option (List ℕ)) (first greatest : ℕ) (lines : List ℕ) → greatest ≡ 0 → lines ≡ [] → ∥ Continues input first first greatest lines ∥₁
+pub none_continue : (input : Option (List ℕ)) (first greatest : ℕ) (lines : List ℕ) → greatest ≡ 0 → lines ≡ []
+    → ∥ Continues input first first greatest lines ∥₁
 none_continue input first greatest lines none empty =
     ∣ (λ status old mid new told appended. ∥∥₁_map told (λ t. record {
       cases = t.cases;
@@ -139,7 +140,8 @@ one_continues input first n greatest grown lines more answer continues at gather
     let apart : max (max status greatest) (status_of gathers.0) ≡ max status (max greatest (status_of gathers.0)) = omega arith in
     let sum : max (max status greatest) (status_of gathers.0) ≡ max status grown = apart ∙ ap (max status) (sym gathers.2) in
     subst (λ (s : ℕ). ∥ TellsFirst input (n + 1) s old new ∥₁) sum
-    (one_told input n (max status greatest) (status_of gathers.0) answer old half new (gathers.0, gathers.1, refl, parts.1) at (k status old mid half told parts.0)))
+    (one_told input n (max status greatest) (status_of gathers.0) answer old half new (gathers.0, gathers.1, refl, parts.1) at
+    (k status old mid half told parts.0)))
 
 pub batch_told : (input : Option (List ℕ)) (first next status greatest : ℕ) (lines : List ℕ) (old mid new : Option (List ℕ))
     → ∥ Continues input first next greatest lines ∥₁ → Appends mid new lines → ∥ TellsFirst input first status old mid ∥₁

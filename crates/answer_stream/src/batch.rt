@@ -8,7 +8,7 @@ ghost use Rattle.answer_stream.specs.Told.{Continues, Gathers};
 
 use crate::source::Source;
 use crate::stream::{Done, Stream};
-use answer_lines::{MEMORY, line_of, status_of};
+use answer_lines::{MEMORY, append_line, status_of};
 use answers::Gathered;
 use checker::check_case;
 use parallel_check::CaseResult;
@@ -122,7 +122,7 @@ impl<S: Stream> TakenCases<S> {
         let first = self.cases.first().and_then(|case| case.number);
         let mut batch = Batch::new(alloc, first.unwrap_or(0));
         for place in 0..self.count.min(self.cases.len()) {
-            if !batch.add(alloc, self.cases[place].check(alloc)) {
+            if !batch.add(self.cases[place].check(alloc)) {
                 break;
             }
             if place > 0 {
@@ -141,6 +141,8 @@ pub(crate) struct Batch<S: Stream> {
     /// The number of the case after the last.
     pub next: u64,
     pub gathered: Gathered,
+    // Memory for a line.
+    line: Vec<u8>,
     /// An answer is missing, since there was no memory for its line.
     pub is_cut: bool,
     of: PhantomData<S>,
@@ -154,6 +156,7 @@ impl<S: Stream> Batch<S> {
             first,
             next: first,
             gathered: Gathered::new(alloc),
+            line: Vec::new(alloc),
             is_cut: false,
             of: PhantomData,
         }
@@ -165,16 +168,18 @@ impl<S: Stream> Batch<S> {
     }
 
     // Adds the next answer. Returns whether it could be added; if it could not, it is missing.
-    fn add(&mut self, alloc: Global, done: Option<Done<S>>) -> bool {
-        self.is_cut = self.try_add(alloc, done).is_none();
+    fn add(&mut self, done: Option<Done<S>>) -> bool {
+        self.is_cut = self.try_add(done).is_none();
         !self.is_cut
     }
 
     // Adds the next answer. `None`: it isn't the next, or there is no memory for it.
-    fn try_add(&mut self, alloc: Global, done: Option<Done<S>>) -> Option<()> {
+    fn try_add(&mut self, done: Option<Done<S>>) -> Option<()> {
         let done = done?;
         let next = self.next.checked_add(1)?;
-        if done.number != self.next || gather(alloc, &mut self.gathered, &done.answer).is_err() {
+        if done.number != self.next
+            || gather(&mut self.line, &mut self.gathered, &done.answer).is_err()
+        {
             return None;
         }
         self.next = next;
@@ -183,22 +188,26 @@ impl<S: Stream> Batch<S> {
 }
 
 // Appends the line of an answer. If there is no memory for the line, the answer is that memory ran out.
-fn gather(alloc: Global, gathered: &mut Gathered, answer: &CaseResult) -> Result<(), AllocError>
+fn gather(
+    line: &mut Vec<u8>,
+    gathered: &mut Gathered,
+    answer: &CaseResult,
+) -> Result<(), AllocError>
     ensures told { OnOk result (Gathers answer.now gathered.old.lines.items gathered.old.greatest
         gathered.new.lines.items gathered.new.greatest) }
     ensures same_lines { OnErr result (gathered.new.lines.items ≡ gathered.old.lines.items) }
     ensures same_greatest { OnErr result (gathered.new.greatest ≡ gathered.old.greatest) }
 {
-    if gather_line(alloc, gathered, answer).is_ok() {
+    if gather_line(line, gathered, answer).is_ok() {
         return Ok(());
     }
     gathered.push(b"bad memory\n".as_slice(), MEMORY)?;
     Ok(())
 }
 
-// Appends the line of an answer. If there is no memory for it, nothing changes.
+// Appends the line of an answer, which is first put into `line`. If there is no memory for it, nothing changes.
 fn gather_line(
-    alloc: Global,
+    line: &mut Vec<u8>,
     gathered: &mut Gathered,
     answer: &CaseResult,
 ) -> Result<(), AllocError>
@@ -207,6 +216,7 @@ fn gather_line(
     ensures same_lines { OnErr result (gathered.new.lines.items ≡ gathered.old.lines.items) }
     ensures same_greatest { OnErr result (gathered.new.greatest ≡ gathered.old.greatest) }
 {
-    let line = line_of(alloc, answer)?;
+    line.clear();
+    append_line(line, answer)?;
     gathered.push(line.as_slice(), status_of(answer))
 }

@@ -80,8 +80,8 @@ impl<'a, B: BufRead, S: Stream> Source<'a, B, S> {
         }
     }
 
-    /// Reads the next case into `text`, if all of it is at hand, and returns its number. `None`: it isn't, or no further
-    /// case can be read.
+    /// Reads the next case into `text`, if all of it is at hand, and returns its number. `None`: it isn't, or no
+    /// further case can be read.
     pub fn take_at_hand(&mut self, text: &mut Vec<u8>) -> Option<u64>
         ensures { IfSome result (λ number. ∥ IsCaseAt S.input number text.new.items ∥₁) }
     {

@@ -12,7 +12,7 @@ use Rattle.std.proofs.lemmas.List.Elements.{All-cons, All-nil}
 use Rattle.std.proofs.lemmas.Grind.{common_steps}
 use Rattle.std.proofs.lemmas.Slice.Eq.{bytes_eq-Decides}
 use Rattle.bstr.specs.Text.{lines_of, no_cr, without_terminator}
-use Rattle.counted.specs.AtHand.{AreOthers, IsWordLine, Takes}
+use Rattle.counted.specs.AtHand.{AreOthers, IsOther, IsWordLine, Takes}
 use Rattle.counted.specs.LineParts.{EndsAtFeed}
 use Rattle.counted.specs.declared.at_hand.Taken.{Taken}
 use Rattle.counted.specs.declared.at_hand.Taken.TheVariants.{ToWord, Lines, Nothing, AtEnd}
@@ -86,7 +86,7 @@ other_line raw ended other =
 -- ---- the cases that are left behind such lines
 
 others_read : (text : List ℕ) (lines : List (List ℕ)) (rest : List ℕ)
-    → AllByRecursion (λ raw. EndsAtFeed raw × ¬ IsWordLine (codes "end") raw) lines
+    → AllByRecursion (IsOther (codes "end")) lines
     → cases_from text (lines_of (concat lines ++ rest)) ≡ cases_from (text ++ concat lines) (lines_of rest)
 others_read text [] rest all = ap (λ (xs : List ℕ). cases_from xs (lines_of rest)) (sym (append-nil text))
 others_read text (raw ∷ lines) rest all =

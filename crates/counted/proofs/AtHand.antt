@@ -10,7 +10,7 @@ use Rattle.std.proofs.lemmas.Grind.{common_steps}
 use Rattle.std.proofs.lemmas.List.{drop_at, take_at}
 use Rattle.std.proofs.lemmas.List.Folds.{concat-append}
 use Rattle.std.proofs.lemmas.Slice.Eq.{bytes_eq-Decides}
-use Rattle.counted.specs.AtHand.{AreOthers, IsWordLine, Takes}
+use Rattle.counted.specs.AtHand.{AreOthers, IsOther, IsWordLine, Takes}
 use Rattle.counted.specs.LineParts.{EndsAtFeed}
 use Rattle.counted.specs.declared.at_hand.Taken.TheVariants.{ToWord, Lines}
 use Rattle.counted.proofs.LineParts.{feed_at}
@@ -60,8 +60,8 @@ pub feed_in : (bytes : List ℕ) (n at : ℕ) → at < length (slice_range bytes
     → (slice_index (slice_range bytes n (length bytes)) at == 10) ≡ true → EndsAtFeed (take (at + 1) (drop n bytes))
 feed_in bytes n at lt none is = feed_at (drop n bytes) (length bytes - n) at lt none is
 
-all_and_one : (word : List ℕ) (lines : List (List ℕ)) (raw : List ℕ) → AllByRecursion (λ raw. EndsAtFeed raw × ¬ IsWordLine word raw) lines
-    → EndsAtFeed raw → (IsWordLine word raw → ⊥) → AllByRecursion (λ raw. EndsAtFeed raw × ¬ IsWordLine word raw) (lines ++ raw ∷ [])
+all_and_one : (word : List ℕ) (lines : List (List ℕ)) (raw : List ℕ) → AllByRecursion (IsOther word) lines
+    → EndsAtFeed raw → (IsWordLine word raw → ⊥) → AllByRecursion (IsOther word) (lines ++ raw ∷ [])
 all_and_one word [] raw all ended other = ((ended, other), tt)
 all_and_one word (line ∷ lines) raw all ended other = (all.0, all_and_one word lines raw all.1 ended other)
 

@@ -10,10 +10,13 @@ use Rattle.counted.specs.declared.at_hand.Taken.TheVariants.{ToWord, Lines, Noth
 abbrev pub IsWordLine : List ℕ → List ℕ → Type 0
 IsWordLine word raw = (raw ≡ word ++ 10 ∷ []) ⊎ (raw ≡ word ++ 13 ∷ 10 ∷ [])
 
--- the bytes are lines with their ends, none of which is this word
+-- the bytes are a line with its end, which is not this word
+abbrev pub IsOther : List ℕ → List ℕ → Type 0
+IsOther word raw = EndsAtFeed raw × ¬ IsWordLine word raw
+
+-- the bytes are such lines
 abbrev pub AreOthers : List ℕ → List ℕ → Type 0
-AreOthers word bytes =
-    (lines : List (List ℕ)) × AllByRecursion (λ raw. EndsAtFeed raw × ¬ IsWordLine word raw) lines × (bytes ≡ concat lines)
+AreOthers word bytes = (lines : List (List ℕ)) × AllByRecursion (IsOther word) lines × (bytes ≡ concat lines)
 
 -- known bytes lose these lines, and the word's line if it ended them
 abbrev pub Takes : Taken → List ℕ → Option (List ℕ) → Option (List ℕ) → List ℕ → Type 0

@@ -1,12 +1,12 @@
 //! Each call of a `Counted` makes one call of its end, fails if that fails, and at no other; loops go on to the last
-//! piece, or up to the call that fails.
+//! byte, or up to the call that fails.
 //!
 //! A line has what was done, the answer of each call or `x` for a failure, how many calls failed, and how many came to
 //! the end.
 
 use crate::tests::ends::{Sink, Source};
 use crate::tests::telling::{tell, tell_counts, tell_number, untold};
-use counted::{Counted, ReadFault};
+use counted::{Counted, ReadFault, Taken, Wanted};
 use std::alloc::Global;
 use std::io;
 use std::io::{Read, Write};
@@ -32,30 +32,25 @@ fn reads(told: &mut Vec<u8>, fails_at: u32) {
     tell_counts(told, failures, source.calls);
 }
 
-// Five pieces, each of which follows what was there before.
-fn pieces(told: &mut Vec<u8>, fails_at: u32) {
-    let mut source = Source::new(b"abcde", 2, fails_at);
+// Four times the lines at hand, up to the word `end`, with how many bytes of them there are so far.
+fn lines(alloc: Global, told: &mut Vec<u8>, fails_at: u32) {
+    let mut source = Source::new(b"a\nb\nend\n", 6, fails_at);
     let mut reader = Counted::new(&mut source);
-    tell(told, "pieces ");
-    for _ in 0..5 {
-        let word = match reader.append_piece(told) {
-            Ok(true) => "end ",
-            Ok(false) => " ",
+    let mut text = Vec::new(alloc);
+    tell(told, "lines ");
+    for wanted in [Wanted::ToWord, Wanted::Any, Wanted::ToWord, Wanted::Any] {
+        let word = match reader.append_lines(b"end".as_slice(), 9, wanted, &mut text) {
+            Ok(Taken::ToWord(true)) => "word+ ",
+            Ok(Taken::ToWord(false)) => "word ",
+            Ok(Taken::Lines) => "lines ",
+            Ok(Taken::Nothing) => "nothing ",
+            Ok(Taken::AtEnd) => "end ",
             Err(ReadFault::Read) => "x ",
             Err(ReadFault::OutOfMemory) => "memory ",
         };
+        tell_number(told, text.len() as u64);
         tell(told, word);
     }
-    let failures = reader.failures();
-    tell_counts(told, failures, source.calls);
-}
-
-// One call that reads all that is left.
-fn all_read(told: &mut Vec<u8>, source: &mut Source<'_>) {
-    let mut reader = Counted::new(&mut *source);
-    tell(told, "all ");
-    let answer = reader.append_all(told);
-    tell(told, if answer.is_ok() { " " } else { "x " });
     let failures = reader.failures();
     tell_counts(told, failures, source.calls);
 }
@@ -93,14 +88,10 @@ fn flushes(told: &mut Vec<u8>, sink: &mut Sink) {
     tell_counts(told, failures, sink.flushes);
 }
 
-// All that is done if this call fails, or none does. What reads all is called twice: four calls bring the pieces and
-// the end.
+// All that is done if this call fails, or none does.
 fn done(alloc: Global, told: &mut Vec<u8>, fails_at: u32) {
     reads(told, fails_at);
-    pieces(told, fails_at);
-    let mut source = Source::new(b"abcde", 2, fails_at);
-    all_read(told, &mut source);
-    all_read(told, &mut source);
+    lines(alloc, told, fails_at);
     writes(told, &mut Sink::new(alloc, fails_at), b"abc");
     all_written(told, &mut Sink::new(alloc, fails_at));
     flushes(told, &mut Sink::new(alloc, fails_at));
@@ -108,37 +99,27 @@ fn done(alloc: Global, told: &mut Vec<u8>, fails_at: u32) {
 
 const TOLD: &str = "\
 read 2 2 1 0 0 of 4
-pieces ab cd e end end 0 of 5
-all abcde 0 of 4
-all  0 of 5
+lines 0 nothing 4 lines 4 word 4 end 0 of 4
 write 2 2 2 0 of 3
 write all abcde 0 of 3
 flush o o o 0 of 3
 read x 2 2 1 1 of 4
-pieces x ab cd e end 1 of 5
-all x 1 of 1
-all abcde 0 of 5
+lines 0 x 4 lines 4 word 4 end 1 of 4
 write x 2 2 1 of 3
 write all x 1 of 1
 flush x o o 1 of 3
 read 2 x 2 1 1 of 4
-pieces ab x cd e end 1 of 5
-all abx 1 of 2
-all cde 0 of 5
+lines 0 nothing 0 x 0 nothing 4 lines 1 of 4
 write 2 x 2 1 of 3
 write all abx 1 of 2
 flush o x o 1 of 3
 read 2 2 x 1 1 of 4
-pieces ab cd x e end 1 of 5
-all abcdx 1 of 3
-all e 0 of 5
+lines 0 nothing 4 lines 4 x 4 word 1 of 4
 write 2 2 x 1 of 3
 write all abcdx 1 of 3
 flush o o x 1 of 3
 read 2 2 1 x 1 of 4
-pieces ab cd e x end 1 of 5
-all abcdex 1 of 4
-all  0 of 5
+lines 0 nothing 4 lines 4 word 4 x 1 of 4
 write 2 2 2 0 of 3
 write all abcde 0 of 3
 flush o o o 0 of 3
