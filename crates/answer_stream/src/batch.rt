@@ -162,9 +162,9 @@ impl<S: Stream> Batch<S> {
         }
     }
 
-    /// How many answers there are.
+    /// How many answers there are; one if the first is missing.
     pub fn count(&self) -> u64 {
-        self.next.saturating_sub(self.first)
+        self.next.saturating_sub(self.first).max(1)
     }
 
     // Adds the next answer. Returns whether it could be added; if it could not, it is missing.
