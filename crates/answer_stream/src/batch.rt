@@ -19,7 +19,7 @@ use std::marker::PhantomData;
 // How many cases a worker takes at once, at most.
 const MOST_CASES: usize = 32;
 // After a case with which the texts of a batch have so many bytes, no further one is taken.
-const MANY_BYTES: usize = 64 * 1024;
+const MANY_BYTES: usize = 16 * 1024;
 // The memory of a longer text is freed once the case is checked, except for the first case of a batch.
 const SMALL_TEXT: usize = 4096;
 
