@@ -76,6 +76,22 @@ class Many(unittest.TestCase):
                 self.assertEqual(program.stdout.read().decode(), YES)
                 self.assertEqual(program.wait(), REFUSED)
 
+    def test_answers_come_before_the_rest_of_a_case(self):
+        # How much of the next case has come: lines, a part of a line, a part of the line that ends it.
+        parts = ["trace 1\n", HEADER, HEADER + "10 1 B lis", EXPLAINED[:-1], EXPLAINED, EXPLAINED + "en", EXPLAINED + "end", EXPLAINED + "end\r"]
+        for workers in WORKERS:
+            with self.subTest(workers=workers), subprocess.Popen(command(workers), stdin=subprocess.PIPE, stdout=subprocess.PIPE) as program:
+                for count in (1, 2, 31, 32, 33, 100):
+                    for part in parts:
+                        program.stdin.write(((SPOILT + "end\n") * (count - 1) + EXPLAINED + "end\r\n" + part).encode())
+                        program.stdin.flush()
+                        self.assertEqual([read_line(program) for _ in range(count)], [BAD] * (count - 1) + [YES])
+                        program.stdin.write((EXPLAINED + "end\n")[len(part) :].encode() if not part.endswith("\r") else b"\n")
+                        program.stdin.flush()
+                        self.assertEqual(read_line(program), YES)
+                program.stdin.close()
+                self.assertEqual((program.stdout.read(), program.wait()), (b"", REFUSED))
+
     def test_order(self):
         # The first case is answered long after thousands of others.
         cases = [many_lines(100_000), *[EXPLAINED, SPOILT, SPOILT] * 2000, many_lines(20_000), EXPLAINED]

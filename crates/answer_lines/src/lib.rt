@@ -38,15 +38,26 @@ pub fn line_of(alloc: Global, answer: &Result<Verdict, CaseFault>) -> Result<Vec
     ensures { IfOk result (λ line. line.items ≡ line_of answer.now) }
 {
     let mut line = Vec::new(alloc);
+    append_line(&mut line, answer)?;
+    Ok(line)
+}
+
+/// Appends the line of a case's answer, with its end. If memory runs out, a part of it may be appended.
+pub fn append_line(
+    line: &mut Vec<u8>,
+    answer: &Result<Verdict, CaseFault>,
+) -> Result<(), OutOfMemory>
+    ensures { IfOk result (λ _. line.new.items ≡ line.old.items ++ line_of answer.now) }
+{
     match answer {
-        Ok(verdict) => print_verdict(verdict, &mut line)?,
-        Err(CaseFault::Trace(fault)) => push_fault(&mut line, "bad trace", fault)?,
-        Err(CaseFault::Witness(fault)) => push_fault(&mut line, "bad witness", fault)?,
-        Err(CaseFault::Read) => push_word(&mut line, "bad device")?,
-        Err(CaseFault::OutOfMemory) => push_word(&mut line, "bad memory")?,
+        Ok(verdict) => print_verdict(verdict, line)?,
+        Err(CaseFault::Trace(fault)) => push_fault(line, "bad trace", fault)?,
+        Err(CaseFault::Witness(fault)) => push_fault(line, "bad witness", fault)?,
+        Err(CaseFault::Read) => push_word(line, "bad device")?,
+        Err(CaseFault::OutOfMemory) => push_word(line, "bad memory")?,
     }
     line.push(b'\n')?;
-    Ok(line)
+    Ok(())
 }
 
 // Appends what is refused, where, and why.

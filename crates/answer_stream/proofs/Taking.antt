@@ -1,6 +1,7 @@
 -- Cases that are taken one after another.
 use Rattle.std.proofs.Common.{◌≡◌, ◌<◌, ◌+◌, ◌∙◌, sym, ap, subst, ℕ, List, [], ◌∷◌, length, get_or, drop, Option, None, Some, arith}
 use Rattle.std.proofs.lemmas.List.{drop_more, length-drop}
+use Rattle.std.specs.Io.KnownBytes.{Consumes}
 use Rattle.case_stream.specs.Cases.{cases_of}
 use Rattle.case_stream.specs.Left.{HasNoCase, TakesCase, TakesLast}
 use Rattle.std.proofs.Math.Logic.{∥∥₁_map}
@@ -93,6 +94,18 @@ after_last state input old new n text is_open takes are = ∥∥₁_map are (λ 
 pub after_none : (state : State) (input old new : Option (List ℕ)) (n : ℕ) → state ≡ Open → HasNoCase old
     → ∥ AreLeftIn state input n old ∥₁ → ∥ AreLeftIn Ended input n new ∥₁
 after_none state input old new n is_open none are = ∥∥₁_map are (λ a. none_left input old n none (if_open state input old n is_open a))
+
+kept_left : (input old new : Option (List ℕ)) (n : ℕ) → Consumes old new [] → AreLeft input n old → AreLeft input n new
+kept_left None old new n same left = tt
+kept_left (Some input) None new n same left = absurd left
+kept_left (Some input) (Some old) None n same left = absurd same
+kept_left (Some input) (Some old) (Some new) n same left = ap cases_of (sym same) ∙ left
+
+pub after_nothing : (state : State) (input old new : Option (List ℕ)) (n : ℕ) → state ≡ Open → Consumes old new []
+    → ∥ AreLeftIn state input n old ∥₁ → ∥ AreLeftIn state input n new ∥₁
+after_nothing state input old new n is_open same are =
+    ∥∥₁_map are
+    (λ a. subst (λ (s : State). AreLeftIn s input n new) (sym is_open) (kept_left input old new n same (if_open state input old n is_open a)))
 
 pub none_if_ended : (state : State) (input left : Option (List ℕ)) (n : ℕ) → state ≡ Ended → ∥ AreLeftIn state input n left ∥₁ → ∥ HasNone input n ∥₁
 none_if_ended state input left n ended are = ∥∥₁_map are (λ a. subst (λ (s : State). AreLeftIn s input n left) ended a)

@@ -1,8 +1,9 @@
 -- Answers that are printed one after another.
 use Rattle.std.proofs.Common.{◌≡◌, ◌≤◌, ◌+◌, ◌⊎◌, ◌∙◌, sym, ap, ap₂, subst, refl, inl, inr, ℕ, List, [], ◌∷◌, ◌++◌, length, take}
-use Rattle.std.proofs.Common.{Option, None, Some, IfSome, codes, Result, Err, max, arith, append-nil, length-append}
-use Rattle.std.specs.Io.KnownBytes.{Appends}
+use Rattle.std.proofs.Common.{Option, None, Some, Result, Err, max, arith, append-nil, append_assoc, length-append}
+use Rattle.std.specs.Io.KnownBytes.{Appends, append_known}
 use Rattle.std.proofs.KnownBytes.{Appends-trans}
+use Rattle.std.proofs.Math.Nat.{max-zero}
 use Rattle.std.proofs.Math.Logic.{∥∥₁_elim, ∥∥₁_map, ∥∥₁_prop}
 use Rattle.std.proofs.lemmas.List.{take_more}
 use Rattle.parallel_check.proofs.Slots.{gives_answer}
@@ -12,11 +13,11 @@ use Rattle.verdict.specs.declared.report.Verdict.{Verdict}
 use Rattle.checker.specs.declared.case.CaseFault.{CaseFault}
 use Rattle.checker.specs.declared.case.CaseFault.TheVariants.{OutOfMemory}
 use Rattle.parallel_check.specs.Answers.{IsAnswer}
-use Rattle.answer_lines.specs.Output.{line_of}
+use Rattle.answer_lines.specs.Output.{line_of, status_of}
 use Rattle.case_stream.specs.Cases.{cases_of}
 use Rattle.answer_stream.specs.Left.{HasNone, IsCaseAt}
 use Rattle.answer_stream.specs.Outcomes.{AreAll, TellsAll, TellsSome}
-use Rattle.answer_stream.specs.Told.{AreFirst, IsAnswerAt, TellsAnswer, TellsFirst, lines_of_all}
+use Rattle.answer_stream.specs.Told.{AreFirst, Continues, Gathers, IsAnswerAt, TellsAnswer, TellsFirst, lines_of_all}
 use Rattle.answer_stream.proofs.Answered.{each_pushed, greatest_pushed, lines_pushed, none_answered}
 
 none_appended : (old new : Option (List ℕ)) → old ≡ new → Appends old new []
@@ -83,12 +84,6 @@ pub all_told : (input : Option (List ℕ)) (n status : ℕ) (old new : Option (L
     → TellsFirst input n status old new → TellsAll input status old new
 all_told input n status old new none t = record { cases = t.cases; all = all_of input t.cases n t.many t.first none; told = t.told }
 
--- if there is no memory for the line of an answer, that is the answer
-pub memory_told : (written : Option ℕ) (answer : Result Verdict CaseFault) (old new : Option (List ℕ))
-    → IfSome written (λ status. (status ≡ 4) × Appends old new (codes "bad memory\n")) → IfSome written (λ status. TellsAnswer answer status old new)
-memory_told None answer old new is = tt
-memory_told (Some status) answer old new is = (Err OutOfMemory, inr refl, is.0, is.1)
-
 -- ---- as far as there is such a list
 
 pub answer_at : (input : Option (List ℕ)) (n : ℕ) (text : List ℕ) (answer : Result Verdict CaseFault) → GivesCase answer (case_result text)
@@ -107,3 +102,49 @@ some_told input n status old new told = ∥∥₁_map told (λ t. (n, status, t)
 pub whole_told : (input : Option (List ℕ)) (n status : ℕ) (old new : Option (List ℕ)) → ∥ HasNone input n ∥₁ → ∥ TellsFirst input n status old new ∥₁
     → ∥ TellsAll input status old new ∥₁
 whole_told input n status old new none told = ∥∥₁_elim none ∥∥₁_prop (λ no. ∥∥₁_map told (λ t. all_told input n status old new no t))
+
+-- ---- lines that are gathered before they are written
+
+pub none_continue : (input : Option (List ℕ)) (first greatest : ℕ) (lines : List ℕ) → greatest ≡ 0 → lines ≡ []
+    → ∥ Continues input first first greatest lines ∥₁
+none_continue input first greatest lines none empty =
+    ∣ (λ status old mid new told appended. ∥∥₁_map told (λ t. record {
+      cases = t.cases;
+      first = t.first;
+      many = t.many;
+      told = record {
+        answers = t.told.answers;
+        each = t.told.each;
+        greatest = ap (max status) none ∙ max-zero status ∙ t.told.greatest;
+        written =
+            subst (λ (xs : List ℕ). Appends old new xs) (append-nil (lines_of_all t.told.answers))
+            (Appends-trans old mid new (lines_of_all t.told.answers) [] t.told.written (subst (λ (xs : List ℕ). Appends mid new xs) empty appended));
+      };
+    })) ∣₁
+
+-- lines that were written at once were written one part after the other
+by_parts : (mid new : Option (List ℕ)) (lines line : List ℕ) → Appends mid new (lines ++ line)
+    → Appends mid (append_known mid lines) lines × Appends (append_known mid lines) new line
+by_parts None new lines line appended = (tt, tt)
+by_parts (Some xs) None lines line appended = absurd appended
+by_parts (Some xs) (Some ys) lines line appended = (refl, appended ∙ sym (append_assoc xs lines line))
+
+pub one_continues : (input : Option (List ℕ)) (first n greatest grown : ℕ) (lines more : List ℕ) (answer : Result Verdict CaseFault)
+    → ∥ Continues input first n greatest lines ∥₁ → ∥ IsAnswerAt input n answer ∥₁ → Gathers answer lines greatest more grown
+    → ∥ Continues input first (n + 1) grown more ∥₁
+one_continues input first n greatest grown lines more answer continues at gathers =
+    ∥∥₁_map continues (λ k. λ status old mid new told appended.
+    let line : List ℕ = line_of gathers.0 in
+    let parts = by_parts mid new lines line (subst (λ (xs : List ℕ). Appends mid new xs) gathers.3 appended) in
+    let half : Option (List ℕ) = append_known mid lines in
+    let apart : max (max status greatest) (status_of gathers.0) ≡ max status (max greatest (status_of gathers.0)) = omega arith in
+    let sum : max (max status greatest) (status_of gathers.0) ≡ max status grown = apart ∙ ap (max status) (sym gathers.2) in
+    subst (λ (s : ℕ). ∥ TellsFirst input (n + 1) s old new ∥₁) sum
+    (one_told input n (max status greatest) (status_of gathers.0) answer old half new (gathers.0, gathers.1, refl, parts.1) at
+    (k status old mid half told parts.0)))
+
+pub batch_told : (input : Option (List ℕ)) (first next status greatest : ℕ) (lines : List ℕ) (old mid new : Option (List ℕ))
+    → ∥ Continues input first next greatest lines ∥₁ → Appends mid new lines → ∥ TellsFirst input first status old mid ∥₁
+    → ∥ TellsFirst input next (max status greatest) old new ∥₁
+batch_told input first next status greatest lines old mid new continues appended told =
+    ∥∥₁_elim continues ∥∥₁_prop (λ k. k status old mid new told appended)

@@ -48,3 +48,16 @@ abbrev pub TellsAnswer : Result Verdict CaseFault → ℕ → Option (List ℕ) 
 TellsAnswer answer status old new =
     (told : Result Verdict CaseFault) × ((told ≡ answer) ⊎ (told ≡ Err OutOfMemory))
     × (status ≡ status_of told) × Appends old new (line_of told)
+
+-- the same, where the line was appended to others, and the status is the greatest of theirs
+abbrev pub Gathers : Result Verdict CaseFault → List ℕ → ℕ → List ℕ → ℕ → Type 0
+Gathers answer old_lines old_greatest new_lines new_greatest =
+    (told : Result Verdict CaseFault) × ((told ≡ answer) ⊎ (told ≡ Err OutOfMemory))
+    × (new_greatest ≡ max old_greatest (status_of told)) × (new_lines ≡ old_lines ++ line_of told)
+
+-- if answers to so many first cases were written, then with these lines, whose greatest status this is, answers to so
+-- many more are
+abbrev pub Continues : Option (List ℕ) → ℕ → ℕ → ℕ → List ℕ → Type 0
+Continues input first next greatest lines =
+    (status : ℕ) → (old mid new : Option (List ℕ)) → ∥ TellsFirst input first status old mid ∥₁ → Appends mid new lines
+    → ∥ TellsFirst input next (max status greatest) old new ∥₁

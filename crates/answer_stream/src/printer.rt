@@ -5,43 +5,27 @@ ghost use Rattle.std.specs.Io.KnownBytes.{Appends};
 ghost use Rattle.counted.specs.Counting.{left_of, failures_of};
 ghost use Rattle.answer_stream.specs.Told.{TellsAnswer, TellsFirst};
 
-use crate::stream::{Done, Lent, Stream};
-use answer_lines::{MEMORY, line_of, status_of};
+use crate::batch::Batch;
+use crate::stream::{Lent, Stream};
 use counted::Counted;
-use parallel_check::CaseResult;
 use std::alloc::Global;
 use std::io::Write;
 
-// A worker whose answer isn't the next one waits while this many answers wait.
-const MOST_WAITING: usize = 1024;
+// A worker whose answers aren't the next ones waits while this many answers wait.
+const MOST_WAITING: u64 = 1024;
 
-/// Writes a line, and returns this status. `None`: a write failed.
-pub(crate) fn write_line<W: Write>(w: &mut Counted<W>, line: &[u8], status: u8) -> Option<u8>
+/// Writes lines at once, and returns this status. `None`: a write failed.
+pub(crate) fn write_lines<W: Write>(w: &mut Counted<W>, lines: &[u8], status: u8) -> Option<u8>
     requires { failures_of w.old < 2 ^ 50 }
     ensures told { IfSome result (λ s. (s ≡ status)
-        × Appends (left_of W.contents w.old) (left_of W.contents w.new) line.now) }
+        × Appends (left_of W.contents w.old) (left_of W.contents w.new) lines.now) }
     ensures quiet { IfSome result (λ _. failures_of w.new ≡ failures_of w.old) }
     ensures failed { IfNone result (failures_of w.old < failures_of w.new) }
 {
-    if w.write_all(line).is_err() || w.flush().is_err() {
+    if w.write_all(lines).is_err() || w.flush().is_err() {
         return None;
     }
     Some(status)
-}
-
-// Writes the line of an answer, and returns its status. If there is no memory for the line, the answer is that memory
-// ran out. `None`: a write failed.
-fn tell<W: Write>(alloc: Global, w: &mut Counted<W>, answer: &CaseResult) -> Option<u8>
-    requires { failures_of w.old < 2 ^ 50 }
-    ensures told { IfSome result (λ status. TellsAnswer answer.now status (left_of W.contents w.old)
-        (left_of W.contents w.new)) }
-    ensures quiet { IfSome result (λ _. failures_of w.new ≡ failures_of w.old) }
-    ensures failed { IfNone result (failures_of w.old < failures_of w.new) }
-{
-    match line_of(alloc, answer) {
-        Ok(line) => write_line(w, line.as_slice(), status_of(answer)),
-        Err(_) => write_line(w, b"bad memory\n", MEMORY),
-    }
 }
 
 /// The writer, with the number of the answers that were printed.
@@ -51,10 +35,12 @@ pub(crate) struct Printer<'a, W: Write, S: Stream> {
     pub next: u64,
     pub greatest: u8,
     // Answers that wait for an earlier one.
-    waiting: Vec<Done<S>>,
+    waiting: Vec<Batch<S>>,
+    // How many these are.
+    count: u64,
     // A write failed.
     pub failed: bool,
-    // An answer was lost, since there was no memory for it to wait.
+    // An answer was lost, since there was no memory for its line, or for it to wait.
     lost: bool,
     pub ghost same: { at.ghost_name ≡ S.writer },
     pub ghost told: { failed ≡ false → ∥ TellsFirst S.input next greatest S.contents
@@ -78,6 +64,7 @@ impl<'a, W: Write, S: Stream> Printer<'a, W, S> {
             next: 0,
             greatest: 0,
             waiting: Vec::new(alloc),
+            count: 0,
             failed: false,
             lost: false,
         }
@@ -88,61 +75,63 @@ impl<'a, W: Write, S: Stream> Printer<'a, W, S> {
         self.failed || self.lost
     }
 
-    /// Whether the answer to the case with this number has to wait outside.
+    /// Whether answers from the one to the case with this number on have to wait outside.
     pub fn is_full(&self, number: u64) -> bool {
-        !self.is_stopped() && number != self.next && self.waiting.len() >= MOST_WAITING
+        !self.is_stopped() && number != self.next && self.count >= MOST_WAITING
     }
 
-    /// Prints an answer and those that waited for it; or keeps it, if an earlier one is missing.
-    pub fn take(&mut self, alloc: Global, done: Done<S>) {
+    /// Prints answers and those that waited for them; or keeps them, if an earlier one is missing.
+    pub fn take(&mut self, batch: Batch<S>) {
         if self.is_stopped() {
             return;
         }
-        if done.number == self.next {
-            self.print(alloc, done);
-            self.print_due(alloc);
-        } else if self.waiting.push(done).is_err() {
-            self.lost = true;
+        if batch.first == self.next {
+            self.print(&batch);
+            self.print_due();
+        } else {
+            self.count = self.count.saturating_add(batch.count());
+            self.lost = self.waiting.push(batch).is_err();
         }
     }
 
     // Prints the answers that waited for the last one.
-    fn print_due(&mut self, alloc: Global) {
+    fn print_due(&mut self) {
         for _ in 0..self.waiting.len() {
             let Some(place) = self.find_next() else {
                 return;
             };
-            let done = self.waiting.swap_remove(place);
-            self.print(alloc, done);
+            let batch = self.waiting.swap_remove(place);
+            self.count = self.count.saturating_sub(batch.count());
+            self.print(&batch);
         }
     }
 
-    // Where the next answer waits.
+    // Where the next answers wait.
     fn find_next(&self) -> Option<usize>
         ensures { IfSome result (λ place. place < vec_len self.now.waiting) }
     {
         for place in 0..self.waiting.len() {
-            if self.waiting[place].number == self.next {
+            if self.waiting[place].first == self.next {
                 return Some(place);
             }
         }
         None
     }
 
-    // Prints the next answer.
-    fn print(&mut self, alloc: Global, done: Done<S>) {
-        let number = done.number;
-        if self.failed || number != self.next {
+    // Prints the next answers.
+    fn print(&mut self, batch: &Batch<S>) {
+        if self.failed || batch.first != self.next {
             return;
         }
-        let Some(next) = number.checked_add(1) else {
-            self.lost = true;
-            return;
-        };
-        match tell(alloc, self.at, &done.answer) {
+        match write_lines(
+            self.at,
+            batch.gathered.lines.as_slice(),
+            batch.gathered.greatest,
+        ) {
             Some(status) => {
-                self.next = next;
+                self.next = batch.next;
                 self.greatest = self.greatest.max(status);
+                self.lost = batch.is_cut || self.lost;
             }
             None => self.failed = true,
         }
@@ -157,6 +146,7 @@ impl<'a, W: Write, S: Stream> Printer<'a, W, S> {
             next: _,
             greatest: _,
             waiting: _,
+            count: _,
             failed: _,
             lost: _,
         } = self;

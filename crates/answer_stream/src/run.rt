@@ -5,7 +5,7 @@ ghost use Rattle.std.specs.Io.KnownBytes.{Appends};
 ghost use Rattle.counted.specs.Counting.{left_of, failures_of};
 ghost use Rattle.answer_stream.specs.Endings.{EndsMany, TellsBefore};
 
-use crate::printer::write_line;
+use crate::printer::write_lines;
 use crate::work::{Outcome, answer_all};
 use answer_lines::{DEVICE, MEMORY};
 use counted::Counted;
@@ -15,11 +15,12 @@ use std::sync::Wait;
 use std::thread::Threads;
 
 /// Answers the cases of an input by this many threads, 1 to 64, and returns the greatest of their statuses, or 0 if
-/// there are none. Each case gets one line, in their order, as soon as it and those before it are checked; each line is
-/// flushed. If a thread can't be started, the others or the calling thread do its work. A case for which memory runs
-/// out while it is checked has that as its answer. If a read fails, or memory runs out for a text, the answers to the
-/// cases before it are followed by a line that says so, and the status is 5 or 4. It is 5, too, if a write failed. Both
-/// counts of failures must be below 2^50 before the call; those of new ends are.
+/// there are none. Each case gets one line, in their order. The lines are written and flushed in batches, each as soon
+/// as its cases and those before them are checked; a batch ends before its worker would wait for input. If a thread
+/// can't be started, the others or the calling thread do its work. A case for which memory runs out while it is checked
+/// has that as its answer. If a read fails, or memory runs out for a text or for the lines of answers, the answers to
+/// the cases before it are followed by a line that says so, and the status is 5 or 4. It is 5, too, if a write failed.
+/// Both counts of failures must be below 2^50 before the call; those of new ends are.
 pub fn answer_cases<B: BufRead + Send, W: Write + Send, H: Threads + Wait + Sync>(
     rt: &H,
     alloc: Global,
@@ -42,10 +43,10 @@ pub fn answer_cases<B: BufRead + Send, W: Write + Send, H: Threads + Wait + Sync
     match answer_all(rt, alloc, workers, r, w) {
         Outcome::All(status) => status,
         Outcome::ReadFailed => {
-            let _ = write_line(w, b"bad device\n", DEVICE);
+            let _ = write_lines(w, b"bad device\n", DEVICE);
             DEVICE
         }
-        Outcome::OutOfMemory => match write_line(w, b"bad memory\n", MEMORY) {
+        Outcome::OutOfMemory => match write_lines(w, b"bad memory\n", MEMORY) {
             Some(status) => status,
             None => DEVICE,
         },

@@ -3,12 +3,14 @@
 ghost use Rattle.std.specs.Prelude.{◌≡◌, ◌≢◌, ◌<◌, ◌^◌, IfSome};
 ghost use Rattle.counted.specs.Counting.{left_of, failures_of};
 ghost use Rattle.answer_stream.specs.declared.state.State.{State};
+ghost use Rattle.counted.specs.declared.ends.ReadFault.{ReadFault};
 ghost use Rattle.answer_stream.specs.Left.{AreLeftIn, IsCaseAt};
 
 use crate::state::State;
 use crate::stream::{Lent, Stream};
-use case_stream::{Next, next_case};
+use case_stream::{Kept, Next, next_case, next_case_at_hand};
 use counted::{Counted, ReadFault};
+use std::alloc::Global;
 use std::io::BufRead;
 use std::marker::PhantomData;
 
@@ -16,6 +18,7 @@ use std::marker::PhantomData;
 #[derive(Drop)]
 pub(crate) struct Source<'a, B: BufRead, S: Stream> {
     pub at: &'a mut Counted<B>,
+    kept: Kept,
     pub taken: u64,
     pub state: State,
     of: PhantomData<S>,
@@ -28,7 +31,7 @@ pub(crate) struct Source<'a, B: BufRead, S: Stream> {
 
 impl<'a, B: BufRead, S: Stream> Source<'a, B, S> {
     /// A reader from which nothing was read yet.
-    pub fn new(lent: Lent<'a, Counted<B>>) -> Source<'a, B, S>
+    pub fn new(alloc: Global, lent: Lent<'a, Counted<B>>) -> Source<'a, B, S>
         requires same { lent.at.ghost_name ≡ S.reader }
         requires input { S.input ≡ left_of B.remaining lent.at.now }
         requires reads { failures_of lent.at.now ≡ S.reads }
@@ -37,15 +40,15 @@ impl<'a, B: BufRead, S: Stream> Source<'a, B, S> {
         let Lent { at } = lent;
         Source {
             at,
+            kept: Kept::new(alloc),
             taken: 0,
             state: State::Open,
             of: PhantomData,
         }
     }
 
-    /// Reads the next case into `text`, and returns its number. `None`: no further case can be read. `line` is used for
-    /// each line.
-    pub fn take(&mut self, line: &mut Vec<u8>, text: &mut Vec<u8>) -> Option<u64>
+    /// Reads the next case into `text`, and returns its number. `None`: no further case can be read.
+    pub fn take(&mut self, text: &mut Vec<u8>) -> Option<u64>
         ensures { IfSome result (λ number. ∥ IsCaseAt S.input number text.new.items ∥₁) }
     {
         if self.state != State::Open {
@@ -56,7 +59,7 @@ impl<'a, B: BufRead, S: Stream> Source<'a, B, S> {
             self.state = State::OutOfMemory;
             return None;
         };
-        match next_case(self.at, line, text) {
+        match next_case(self.at, &mut self.kept, text) {
             Ok(Next::Case) => {
                 self.taken = taken;
                 Some(number)
@@ -70,12 +73,31 @@ impl<'a, B: BufRead, S: Stream> Source<'a, B, S> {
                 self.state = State::Ended;
                 None
             }
-            Err(ReadFault::Read) => {
-                self.state = State::Failed;
+            Err(fault) => {
+                self.state = state_of(fault);
                 None
             }
-            Err(ReadFault::OutOfMemory) => {
-                self.state = State::OutOfMemory;
+        }
+    }
+
+    /// Reads the next case into `text`, if all of it is at hand, and returns its number. `None`: it isn't, or no
+    /// further case can be read.
+    pub fn take_at_hand(&mut self, text: &mut Vec<u8>) -> Option<u64>
+        ensures { IfSome result (λ number. ∥ IsCaseAt S.input number text.new.items ∥₁) }
+    {
+        if self.state != State::Open {
+            return None;
+        }
+        let number = self.taken;
+        let taken = number.checked_add(1)?;
+        match next_case_at_hand(self.at, &mut self.kept, text) {
+            Ok(true) => {
+                self.taken = taken;
+                Some(number)
+            }
+            Ok(false) => None,
+            Err(fault) => {
+                self.state = state_of(fault);
                 None
             }
         }
@@ -87,10 +109,22 @@ impl<'a, B: BufRead, S: Stream> Source<'a, B, S> {
     {
         let Source {
             at,
+            kept: _,
             taken: _,
             state: _,
             of: _,
         } = self;
         Lent { at }
+    }
+}
+
+// How it is after a fault.
+fn state_of(fault: ReadFault) -> State
+    ensures read { fault ≡ ReadFault.Read → result ≡ State.Failed }
+    ensures memory { fault ≡ ReadFault.OutOfMemory → result ≡ State.OutOfMemory }
+{
+    match fault {
+        ReadFault::Read => State::Failed,
+        ReadFault::OutOfMemory => State::OutOfMemory,
     }
 }

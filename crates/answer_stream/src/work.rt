@@ -1,20 +1,19 @@
 //! The workers, and the call that starts them.
 
-ghost use Rattle.std.specs.Prelude.{◌≡◌, ◌≢◌, ◌<◌, ◌^◌, IfSome};
+ghost use Rattle.std.specs.Prelude.{◌≡◌, ◌≢◌, ◌<◌, ◌^◌};
 ghost use Rattle.counted.specs.Counting.{left_of, failures_of};
-ghost use Rattle.answer_stream.specs.Left.{IsCaseAt};
 ghost use Rattle.answer_stream.specs.Outcomes.{Tells};
 ghost use Rattle.answer_stream.specs.declared.work.Outcome.{Outcome};
 
+use crate::batch::{Batch, TakenCases};
 use crate::printer::Printer;
 use crate::source::Source;
 use crate::state::State;
-use crate::stream::{Done, Lent, Stream};
-use checker::check_case;
+use crate::stream::{Lent, Stream};
 use counted::Counted;
 use std::alloc::Global;
 use std::io::{BufRead, Write};
-use std::marker::{Brand, PhantomData};
+use std::marker::Brand;
 use std::sync::{Condvar, Mutex, Wait};
 use std::thread;
 use std::thread::Threads;
@@ -36,44 +35,31 @@ pub(crate) enum Outcome {
 struct Shared<'a, 'b, B: BufRead, W: Write, S: Stream> {
     source: Mutex<Source<'a, B, S>>,
     printer: Mutex<Printer<'b, W, S>>,
-    // An answer was taken.
+    // Answers were taken.
     moved: Condvar,
 }
 
-// Checks a case.
-fn check_one<S: Stream>(alloc: Global, number: u64, text: &[u8]) -> Done<S>
-    requires { ∥ IsCaseAt S.input number text.now ∥₁ }
-{
-    Done {
-        number,
-        answer: check_case(alloc, text),
-        of: PhantomData,
-    }
-}
-
-// Reads the next case.
+// Takes the next cases. Returns whether there is one.
 fn take<B: BufRead, S: Stream, H: Wait>(
     rt: &H,
+    alloc: Global,
     source: &Mutex<Source<'_, B, S>>,
-    line: &mut Vec<u8>,
-    text: &mut Vec<u8>,
-) -> Option<u64>
-    ensures { IfSome result (λ number. ∥ IsCaseAt S.input number text.new.items ∥₁) }
-{
-    source.lock(rt).take(line, text)
+    cases: &mut TakenCases<S>,
+) -> bool {
+    let mut source = source.lock(rt);
+    cases.take(alloc, &mut source)
 }
 
-// Prints an answer, or leaves it to the worker that prints the one before it. Returns whether to go on.
+// Prints answers, or leaves them to the worker that prints the one before them. Returns whether to go on.
 fn give<W: Write, S: Stream, H: Wait>(
     rt: &H,
-    alloc: Global,
     printer: &Mutex<Printer<'_, W, S>>,
     moved: &Condvar,
-    done: Done<S>,
+    batch: Batch<S>,
 ) -> bool {
-    let number = done.number;
-    let mut printer = moved.wait_while(rt, printer.lock(rt), |p| p.is_full(number));
-    printer.take(alloc, done);
+    let first = batch.first;
+    let mut printer = moved.wait_while(rt, printer.lock(rt), |p| p.is_full(first));
+    printer.take(batch);
     let goes_on = !printer.is_stopped();
     drop(printer);
     moved.notify_all();
@@ -86,14 +72,13 @@ fn work<B: BufRead, W: Write, S: Stream, H: Wait>(
     alloc: Global,
     shared: &Shared<'_, '_, B, W, S>,
 ) {
-    let mut line = Vec::new(alloc);
-    let mut text = Vec::new(alloc);
+    let mut cases = TakenCases::new(alloc);
     for _ in rt.forever() {
-        let Some(number) = take(rt, &shared.source, &mut line, &mut text) else {
+        if !take(rt, alloc, &shared.source, &mut cases) {
             return;
-        };
-        let done = check_one(alloc, number, text.as_slice());
-        if !give(rt, alloc, &shared.printer, &shared.moved, done) {
+        }
+        let batch = cases.answer(alloc);
+        if !give(rt, &shared.printer, &shared.moved, batch) {
             return;
         }
     }
@@ -162,7 +147,7 @@ fn answer_named<
     ensures write { result.0 ≡ Outcome.WriteFailed → S.writes < failures_of result.2.at.now }
 {
     let shared = Shared {
-        source: Mutex::new(Source::<B, S>::new(r)),
+        source: Mutex::new(Source::<B, S>::new(alloc, r)),
         printer: Mutex::new(Printer::<W, S>::new(alloc, w)),
         moved: Condvar::new(),
     };

@@ -72,7 +72,7 @@ nothing_left (Some old) (Some was) (Some new) text so_far none empty =
 
 -- ---- a line without an end is the last
 
-feed_ends : (raw text : List ℕ) → raw ≡ text ++ 10 ∷ [] → is_ended raw ≡ true
+pub feed_ends : (raw text : List ℕ) → raw ≡ text ++ 10 ∷ [] → is_ended raw ≡ true
 feed_ends raw text is =
     let long : length (text ++ 10 ∷ []) ≡ length text + 1 = length-append text (10 ∷ []) in
     let some : nat_lt 0 (length (text ++ 10 ∷ [])) ≡ true = lt-ltb 0 (length (text ++ 10 ∷ [])) (omega (arith, long)) in

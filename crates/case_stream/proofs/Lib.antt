@@ -1,2 +1,3 @@
+mod AtHand
 mod CaseSoFar
 mod CutBackLaw

@@ -1,20 +1,23 @@
 //! Cases that follow each other in one input, read one at a time.
 //!
 //! ```text
-//! let mut line = Vec::new(alloc);
+//! let mut kept = Kept::new(alloc);
 //! let mut text = Vec::new(alloc);
-//! while next_case(&mut reader, &mut line, &mut text)? != Next::Nothing {
+//! while next_case(&mut reader, &mut kept, &mut text)? != Next::Nothing {
 //!     answer(text.as_slice());
 //! }
 //! ```
 //!
 //! A line `end` ends a case; what follows the last one is one more case, unless it is empty. `specs/Cases` defines the
 //! cases of a text. Nothing after the line `end` is read before the case is returned, except what the reader buffers.
+//! `next_case_at_hand` takes a case only if the reader has all of it at hand, so it never waits for input; no clause
+//! says so. Lines are taken from the reader by `counted::Counted::append_lines`, all that are at hand at once.
 #![tactic(auto)]
 
 mod laws;
 
-ghost use Rattle.std.specs.Prelude.{◌≡◌, ◌^◌, true, false, OnOk, Ok, Err};
+ghost use Rattle.std.specs.Prelude.{◌≡◌, ◌^◌, [], true, false, OnOk, Ok, Err};
+ghost use Rattle.std.specs.Io.KnownBytes.{Consumes};
 ghost use Rattle.counted.specs.Counting.{left_of, failures_of, one_more};
 ghost use Rattle.line_fields.specs.Lines.{is_ended};
 ghost use Rattle.case_stream.specs.Cases.{ends_case};
@@ -22,9 +25,10 @@ ghost use Rattle.case_stream.specs.Left.{HasNoCase, TakesCase, TakesLast};
 ghost use Rattle.case_stream.specs.declared.Next.{Next};
 ghost use Rattle.counted.specs.declared.ends.ReadFault.{ReadFault};
 
-use counted::{Counted, ReadFault};
+use counted::{Counted, ReadFault, Taken, Wanted};
 pub use laws::cases_are_cut_back;
 use line_fields::without_line_end;
+use std::alloc::Global;
 use std::io::BufRead;
 
 // A longer line isn't kept.
@@ -57,11 +61,30 @@ pub enum Next {
     Nothing,
 }
 
-/// Reads the next case into `text`, without the line that ends it. `line` is used for each line. A line of 2^32 bytes
-/// or more counts as out of memory.
+/// What is kept from one case of an input to the next.
+#[derive(Drop)]
+pub struct Kept {
+    // Memory for a line.
+    line: Vec<u8>,
+    // Whether bytes are at hand behind the last case.
+    is_more_at_hand: bool,
+}
+
+impl Kept {
+    /// Before the first case.
+    pub fn new(alloc: Global) -> Kept {
+        Kept {
+            line: Vec::new(alloc),
+            is_more_at_hand: false,
+        }
+    }
+}
+
+/// Reads the next case into `text`, without the line that ends it. A line of 2^32 bytes or more counts as out of
+/// memory.
 pub fn next_case<B: BufRead>(
     r: &mut Counted<B>,
-    line: &mut Vec<u8>,
+    kept: &mut Kept,
     text: &mut Vec<u8>,
 ) -> Result<Next, ReadFault>
     ensures case { result ≡ Ok Next.Case → TakesCase (left_of B.remaining r.old) (left_of B.remaining r.new)
@@ -73,22 +96,62 @@ pub fn next_case<B: BufRead>(
     ensures memory { result ≡ Err ReadFault.OutOfMemory → failures_of r.new ≡ failures_of r.old }
 {
     text.clear();
+    kept.is_more_at_hand = false;
     for _ in 0..u64::MAX {
-        match r.read_line(LONGEST_LINE, line)? {
+        match r.append_lines(b"end".as_slice(), LONGEST_LINE, Wanted::Any, text)? {
+            Taken::ToWord(is_more_at_hand) => {
+                kept.is_more_at_hand = is_more_at_hand;
+                return Ok(Next::Case);
+            }
+            Taken::Lines => continue,
+            Taken::Nothing => {}
+            Taken::AtEnd if text.is_empty() => return Ok(Next::Nothing),
+            Taken::AtEnd => return Ok(Next::Last),
+        }
+        // The next line is cut, or too long.
+        match r.read_line(LONGEST_LINE, &mut kept.line)? {
             None if text.is_empty() => return Ok(Next::Nothing),
             None => return Ok(Next::Last),
             Some(0) => {}
             Some(_) => return Err(ReadFault::OutOfMemory),
         }
-        if ends_case(line.as_slice()) {
+        if ends_case(kept.line.as_slice()) {
             return Ok(Next::Case);
         }
-        if text.extend_from_slice(line.as_slice()).is_err() {
+        if text.extend_from_slice(kept.line.as_slice()).is_err() {
             return Err(ReadFault::OutOfMemory);
         }
-        if !has_end(line.as_slice()) {
+        if !has_end(kept.line.as_slice()) {
             return Ok(Next::Last);
         }
     }
     Err(ReadFault::OutOfMemory)
+}
+
+/// Reads the next case into `text`, if all of it is at hand, with the line that ends it, and returns whether it was.
+/// What isn't at hand is left as it is, so this call never waits for input.
+pub fn next_case_at_hand<B: BufRead>(
+    r: &mut Counted<B>,
+    kept: &mut Kept,
+    text: &mut Vec<u8>,
+) -> Result<bool, ReadFault>
+    ensures case { result ≡ Ok true → TakesCase (left_of B.remaining r.old) (left_of B.remaining r.new)
+        text.new.items }
+    ensures left { result ≡ Ok false → Consumes (left_of B.remaining r.old) (left_of B.remaining r.new) [] }
+    ensures ok { OnOk result (failures_of r.new ≡ failures_of r.old) }
+    ensures read { result ≡ Err ReadFault.Read → failures_of r.new ≡ one_more (failures_of r.old) }
+    ensures memory { result ≡ Err ReadFault.OutOfMemory → failures_of r.new ≡ failures_of r.old }
+{
+    if !kept.is_more_at_hand {
+        return Ok(false);
+    }
+    kept.is_more_at_hand = false;
+    text.clear();
+    match r.append_lines(b"end".as_slice(), LONGEST_LINE, Wanted::ToWord, text)? {
+        Taken::ToWord(is_more_at_hand) => {
+            kept.is_more_at_hand = is_more_at_hand;
+            Ok(true)
+        }
+        Taken::Lines | Taken::Nothing | Taken::AtEnd => Ok(false),
+    }
 }

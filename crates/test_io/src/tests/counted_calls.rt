@@ -6,7 +6,7 @@
 
 use crate::tests::ends::{Sink, Source};
 use crate::tests::telling::{tell, tell_counts, tell_number, untold};
-use counted::Counted;
+use counted::{Counted, ReadFault, Taken, Wanted};
 use std::alloc::Global;
 use std::io;
 use std::io::{Read, Write};
@@ -27,6 +27,29 @@ fn reads(told: &mut Vec<u8>, fails_at: u32) {
     for _ in 0..4 {
         let mut bytes = [0u8; 4];
         tell_count(told, reader.read(&mut bytes));
+    }
+    let failures = reader.failures();
+    tell_counts(told, failures, source.calls);
+}
+
+// Four times the lines at hand, up to the word `end`, with how many bytes of them there are so far.
+fn lines(alloc: Global, told: &mut Vec<u8>, fails_at: u32) {
+    let mut source = Source::new(b"a\nb\nend\n", 6, fails_at);
+    let mut reader = Counted::new(&mut source);
+    let mut text = Vec::new(alloc);
+    tell(told, "lines ");
+    for wanted in [Wanted::ToWord, Wanted::Any, Wanted::ToWord, Wanted::Any] {
+        let word = match reader.append_lines(b"end".as_slice(), 9, wanted, &mut text) {
+            Ok(Taken::ToWord(true)) => "word+ ",
+            Ok(Taken::ToWord(false)) => "word ",
+            Ok(Taken::Lines) => "lines ",
+            Ok(Taken::Nothing) => "nothing ",
+            Ok(Taken::AtEnd) => "end ",
+            Err(ReadFault::Read) => "x ",
+            Err(ReadFault::OutOfMemory) => "memory ",
+        };
+        tell_number(told, text.len() as u64);
+        tell(told, word);
     }
     let failures = reader.failures();
     tell_counts(told, failures, source.calls);
@@ -68,6 +91,7 @@ fn flushes(told: &mut Vec<u8>, sink: &mut Sink) {
 // All that is done if this call fails, or none does.
 fn done(alloc: Global, told: &mut Vec<u8>, fails_at: u32) {
     reads(told, fails_at);
+    lines(alloc, told, fails_at);
     writes(told, &mut Sink::new(alloc, fails_at), b"abc");
     all_written(told, &mut Sink::new(alloc, fails_at));
     flushes(told, &mut Sink::new(alloc, fails_at));
@@ -75,22 +99,27 @@ fn done(alloc: Global, told: &mut Vec<u8>, fails_at: u32) {
 
 const TOLD: &str = "\
 read 2 2 1 0 0 of 4
+lines 0 nothing 4 lines 4 word 4 end 0 of 4
 write 2 2 2 0 of 3
 write all abcde 0 of 3
 flush o o o 0 of 3
 read x 2 2 1 1 of 4
+lines 0 x 4 lines 4 word 4 end 1 of 4
 write x 2 2 1 of 3
 write all x 1 of 1
 flush x o o 1 of 3
 read 2 x 2 1 1 of 4
+lines 0 nothing 0 x 0 nothing 4 lines 1 of 4
 write 2 x 2 1 of 3
 write all abx 1 of 2
 flush o x o 1 of 3
 read 2 2 x 1 1 of 4
+lines 0 nothing 4 lines 4 x 4 word 1 of 4
 write 2 2 x 1 of 3
 write all abcdx 1 of 3
 flush o o x 1 of 3
 read 2 2 1 x 1 of 4
+lines 0 nothing 4 lines 4 word 4 x 1 of 4
 write 2 2 2 0 of 3
 write all abcde 0 of 3
 flush o o o 0 of 3

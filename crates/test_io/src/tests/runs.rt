@@ -16,7 +16,7 @@ const RUNS: [(&[&str], u32, u32); 10] = [
     (&["many"], 0, 0),
     (&["check"], 2, 0),
     (&["check"], 3, 0),
-    (&["many", "--workers", "2"], 4, 0),
+    (&["many", "--workers", "2"], 5, 0),
     (&["check"], 0, 3),
     (&["many", "--workers", "2"], 0, 1),
     (&["many"], 0, 6),

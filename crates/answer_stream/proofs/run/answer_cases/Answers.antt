@@ -15,9 +15,9 @@ returns-in-All-clause-told g c five same = absurd (low _ _ _ _ c.in-All.ensures.
 pub returns-in-ReadFailed-clause-told : goal.returns-in-ReadFailed-clause-told
 returns-in-ReadFailed-clause-told g c five same =
     let unchanged : failures_of c.answer_all.new.w ≡ failures_of c.args.w.now = search rules in
-    let here : failures_of c.write_line.new.w ≡ failures_of c.answer_all.new.w = search rules in
+    let here : failures_of c.write_lines.new.w ≡ failures_of c.answer_all.new.w = search rules in
     some_before _ _ _ _ _ c.in-ReadFailed.ensures.tells
-    (written_if_same _ _ _ _ _ _ _ c.write_line.ensures.told c.write_line.ensures.failed here)
+    (written_if_same _ _ _ _ _ _ _ c.write_lines.ensures.told c.write_lines.ensures.failed here)
 
 pub returns-in-Some-clause-many : goal.returns-in-Some-clause-many
 returns-in-Some-clause-many g c no_device = ends_early _ _ _ _ _ c.in-OutOfMemory.ensures.tells c.in-Some.ensures.told
