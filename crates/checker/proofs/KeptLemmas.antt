@@ -148,14 +148,28 @@ refused_line header o w s named rule is broken =
     (option_map_or (act_rules header w) (held_act o (record s { label = L named })) []) rule (sym broken)))
 
 -- where it breaks none, what its line breaks in the machine is the least
-pub placed_line : (p : Progress) (o : Order) (s : Step) (named : NamedLine) (line : Line) (taken : TakenLine) → s.label ≡ L named
+pub placed_line : (p : Progress) (o : Order) (s : Step) (named : NamedLine) (line : Line) → s.label ≡ L named
     → None ≡ first_broken (order_rules o (taking s.moment named.number (extras_count named.extras)))
-    → held_line o named.number ≡ Some line → Some taken ≡ taken_of named.extras line
-    → broken_by p s.moment (line_step taken) ≡ kept_broken p.header o p.world s
-placed_line p o s named line taken is none found takes =
-    subst (λ (label : Label NamedLine). broken_by p s.moment (line_step taken) ≡ kept_broken p.header o p.world (record s { label = label })) (sym is)
+    → held_line o named.number ≡ Some line
+    → first_broken (asked_rules p s.moment (step_taking named.extras line)) ≡ kept_broken p.header o p.world s
+placed_line p o s named line is none found =
+    subst (λ (label : Label NamedLine). first_broken (asked_rules p s.moment (step_taking named.extras line)) ≡ kept_broken p.header o p.world (record s { label = label }))
+    (sym is)
     (acts ∙ sym (first_broken-append_none (order_rules o (taking s.moment named.number (extras_count named.extras)))
     (option_map_or (act_rules p.header p.world) (held_act o (record s { label = L named })) []) (sym none)))
   where
-    acts : broken_by p s.moment (line_step taken) ≡ first_broken (option_map_or (act_rules p.header p.world) (held_act o (record s { label = L named })) [])
-    acts = rw (found, sym takes) refl
+    by : (asked : Option (StepOf tcp_shape))
+        → first_broken (asked_rules p s.moment asked)
+        ≡ first_broken (option_map_or (act_rules p.header p.world)
+        (option_map (λ (step : StepOf tcp_shape). record { moment = s.moment; step = step }) asked) [])
+    by None = refl
+    by (Some step) = refl
+
+    named_step : (taken : Option TakenLine)
+        → option_map line_step taken ≡ option_map step_of (with_line (λ (n : NamedLine). taken) (L named))
+    named_step None = refl
+    named_step (Some taken) = refl
+
+    acts : first_broken (asked_rules p s.moment (step_taking named.extras line))
+        ≡ first_broken (option_map_or (act_rules p.header p.world) (held_act o (record s { label = L named })) [])
+    acts = rw (found) (by (step_taking named.extras line) ∙ ?)

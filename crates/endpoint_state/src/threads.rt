@@ -74,6 +74,7 @@ pub(crate) fn admits_begin(threads: &Table<Turn>, thread: u32) -> Result<(), Rul
 
 /// Whether a thread's call may end with this answer: one is open, and had its effect with it. The error is the first
 /// broken rule.
+#[inline(always)]
 pub(crate) fn admits_end(threads: &Table<Turn>, thread: u32, answer: &Answer) -> Result<(), Rule>
     ensures { result_err result ≡ first_broken
         (end_rules (λ given answer. not (same_answer given answer)) (turn_of thread threads.now.entries) answer.now) }
