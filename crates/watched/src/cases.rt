@@ -177,8 +177,7 @@ fn is_plain(header: &Header, line: &Line) -> bool
 }
 
 // Does one, and judges it.
-#[inline(never)]
-fn judge_line(
+fn judge_taken(
     world: &mut World,
     duties: &mut Duties,
     moment: u64,
@@ -207,6 +206,30 @@ fn judge_line(
     }
 }
 
+// Does a step that takes this line with these extra numbers, and judges it. It isn't inlined, so that a step that isn't
+// judged has none of its cost.
+#[inline(never)]
+fn judge_line(
+    world: &mut World,
+    duties: &mut Duties,
+    moment: u64,
+    line: Line,
+    extras: Extras,
+) -> Result<(), StepFault>
+    requires { world.old.steps < most_steps }
+    ensures ok { OnOk result (case_of world.new duties.new
+        ≡ asked_after (case_of world.old duties.old) moment (step_taking extras line)) }
+    ensures admitted { OnOk result
+        (first_broken (asked_rules (case_of world.old duties.old) moment (step_taking extras line)) ≡ None) }
+    ensures broken { IfErr result (λ fault. IfBroken fault (λ rule.
+        first_broken (asked_rules (case_of world.old duties.old) moment (step_taking extras line)) ≡ Some rule)) }
+{
+    match line.taken(extras) {
+        Some(taken) => judge_taken(world, duties, moment, taken),
+        None => Ok(()),
+    }
+}
+
 // Does a step that takes this line with these extra numbers. The model alone does it if duties judge nothing of it.
 #[inline(always)]
 fn do_line(
@@ -225,11 +248,9 @@ fn do_line(
         first_broken (asked_rules (case_of world.old duties.old) moment (step_taking extras line)) ≡ Some rule)) }
 {
     if is_plain(world.header(), &line) {
-        return spec_step::take_line(world, moment, line, extras);
-    }
-    match line.taken(extras) {
-        Some(taken) => judge_line(world, duties, moment, taken),
-        None => Ok(()),
+        spec_step::take_line(world, moment, line, extras)
+    } else {
+        judge_line(world, duties, moment, line, extras)
     }
 }
 
