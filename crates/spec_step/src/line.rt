@@ -64,7 +64,7 @@ pub fn apply_line_owned(world: &mut World, moment: u64, line: TakenLine) -> Resu
     ensures err { OnErr result (world.new ≡ world.old) }
 {
     match line {
-        TakenLine::CallBegin { thread, call, .. } => world.begin(thread, &call),
+        TakenLine::CallBegin { thread, call, .. } => world.begin_owned(thread, call),
         TakenLine::CallEnd { thread, answer, .. } => world.finish(thread, &answer),
         TakenLine::Sent {
             line,
@@ -112,7 +112,7 @@ pub fn take_line(
     ensures err { OnErr result (world.new ≡ world.old) }
 {
     match (line.event, extras) {
-        (Event::CallBegin(call), Extras::Bare) => world.begin(line.thread, &call),
+        (Event::CallBegin(call), Extras::Bare) => world.begin_owned(line.thread, call),
         (Event::CallEnd(answer), Extras::Bare) => world.finish(line.thread, &answer),
         (Event::Sent(host, wire), Extras::One(made)) => {
             world.send_owned(host, line.number, made, wire, moment)
