@@ -6,14 +6,15 @@
 ghost use Rattle.std.specs.Prelude.{◌≡◌, ◌↔◌, ◌<◌, ◌≤◌, ◌++◌, List, [], length, IfOk, IfNone, None};
 ghost use Rattle.case_forms.specs.declared.trace.Line.{Line};
 ghost use Rattle.std.specs.List.{All};
+ghost use Rattle.std.specs.Option.{option_map};
+ghost use Rattle.case_forms.specs.TakenLines.{taken_of};
 ghost use Rattle.case_forms.specs.Traces.{first_event_line, IsRecorded, IsTrace};
 ghost use Rattle.case_forms.specs.Witnesses.{IsWithinLimits, IsWitness};
 ghost use Rattle.interval_order.specs.Orders.{passing, order_of, order_after};
 ghost use Rattle.interval_order.specs.OrderRules.{order_rules};
 ghost use Rattle.verdict.specs.Rules.{first_broken};
 ghost use Rattle.spec_tcp.specs.Bounds.{most_steps};
-ghost use Rattle.spec_tcp.specs.Steps.{hidden_step};
-ghost use Rattle.spec_step.specs.Asked.{step_taking};
+ghost use Rattle.spec_tcp.specs.Steps.{hidden_step, line_step};
 ghost use Rattle.spec_duties.specs.Cases.{late_at_end, start, asked_rules, asked_after, first_known};
 ghost use Rattle.checker.specs.Seen.{move_of};
 ghost use Rattle.checker.specs.Verdicts.{verdict, verdict_from, verdict_left, takes_line, line_named};
@@ -187,8 +188,10 @@ fn take_line(
     extras: Extras,
 ) -> Result<Option<Rule>, OutOfMemory>
     requires { world.old.steps < most_steps }
-    ensures rule { IfOk result (λ r. r ≡ first_broken (asked_rules world.old moment (step_taking extras line))) }
-    ensures after { IfOk result (λ r. IfNone r (world.new ≡ asked_after world.old moment (step_taking extras line))) }
+    ensures rule { IfOk result (λ r. r ≡ first_broken
+        (asked_rules world.old moment (option_map line_step (taken_of extras line)))) }
+    ensures after { IfOk result (λ r. IfNone r
+        (world.new ≡ asked_after world.old moment (option_map line_step (taken_of extras line)))) }
 {
     match watched::take_line(world, moment, line, extras) {
         Ok(()) => Ok(None),
