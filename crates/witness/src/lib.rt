@@ -49,7 +49,7 @@ pub use first_line::begins_witness;
 pub use laws::{step_faults, witness_faults};
 pub use line_fields::{FaultKind, SourceFault, TextFault};
 pub use printing::{
-    label_bytes, print_law, print_witness, printable_law, push_witness, step_in_memory,
+    label_bytes, print_law, print_witness, printable_law, push_step, push_witness, step_in_memory,
 };
 pub use reading::{read_step, read_witness, read_witness_for};
 pub use stream::StepReader;
