@@ -92,8 +92,7 @@ pub fn apply_line_owned(world: &mut World, moment: u64, line: TakenLine) -> Resu
 }
 
 /// Does a step that takes this line of a trace with these extra numbers, like `apply_line_owned`. If a line of its kind
-/// needs another count of them, it does nothing. Most kinds are done directly, since a `TakenLine` would be one copy of
-/// the line more.
+/// needs another count of them, it does nothing. Most kinds are done without a `TakenLine`, which would be one more copy.
 #[tactic(auto, using(crate::proofs::FaultLemmas::admitted, crate::proofs::FaultLemmas::broken, crate::proofs::FaultLemmas::memory))]
 #[inline(always)]
 pub fn take_line(
@@ -136,14 +135,9 @@ pub fn take_line(
     }
 }
 
-// Does one of any kind, in the same way.
+// The same for a line of any kind. It isn't inlined, since few lines need it.
 #[inline(never)]
-fn take_other(
-    world: &mut World,
-    moment: u64,
-    line: Line,
-    extras: Extras,
-) -> Result<(), StepFault>
+fn take_other(world: &mut World, moment: u64, line: Line, extras: Extras) -> Result<(), StepFault>
     requires { world.old.steps < most_steps }
     ensures ok { OnOk result (world.new ≡ asked_after world.old moment (step_taking extras line)) }
     ensures admitted { OnOk result (first_broken (asked_rules world.old moment (step_taking extras line)) ≡ None) }

@@ -122,11 +122,7 @@ fn watch(world: &World, duties: &mut Duties, moment: u64, sight: &Sight) -> Resu
 
 // Does a step that takes no line in the world. It isn't inlined, since several kinds of judged steps call it.
 #[inline(never)]
-fn do_unseen<Taken>(
-    world: &mut World,
-    moment: u64,
-    label: &Label<Taken>,
-) -> Result<(), StepFault>
+fn do_unseen<Taken>(world: &mut World, moment: u64, label: &Label<Taken>) -> Result<(), StepFault>
     requires steps { world.old.steps < most_steps }
     requires label { IsWithinLimits label.now }
     ensures ok { OnOk result (world.new ≡ plain.asked_after world.old moment (hidden_step label.now)) }
@@ -176,7 +172,7 @@ fn is_plain(header: &Header, line: &Line) -> bool
     }
 }
 
-// Does one, and judges it.
+// Does a step that takes a line, and judges it.
 fn judge_taken(
     world: &mut World,
     duties: &mut Duties,
@@ -344,12 +340,7 @@ fn do_hidden<Taken>(
 /// kind needs another count of them, it does nothing. The error is the least rule that it breaks, of the model or of a
 /// duty, or that memory ran out; the case is of no use then.
 #[inline(always)]
-pub fn take_line(
-    case: &mut Case,
-    moment: u64,
-    line: Line,
-    extras: Extras,
-) -> Result<(), StepFault>
+pub fn take_line(case: &mut Case, moment: u64, line: Line, extras: Extras) -> Result<(), StepFault>
     requires { case.old.steps < most_steps }
     ensures ok { OnOk result (case.new ≡ asked_after case.old moment (step_taking extras line)) }
     ensures admitted { OnOk result (first_broken (asked_rules case.old moment (step_taking extras line)) ≡ None) }
