@@ -5,6 +5,7 @@ use Rattle.case_forms.specs.declared.trace.Header.{Header}
 use Rattle.case_forms.specs.declared.trace.Line.{Line}
 use Rattle.case_forms.specs.declared.named_line.NamedLine.{NamedLine}
 use Rattle.case_forms.specs.declared.taken_line.TakenLine.{TakenLine}
+use Rattle.case_forms.specs.Naming.{with_line}
 use Rattle.case_forms.specs.TakenLines.{taken_of}
 use Rattle.case_forms.specs.declared.steps.Label.{Label}
 use Rattle.case_forms.specs.declared.steps.Label.TheVariants.{L, D, M, T, K, R, F}
@@ -19,10 +20,10 @@ use Rattle.verdict.proofs.RuleLemmas.{first_broken-append_none, first_broken-app
 use Rattle.interval_order.specs.Orders.{Order, taking, is_placed, order_of, held_line, is_offered}
 use Rattle.interval_order.specs.OrderRules.{order_rules}
 use Rattle.interval_order.proofs.OrderLemmas.{held_is}
-use Rattle.spec_network.specs.Hosts.{Stamped}
+use Rattle.spec_network.specs.Hosts.{Stamped, Step as StepOf}
 use Rattle.spec_tcp.specs.Machine.{tcp_shape}
-use Rattle.spec_tcp.specs.Steps.{label_step, line_step}
-use Rattle.spec_duties.specs.Cases.{Known, Watched as Progress, after, broken_by, forget}
+use Rattle.spec_tcp.specs.Steps.{label_step, line_step, step_of}
+use Rattle.spec_duties.specs.Cases.{Known, Watched as Progress, after, asked_rules, forget}
 use Rattle.watched.proofs.CaseLemmas.{rules-forget, known-forgets}
 use Rattle.checker.specs.Seen.{moves, move_of, act_of}
 use Rattle.checker.specs.Verdicts.{act_rules, act_after, broken}
@@ -148,14 +149,24 @@ refused_line header o w s named rule is broken =
     (option_map_or (act_rules header w) (held_act o (record s { label = L named })) []) rule (sym broken)))
 
 -- where it breaks none, what its line breaks in the machine is the least
-pub placed_line : (p : Progress) (o : Order) (s : Step) (named : NamedLine) (line : Line) (taken : TakenLine) → s.label ≡ L named
+pub placed_line : (p : Progress) (o : Order) (s : Step) (named : NamedLine) (line : Line) → s.label ≡ L named
     → None ≡ first_broken (order_rules o (taking s.moment named.number (extras_count named.extras)))
-    → held_line o named.number ≡ Some line → Some taken ≡ taken_of named.extras line
-    → broken_by p s.moment (line_step taken) ≡ kept_broken p.header o p.world s
-placed_line p o s named line taken is none found takes =
-    subst (λ (label : Label NamedLine). broken_by p s.moment (line_step taken) ≡ kept_broken p.header o p.world (record s { label = label })) (sym is)
+    → held_line o named.number ≡ Some line
+    → first_broken (asked_rules p s.moment (option_map line_step (taken_of named.extras line))) ≡ kept_broken p.header o p.world s
+placed_line p o s named line is none found =
+    subst (λ (label : Label NamedLine). first_broken (asked_rules p s.moment (option_map line_step (taken_of named.extras line))) ≡ kept_broken p.header o p.world (record s { label = label }))
+    (sym is)
     (acts ∙ sym (first_broken-append_none (order_rules o (taking s.moment named.number (extras_count named.extras)))
     (option_map_or (act_rules p.header p.world) (held_act o (record s { label = L named })) []) (sym none)))
   where
-    acts : broken_by p s.moment (line_step taken) ≡ first_broken (option_map_or (act_rules p.header p.world) (held_act o (record s { label = L named })) [])
-    acts = rw (found, sym takes) refl
+    by : (taken : Option TakenLine)
+        → first_broken (asked_rules p s.moment (option_map line_step taken))
+        ≡ first_broken (option_map_or (act_rules p.header p.world)
+        (option_map (λ (step : StepOf tcp_shape). record { moment = s.moment; step = step })
+        (option_map step_of (with_line (λ (n : NamedLine). taken) (L named)))) [])
+    by None = refl
+    by (Some taken) = refl
+
+    acts : first_broken (asked_rules p s.moment (option_map line_step (taken_of named.extras line)))
+        ≡ first_broken (option_map_or (act_rules p.header p.world) (held_act o (record s { label = L named })) [])
+    acts = rw found (by (taken_of named.extras line))

@@ -6,14 +6,16 @@
 ghost use Rattle.std.specs.Prelude.{◌≡◌, ◌↔◌, ◌<◌, ◌≤◌, ◌++◌, List, [], length, IfOk, IfNone, None};
 ghost use Rattle.case_forms.specs.declared.trace.Line.{Line};
 ghost use Rattle.std.specs.List.{All};
+ghost use Rattle.std.specs.Option.{option_map};
+ghost use Rattle.case_forms.specs.TakenLines.{taken_of};
 ghost use Rattle.case_forms.specs.Traces.{first_event_line, IsRecorded, IsTrace};
 ghost use Rattle.case_forms.specs.Witnesses.{IsWithinLimits, IsWitness};
 ghost use Rattle.interval_order.specs.Orders.{passing, order_of, order_after};
 ghost use Rattle.interval_order.specs.OrderRules.{order_rules};
 ghost use Rattle.verdict.specs.Rules.{first_broken};
 ghost use Rattle.spec_tcp.specs.Bounds.{most_steps};
-ghost use Rattle.spec_tcp.specs.Steps.{line_step, hidden_step};
-ghost use Rattle.spec_duties.specs.Cases.{late_at_end, start, after, broken_by, asked_rules, asked_after, first_known};
+ghost use Rattle.spec_tcp.specs.Steps.{hidden_step, line_step};
+ghost use Rattle.spec_duties.specs.Cases.{late_at_end, start, asked_rules, asked_after, first_known};
 ghost use Rattle.checker.specs.Seen.{move_of};
 ghost use Rattle.checker.specs.Verdicts.{verdict, verdict_from, verdict_left, takes_line, line_named};
 ghost use Rattle.checker.specs.Kept.{kept_broken, kept_progress};
@@ -26,12 +28,12 @@ ghost use Rattle.checker.specs.Consequences.{AllStatesFollow, NoPositionFalls};
 
 use crate::laws::{explained_follows, receives_begin_sends};
 use answers::step_line;
-use case_forms::{Header, Label, Line, NamedLine, OutOfMemory, Step, TakenLine, Trace, Witness};
+use case_forms::{Extras, Header, Label, Line, NamedLine, OutOfMemory, Step, Trace, Witness};
 use endpoint_state::StepFault;
 use interval_order::{Window, left_over};
 use std::alloc::{AllocError, Global};
 use verdict::{Rule, Verdict};
-use watched::{Case, apply_hidden, apply_line_owned};
+use watched::{Case, apply_hidden};
 
 /// The verdict on a witness for a trace of its version, if both have texts.
 ///
@@ -165,10 +167,7 @@ pub(crate) fn replay(
 {
     match &step.label {
         Label::L(named) => match window.place(named.number, named.extras.count(), step.moment) {
-            Ok(line) => match line.taken(named.extras) {
-                Some(taken) => take_line(world, step.moment, taken),
-                None => unreachable!(),
-            },
+            Ok(line) => take_line(world, step.moment, line, named.extras),
             Err(rule) => Ok(Some(rule)),
         },
         Label::D { .. }
@@ -181,12 +180,20 @@ pub(crate) fn replay(
 }
 
 // Takes a line in the model, or says which of its rules is broken.
-fn take_line(world: &mut Case, moment: u64, line: TakenLine) -> Result<Option<Rule>, OutOfMemory>
+#[inline(always)]
+fn take_line(
+    world: &mut Case,
+    moment: u64,
+    line: Line,
+    extras: Extras,
+) -> Result<Option<Rule>, OutOfMemory>
     requires { world.old.steps < most_steps }
-    ensures rule { IfOk result (λ r. r ≡ broken_by world.old moment (line_step line)) }
-    ensures after { IfOk result (λ r. IfNone r (world.new ≡ after world.old moment (line_step line))) }
+    ensures rule { IfOk result (λ r. r ≡ first_broken
+        (asked_rules world.old moment (option_map line_step (taken_of extras line)))) }
+    ensures after { IfOk result (λ r. IfNone r
+        (world.new ≡ asked_after world.old moment (option_map line_step (taken_of extras line)))) }
 {
-    match apply_line_owned(world, moment, line) {
+    match watched::take_line(world, moment, line, extras) {
         Ok(()) => Ok(None),
         Err(StepFault::Broken(rule)) => Ok(Some(rule)),
         Err(StepFault::OutOfMemory) => Err(AllocError),

@@ -83,6 +83,12 @@ pub open_is_permitted : (h : Header) (w : World tcp_shape) (t : ℕ) (call : Cal
     → turn_of t w.threads ≡ Called call → Permitted (tcp h) 0 w (Effect t answer) → first_broken (open_rules (tcp h) 0 w.hosts (Called call) answer) ≡ None
 open_is_permitted h w t call answer is permitted = subst (λ (u : Turn tcp_shape). first_broken (effect_rules (tcp h) 0 w.hosts u answer) ≡ None) is permitted
 
+-- the effect of an open call is permitted if it has no broken rule
+pub called_is_permitted : (h : Header) (w : World tcp_shape) (t : ℕ) (call : Call) (answer : Answer)
+    → turn_of t w.threads ≡ Called call → first_broken (call_rules (tcp h) 0 w.hosts call answer (aim_of (tcp h) w.hosts (acts.aim call))) ≡ None
+    → Permitted (tcp h) 0 w (Effect t answer)
+called_is_permitted h w t call answer is none = subst (λ (u : Turn tcp_shape). first_broken (effect_rules (tcp h) 0 w.hosts u answer) ≡ None) (sym is) none
+
 -- the case after an effect
 pub had_effect : (p : Progress) (h : Header) (hosts hosts2 : Hosts_) (threads threads2 : Threads_) (count steps t : ℕ)
     (call : Call) (answer : Answer) (host : Option Host) → AreReady hosts

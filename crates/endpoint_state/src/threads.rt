@@ -74,6 +74,7 @@ pub(crate) fn admits_begin(threads: &Table<Turn>, thread: u32) -> Result<(), Rul
 
 /// Whether a thread's call may end with this answer: one is open, and had its effect with it. The error is the first
 /// broken rule.
+#[inline(always)]
 pub(crate) fn admits_end(threads: &Table<Turn>, thread: u32, answer: &Answer) -> Result<(), Rule>
     ensures { result_err result ≡ first_broken
         (end_rules (λ given answer. not (same_answer given answer)) (turn_of thread threads.now.entries) answer.now) }
@@ -132,6 +133,21 @@ pub(crate) fn begin(threads: &mut Table<Turn>, thread: u32, call: &Call) -> Resu
 {
     admits_begin(threads, thread)?;
     put(threads, thread, Place::Called(call.copy()?))?;
+    Ok(())
+}
+
+/// Like `begin`, but keeps the call itself instead of a copy.
+pub(crate) fn begin_owned(
+    threads: &mut Table<Turn>,
+    thread: u32,
+    call: Call,
+) -> Result<(), StepFault>
+    ensures fault { fault_rule result ≡ first_broken (begin_rules (turn_of thread threads.old.entries)) }
+    ensures ok { OnOk result (threads.new.entries ≡ insert_entry nat_eq threads.old.entries thread (Called call)) }
+    ensures err { OnErr result (threads.new.entries ≡ threads.old.entries) }
+{
+    admits_begin(threads, thread)?;
+    put(threads, thread, Place::Called(call))?;
     Ok(())
 }
 

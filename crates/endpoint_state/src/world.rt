@@ -22,7 +22,7 @@ use crate::host;
 use crate::host_pair::Hosts;
 use crate::host_tcp::HostTcp;
 use crate::made::Made;
-use crate::threads::{Turn, admits_begin, admits_end, begin, finish, pending_call};
+use crate::threads::{Turn, admits_begin, admits_end, begin, begin_owned, finish, pending_call};
 use case_forms::{
     Answer, Call, Expired, Header, Host, Ports, Recovery, SegmentPlan, TakeChoice, Wire,
 };
@@ -280,6 +280,19 @@ impl World {
         ensures err { OnErr result (self.new ≡ self.old) }
     {
         begin(&mut self.threads, thread, call)?;
+        self.steps += 1;
+        Ok(())
+    }
+
+    /// Like `begin`, but consumes the call instead of copying it.
+    pub fn begin_owned(&mut self, thread: u32, call: Call) -> Result<(), StepFault>
+        requires { self.old.steps < most_steps }
+        ensures fault { fault_rule result ≡ first_broken
+            (step_rules (tcp self.old.header) 0 self.old.world (Begin 0 thread call)) }
+        ensures ok { OnOk result (self.new ≡ after self.old 0 (Begin 0 thread call)) }
+        ensures err { OnErr result (self.new ≡ self.old) }
+    {
+        begin_owned(&mut self.threads, thread, call)?;
         self.steps += 1;
         Ok(())
     }

@@ -11,7 +11,7 @@ use endpoint_state::{StepFault, World};
 use line_fields::{SourceFault, TextFault};
 use std::alloc::{AllocError, AllocFailed, Global};
 use thiserror::Error;
-use watched::{apply_hidden, apply_line_owned};
+use watched::{apply_hidden, take_line};
 
 /// Why a case can't be replayed.
 #[derive(Clone, Copy, Debug, Error)]
@@ -110,10 +110,7 @@ pub(crate) fn apply_taken(
     if !may_go_on(watched) {
         return Err(ReplayFault::TooManySteps);
     }
-    match line.taken(extras) {
-        Some(taken) => unless_broken(apply_line_owned(watched, moment, taken)),
-        None => Ok(()),
-    }
+    unless_broken(take_line(watched, moment, line, extras))
 }
 
 /// Does a step that uses no line, in the same way.

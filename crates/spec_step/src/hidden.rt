@@ -18,6 +18,7 @@ use verdict::Rule;
 
 /// Does a step that takes no line, as `apply` does any step. A label that takes one does nothing here.
 #[tactic(auto, using(crate::proofs::FaultLemmas::admitted, crate::proofs::FaultLemmas::broken, crate::proofs::FaultLemmas::memory))]
+#[inline(always)]
 pub fn apply_hidden<Taken>(
     world: &mut World,
     moment: u64,

@@ -19,7 +19,7 @@ mod wires;
 pub use endpoint_state::StepFault;
 pub use hidden::{admits_hidden, apply_hidden};
 pub use laws::{less_judged_is_more_accepted, profiles_are_kept};
-pub use line::{admits_line, apply_line, apply_line_owned};
+pub use line::{admits_line, apply_line, apply_line_owned, take_line};
 pub use spec_tcp::Emission;
 pub use step::{Label, admits, apply};
 pub use wires::{bring, sent};

@@ -5,10 +5,11 @@ ghost use Rattle.std.specs.Result.{result_err};
 ghost use Rattle.spec_tcp.specs.Bounds.{most_steps};
 ghost use Rattle.spec_tcp.specs.Steps.{line_step};
 ghost use Rattle.endpoint_state.specs.Worlds.{after};
-ghost use Rattle.spec_step.specs.Asked.{broken_by};
+ghost use Rattle.verdict.specs.Rules.{first_broken};
+ghost use Rattle.spec_step.specs.Asked.{asked_after, asked_rules, broken_by, step_taking};
 ghost use Rattle.spec_step.specs.Faults.{IfBroken};
 
-use case_forms::TakenLine;
+use case_forms::{Event, Extras, Line, TakenLine};
 use endpoint_state::{StepFault, World};
 use verdict::Rule;
 
@@ -63,7 +64,7 @@ pub fn apply_line_owned(world: &mut World, moment: u64, line: TakenLine) -> Resu
     ensures err { OnErr result (world.new ≡ world.old) }
 {
     match line {
-        TakenLine::CallBegin { thread, call, .. } => world.begin(thread, &call),
+        TakenLine::CallBegin { thread, call, .. } => world.begin_owned(thread, call),
         TakenLine::CallEnd { thread, answer, .. } => world.finish(thread, &answer),
         TakenLine::Sent {
             line,
@@ -87,6 +88,68 @@ pub fn apply_line_owned(world: &mut World, moment: u64, line: TakenLine) -> Resu
             world.expire(host, ports, expired, moment)?;
             Ok(())
         }
+    }
+}
+
+/// Does a step that takes this line of a trace with these extra numbers, like `apply_line_owned`. If a line of its kind
+/// needs another count of them, it does nothing. Most kinds are done without a `TakenLine`, which would be one more copy.
+#[tactic(auto, using(crate::proofs::FaultLemmas::admitted, crate::proofs::FaultLemmas::broken, crate::proofs::FaultLemmas::memory))]
+#[inline(always)]
+pub fn take_line(
+    world: &mut World,
+    moment: u64,
+    line: Line,
+    extras: Extras,
+) -> Result<(), StepFault>
+    requires { world.old.steps < most_steps }
+    ensures ok { OnOk result (world.new ≡ asked_after world.old moment (step_taking extras line)) }
+    ensures admitted { OnOk result (first_broken (asked_rules world.old moment (step_taking extras line)) ≡ None) }
+    ensures broken { IfErr result (λ fault. IfBroken fault
+        (λ rule. first_broken (asked_rules world.old moment (step_taking extras line)) ≡ Some rule)) }
+    ensures memory { result ≡ Err StepFault.OutOfMemory
+        → first_broken (asked_rules world.old moment (step_taking extras line)) ≡ None }
+    ensures err { OnErr result (world.new ≡ world.old) }
+{
+    match (line.event, extras) {
+        (Event::CallBegin(call), Extras::Bare) => world.begin_owned(line.thread, call),
+        (Event::CallEnd(answer), Extras::Bare) => world.finish(line.thread, &answer),
+        (Event::Sent(host, wire), Extras::One(made)) => {
+            world.send_owned(host, line.number, made, wire, moment)
+        }
+        (Event::Came(host, wire), Extras::One(copied)) => {
+            world.arrive_owned(host, line.number, u64::from(copied), wire, moment)
+        }
+        (Event::Came(host, wire), Extras::Bare) => world.hear(host, line.number, &wire, moment),
+        (event, extras) => take_other(
+            world,
+            moment,
+            Line {
+                number: line.number,
+                moment: line.moment,
+                thread: line.thread,
+                event,
+                span: line.span,
+            },
+            extras,
+        ),
+    }
+}
+
+// The same for a line of any kind. It isn't inlined, since few lines need it.
+#[inline(never)]
+fn take_other(world: &mut World, moment: u64, line: Line, extras: Extras) -> Result<(), StepFault>
+    requires { world.old.steps < most_steps }
+    ensures ok { OnOk result (world.new ≡ asked_after world.old moment (step_taking extras line)) }
+    ensures admitted { OnOk result (first_broken (asked_rules world.old moment (step_taking extras line)) ≡ None) }
+    ensures broken { IfErr result (λ fault. IfBroken fault
+        (λ rule. first_broken (asked_rules world.old moment (step_taking extras line)) ≡ Some rule)) }
+    ensures memory { result ≡ Err StepFault.OutOfMemory
+        → first_broken (asked_rules world.old moment (step_taking extras line)) ≡ None }
+    ensures err { OnErr result (world.new ≡ world.old) }
+{
+    match line.taken(extras) {
+        Some(taken) => apply_line_owned(world, moment, taken),
+        None => Ok(()),
     }
 }
 

@@ -1,7 +1,15 @@
 -- A step of a case: the rules of the model and of duties, and the case after it.
 use Rattle.std.proofs.Common.{◌≡◌, ℕ, suc, Bool, List, [], ◌++◌, Option, None, Some, Result, Ok, Err, refl, sym, ap, subst, ◌∙◌, append-nil, inl, inr}
 use Rattle.std.specs.Prelude.{OnOk, IfErr}
-use Rattle.std.specs.Option.{option_map_or}
+use Rattle.std.specs.Option.{option_map, option_map_or}
+use Rattle.case_forms.specs.TakenLines.{event_taken}
+use Rattle.case_forms.specs.declared.calls.Answer.{Answer}
+use Rattle.case_forms.specs.declared.calls.Call.{Call}
+use Rattle.case_forms.specs.declared.named_line.Extras.{Extras}
+use Rattle.case_forms.specs.declared.named_line.Extras.TheVariants.{Bare, One, Two}
+use Rattle.case_forms.specs.declared.trace.Event.{Event}
+use Rattle.case_forms.specs.declared.trace.Event.TheVariants.{CallBegin, CallEnd}
+use Rattle.case_forms.specs.declared.trace.Line.{Line}
 use Rattle.case_forms.specs.declared.trace.Header.{Header}
 use Rattle.verdict.specs.declared.rule.Rule.{Rule}
 use Rattle.verdict.specs.Rules.{first_broken}
@@ -12,11 +20,13 @@ use Rattle.spec_network.specs.Hosts.{Step, World}
 use Rattle.spec_network.specs.Tables.{on}
 use Rattle.spec_tcp.specs.Forgetting as forgetting
 use Rattle.spec_tcp.specs.Machine.{tcp, tcp_shape}
+use Rattle.spec_tcp.specs.Steps.{line_step}
 use Rattle.spec_tcp_laws.proofs.ForgetWorlds.{step_rules-forget, after-forgets, makes_permitted}
 use Rattle.endpoint_state.specs.Worlds.{Progress}
 use Rattle.endpoint_state.specs.declared.fault.StepFault.{StepFault}
 use Rattle.endpoint_state.specs.declared.fault.StepFault.TheVariants.{Broken, OutOfMemory}
 use Rattle.spec_step.specs.Asked as plain
+use Rattle.spec_step.specs.Asked.{step_taking}
 use Rattle.spec_step.specs.Faults.{IfBroken}
 use Rattle.spec_duties.specs.Sights.{sight, unseen, view_in}
 use Rattle.spec_duties.specs.Watching.{Duties, duty_rules, duties_after}
@@ -114,13 +124,6 @@ unseen_admits (Ok x) p d moment step sees e =
     first_broken-append_none (step_rules (tcp p.header) moment p.world step) (judged_rules p.header moment d (sight p.header moment p.world step)) e
     ∙ (ap (λ (s : Sight). first_broken (judged_rules p.header moment d s)) sees ∙ unseen_rules p.header moment d)
 unseen_admits (Err fault) p d moment step sees e = tt
-
-pub unseen_breaks : {A : Type 0} (r : Result A StepFault) (p : Progress) (d : Duties) (moment : ℕ) (step : Step tcp_shape)
-    → IfErr r (λ fault. IfBroken fault (λ rule. first_broken (plain.asked_rules p moment (Some step)) ≡ Some rule))
-    → IfErr r (λ fault. IfBroken fault (λ rule. first_broken (asked_rules (case_of p d) moment (Some step)) ≡ Some rule))
-unseen_breaks (Ok x) p d moment step e = tt
-unseen_breaks (Err fault) p d moment step e =
-    model_breaks_asked p.header moment (record { model = p.world; duties = d }) p.steps fault (Some step) e
 
 nothing_noted : (o : Option ℕ) (moment : ℕ) (w : World tcp_shape) (d : Duties)
     → on o d (λ slack. duties_after (view_in w unseen.touched) moment unseen d) ≡ d
@@ -238,16 +241,45 @@ plain_is (Ok x) p u d moment (Some step) any is =
     wrap : Duties → Watched
     wrap d = record { header = p.header; world = record { model = forgetting.forget now; duties = d }; steps = suc p.steps }
 
--- ---- of a step of which duties judge nothing
+-- ---- of a step of which duties judge nothing, if there is one
 
-pub plain_line_admits : {A : Type 0} (r : Result A StepFault) (p : Progress) (d : Duties) (moment : ℕ) (step : Step tcp_shape)
-    → IsPlain p.header step
-    → OnOk r (first_broken (plain.asked_rules p moment (Some step)) ≡ None) → OnOk r (first_broken (asked_rules (case_of p d) moment (Some step)) ≡ None)
-plain_line_admits r p d moment step (inl any) e = plain_admits r p d moment (Some step) any e
-plain_line_admits r p d moment step (inr sees) e = unseen_admits r p d moment step (sees moment p.world) e
+pub plain_line_admits : {A : Type 0} (r : Result A StepFault) (p : Progress) (d : Duties) (moment : ℕ) (asked : Option (Step tcp_shape))
+    → IsPlain p.header asked
+    → OnOk r (first_broken (plain.asked_rules p moment asked) ≡ None) → OnOk r (first_broken (asked_rules (case_of p d) moment asked) ≡ None)
+plain_line_admits r p d moment asked (inl any) e = plain_admits r p d moment asked any e
+plain_line_admits r p d moment None (inr sees) e = e
+plain_line_admits r p d moment (Some step) (inr sees) e = unseen_admits r p d moment step (sees moment p.world) e
 
-pub plain_line_is : {A : Type 0} (r : Result A StepFault) (p u : Progress) (d : Duties) (moment : ℕ) (step : Step tcp_shape)
-    → IsPlain p.header step
-    → OnOk r (u ≡ plain.asked_after p moment (Some step)) → OnOk r (case_of u d ≡ asked_after (case_of p d) moment (Some step))
-plain_line_is r p u d moment step (inl any) is = plain_is r p u d moment (Some step) any is
-plain_line_is r p u d moment step (inr sees) is = unseen_is r p u d moment step (sees moment p.world) is
+pub plain_line_breaks : {A : Type 0} (r : Result A StepFault) (p : Progress) (d : Duties) (moment : ℕ) (asked : Option (Step tcp_shape))
+    → IfErr r (λ fault. IfBroken fault (λ rule. first_broken (plain.asked_rules p moment asked) ≡ Some rule))
+    → IfErr r (λ fault. IfBroken fault (λ rule. first_broken (asked_rules (case_of p d) moment asked) ≡ Some rule))
+plain_line_breaks (Ok x) p d moment asked e = tt
+plain_line_breaks (Err fault) p d moment asked e =
+    model_breaks_asked p.header moment (record { model = p.world; duties = d }) p.steps fault asked e
+
+pub plain_line_is : {A : Type 0} (r : Result A StepFault) (p u : Progress) (d : Duties) (moment : ℕ) (asked : Option (Step tcp_shape))
+    → IsPlain p.header asked
+    → OnOk r (u ≡ plain.asked_after p moment asked) → OnOk r (case_of u d ≡ asked_after (case_of p d) moment asked)
+plain_line_is r p u d moment asked (inl any) is = plain_is r p u d moment asked any is
+plain_line_is (Ok x) p u d moment None (inr sees) is = ap (λ (u : Progress). case_of u d) is
+plain_line_is (Err e) p u d moment None (inr sees) is = tt
+plain_line_is r p u d moment (Some step) (inr sees) is = unseen_is r p u d moment step (sees moment p.world) is
+
+-- the beginning of a call shows nothing, nor does its end
+pub begin_is_plain : (h : Header) (extras : Extras) (line : Line) (call : Call) → line.event ≡ CallBegin call → IsPlain h (step_taking extras line)
+begin_is_plain h extras line call is =
+    subst (λ (event : Event). IsPlain h (option_map line_step (event_taken line.number line.thread event extras))) (sym is) (by extras)
+  where
+    by : (extras : Extras) → IsPlain h (option_map line_step (event_taken line.number line.thread (CallBegin call) extras))
+    by Bare = inr (λ moment w. refl)
+    by (One n) = inr (λ moment w. refl)
+    by (Two m n) = inr (λ moment w. refl)
+
+pub end_is_plain : (h : Header) (extras : Extras) (line : Line) (answer : Answer) → line.event ≡ CallEnd answer → IsPlain h (step_taking extras line)
+end_is_plain h extras line answer is =
+    subst (λ (event : Event). IsPlain h (option_map line_step (event_taken line.number line.thread event extras))) (sym is) (by extras)
+  where
+    by : (extras : Extras) → IsPlain h (option_map line_step (event_taken line.number line.thread (CallEnd answer) extras))
+    by Bare = inr (λ moment w. refl)
+    by (One n) = inr (λ moment w. refl)
+    by (Two m n) = inr (λ moment w. refl)

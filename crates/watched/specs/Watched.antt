@@ -1,5 +1,6 @@
 -- A case in its parts, and what is noted of a step in them.
-use Rattle.std.specs.Prelude.{◌≡◌, ℕ, ◌⊎◌, None}
+use Rattle.std.specs.Prelude.{◌≡◌, ℕ, ◌⊎◌, Option, None}
+use Rattle.std.specs.Option.{option_map_or}
 use Rattle.case_forms.specs.declared.trace.Header.{Header}
 use Rattle.spec_network.specs.Hosts.{Step, World}
 use Rattle.spec_tcp.specs.Machine.{tcp_shape}
@@ -20,6 +21,7 @@ noted moment s p =
       world = record p.world { duties = noted_by p.header moment p.world.model s p.world.duties };
     }
 
--- duties judge nothing of a step: the header says `any`, or the step shows nothing
-abbrev pub IsPlain : Header → Step tcp_shape → Type 0
-IsPlain h step = (h.slack ≡ None) ⊎ ((moment : ℕ) (w : World tcp_shape) → sight h moment w step ≡ unseen)
+-- duties judge nothing of a step, if there is one: the header says `any`, or the step shows nothing
+abbrev pub IsPlain : Header → Option (Step tcp_shape) → Type 0
+IsPlain h asked =
+    (h.slack ≡ None) ⊎ ((moment : ℕ) (w : World tcp_shape) → option_map_or (sight h moment w) asked unseen ≡ unseen)

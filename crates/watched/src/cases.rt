@@ -3,7 +3,10 @@
 ghost use Rattle.std.specs.Prelude.{◌≡◌, ◌<◌, ◌≤◌, IsTrue, Some, None, OnOk, IfErr};
 ghost use Rattle.std.specs.Option.{option_map_or};
 ghost use Rattle.case_forms.specs.Witnesses.{IsWithinLimits};
+ghost use Rattle.case_forms.specs.declared.named_line.Extras.{Extras};
 ghost use Rattle.verdict.specs.Rules.{first_broken};
+ghost use Rattle.spec_step.specs.Asked as plain;
+ghost use Rattle.spec_step.specs.Asked.{step_taking};
 ghost use Rattle.spec_step.specs.Faults.{IfBroken};
 ghost use Rattle.spec_tcp.specs.Bounds.{most_steps};
 ghost use Rattle.spec_tcp.specs.Steps.{line_step, hidden_step};
@@ -18,7 +21,7 @@ use crate::ending;
 use crate::sights::{
     sight_of_hidden, sight_of_line, sight_of_making, sight_of_sending, sight_of_taking, view_in,
 };
-use case_forms::{Header, Label, TakenLine};
+use case_forms::{Event, Extras, Header, Label, Line, TakenLine};
 use duties::{Duties, judged_slack};
 use endpoint_state::{StepFault, World};
 use spec_duties::Sight;
@@ -117,6 +120,19 @@ fn watch(world: &World, duties: &mut Duties, moment: u64, sight: &Sight) -> Resu
     }
 }
 
+// Does a step that takes no line in the world. It isn't inlined, since several kinds of judged steps call it.
+#[inline(never)]
+fn do_unseen<Taken>(world: &mut World, moment: u64, label: &Label<Taken>) -> Result<(), StepFault>
+    requires steps { world.old.steps < most_steps }
+    requires label { IsWithinLimits label.now }
+    ensures ok { OnOk result (world.new ≡ plain.asked_after world.old moment (hidden_step label.now)) }
+    ensures admitted { OnOk result (first_broken (plain.asked_rules world.old moment (hidden_step label.now)) ≡ None) }
+    ensures broken { IfErr result (λ fault. IfBroken fault (λ rule.
+        first_broken (plain.asked_rules world.old moment (hidden_step label.now)) ≡ Some rule)) }
+{
+    spec_step::apply_hidden(world, moment, label)
+}
+
 // Does a step that takes a line, in the world and for the duties, which see this of it. It is inlined for each kind of
 // step, so that only what this kind shows is compared.
 #[inline(always)]
@@ -142,25 +158,22 @@ fn watch_line(
 }
 
 // Whether duties judge nothing of a step that takes a line: the header says `any`, or a call begins or ends.
+#[tactic(auto, using(crate::proofs::CaseLemmas::begin_is_plain, crate::proofs::CaseLemmas::end_is_plain))]
 #[inline(always)]
-fn is_plain(header: &Header, line: &TakenLine) -> bool
-    ensures { IsTrue result → IsPlain header.now (line_step line.now) }
+fn is_plain(header: &Header, line: &Line) -> bool
+    ensures { IsTrue result → (extras : Extras) → IsPlain header.now (step_taking extras line.now) }
 {
     if header.slack.is_none() {
         return true;
     }
-    match line {
-        TakenLine::CallBegin { .. } | TakenLine::CallEnd { .. } => true,
-        TakenLine::Sent { .. }
-        | TakenLine::Came { .. }
-        | TakenLine::Heard { .. }
-        | TakenLine::Expired { .. } => false,
+    match &line.event {
+        Event::CallBegin(_) | Event::CallEnd(_) => true,
+        Event::Sent(_, _) | Event::Came(_, _) | Event::Expired(_, _, _, _) => false,
     }
 }
 
-// Does one, and judges it.
-#[inline(never)]
-fn judge_line(
+// Does a step that takes a line, and judges it.
+fn judge_taken(
     world: &mut World,
     duties: &mut Duties,
     moment: u64,
@@ -189,25 +202,51 @@ fn judge_line(
     }
 }
 
-// Does one. The model alone does it if duties judge nothing of it.
-#[tactic(auto, using(crate::proofs::CaseLemmas::plain_line_is, crate::proofs::CaseLemmas::plain_line_admits))]
+// Does a step that takes this line with these extra numbers, and judges it. It isn't inlined, so that a step that isn't
+// judged has none of its cost.
+#[inline(never)]
+fn judge_line(
+    world: &mut World,
+    duties: &mut Duties,
+    moment: u64,
+    line: Line,
+    extras: Extras,
+) -> Result<(), StepFault>
+    requires { world.old.steps < most_steps }
+    ensures ok { OnOk result (case_of world.new duties.new
+        ≡ asked_after (case_of world.old duties.old) moment (step_taking extras line)) }
+    ensures admitted { OnOk result
+        (first_broken (asked_rules (case_of world.old duties.old) moment (step_taking extras line)) ≡ None) }
+    ensures broken { IfErr result (λ fault. IfBroken fault (λ rule.
+        first_broken (asked_rules (case_of world.old duties.old) moment (step_taking extras line)) ≡ Some rule)) }
+{
+    match line.taken(extras) {
+        Some(taken) => judge_taken(world, duties, moment, taken),
+        None => Ok(()),
+    }
+}
+
+// Does a step that takes this line with these extra numbers. The model alone does it if duties judge nothing of it.
+#[inline(always)]
 fn do_line(
     world: &mut World,
     duties: &mut Duties,
     moment: u64,
-    line: TakenLine,
+    line: Line,
+    extras: Extras,
 ) -> Result<(), StepFault>
     requires { world.old.steps < most_steps }
-    ensures ok { OnOk result
-        (case_of world.new duties.new ≡ after (case_of world.old duties.old) moment (line_step line)) }
-    ensures admitted { OnOk result (broken_by (case_of world.old duties.old) moment (line_step line) ≡ None) }
-    ensures broken { IfErr result (λ fault. IfBroken fault
-        (λ rule. broken_by (case_of world.old duties.old) moment (line_step line) ≡ Some rule)) }
+    ensures ok { OnOk result (case_of world.new duties.new
+        ≡ asked_after (case_of world.old duties.old) moment (step_taking extras line)) }
+    ensures admitted { OnOk result
+        (first_broken (asked_rules (case_of world.old duties.old) moment (step_taking extras line)) ≡ None) }
+    ensures broken { IfErr result (λ fault. IfBroken fault (λ rule.
+        first_broken (asked_rules (case_of world.old duties.old) moment (step_taking extras line)) ≡ Some rule)) }
 {
     if is_plain(world.header(), &line) {
-        spec_step::apply_line_owned(world, moment, line)
+        spec_step::take_line(world, moment, line, extras)
     } else {
-        judge_line(world, duties, moment, line)
+        judge_line(world, duties, moment, line, extras)
     }
 }
 
@@ -231,7 +270,7 @@ fn watch_hidden<Taken>(
     ensures broken { IfErr result (λ fault. IfBroken fault (λ rule.
         first_broken (asked_rules (case_of world.old duties.old) moment (hidden_step label.now)) ≡ Some rule)) }
 {
-    match spec_step::apply_hidden(world, moment, label) {
+    match do_unseen(world, moment, label) {
         Ok(()) => watch(world, duties, moment, seen),
         Err(fault) => Err(fault),
     }
@@ -297,16 +336,18 @@ fn do_hidden<Taken>(
     }
 }
 
-/// Does a step that takes a line, at a moment in microseconds. The error is the least rule that it breaks, of the model
-/// or of a duty, or that memory ran out; the case is of no use then.
-pub fn apply_line_owned(case: &mut Case, moment: u64, line: TakenLine) -> Result<(), StepFault>
+/// Does a step that takes this line of the trace with these extra numbers, at a moment in microseconds. If a line of its
+/// kind needs another count of them, it does nothing. The error is the least rule that it breaks, of the model or of a
+/// duty, or that memory ran out; the case is of no use then.
+#[inline(always)]
+pub fn take_line(case: &mut Case, moment: u64, line: Line, extras: Extras) -> Result<(), StepFault>
     requires { case.old.steps < most_steps }
-    ensures ok { OnOk result (case.new ≡ after case.old moment (line_step line)) }
-    ensures admitted { OnOk result (broken_by case.old moment (line_step line) ≡ None) }
-    ensures broken { IfErr result (λ fault. IfBroken fault (λ rule. broken_by case.old moment (line_step line)
-        ≡ Some rule)) }
+    ensures ok { OnOk result (case.new ≡ asked_after case.old moment (step_taking extras line)) }
+    ensures admitted { OnOk result (first_broken (asked_rules case.old moment (step_taking extras line)) ≡ None) }
+    ensures broken { IfErr result (λ fault. IfBroken fault
+        (λ rule. first_broken (asked_rules case.old moment (step_taking extras line)) ≡ Some rule)) }
 {
-    do_line(&mut case.world, &mut case.duties, moment, line)
+    do_line(&mut case.world, &mut case.duties, moment, line, extras)
 }
 
 /// Does a step that takes no line, in the same way. A label that takes one does nothing here.

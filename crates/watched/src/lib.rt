@@ -17,7 +17,7 @@ mod ending;
 mod laws;
 mod sights;
 
-pub use cases::{Case, apply_hidden, apply_line_owned};
+pub use cases::{Case, apply_hidden, take_line};
 pub use ending::late_at_end;
 pub use laws::{
     case_judged_alike, case_rules_ascend, less_judged_shows_the_same, nothing_discarded_is_seen,

@@ -11,7 +11,7 @@
 //! - `read_witness`: a whole text; `TextFault`, `FaultKind`, `Span`: the first fault, and its place
 //! - `StepReader`: a text whose steps are read on request; `SourceFault`: a fault, or a read that failed
 //! - `print_witness`: the text of a witness, which reads back as the same witness; `push_witness`: the same, appended
-//!   to a `Vec`
+//!   to a `Vec`; `push_step`: one step of it
 //!
 //! A text is bytes. Its first line is one of `witness 1` to `witness 5`, by its version. Each further line is a step: a
 //! moment in microseconds and a label, one of `L`, `D`, `M`, `T`, `K`, `R` and `F` with its fields.
@@ -51,7 +51,7 @@ pub use first_line::begins_witness;
 pub use laws::{step_faults, witness_faults};
 pub use line_fields::{FaultKind, SourceFault, TextFault};
 pub use printing::{
-    label_bytes, print_law, print_witness, printable_law, push_witness, step_in_memory,
+    label_bytes, print_law, print_witness, printable_law, push_step, push_witness, step_in_memory,
 };
 pub use reading::{read_step, read_step_into, read_witness, read_witness_for};
 pub use stream::StepReader;

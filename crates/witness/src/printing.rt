@@ -137,8 +137,8 @@ fn push_label(out: &mut Vec<u8>, label: &Label<NamedLine>) -> Result<(), OutOfMe
     }
 }
 
-// Writes a step as a line.
-fn push_step(out: &mut Vec<u8>, step: &Step) -> Result<(), OutOfMemory>
+/// Appends a step of a witness, as a line ended with LF. If memory runs out, a part may have been written.
+pub fn push_step(out: &mut Vec<u8>, step: &Step) -> Result<(), OutOfMemory>
     ensures { OnOk result (out.new.items ≡ out.old.items ++ printed_line (step_pieces step.now)) }
 {
     push_number(out, step.moment)?;

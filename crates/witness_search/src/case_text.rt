@@ -8,6 +8,7 @@ use std::alloc::Global;
 use std::io;
 use std::io::{BufRead, Read, Write};
 use std::mem::replace;
+use witness::push_witness;
 
 /// The text of a case, in pieces of whole lines, so that the event lines of the trace aren't copied. The pieces are the
 /// header, event lines of the trace, an added line, event lines of the trace, and so on; then the witness.
@@ -123,6 +124,28 @@ impl<'t> CaseText<'t> {
         }
         Ok(joined)
     }
+}
+
+/// The text of a case with this header, the event lines of its trace, and what was found for these. Each line is written
+/// once, without pieces.
+pub(crate) fn join_case(
+    alloc: Global,
+    header: &[u8],
+    events: &[u8],
+    found: &Found,
+) -> Result<Vec<u8>, OutOfMemory> {
+    let cuts = found.added.places_in(alloc, events)?;
+    let mut joined = Vec::with_capacity(alloc, header.len().saturating_add(events.len()))?;
+    joined.extend_from_slice(header)?;
+    let mut at: usize = 0;
+    for (added, cut) in cuts.iter().enumerate() {
+        joined.extend_from_slice(events.get(at..*cut).unwrap_or(&[]))?;
+        joined.extend_from_slice(found.added.at(added))?;
+        at = *cut;
+    }
+    joined.extend_from_slice(events.get(at..).unwrap_or(&[]))?;
+    push_witness(&mut joined, &found.witness)?;
+    Ok(joined)
 }
 
 /// A reader of some pieces of a case, one after the other.

@@ -1,7 +1,7 @@
 //! A trace becomes a case.
 
 use crate::added_lines::{AddedLines, split_lines};
-use crate::case_text::CaseText;
+use crate::case_text::{CaseText, join_case};
 use crate::going_back::Retries;
 use case_forms::{Header, Line, OutOfMemory, Steps, Witness};
 use forward_pass::{End, Findings, LaterLines, Sought};
@@ -51,31 +51,48 @@ pub struct FoundCase<'t> {
 /// the rule. If explaining all lines takes more than 40,000,000 steps, it ends there. The error is the trace's first
 /// fault; its kind is `OutOfMemory` if memory ran out.
 pub fn find(alloc: Global, text: &[u8]) -> Result<Vec<u8>, TextFault> {
-    let found = find_within(alloc, text, USUAL_BUDGET)?;
-    Ok(found.case.joined(alloc)?)
+    let search = Searched::of(alloc, text, USUAL_BUDGET)?;
+    Ok(join_case(alloc, search.header, search.events, &search.found)?)
 }
 
 /// Like `find`, but spends at most this many steps on going back for one line, and 20 times as many in all, and also
 /// returns how the search ended. With 0, the search goes over the lines once.
 pub fn find_within(alloc: Global, text: &[u8], budget: u64) -> Result<FoundCase<'_>, TextFault> {
-    let trace = read_trace(alloc, text)?;
-    let above = trace.header.first_event_line().saturating_sub(1) as usize;
-    let found = find_witness(alloc, &trace.header, trace.lines.as_slice(), budget);
-    drop(trace);
-    let (header, events) = split_lines(text, above);
-    Ok(case_of(alloc, header, events, &mut found?)?)
+    let mut search = Searched::of(alloc, text, budget)?;
+    Ok(case_of(alloc, &mut search)?)
 }
 
-// The case with this header, these event lines, and what was found for them.
-fn case_of<'t>(
-    alloc: Global,
-    header: &[u8],
+// What was found for the text of a trace.
+#[derive(Drop)]
+struct Searched<'t> {
+    /// The lines of the header, and the event lines.
+    header: &'t [u8],
     events: &'t [u8],
-    found: &mut Found,
-) -> Result<FoundCase<'t>, OutOfMemory> {
-    let header = Vec::from_slice(alloc, header)?;
+    found: Found,
+}
+
+impl<'t> Searched<'t> {
+    // Searches within this budget. The trace isn't kept.
+    fn of(alloc: Global, text: &'t [u8], budget: u64) -> Result<Searched<'t>, TextFault> {
+        let trace = read_trace(alloc, text)?;
+        let above = trace.header.first_event_line().saturating_sub(1) as usize;
+        let found = find_witness(alloc, &trace.header, trace.lines.as_slice(), budget);
+        drop(trace);
+        let (header, events) = split_lines(text, above);
+        Ok(Searched {
+            header,
+            events,
+            found: found?,
+        })
+    }
+}
+
+// The case that was found.
+fn case_of<'t>(alloc: Global, search: &mut Searched<'t>) -> Result<FoundCase<'t>, OutOfMemory> {
+    let header = Vec::from_slice(alloc, search.header)?;
+    let found = &mut search.found;
     Ok(FoundCase {
-        case: CaseText::of(alloc, header, events, found)?,
+        case: CaseText::of(alloc, header, search.events, found)?,
         ending: found.ending,
         tried: found.tried,
     })

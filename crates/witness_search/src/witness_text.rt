@@ -3,7 +3,7 @@
 use crate::candidates::Done;
 use case_forms::{OutOfMemory, Step, Steps, Version, Witness};
 use std::alloc::Global;
-use witness::push_witness;
+use witness::{print_witness, push_step};
 
 // How many steps a block has.
 const STEPS: usize = 32;
@@ -15,30 +15,26 @@ pub(crate) fn witness_blocks(
     witness: &Witness,
 ) -> Result<Vec<Vec<u8>>, OutOfMemory> {
     let mut blocks = Vec::new(alloc);
-    let mut text = Vec::new(alloc);
-    push_steps(&mut text, alloc, witness.version, &[])?;
-    let first_line = text.len();
+    let mut text = first_line(alloc, witness.version)?;
     blocks.push(Vec::from_slice(alloc, text.as_slice())?)?;
     for steps in witness.steps.as_slice().chunks(STEPS) {
         text.clear();
-        push_steps(&mut text, alloc, witness.version, steps)?;
-        let lines = text.get(first_line..).unwrap_or(&[]);
-        blocks.push(Vec::from_slice(alloc, lines)?)?;
+        push_steps(&mut text, steps)?;
+        blocks.push(Vec::from_slice(alloc, text.as_slice())?)?;
     }
     Ok(blocks)
 }
 
-// Writes the first line of a witness, and these steps.
-fn push_steps(out: &mut Vec<u8>, alloc: Global, version: Version, steps: &[Step]) -> Done {
-    let mut copied = Steps::new(alloc);
+// The first line of a witness.
+fn first_line(alloc: Global, version: Version) -> Result<Vec<u8>, OutOfMemory> {
+    let steps = Steps::new(alloc);
+    print_witness(alloc, &Witness { version, steps })
+}
+
+// Writes these steps.
+fn push_steps(out: &mut Vec<u8>, steps: &[Step]) -> Done {
     for step in steps {
-        copied.push(step.copy()?)?;
+        push_step(out, step)?;
     }
-    push_witness(
-        out,
-        &Witness {
-            version,
-            steps: copied,
-        },
-    )
+    Ok(())
 }

@@ -8,9 +8,9 @@ returns-in-Err-clause-rule c =
     refused_line c.args.world.now.header c.args.window.now c.args.world.now.world c.args.step.now c.in-L.named c.in-Err.rule c.in-L.is
     (rw c.count.ensures at c.in-Err.ensures.rule)
 
-pub returns-in-Some-clause-rule : goal.returns-in-Some-clause-rule
-returns-in-Some-clause-rule c =
+pub returns-in-Ok-clause-rule : goal.returns-in-Ok-clause-rule
+returns-in-Ok-clause-rule c =
     subst (λ (broken : Option Rule). IfOk c.take_line.result (λ r. r ≡ broken))
-    (placed_line c.args.world.now c.args.window.now c.args.step.now c.in-L.named c.in-Ok.line c.in-Some.taken c.in-L.is
-    (rw c.count.ensures at c.in-Ok.ensures.rule) c.in-Ok.ensures.line c.in-Some.ensures)
+    (placed_line c.args.world.now c.args.window.now c.args.step.now c.in-L.named c.in-Ok.line c.in-L.is
+    (rw c.count.ensures at c.in-Ok.ensures.rule) c.in-Ok.ensures.line)
     c.take_line.ensures.rule

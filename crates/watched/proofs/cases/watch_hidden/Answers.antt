@@ -7,15 +7,15 @@ use Rattle.watched.proofs.cases.watch_hidden.Goals as goal
 
 pub returns-in-Ok-clause-ok : goal.returns-in-Ok-clause-ok
 returns-in-Ok-clause-ok g c =
-    note_is c.watch.result (case_of c.apply_hidden.new.world c.watch.new.duties) c.args.world.now c.apply_hidden.new.world c.args.duties.now c.args.moment
+    note_is c.watch.result (case_of c.do_unseen.new.world c.watch.new.duties) c.args.world.now c.do_unseen.new.world c.args.duties.now c.args.moment
     (hidden_step c.args.label.now) c.args.seen.now c.in-Ok.ensures.ok c.requires.seen c.watch.ensures.ok
 
 pub returns-in-Ok-clause-admitted : goal.returns-in-Ok-clause-admitted
 returns-in-Ok-clause-admitted g c =
     asked_admits c.watch.result c.args.world.now.header c.args.moment (record { model = c.args.world.now.world; duties = c.args.duties.now })
     c.args.world.now.steps (hidden_step c.args.label.now)
-    (first_broken (judged_rules c.apply_hidden.new.world.header c.args.moment c.args.duties.now c.args.seen.now)) c.in-Ok.ensures.admitted
-    (judged_later c.args.world.now c.apply_hidden.new.world c.args.duties.now c.args.moment (hidden_step c.args.label.now) c.args.seen.now
+    (first_broken (judged_rules c.do_unseen.new.world.header c.args.moment c.args.duties.now c.args.seen.now)) c.in-Ok.ensures.admitted
+    (judged_later c.args.world.now c.do_unseen.new.world c.args.duties.now c.args.moment (hidden_step c.args.label.now) c.args.seen.now
     c.in-Ok.ensures.ok c.requires.seen)
     c.watch.ensures.admitted
 
@@ -23,8 +23,8 @@ pub returns-in-Ok-clause-broken : goal.returns-in-Ok-clause-broken
 returns-in-Ok-clause-broken g c =
     asked_breaks c.watch.result c.args.world.now.header c.args.moment (record { model = c.args.world.now.world; duties = c.args.duties.now })
     c.args.world.now.steps (hidden_step c.args.label.now)
-    (first_broken (judged_rules c.apply_hidden.new.world.header c.args.moment c.args.duties.now c.args.seen.now)) c.in-Ok.ensures.admitted
-    (judged_later c.args.world.now c.apply_hidden.new.world c.args.duties.now c.args.moment (hidden_step c.args.label.now) c.args.seen.now
+    (first_broken (judged_rules c.do_unseen.new.world.header c.args.moment c.args.duties.now c.args.seen.now)) c.in-Ok.ensures.admitted
+    (judged_later c.args.world.now c.do_unseen.new.world c.args.duties.now c.args.moment (hidden_step c.args.label.now) c.args.seen.now
     c.in-Ok.ensures.ok c.requires.seen)
     c.watch.ensures.broken
 
