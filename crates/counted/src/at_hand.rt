@@ -3,7 +3,7 @@
 ghost use Rattle.std.specs.Prelude.{◌≡◌, ◌≢◌, ◌↔◌, ◌+◌, ◌≤◌, ◌<◌, ◌^◌, OnOk, OnErr, IfOk, IsTrue, length};
 ghost use Rattle.std.specs.Prelude.{slice_range, IfSome, take};
 ghost use Rattle.std.specs.Io.{StartsWith, appended_bytes};
-ghost use Rattle.counted.specs.Counting.{left_of, failures_of, calls_of, one_call_more, one_more};
+ghost use Rattle.counted.specs.Counting.{left_of, failures_of, calls_of, one_call_more, one_more, unread_of};
 ghost use Rattle.counted.specs.AtHand.{AreOthers, IsWordLine, Takes};
 ghost use Rattle.counted.specs.declared.at_hand.Wanted.{Wanted};
 ghost use Rattle.counted.specs.declared.at_hand.Taken.{Taken};
@@ -113,10 +113,24 @@ fn append_wanted<B: BufRead>(
     Ok(taken)
 }
 
+impl<X> Counted<X> {
+    // Whether it has buffered bytes that weren't given yet.
+    #[inline(always)]
+    fn has_unread(&self) -> bool
+        ensures { IsTrue result ↔ (0 < length (unread_of self.now)) }
+    {
+        match &self.buffer {
+            Some(buffer) => buffer.has_unread(),
+            None => false,
+        }
+    }
+}
+
 impl<B: BufRead> Counted<B> {
     /// Appends the lines that one read has at hand, up to the line that is this word, with LF or CR LF. That line is
     /// read, but not appended. `wanted` says what is taken if it isn't at hand. A line that is cut, or that has more
-    /// than `most` bytes, is left. After an error, `buf` doesn't change.
+    /// than `most` bytes, is left. Nothing is taken while bytes that `next_line` buffered are unread. After an error,
+    /// `buf` doesn't change.
     #[inline(always)]
     pub fn append_lines(
         &mut self,
@@ -136,13 +150,16 @@ impl<B: BufRead> Counted<B> {
         ensures spent { 2 ^ 50 ≤ calls_of self.old → result ≡ Err ReadFault.Read }
         ensures calls { calls_of self.new ≡ one_call_more (calls_of self.old) }
     {
-        if !self.may_call() {
-            self.count_failure();
+        if !self.end.may_call() {
+            self.end.count_failure();
             return Err(ReadFault::Read);
         }
-        let taken = append_wanted(&mut self.inner, word, most, wanted, buf);
+        if self.has_unread() {
+            return Ok(Taken::Nothing);
+        }
+        let taken = append_wanted(&mut self.end.inner, word, most, wanted, buf);
         if let Err(ReadFault::Read) = taken {
-            self.count_failure();
+            self.end.count_failure();
         }
         taken
     }
