@@ -1,7 +1,7 @@
 //! Steps as they are usually written, which are read without a fault to return. Any other line is read again by
 //! `read_step`, which tells what is wrong with it.
 
-ghost use Rattle.std.specs.Prelude.{◌≡◌, [], IfSome, Ok};
+ghost use Rattle.std.specs.Prelude.{◌≡◌, [], IfSome, Some, Ok};
 ghost use Rattle.case_forms.specs.declared.steps.Label.TheVariants.{L, D, M, T};
 ghost use Rattle.witness.specs.Parts.{bit_field, entry_field, extras_field};
 ghost use Rattle.witness.specs.LabelFields.{line_label, effect_label, segment_label, taking_label};
@@ -51,43 +51,39 @@ pub(crate) fn plain_step(
     if fields.plain_letter(b'L') {
         let named = plain_line(&mut fields)?;
         ended(&fields)?;
-        *place = Some(Step {
-            moment,
-            label: Label::L(named),
-            span,
-        });
+        put(place, moment, Label::L(named), span);
         return Some(());
     }
     if fields.plain_letter(b'D') {
         let thread = fields.plain_small(0, MAX_NUMBER)? as u32;
         let answer = plain_answer(alloc, fields.rest()?)?;
-        *place = Some(Step {
-            moment,
-            label: Label::D { thread, answer },
-            span,
-        });
+        put(place, moment, Label::D { thread, answer }, span);
         return Some(());
     }
     if fields.plain_letter(b'T') {
         let (host, line, choice) = plain_taking(version, &mut fields)?;
         ended(&fields)?;
-        *place = Some(Step {
-            moment,
-            label: Label::T { host, line, choice },
-            span,
-        });
+        put(place, moment, Label::T { host, line, choice }, span);
         return Some(());
     }
     if fields.plain_letter(b'M') {
         let (host, plan) = plain_segment(version, &mut fields)?;
-        *place = Some(Step {
-            moment,
-            label: Label::M { host, plan },
-            span,
-        });
+        put(place, moment, Label::M { host, plan }, span);
         return Some(());
     }
     None
+}
+
+// Puts a step into its place.
+#[inline(always)]
+fn put(place: &mut Option<Step>, moment: u64, label: Label<NamedLine>, span: Span)
+    ensures { place.new ≡ Some (record { moment = moment; label = label; span = span }) }
+{
+    *place = Some(Step {
+        moment,
+        label,
+        span,
+    });
 }
 
 // The end of the line.
