@@ -157,6 +157,7 @@ fn last_count(text: &[u8]) -> Option<u32>
 
 // The bytes that these digits, the last bytes of their line, spell.
 #[tactic(auto, using(crate::proofs::LastFields::hex_alone))]
+#[inline(always)]
 fn last_bytes(alloc: Global, digits: &[u8]) -> Option<Bytes>
     ensures value { IfSome result (λ bytes. decode_of digits.now ≡ Ok bytes) }
     ensures count { IfSome result (λ bytes. (1 ≤ length bytes) × (length bytes ≤ 65535)) }
