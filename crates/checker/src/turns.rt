@@ -103,6 +103,7 @@ fn late_fault<A: BufRead>(lines: &mut Ahead<A>, fault: SourceFault) -> CaseFault
 }
 
 // The least rule that a step breaks; if it breaks none, it is done. Every line whose moment is reached was offered.
+#[inline(always)]
 fn judge_step<A: BufRead>(
     alloc: Global,
     window: &mut Window,

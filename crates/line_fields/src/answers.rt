@@ -43,7 +43,6 @@ pub enum AnswerWord {
 }
 
 /// The answer's first word with this spelling.
-#[inline(always)]
 pub fn answer_word_named(text: &[u8]) -> Option<AnswerWord>
     ensures { result ≡ kind_named answer_name all_answer_words text.now }
 {

@@ -34,7 +34,6 @@ pub(crate) enum CallWord {
 }
 
 /// The first word of a call that a field spells.
-#[inline(always)]
 pub(crate) fn call_word_named(text: &[u8]) -> Option<CallWord>
     ensures { result ≡ kind_named call_name all_call_words text.now }
 {

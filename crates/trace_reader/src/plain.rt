@@ -1,12 +1,15 @@
 //! Event lines as they are usually written, read without a fault to return. The bytes of an event are still digits then.
 //! Any other line is read by `event_line`, which tells what is wrong with it.
 
-ghost use Rattle.std.specs.Prelude.{◌≡◌, ◌≤◌, ℕ, List, IfSome, Ok, false, length};
+ghost use Rattle.std.specs.Prelude.{◌≡◌, ◌≤◌, ℕ, List, IfSome, Some, Ok, false, length};
 ghost use Rattle.hex.specs.Hex.{decode_of};
 ghost use Rattle.case_forms.specs.declared.version.Version.{Version};
+ghost use Rattle.line_fields.specs.Answers.{answer_name, all_answer_words};
+ghost use Rattle.line_fields.specs.Choice.{kind_named};
 ghost use Rattle.line_fields.specs.HexFields.{EndsInHex};
 ghost use Rattle.kept_lines.specs.Records.{event_of, has_bytes, line_of as kept_line};
 ghost use Rattle.kept_lines.specs.Spelled.{IsSpelled};
+ghost use Rattle.trace_reader.specs.Calls.{call_name, all_call_words};
 ghost use Rattle.trace_reader.specs.EventFields.{event_behind, event_field};
 ghost use Rattle.trace_reader.specs.EventLines.{line_of};
 ghost use Rattle.trace_reader.specs.Plain.{begun_behind, ended_behind, IsRead};
@@ -58,6 +61,33 @@ fn digits_within<'a>(fields: &Fields<'a>, most: usize) -> Option<&'a [u8]>
     Some(digits)
 }
 
+// The first word of a call; the usual ones are told first.
+#[inline(always)]
+fn plain_call_word(text: &[u8]) -> Option<CallWord>
+    ensures { IfSome result (λ word. kind_named call_name all_call_words text.now ≡ Some word) }
+{
+    match text {
+        b"send" => Some(CallWord::Send),
+        b"recv" => Some(CallWord::Recv),
+        b"shut" => Some(CallWord::Shut),
+        _ => call_word_named(text),
+    }
+}
+
+// The first word of an answer; the usual ones are told first.
+#[inline(always)]
+fn plain_answer_word(text: &[u8]) -> Option<AnswerWord>
+    ensures { IfSome result (λ word. kind_named answer_name all_answer_words text.now ≡ Some word) }
+{
+    match text {
+        b"ok" => Some(AnswerWord::Done),
+        b"data" => Some(AnswerWord::Data),
+        b"again" => Some(AnswerWord::Again),
+        b"eof" => Some(AnswerWord::Eof),
+        _ => answer_word_named(text),
+    }
+}
+
 // What follows the first word of a call without bytes.
 #[tactic(auto, unfolding(crate::specs::CallFields::recv_fields, kept_lines::specs::Records::event_of))]
 #[inline(always)]
@@ -68,16 +98,16 @@ fn plain_call_behind(version: Version, word: CallWord, fields: &mut Fields) -> O
 {
     match word {
         CallWord::Recv => {
-            let socket = fields.plain_number(0, MAX_NUMBER)? as u32;
+            let socket = fields.plain_small(0, MAX_NUMBER)? as u32;
             let most = fields.plain_number(1, MAX_RECV)? as u16;
             Some(KeptEvent::Recv(most, socket))
         }
-        CallWord::Await => Some(KeptEvent::Await(fields.plain_number(0, MAX_NUMBER)? as u32)),
-        CallWord::Accept => Some(KeptEvent::Accept(fields.plain_number(0, MAX_NUMBER)? as u32)),
-        CallWord::Shut => Some(KeptEvent::Shut(fields.plain_number(0, MAX_NUMBER)? as u32)),
-        CallWord::Close => Some(KeptEvent::Close(fields.plain_number(0, MAX_NUMBER)? as u32)),
-        CallWord::Abort => Some(KeptEvent::Abort(fields.plain_number(0, MAX_NUMBER)? as u32)),
-        CallWord::Status => Some(KeptEvent::Status(fields.plain_number(0, MAX_NUMBER)? as u32)),
+        CallWord::Await => Some(KeptEvent::Await(fields.plain_small(0, MAX_NUMBER)? as u32)),
+        CallWord::Accept => Some(KeptEvent::Accept(fields.plain_small(0, MAX_NUMBER)? as u32)),
+        CallWord::Shut => Some(KeptEvent::Shut(fields.plain_small(0, MAX_NUMBER)? as u32)),
+        CallWord::Close => Some(KeptEvent::Close(fields.plain_small(0, MAX_NUMBER)? as u32)),
+        CallWord::Abort => Some(KeptEvent::Abort(fields.plain_small(0, MAX_NUMBER)? as u32)),
+        CallWord::Status => Some(KeptEvent::Status(fields.plain_small(0, MAX_NUMBER)? as u32)),
         CallWord::Listen | CallWord::Open | CallWord::Send => None,
     }
 }
@@ -87,9 +117,9 @@ fn plain_call_behind(version: Version, word: CallWord, fields: &mut Fields) -> O
 fn plain_call<'a>(version: Version, fields: &mut Fields<'a>) -> Option<PlainEvent<'a>>
     ensures { IfSome result (λ p. IsRead (event_behind version letters.B fields.old) p.event p.digits.now) }
 {
-    let word = call_word_named(fields.plain_word()?)?;
+    let word = plain_call_word(fields.plain_word()?)?;
     if let CallWord::Send = word {
-        let socket = fields.plain_number(0, MAX_NUMBER)? as u32;
+        let socket = fields.plain_small(0, MAX_NUMBER)? as u32;
         let digits = digits_within(fields, MAX_DIGITS)?;
         let event = KeptEvent::Send(socket);
         return Some(PlainEvent { event, digits });
@@ -114,7 +144,7 @@ fn plain_answer_behind(word: AnswerWord, fields: &mut Fields) -> Option<KeptEven
             if fields.is_empty() {
                 return Some(KeptEvent::Done);
             }
-            Some(KeptEvent::Given(fields.plain_number(0, MAX_NUMBER)? as u32))
+            Some(KeptEvent::Given(fields.plain_small(0, MAX_NUMBER)? as u32))
         }
         AnswerWord::State => Some(KeptEvent::State(state_named(fields.plain_word()?)?)),
         AnswerWord::Data => None,
@@ -135,7 +165,7 @@ fn plain_answer_behind(word: AnswerWord, fields: &mut Fields) -> Option<KeptEven
 fn plain_answer<'a>(fields: &mut Fields<'a>) -> Option<PlainEvent<'a>>
     ensures { IfSome result (λ p. (v : Version) → IsRead (event_behind v letters.E fields.old) p.event p.digits.now) }
 {
-    let word = answer_word_named(fields.plain_word()?)?;
+    let word = plain_answer_word(fields.plain_word()?)?;
     if let AnswerWord::Data = word {
         let digits = digits_within(fields, MAX_DIGITS)?;
         let event = KeptEvent::Bytes;
@@ -209,7 +239,7 @@ pub(crate) fn plain_line(
     };
     let stop = u32::try_from(fields.stop()).ok()?;
     let moment = fields.plain_rising(before, GREATEST_MOMENT)?;
-    let thread = fields.plain_number(0, MAX_NUMBER)? as u32;
+    let thread = fields.plain_small(0, MAX_NUMBER)? as u32;
     let read = plain_event(version, &mut fields)?;
     let record = Record {
         moment,
