@@ -19,6 +19,7 @@ use std::io::BufRead;
 use verdict::Rule;
 
 /// Offers the lines whose moment is reached, and no other.
+#[inline(always)]
 pub(crate) fn offer_reached<A: BufRead>(
     window: &mut Window,
     lines: &mut Ahead<A>,

@@ -113,6 +113,7 @@ fn next_step<A: BufRead, B: BufRead>(
 }
 
 // The least rule that a step breaks; if it breaks none, it is done. Every line whose moment is reached was offered.
+#[inline(always)]
 fn judge_step<A: BufRead>(
     alloc: Global,
     window: &mut Window,
