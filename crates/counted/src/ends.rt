@@ -78,8 +78,8 @@ impl<X> Counted<X> {
         self.end.failures
     }
 
-    /// The same reader or writer, lent with its counts and with the bytes that it has buffered. What it counts from then
-    /// on has to be told: `count_on`. Bytes that it has buffered in the end are lost.
+    /// The same reader or writer, lent with its counts and with the bytes that it has buffered. What it counts from
+    /// then on has to be told: `count_on`. Bytes that it has buffered in the end are lost.
     pub fn lent(&mut self) -> Counted<&mut X>
         ensures inner { (inner_of result).now ≡ inner_of self.old }
         ensures unread { unread_of result ≡ unread_of self.old }

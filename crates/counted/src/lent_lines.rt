@@ -1,6 +1,7 @@
 //! One line of a reader, which stays in the reader's buffer.
 
-ghost use Rattle.std.specs.Prelude.{◌≡◌, ◌+◌, ◌≤◌, ◌<◌, ◌^◌, ℕ, Some, None, OnOk, IfOk, IfSome, MatchOption, length, take, drop};
+ghost use Rattle.std.specs.Prelude.{◌≡◌, ◌+◌, ◌≤◌, ◌<◌, ◌^◌, ℕ, Some, None, OnOk, IfOk, IfSome, MatchOption};
+ghost use Rattle.std.specs.Prelude.{length, take, drop};
 ghost use Rattle.std.specs.Io.{StartsWith, appended_bytes};
 ghost use Rattle.std.specs.Io.KnownBytes.{Consumes, prepend_known};
 ghost use Rattle.counted.specs.Counting.{left_of, line_of, unread_of, failures_of, one_more};
@@ -137,9 +138,9 @@ impl Buffer {
 }
 
 impl<B: BufRead> Counted<B> {
-    /// Reads one line with its LF, or all that is left if no LF follows, and keeps it for `line`. Of a line of more than
-    /// `most` bytes, only the last may be kept; the answer is how many bytes came before those. `None` means the end of
-    /// the input. Bytes are read only if the line isn't buffered, and then 8 KiB at most.
+    /// Reads one line with its LF, or all that is left if no LF follows, and keeps it for `line`. Of a line of more
+    /// than `most` bytes, only the last may be kept; the answer is how many bytes came before those. `None` means the
+    /// end of the input. Bytes are read only if the line isn't buffered, and then at most 8 KiB a call.
     #[inline(always)]
     pub fn next_line(&mut self, alloc: Global, most: usize) -> Result<Option<u64>, ReadFault>
         requires { most < 2 ^ 32 }

@@ -51,7 +51,8 @@ pub fn next_line<B: BufRead>(
     }
 }
 
-/// Reads the next line with its end, which must exist; the source's `line` gives it. A missing one is Header at its number, columns 0 to 0.
+/// Reads the next line with its end, which must exist; the source's `line` gives it. A missing one is Header at its
+/// number, columns 0 to 0.
 pub fn require_line<B: BufRead>(
     source: &mut Counted<B>,
     alloc: Global,

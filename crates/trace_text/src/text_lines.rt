@@ -57,7 +57,7 @@ fn before_witness(version: Version, raw: &[u8]) -> TextEnd
     }
 }
 
-/// The lines of a trace's text. Only the line that was read last is kept.
+/// The lines of a trace's text. Only the line that was read last is kept, and 8 KiB at most of what follows it.
 #[derive(Drop)]
 pub struct TextLines<A> {
     alloc: Global,
@@ -71,11 +71,7 @@ impl<A> TextLines<A> {
         ensures source { lines_source result ≡ source }
         ensures end { end_of result ≡ end }
     {
-        TextLines {
-            alloc,
-            source,
-            end,
-        }
+        TextLines { alloc, source, end }
     }
 
     /// The source: what was requested has been read.

@@ -20,8 +20,8 @@ use line_fields::{
 use std::alloc::Global;
 use std::io::BufRead;
 
-/// A witness of some version, whose steps are read on request. Only one line of the text is kept in memory, and what was taken of it at once. After a
-/// fault, each later call returns that fault.
+/// A witness of some version, whose steps are read on request. Only one line of the text is kept in memory, and 8 KiB
+/// at most of what follows it. After a fault, each later call returns that fault.
 #[derive(Drop)]
 pub struct StepReader<B> {
     alloc: Global,

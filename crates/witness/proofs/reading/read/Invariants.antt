@@ -10,7 +10,9 @@ use Rattle.witness.proofs.reading.read.Given as goal
 abbrev pub invariant-loop-steps : goal.invariant-loop-steps
 invariant-loop-steps l = record {
   well : fault_of l.reader ≡ None;
-  whole : steps_of (witness_for l.version l.text) ≡ with_front l.steps (steps_from l.reader.version l.reader.number (lines_of (unread_of l.reader.source ++ (inner_of l.reader.source).now)));
+  whole :
+      steps_of (witness_for l.version l.text) ≡ with_front l.steps
+      (steps_from l.reader.version l.reader.number (lines_of (unread_of l.reader.source ++ (inner_of l.reader.source).now)));
 }
 
 abbrev pub decreases-loop-steps : goal.decreases-loop-steps
