@@ -1,5 +1,5 @@
 -- Digits whose bytes are kept.
-use Rattle.std.proofs.Common.{◌≡◌, ◌-◌, ℕ, true, false, List, [], ◌++◌, length, take, drop, Ok, sym, ◌∙◌, arith, ap, subst, length-append}
+use Rattle.std.proofs.Common.{◌≡◌, ◌-◌, ℕ, true, false, List, ◌++◌, length, take, drop, Ok, sym, ◌∙◌, arith, ap, subst, length-append}
 use Rattle.std.proofs.lemmas.List.{take_all, drop-append-le, drop_all}
 use Rattle.hex.specs.Hex.{decode_of}
 use Rattle.segment.specs.declared.fields.Segment.{Segment}

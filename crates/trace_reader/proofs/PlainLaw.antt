@@ -1,11 +1,10 @@
 -- Event lines as they are usually written.
-use Rattle.std.proofs.Common.{◌≡◌, ◌≤◌, ◌*◌, ℕ, List, [], ◌∷◌, ◌++◌, Bool, true, false, Option, None, Some, IfSome, Result, Ok, length, refl, sym, ap, subst, ◌∙◌, arith}
+use Rattle.std.proofs.Common.{◌≡◌, ◌≤◌, ℕ, List, [], ◌∷◌, ◌++◌, Option, None, Some, IfSome, Result, Ok, length, refl, ap, subst, ◌∙◌, arith}
 use Rattle.std.proofs.lemmas.Bool.{le-ltb}
 use Rattle.hex.specs.Hex.{decode_of}
 use Rattle.hex.proofs.HexLemmas.{decode_of-ok}
 use Rattle.segment.specs.declared.fields.Segment.{Segment}
 use Rattle.segment.specs.Layout.{IsSegment}
-use Rattle.segment.specs.Reading.{segment_of}
 use Rattle.segment.proofs.Readings.{reads_by_layout}
 use Rattle.case_forms.specs.declared.calls.Host.{Host}
 use Rattle.case_forms.specs.declared.trace.Event.{Event}
@@ -14,18 +13,18 @@ use Rattle.case_forms.specs.declared.version.Version.{Version}
 use Rattle.kept_lines.specs.declared.record.KeptEvent.{KeptEvent}
 use Rattle.kept_lines.specs.declared.record.KeptEvent.TheVariants as kept
 use Rattle.kept_lines.specs.declared.record.Record.{Record}
-use Rattle.kept_lines.specs.Records.{event_of, has_bytes, seen_of}
+use Rattle.kept_lines.specs.Records.{event_of, seen_of}
 use Rattle.kept_lines.specs.Records.{line_of as kept_line}
 use Rattle.kept_lines.specs.Spelled.{IsSpelled}
 use Rattle.line_fields.specs.declared.fault.TextFault.{TextFault}
 use Rattle.line_fields.specs.declared.answers.AnswerWord.{AnswerWord}
 use Rattle.line_fields.specs.declared.answers.AnswerWord.TheVariants as answer_words
-use Rattle.line_fields.specs.Word.{Word, Rest}
+use Rattle.line_fields.specs.Word.{Rest}
 use Rattle.line_fields.specs.Answers.{answer_name, all_answer_words}
 use Rattle.line_fields.specs.AnswerFields.{answer_behind, answer_field}
 use Rattle.line_fields.specs.Choice.{kind_named, kind_field}
 use Rattle.line_fields.specs.FirstField.{IsNext, rising_field}
-use Rattle.line_fields.specs.HexFields.{hex_field, hex_word, EndsInHex}
+use Rattle.line_fields.specs.HexFields.{hex_field, EndsInHex}
 use Rattle.line_fields.specs.Hosts.{host_field}
 use Rattle.line_fields.specs.Lines.{line_rest}
 use Rattle.line_fields.specs.Reading.{◌>>=◌, number_field, no_more}
@@ -40,7 +39,7 @@ use Rattle.trace_reader.specs.Events.{letter_name, all_letters}
 use Rattle.trace_reader.specs.EventFields.{event_behind, event_field, host_wire}
 use Rattle.trace_reader.specs.EventLines.{line_of}
 use Rattle.trace_reader.specs.declared.plain.PlainEvent.{PlainEvent}
-use Rattle.trace_reader.specs.Plain.{begun, begun_behind, ended, ended_behind, IsAppended, IsRead, IsWhole}
+use Rattle.trace_reader.specs.Plain.{begun, begun_behind, ended, ended_behind, IsAppended, IsRead}
 use Rattle.trace_reader.proofs.WireLemmas.{wire_field_is}
 
 -- the next field names a kind

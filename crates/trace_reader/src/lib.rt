@@ -25,7 +25,8 @@
 //! - `first_line`: the first line, read as the version that it names
 //! - `late_lines`: the lines after line 6, which version 1 doesn't have
 //! - `named_lines`: lines of a header that are a name and a value
-//! - `events`: events, and event lines, each read alone
+//! - `events`: events, and event lines, each read alone; `keeping`: an event line that is kept; `plain`: one that is
+//!   written as usual, whose bytes are read into their place
 //! - `calls`: the calls that a thread may begin
 //! - `wires`: segments in hex
 //! - `printing`: the printer of a trace; `header_printing`: that of its header

@@ -1,4 +1,4 @@
-use Rattle.std.proofs.Common.{◌≡◌, Ok, ap, rules, sym, subst, ◌∙◌}
+use Rattle.std.proofs.Common.{Ok, ap, rules, sym, subst, ◌∙◌}
 use Rattle.trace_reader.specs.EventLines.{Place}
 use Rattle.trace_reader.specs.TraceLeft.{StandsAt, place_of}
 use Rattle.checker.proofs.AheadLemmas.{one_passed}

@@ -1,4 +1,4 @@
-use Rattle.std.proofs.Common.{rules, ◌≡◌, ◌∙◌, ap, Ok, length, ◌++◌, ◌∷◌, [], ◌-◌, arith, length-append}
+use Rattle.std.proofs.Common.{rules, ◌≡◌, ◌∙◌, ap, Ok, length, ◌++◌, ◌-◌, arith, length-append}
 use Rattle.kept_lines.proofs.SpelledLemmas.{tail_spelled}
 use Rattle.kept_lines.proofs.chunk.keep_digits.Goals as goal
 
@@ -11,7 +11,7 @@ returns-clause-kept c = λ e.
     let len : c.len.result - c.len-from.result ≡ length s.0 = omega (arith, ap length all, length-append c.args.bytes.now.items s.0, from) in (
       s.0,
       tail_spelled c.args.event c.args.digits.now c.args.bytes.now.items s.0 c.deref.result.now c.len-from.result c.requires s.1 whole from
-      (λ seen. c.may_be_of.ensures c.if-not-may_be_of.false seen),
+          (λ seen. c.may_be_of.ensures c.if-not-may_be_of.false seen),
       rw (c.push_reserved.ensures.items, len) (search rules),
       all,
     )

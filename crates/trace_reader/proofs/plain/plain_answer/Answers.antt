@@ -1,4 +1,4 @@
-use Rattle.std.proofs.Common.{refl, ◌∙◌, sym, ap, Some}
+use Rattle.std.proofs.Common.{◌∙◌, ap, Some}
 use Rattle.trace_reader.proofs.PlainLaw.{answer_alone, data_is}
 use Rattle.trace_reader.proofs.plain.plain_answer.Goals as goal
 

@@ -1,4 +1,4 @@
-use Rattle.std.proofs.Common.{refl, ◌∙◌, sym, rules, ◌≡◌}
+use Rattle.std.proofs.Common.{rules, ◌≡◌}
 use Rattle.trace_reader.proofs.PlainLaw.{line_is}
 use Rattle.trace_reader.proofs.plain.plain_line.Goals as goal
 

@@ -1,5 +1,4 @@
-use Rattle.std.proofs.Common.{ap, arith}
-use Rattle.std.specs.Result.{result_ok}
+use Rattle.std.proofs.Common.{arith}
 use Rattle.line_fields.proofs.HexFieldLemmas.{ends_in_hex}
 use Rattle.line_fields.proofs.fields.Fields.last_digits.Goals as goal
 
