@@ -154,7 +154,8 @@ pub placed_line : (p : Progress) (o : Order) (s : Step) (named : NamedLine) (lin
     → held_line o named.number ≡ Some line
     → first_broken (asked_rules p s.moment (option_map line_step (taken_of named.extras line))) ≡ kept_broken p.header o p.world s
 placed_line p o s named line is none found =
-    subst (λ (label : Label NamedLine). first_broken (asked_rules p s.moment (option_map line_step (taken_of named.extras line))) ≡ kept_broken p.header o p.world (record s { label = label }))
+    subst (λ (label : Label NamedLine). first_broken (asked_rules p s.moment (option_map line_step (taken_of named.extras line)))
+    ≡ kept_broken p.header o p.world (record s { label = label }))
     (sym is)
     (acts ∙ sym (first_broken-append_none (order_rules o (taking s.moment named.number (extras_count named.extras)))
     (option_map_or (act_rules p.header p.world) (held_act o (record s { label = L named })) []) (sym none)))

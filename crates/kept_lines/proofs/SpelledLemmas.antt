@@ -11,7 +11,8 @@ use Rattle.kept_lines.specs.Spelled.{is_seen, IsSpelled}
 -- what follows the first bytes of a list
 tail_is : (bytes more whole : List ℕ) (from : ℕ) → whole ≡ bytes ++ more → from ≡ length bytes → take (length whole - from) (drop from whole) ≡ more
 tail_is bytes more whole from e n =
-    let rest : drop from (bytes ++ more) ≡ more = drop-append-le from bytes more (omega arith) ∙ ap (λ (xs : List ℕ). xs ++ more) (drop_all from bytes (omega arith)) in
+    let none : drop from bytes ++ more ≡ more = ap (λ (xs : List ℕ). xs ++ more) (drop_all from bytes (omega arith)) in
+    let rest : drop from (bytes ++ more) ≡ more = drop-append-le from bytes more (omega arith) ∙ none in
     let len = ap length e ∙ length-append bytes more in
     rw (e, rest) (take_all (length (bytes ++ more) - from) more (omega (arith, length-append bytes more)))
 

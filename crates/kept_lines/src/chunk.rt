@@ -1,6 +1,7 @@
 //! Lines in three pieces of memory.
 
-ghost use Rattle.std.specs.Prelude.{◌≡◌, ◌≢◌, ◌≤◌, ◌+◌, ◌↔◌, ℕ, List, [], ◌∷◌, ◌++◌, ◌<◌, ◌^◌, true, false, length, drop, Ok};
+ghost use Rattle.std.specs.Prelude.{◌≡◌, ◌≢◌, ◌≤◌, ◌+◌, ◌↔◌, ℕ, List, [], ◌∷◌, ◌++◌, ◌<◌, ◌^◌, true, false};
+ghost use Rattle.std.specs.Prelude.{length, drop, Ok};
 ghost use Rattle.std.specs.Prelude.{IfOk, IsTrue, OnOk, OnErr};
 ghost use Rattle.kept_lines.specs.Lines.{IsPlain, Takes, Follows};
 ghost use Rattle.kept_lines.specs.Records.{has_bytes, lens_of, len_count, first_len, line_of};
@@ -87,8 +88,8 @@ impl Chunk {
         self.taken == self.records.len()
     }
 
-    /// Whether a line with this number and so many bytes may be appended to a chunk that has lines. To an empty one, any
-    /// line may.
+    /// Whether a line with this number and so many bytes may be appended to a chunk that has lines. To an empty one,
+    /// any line may.
     #[inline(always)]
     pub(crate) fn has_room(&self, number: u64, count: usize) -> bool
         requires { count < 2 ^ 63 }
@@ -237,8 +238,8 @@ fn keep_bytes(
     Ok(())
 }
 
-// Appends the bytes that digits spell, and their number, if an event of this kind has some. False if they spell none, or
-// too many, or no segment; then, and if memory runs out, nothing changes.
+// Appends the bytes that digits spell, and their number, if an event of this kind has some. False if they spell none,
+// or too many, or no segment; then, and if memory runs out, nothing changes.
 #[inline(always)]
 fn keep_spelled(
     lens: &mut Vec<u32>,
@@ -247,7 +248,8 @@ fn keep_spelled(
     digits: &[u8],
 ) -> Result<bool, OutOfMemory>
     ensures kept { result ≡ Ok true → (more : List ℕ) × IsSpelled event digits.now more
-        × (lens.new.items ≡ lens.old.items ++ lens_of event (length more)) × (bytes.new.items ≡ bytes.old.items ++ more) }
+        × (lens.new.items ≡ lens.old.items ++ lens_of event (length more))
+        × (bytes.new.items ≡ bytes.old.items ++ more) }
     ensures same_lens { result ≢ Ok true → lens.new.items ≡ lens.old.items }
     ensures same_bytes { result ≢ Ok true → bytes.new.items ≡ bytes.old.items }
 {

@@ -14,7 +14,8 @@
 //!
 //! Contracts see `KeptLines` as a list of lines. `specs/Lines` defines which lines can be kept, and what it means to
 //! take one; read it first. `specs/Records` defines which lines the records and bytes of a chunk stand for, and
-//! `specs/Spelled` which bytes digits spell. For callers, `proofs/TakesLemmas` states what an item tells about the lines.
+//! `specs/Spelled` which bytes digits spell. For callers, `proofs/TakesLemmas` states what an item tells about the
+//! lines.
 #![tactic(auto)]
 
 mod chunk;

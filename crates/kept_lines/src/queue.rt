@@ -1,6 +1,7 @@
 //! The lines in order, in chunks.
 
-ghost use Rattle.std.specs.Prelude.{◌≡◌, ◌≢◌, ◌↔◌, ◌≤◌, ◌<◌, ◌^◌, ℕ, List, [], ◌∷◌, ◌++◌, IsTrue, Ok, OnOk, OnErr, true};
+ghost use Rattle.std.specs.Prelude.{◌≡◌, ◌≢◌, ◌↔◌, ◌≤◌, ◌<◌, ◌^◌, ℕ, List, [], ◌∷◌, ◌++◌, IsTrue, Ok, OnOk};
+ghost use Rattle.std.specs.Prelude.{OnErr, true};
 ghost use Rattle.kept_lines.specs.Chunks.{AreFilled, joined};
 ghost use Rattle.kept_lines.specs.Lines.{IsPlain, Takes, Follows};
 ghost use Rattle.kept_lines.specs.Records.{line_of};

@@ -10,7 +10,8 @@ impl<'a> Fields<'a> {
     /// All that is left of the line, if it isn't empty. If it spells bytes in hex, it is the next field and the last.
     #[inline(always)]
     pub fn last_digits(&self) -> Option<&'a [u8]>
-        ensures { IfSome result (λ digits. (bytes : List ℕ) → decode_of digits.now ≡ Ok bytes → EndsInHex bytes self.now) }
+        ensures { IfSome result (λ digits. (bytes : List ℕ) → decode_of digits.now ≡ Ok bytes
+            → EndsInHex bytes self.now) }
     {
         if self.at >= self.text.len() {
             return None;

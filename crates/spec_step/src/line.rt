@@ -92,7 +92,8 @@ pub fn apply_line_owned(world: &mut World, moment: u64, line: TakenLine) -> Resu
 }
 
 /// Does a step that takes this line of a trace with these extra numbers, like `apply_line_owned`. If a line of its kind
-/// needs another count of them, it does nothing. Most kinds are done without a `TakenLine`, which would be one more copy.
+/// needs another count of them, it does nothing. Most kinds are done without a `TakenLine`, which would be one more
+/// copy.
 #[tactic(auto, using(crate::proofs::FaultLemmas::admitted, crate::proofs::FaultLemmas::broken, crate::proofs::FaultLemmas::memory))]
 #[inline(always)]
 pub fn take_line(

@@ -23,7 +23,8 @@ pub(crate) fn keep_event_line(
     raw: &[u8],
     lines: &mut KeptLines,
 ) -> Result<u64, TextFault>
-    ensures kept { IfOk result (λ moment. IsAppended (line_of version (before, number) raw.now) moment lines.old lines.new) }
+    ensures kept { IfOk result (λ moment.
+        IsAppended (line_of version (before, number) raw.now) moment lines.old lines.new) }
     ensures fault { IfErr result (λ e. Fails e.kind e (line_of version (before, number) raw.now)) }
     ensures left { OnErr result (lines.new ≡ lines.old) }
 {
@@ -42,7 +43,8 @@ fn keep_plain(
     raw: &[u8],
     lines: &mut KeptLines,
 ) -> Option<u64>
-    ensures kept { IfSome result (λ moment. IsAppended (line_of version (before, number) raw.now) moment lines.old lines.new) }
+    ensures kept { IfSome result (λ moment.
+        IsAppended (line_of version (before, number) raw.now) moment lines.old lines.new) }
     ensures left { IfNone result (lines.new ≡ lines.old) }
 {
     let line = plain_line(version, before, number, raw)?;
@@ -62,7 +64,8 @@ fn keep_exactly(
     raw: &[u8],
     lines: &mut KeptLines,
 ) -> Result<u64, TextFault>
-    ensures kept { IfOk result (λ moment. IsAppended (line_of version (before, number) raw.now) moment lines.old lines.new) }
+    ensures kept { IfOk result (λ moment.
+        IsAppended (line_of version (before, number) raw.now) moment lines.old lines.new) }
     ensures fault { IfErr result (λ e. Fails e.kind e (line_of version (before, number) raw.now)) }
     ensures left { OnErr result (lines.new ≡ lines.old) }
 {

@@ -1,5 +1,5 @@
-//! Event lines as they are usually written, read without a fault to return. The bytes of an event are still digits then.
-//! Any other line is read by `event_line`, which tells what is wrong with it.
+//! Event lines as they are usually written, read without a fault to return. The bytes of an event are still digits
+//! then. Any other line is read by `event_line`, which tells what is wrong with it.
 
 ghost use Rattle.std.specs.Prelude.{◌≡◌, ◌≤◌, ℕ, List, IfSome, Some, Ok, false, length};
 ghost use Rattle.hex.specs.Hex.{decode_of};

@@ -336,9 +336,9 @@ fn do_hidden<Taken>(
     }
 }
 
-/// Does a step that takes this line of the trace with these extra numbers, at a moment in microseconds. If a line of its
-/// kind needs another count of them, it does nothing. The error is the least rule that it breaks, of the model or of a
-/// duty, or that memory ran out; the case is of no use then.
+/// Does a step that takes this line of the trace with these extra numbers, at a moment in microseconds. If a line of
+/// its kind needs another count of them, it does nothing. The error is the least rule that it breaks, of the model or
+/// of a duty, or that memory ran out; the case is of no use then.
 #[inline(always)]
 pub fn take_line(case: &mut Case, moment: u64, line: Line, extras: Extras) -> Result<(), StepFault>
     requires { case.old.steps < most_steps }

@@ -126,8 +126,8 @@ impl<'t> CaseText<'t> {
     }
 }
 
-/// The text of a case with this header, the event lines of its trace, and what was found for these. Each line is written
-/// once, without pieces.
+/// The text of a case with this header, the event lines of its trace, and what was found for these. Each line is
+/// written once, without pieces.
 pub(crate) fn join_case(
     alloc: Global,
     header: &[u8],

@@ -32,7 +32,8 @@ returns-in_err-moment-clause-fault g c = λ e is.
     let same : c.in_err-moment.field-0.0 ≡ e = cc in
     subst (λ (f : TextFault). FailsLeft f (lines_left g.A.Read.remaining c.args.self.now)) same
     (text_fails_left g.A.Read.remaining c.args.self.now c.in_err-moment.field-0.0 c.requires
-    (line_fails c.args.self.now.version _ _ _ (last_raw c.next_line.new.self) c.in_err-moment.field-0.0 took (rw c.raw.ensures at c.in_err-moment.ensures.fault)))
+    (line_fails c.args.self.now.version _ _ _ (last_raw c.next_line.new.self) c.in_err-moment.field-0.0 took
+    (rw c.raw.ensures at c.in_err-moment.ensures.fault)))
 
 pub after_line-requires : goal.after_line-requires
 after_line-requires g c =
