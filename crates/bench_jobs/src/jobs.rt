@@ -269,6 +269,8 @@ fn many<H: Threads + Wait + Sync>(
     let mut output = Vec::new(alloc);
     let mut writer = Counted::new(&mut output);
     let _ = answer_cases(rt, alloc, WORKERS, &mut reader, &mut writer);
+    drop(writer);
+    drop(reader);
     results.add_lines(text.len(), output.as_slice());
     Ok(())
 }

@@ -174,6 +174,7 @@ fn by_check(alloc: Global, text: &[u8], size: usize) -> Text {
     let mut reader = Counted::new(text);
     let mut writer = Counted::new(&mut output);
     let status = run(alloc, &["check"], &mut reader, &mut writer);
+    drop(writer);
     printed_then_status(alloc, output.as_slice(), status)
 }
 
@@ -193,6 +194,7 @@ pub fn by_pair(alloc: Global, trace: &[u8], witness: &[u8], size: usize) -> Text
         Counted::new(witness),
         &mut writer,
     );
+    drop(writer);
     printed_then_status(alloc, output.as_slice(), status)
 }
 
@@ -207,5 +209,6 @@ pub fn by_words<H: Threads + Wait + Sync>(
     let mut reader = Counted::new(input);
     let mut writer = Counted::new(&mut output);
     let status = run_all(rt, alloc, words, &mut reader, &mut writer);
+    drop(writer);
     printed_then_status(alloc, output.as_slice(), status)
 }
