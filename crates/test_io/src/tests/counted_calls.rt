@@ -29,6 +29,7 @@ fn reads(told: &mut Vec<u8>, fails_at: u32) {
         tell_count(told, reader.read(&mut bytes));
     }
     let failures = reader.failures();
+    drop(reader);
     tell_counts(told, failures, source.calls);
 }
 
@@ -52,6 +53,7 @@ fn lines(alloc: Global, told: &mut Vec<u8>, fails_at: u32) {
         tell(told, word);
     }
     let failures = reader.failures();
+    drop(reader);
     tell_counts(told, failures, source.calls);
 }
 
@@ -63,6 +65,7 @@ fn writes(told: &mut Vec<u8>, sink: &mut Sink, bytes: &[u8]) {
         tell_count(told, writer.write(bytes));
     }
     let failures = writer.failures();
+    drop(writer);
     tell_counts(told, failures, sink.calls);
 }
 
@@ -71,6 +74,7 @@ fn all_written(told: &mut Vec<u8>, sink: &mut Sink) {
     let mut writer = Counted::new(&mut *sink);
     let is_written = writer.write_all(b"abcde").is_ok();
     let failures = writer.failures();
+    drop(writer);
     tell(told, "write all ");
     let _ = told.extend_from_slice(sink.taken.as_slice());
     tell(told, if is_written { " " } else { "x " });
@@ -85,6 +89,7 @@ fn flushes(told: &mut Vec<u8>, sink: &mut Sink) {
         tell(told, if writer.flush().is_ok() { "o " } else { "x " });
     }
     let failures = writer.failures();
+    drop(writer);
     tell_counts(told, failures, sink.flushes);
 }
 

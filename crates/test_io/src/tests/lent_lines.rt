@@ -31,6 +31,7 @@ fn lines(alloc: Global, told: &mut Vec<u8>, size: usize, fails_at: u32) {
         tell_line(alloc, told, &mut reader);
     }
     let failures = reader.failures();
+    drop(reader);
     tell_counts(told, failures, source.calls);
 }
 
@@ -54,6 +55,7 @@ fn reads_behind(alloc: Global, told: &mut Vec<u8>, size: usize) {
     let _ = told.extend_from_slice(line.as_slice());
     tell(told, if is_read { " " } else { "x " });
     let failures = reader.failures();
+    drop(reader);
     tell_counts(told, failures, source.calls);
 }
 

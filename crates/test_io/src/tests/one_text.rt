@@ -58,6 +58,7 @@ fn tell_judged(alloc: Global, told: &mut Vec<u8>, text: &str, fails_at: u32) {
     let mut source = Source::new(text.as_bytes(), 0, fails_at);
     let (answer, reader) = check_reader(alloc, Counted::new(&mut source));
     let failures = reader.failures();
+    drop(reader);
     tell(told, word(&answer));
     tell_counts(told, failures, source.calls);
 }

@@ -60,6 +60,7 @@ fn tell_run<H: Threads + Wait + Sync>(
     let mut writer = Counted::new(&mut *sink);
     let status = run_all(rt, alloc, words, &mut reader, &mut writer);
     let (read, written) = (reader.failures(), writer.failures());
+    drop(writer);
     let _ = told.extend_from_slice(sink.taken.as_slice());
     for number in [u64::from(status), read, written, u64::from(sink.flushes)] {
         tell_number(told, number);
