@@ -106,7 +106,7 @@ pub fn asks(m: &Emission, taking: Option<Rule>, e: &Endpoint) -> bool
         return false;
     }
     if m.flags.rst {
-        return taking.is_none();
+        return taking.is_none() && is_challenged(e, m);
     }
     is_unacceptable(taking) || is_ack_range(taking) && m.flags.ack || taking.is_none()
 }

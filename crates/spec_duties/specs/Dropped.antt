@@ -88,11 +88,11 @@ abbrev pub has_content : Emission → Bool
 has_content m = nat_lt 0 (length m.payload) || m.flags.fin
 
 -- a dropped segment asks for an acknowledgment: it is unacceptable, or acknowledges what was never sent, or could be
--- processed; a reset only if it could be, and then it is a challenge (RFC 9293, 3.10.7.4, first and fifth)
+-- processed; a reset only if it could be, and is challenged (RFC 9293, 3.10.7.4, first, second and fifth)
 abbrev pub asks : Emission → (taking : Option Rule) → Endpoint → Bool
 asks m taking e =
     not (is_syn_sent e.state)
-    && (if m.flags.rst then not (is_some taking)
+    && (if m.flags.rst then not (is_some taking) && is_challenged e m
     else is_unacceptable taking || is_ack_range taking && m.flags.ack || not (is_some taking))
 
 -- the states in which what is next in order is kept (RFC 9293, 3.10.7.4, seventh)
