@@ -1,4 +1,4 @@
-"""Runs the commands in pages in a copy of the repository, and compares their output with the pages."""
+"""Runs the commands in pages in a copy of the repository, and compares their output and the pictures that they draw with the pages."""
 import os
 import re
 import shutil
@@ -24,7 +24,8 @@ LEFT_OUT = {
     "pip wheel ": "bindings/test builds a wheel",
     "./test": "calls this script, and proves",
     "importer/test": "is a suite of ./test",
-    "stacks/run ": "takes more than a minute; stacks/test runs some of the scenarios",
+    "stacks/run lwip": "needs a package; stacks/test runs some of the scenarios",
+    "stacks/run ./my-stack --profile my-profile --out": "takes minutes; stacks/test --all runs all scenarios",
     "tcpdump ": "needs root",
     "strace -f --decode-fds=socket": "logs what a capture on another machine shows",
     "parallel ": "needs two machines",
@@ -50,7 +51,8 @@ COMMAND = re.compile(r"(\./|sudo |cc |cp |pip |TCPWIT_LIB_DIR=|CGO_|importer/|st
 INLINE = re.compile(r"(?<!`)`((?:\./)?tcpwit(?:_lab)? [^`\s]+ (?:(?!\.\.|\bN\b)[^`\n])+)`")
 BLOCK = re.compile(r"^(?:    .*\n)+", re.M)
 VERDICT = re.compile(r"(yes|no|bad) ")
-LIMIT = 60
+PICTURE = re.compile(r"!\[[^\]]*\]\(([^)\s]+\.svg)\)")
+LIMIT = 120
 # Writes the status of each command that fails, and the command, to the file descriptor 9.
 TRAP = "set -E; trap 'echo \"$? $BASH_COMMAND\" >&9' ERR\n"
 
@@ -189,6 +191,19 @@ def faults_of(commands, copy, folder):
     return found + [f"    {line}" for line in printed[-5:]] if found else []
 
 
+def picture_faults(page, text, top, at):
+    """The faults of a page's pictures, each with its place. A command of the page has to draw each one into a file of the same name."""
+    for match in PICTURE.finditer(text):
+        name = os.path.basename(match[1])
+        drawn = f"{at}/{name}"
+        if not os.path.exists(drawn):
+            yield match.start(), f"no command of this page writes {name}"
+            continue
+        with open(drawn, "rb") as new, open(os.path.join(top, os.path.dirname(page), match[1]), "rb") as old:
+            if new.read() != old.read():
+                yield match.start(), f"{match[1]} isn't what the page's command draws: run that command, and keep its file"
+
+
 def faults(pages, top=TOP):
     """The faults of all pages' commands, each with its page and line, and how many commands were run. `pages` maps names to texts."""
     found, used, count = [], set(), 0
@@ -203,4 +218,5 @@ def faults(pages, top=TOP):
                 used.update(commands.left_out())
                 count += bool(commands.script())
                 found += [f"{line(commands.place)}: {fault}" for fault in faults_of(commands, copy, at)]
+            found += [f"{line(place)}: {fault}" for place, fault in picture_faults(page, text, top, at)]
     return found + [f"LEFT_OUT: no page has a command that begins with {start!r}" for start in LEFT_OUT if start not in used], count

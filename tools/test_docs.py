@@ -3,6 +3,7 @@
 import os
 import re
 import shutil
+import subprocess
 import sys
 import tempfile
 import unittest
@@ -159,10 +160,39 @@ class Commands(unittest.TestCase):
             self.assertEqual(self.faults("    sed p /dev/stdin | cat; mkfifo A; cat A")[0][0],
                              "README.md:1: `sed p /dev/stdin | cat; mkfifo A; cat A` ended with status 124")
 
+    def test_pictures(self):
+        os.makedirs(f"{self.top}/docs", exist_ok=True)
+        for name, content in (("same", "0 <svg/>\n"), ("other", "<svg/>\n"), ("lost", "<svg/>\n")):
+            with open(f"{self.top}/docs/{name}.svg", "w", encoding="utf-8") as file:
+                file.write(content)
+        lines = ["    tcpwit 0 '<svg/>' > same.svg; tcpwit 0 '<svg/>' > other.svg", "", *(f"![it](docs/{name}.svg)" for name in ("same", "other", "lost"))]
+        self.assertEqual(self.faults(*lines)[0], [
+            "README.md:4: docs/other.svg isn't what the page's command draws: run that command, and keep its file",
+            "README.md:5: no command of this page writes lost.svg"])
+
     def test_what_the_tables_do_not_have(self):
         self.assertEqual(self.faults("    apt-get update")[0], ["README.md:1: neither a command nor what one prints: see COMMAND and SHOWN"])
         with mock.patch.object(docs_commands, "LEFT_OUT", {"sudo ": "root", "man ": "a package"}):
             self.assertEqual(self.faults("a")[0], ["LEFT_OUT: no page has a command that begins with 'man '"])
+
+
+class Facts(unittest.TestCase):
+    """What pages say of other files and of the toolchain."""
+
+    def page(self, name):
+        with open(f"{docs.TOP}/{name}", encoding="utf-8") as file:
+            return file.read()
+
+    @unittest.skipIf(shutil.which("rt") is None, "rt isn't in PATH")
+    def test_pages_name_the_toolchain(self):
+        version = subprocess.run(["rt", "version"], stdout=subprocess.PIPE, text=True, check=True).stdout.strip()
+        self.assertEqual(re.findall(r"rattle-kit-\w+", self.page("docs/guarantees.md")), [version.split()[0]])
+        self.assertEqual(re.findall(r"rattle-kit-.*", self.page("packaging/README.md")), [version])
+
+    def test_contributing_lists_the_suites(self):
+        suites = re.search(r"^readonly SUITES='\n(.*?)'$", self.page("test"), re.M | re.S)[1]
+        row = re.search(r"^\| `\./test NAME \.\.` \| (.*) \|$", self.page("CONTRIBUTING.md"), re.M)[1]
+        self.assertEqual(re.findall(r"`(\w+)`", row), [line.split()[0] for line in suites.splitlines()])
 
 
 if __name__ == "__main__":

@@ -222,7 +222,7 @@ def build_once(name, program):
     with open(f"{program}.lock", "w", encoding="utf-8") as lock:
         fcntl.flock(lock, fcntl.LOCK_EX)
         if not is_current(program, name):
-            print(f"{name}: building it without proofs, once, as {program}; this takes two to six minutes", file=sys.stderr, flush=True)
+            print(f"{name}: building it without proofs, once, as {program}; this takes about four minutes of one processor", file=sys.stderr, flush=True)
             build(name, program)
 
 

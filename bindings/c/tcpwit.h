@@ -1,13 +1,19 @@
 /* The tcpwit checker for C and C++: link with -ltcpwit.
  *
- * A case is a trace and its witness (formats.md). tcpwit_check judges a case by the same proved code as the program
- * `tcpwit check`. The other functions do what the commands of `tcpwit_lab` do; they are proved to be safe and to
- * return, and no more.
+ * A case is a trace and its witness (formats.md). tcpwit_check gives the answer that the program `tcpwit check` gives;
+ * contracts of both state it, and both are proved. tcpwit_check_two, tcpwit_rule_name and tcpwit_answer_line are
+ * proved, too. The other functions do what the commands of `tcpwit_lab` do; they are proved to be safe and to return,
+ * and no more. tcpwit_text_free is C.
  *
- * Any number of threads may call at once: nothing is shared between calls. No function prints, ends the process, or
- * keeps a pointer that it was given. If memory runs out, the answer says so.
+ * A text is passed as a pointer and its length in bytes; it needs no zero at its end. You must keep to this:
+ * - No pointer is NULL, even if its length or `room` is 0. To ask for a length alone, pass any valid pointer.
+ * - What a function writes to, such as `answer` or `line`, doesn't overlap anything else that you pass to it.
+ * - Your thread has 256 KiB of free stack. If the stack is full, the process ends.
+ * - A text is freed once. The same struct may be freed again, but a copy of it may not.
  *
- * A text is passed as a pointer, which isn't NULL, and its length in bytes; it needs no zero at its end. */
+ * Then any number of threads may call at once: nothing is shared between calls. No function prints, ends the process,
+ * or keeps a pointer that it was given. If memory runs out, the answer says so; tcpwit_answer_line then gives an empty
+ * string. */
 #ifndef TCPWIT_H
 #define TCPWIT_H
 
@@ -79,7 +85,7 @@ struct tcpwit_text {
     size_t length;
 };
 
-/* Frees a text. It then has no bytes, and may be freed again. */
+/* Frees a text. The struct then has no bytes, and may be freed again; a copy of it still has them, and may not. */
 void tcpwit_text_free(struct tcpwit_text *text);
 
 /* What a function that makes a text returns: the exit status of the command of `tcpwit_lab`. */

@@ -4,7 +4,9 @@
  *   threads N FILE .. as `lines`, by N threads at once, each over all files; fails if two threads differ
  *   rules             the name of each rule
  *   lab FILE TRACE    explains and remarks on a case, judges a trace and looks for its witness; prints the sizes
- *   short             writes a line and a name into memory that is too small */
+ *   short             writes a line and a name into memory that is too small
+ *   stack KIB FILE .. calls each function on each case, in a thread with so little stack
+ *   copied            frees a text, and then a copy of it, which isn't allowed */
 #include "tcpwit.h"
 
 #include <pthread.h>
@@ -150,12 +152,74 @@ static int short_memory(void) {
     struct tcpwit_result answer;
     char room[8] = "1234567";
     tcpwit_check("trace 1\n", 8, &answer);
+    printf("%u %s\n", (unsigned)tcpwit_answer_line(&answer, room, 0), room);
     printf("%u %s\n", (unsigned)tcpwit_answer_line(&answer, room, 5), room);
     printf("%u %s\n", (unsigned)tcpwit_rule_name(44, room, 1), room);
     memcpy(room, "1234567", 8);
     printf("%u %s\n", (unsigned)tcpwit_rule_name(44, room, 0), room);
     printf("%u %s\n", (unsigned)tcpwit_rule_name(44, room, 8), room);
     printf("%u %s\n", (unsigned)tcpwit_rule_name(44, room, 9 - 1), room);
+    return 0;
+}
+
+struct files {
+    int count;
+    char **names;
+};
+
+/* Calls each function on a case and on its trace, which ends before `cut`. */
+static void call_each(const struct bytes *text, size_t cut) {
+    struct tcpwit_result answer;
+    struct tcpwit_text said = {NULL, 0};
+    struct tcpwit_judgement judgement;
+    char name[32];
+    tcpwit_check_two(text->text, cut, text->text + cut, text->length - cut, &answer);
+    tcpwit_rule_name(answer.rule, name, sizeof name);
+    tcpwit_check(text->text, text->length, &answer);
+    say(&answer);
+    tcpwit_explain(text->text, text->length, false, &said);
+    tcpwit_text_free(&said);
+    tcpwit_remark(text->text, text->length, &said);
+    tcpwit_text_free(&said);
+    tcpwit_find(text->text, cut, 1000, &said);
+    tcpwit_text_free(&said);
+    tcpwit_judge(text->text, cut, TCPWIT_USUAL_SLACK, 1000, &judgement);
+    tcpwit_text_free(&judgement.said);
+    tcpwit_text_free(&judgement.found);
+}
+
+static void *call_all(void *given) {
+    const struct files *files = (const struct files *)given;
+    for (int i = 0; i < files->count; i++) {
+        struct bytes text = contents(files->names[i]);
+        const char *witness;
+        text.text[text.length] = 0;
+        witness = strstr(text.text, "\nwitness ");
+        call_each(&text, witness == NULL ? text.length : (size_t)(witness - text.text) + 1);
+        free(text.text);
+    }
+    return NULL;
+}
+
+static int stack(size_t kib, int count, char **names) {
+    struct files files = {count, names};
+    pthread_attr_t attributes;
+    pthread_t id;
+    if (pthread_attr_init(&attributes) != 0 || pthread_attr_setstacksize(&attributes, kib * 1024) != 0
+        || pthread_create(&id, &attributes, call_all, &files) != 0) {
+        return 2;
+    }
+    pthread_join(id, NULL);
+    return pthread_attr_destroy(&attributes);
+}
+
+static int copied(void) {
+    struct tcpwit_text said = {NULL, 0}, copy;
+    tcpwit_explain("trace 1\n", 8, true, &said);
+    copy = said;
+    tcpwit_text_free(&said);
+    tcpwit_text_free(&said);
+    tcpwit_text_free(&copy);
     return 0;
 }
 
@@ -178,6 +242,12 @@ int main(int argc, char **argv) {
     }
     if (strcmp(what, "short") == 0) {
         return short_memory();
+    }
+    if (strcmp(what, "stack") == 0 && argc > 3) {
+        return stack((size_t)atoi(argv[2]), argc - 3, argv + 3);
+    }
+    if (strcmp(what, "copied") == 0) {
+        return copied();
     }
     return 2;
 }

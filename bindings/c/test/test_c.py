@@ -92,7 +92,18 @@ class Library(unittest.TestCase):
         self.assertEqual(output(self.program, "rules").splitlines(), lines)
 
     def test_small_memory_gets_the_beginning(self):
-        self.assertEqual(output(self.program, "short").splitlines(), ["23 bad ", "8 ", "8 1234567", "8 ack-lat", "8 ack-lat"])
+        self.assertEqual(output(self.program, "short").splitlines(), ["23 1234567", "23 bad ", "8 ", "8 1234567", "8 ack-lat", "8 ack-lat"])
+
+    def test_half_of_the_stack_that_the_header_requires_is_enough(self):
+        with open(f"{TOP}/bindings/c/tcpwit.h", encoding="utf-8") as file:
+            required = int(re.search(r"thread has (\d+) KiB of free stack", file.read())[1])
+        names = {name: line for name, line in list(expected().items())[::30]}
+        said = output(self.program, "stack", str(required // 2), *map(case, names)).splitlines()
+        self.assertEqual(dict(zip(names, said)), names)
+
+    def test_a_copy_of_a_freed_text_may_not_be_freed(self):
+        found = subprocess.run(["valgrind", "--quiet", "--error-exitcode=9", self.program, "copied"], stderr=subprocess.PIPE, text=True, check=False)
+        self.assertEqual((found.returncode, found.stderr.count("Invalid free()")), (9, 1))
 
     def test_the_lab_says_what_the_program_says(self):
         name = f"{TOP}/stacks/recorded/lwip-hostile-ack-despite-nagle.case"

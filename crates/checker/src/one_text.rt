@@ -38,10 +38,11 @@ use verdict::Verdict;
 use witness::StepReader;
 
 /// The answer of `check_case` to the text that a reader gives, however its bytes come in pieces: the trace's fault,
-/// else the witness's, else the verdict on the case. After the first fault nothing more is read. The fault is `Read`
-/// only if the reader's `failures()` grew in the call, which then ends at once. The reader is returned.
+/// else the witness's, else the verdict on the case. The fault is `Read` only if the reader's `failures()` grew in the
+/// call. The reader is returned.
 ///
-/// Of the text, only one line is kept, and of the trace what its lines hold until steps take them.
+/// No clause says when it stops reading or how much it keeps; tests do. After the first fault or a failed read, it
+/// reads nothing more. It keeps one line of the text, and of the trace what its lines hold until steps take them.
 pub fn check_reader<R: BufRead>(
     alloc: Global,
     source: Counted<R>,

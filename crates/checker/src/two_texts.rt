@@ -43,8 +43,7 @@ use watched::Case;
 use witness::StepReader;
 
 /// The trace's fault, else the witness's, else the verdict on the case, however the bytes of both come in pieces. The
-/// fault is `Read` only if a reader's `failures()` grew in the call, which then ends at once. Both readers are
-/// returned.
+/// fault is `Read` only if a reader's `failures()` grew in the call. Both readers are returned.
 pub fn check_streams<A: BufRead, B: BufRead>(
     alloc: Global,
     a: Counted<A>,

@@ -107,7 +107,8 @@ pub fn run_all<R: BufRead + Send, W: Write + Send, H: Threads + Wait + Sync>(
         → ((n : ℕ) → ¬ AsksMany (map (λ word. word.now) words.now) n) → r.new ≡ r.old }
 
     // Except for a recording, for which a thread may also be refused, the status is 5 only if a count of failures grew.
-    // The last line says so if no write failed; for `many`, the answers to the cases read before stand before it.
+    // The last line says so if no write failed; for `many`, answers to some of the first cases, perhaps none, come
+    // before it.
     ensures device { ((plan : Plan) → ¬ AsksRecord (map (λ word. word.now) words.now) plan) → result ≡ 5 →
         (failures_of r.old < failures_of r.new) ⊎ (failures_of w.old < failures_of w.new) }
     ensures told { ((n : ℕ) → ¬ AsksMany (map (λ word. word.now) words.now) n) → result ≡ 5 →
