@@ -1,5 +1,5 @@
 #!/usr/bin/python3
-"""Tests `tcpwit_lab find`: how it ends, where it adds lines, which lines are copies of which, segments that an attacker chose, which of
+"""Tests `tcpwit_lab find`: how it ends, ports 0, where it adds lines, which lines are copies of which, segments that an attacker chose, which of
 several witnesses it prefers, hosts that process late or measure few round trips, and duties that a witness has to keep."""
 import glob
 import os
@@ -54,6 +54,43 @@ class Endings(unittest.TestCase):
 
     def test_nothing_else_is_tried(self):
         self.assertEqual(find(HEADER + CALL, "--budget", "1000000")[2], "")
+
+
+class PortZero(unittest.TestCase):
+    """A step can't name a port 0, so the line of a segment that an endpoint sends from it or to it is refused."""
+    HEAD = "trace {}\nskew 0\nmsl 60000000\ngrain 4000\nminrto 200000\nextra 65535\n"
+    HEADS = (HEAD.format(1), HEAD.format(4) + "initial 6928\nhosts 1\ncongestion none\n", HEAD.format(5) + "initial 6928\nhosts 2\ncongestion full\nslack 0\n",
+             HEAD.format(5) + "initial 6928\nhosts 1\ncongestion full\nslack 1000000\n")
+    LISTEN = "1 1 B listen 0 80 4\n1 1 E ok 5\n"
+
+    def verdict(self, trace, is_explained):
+        """What `check` says about the case that is found, and its witness."""
+        lines, witness, said = find(trace)
+        self.assertEqual(lines, trace.splitlines())
+        self.assertEqual(said == "", is_explained, said)
+        case = "".join(f"{line}\n" for line in [*lines, f"witness {trace[6]}", *witness])
+        explained = subprocess.run([*LAB, "explain"], input=case, capture_output=True, text=True, timeout=60)
+        return explained.stdout.splitlines()[0], witness
+
+    def test_no_endpoint_sends_it(self):
+        for head in self.HEADS:
+            line = 1 + head.count("\n")
+            for ports in ("0fa00000", "00000fa0", "00000000"):
+                for flags in ("5002", "5010", "5004"):
+                    said, witness = self.verdict(f"{head}1 1 O 0 {ports}00001771000003ef{flags}03e800000000\n", False)
+                    self.assertEqual((said, witness), (f"no 2 {line} not-made", [f"1 L {line} 0"]))
+
+    def test_no_listener_answers_a_syn_from_it(self):
+        for head in (self.HEADS[1], self.HEADS[3]):
+            line = 1 + head.count("\n")
+            events = "2 2 I 0 000000500000177100000000500203e800000000\n2 2 O 0 0050000000001771000017725012ffff00000000\n"
+            said, witness = self.verdict(head + self.LISTEN + events, False)
+            self.assertEqual((said.split()[2:], witness[-1]), ([str(line + 3), "not-made"], f"2 L {line + 3} 0"))
+
+    def test_a_reset_answers_a_segment_from_it(self):
+        for head in (self.HEADS[1], self.HEADS[3]):
+            events = "2 2 I 0 0000005000001771000003ef501003e800000000\n2 2 O 0 00500000000003ef000000005004000000000000\n"
+            self.assertEqual(self.verdict(head + events, True)[0], "yes 2 1")
 
 
 class AddedLines(unittest.TestCase):

@@ -5,15 +5,21 @@ import json
 import os
 import shlex
 import subprocess
+import sys
 import tempfile
 import unittest
 
 import jsonschema
 
+sys.dont_write_bytecode = True
 TOP = os.path.dirname(os.path.dirname(os.path.abspath(__file__)))
 DATA = f"{TOP}/crates/test_cases/data"
 LAB = shlex.split(os.environ.get("TCPWIT_LAB", f"{TOP}/tcpwit_lab"))
 LEVELS = ("full", "recovery", "none")
+sys.path[:0] = [f"{TOP}/tools", f"{TOP}/tools/refused_memory"]
+
+from sweep import built_library  # noqa: E402
+from unproved import kept  # noqa: E402
 
 
 def run(words, text, **options):
@@ -119,6 +125,23 @@ class Json(unittest.TestCase):
 
     def test_one_host(self):
         self.assertEqual(self.object("judged", ["judge"], content(f"{TOP}/examples/one_host_recorded.case").split(b"witness ")[0])["hosts"], 1)
+
+    def test_refused_memory(self):
+        """An answer is an object, even if there is no memory for the words that ask for one."""
+        text = content(f"{TOP}/examples/handshake.case")
+        program, refused = kept("tcpwit_lab") if LAB == [f"{TOP}/tcpwit_lab"] else LAB[0], {"status": 4, "answer": "bad memory", "said": ["bad memory"]}
+        with tempfile.TemporaryDirectory() as folder:
+            library = built_library(folder)
+            for words, given in ((["explain", "--simulated"], text), (["judge", "--slack", "0"], text.split(b"witness ")[0]), (["remark"], text)):
+                right = run([*words, "--json"], given)
+                for refusal in ({"REFUSE_AT": "1"}, {"REFUSE_FROM": "1"}, *({kind: str(n)} for n in range(2, 40) for kind in ("REFUSE_AT", "REFUSE_FROM"))):
+                    surroundings = {"LD_PRELOAD": library, **refusal}
+                    lines = [subprocess.run([program, *asked], input=given, capture_output=True, env=surroundings, check=False, timeout=60)
+                             for asked in ([words[0], "--json", *words[1:]], [*words, "--json"], words)]
+                    for answer in lines[:2]:
+                        self.assertTrue((answer.stdout.decode(), answer.returncode) == right or json.loads(answer.stdout) == refused, (words, refusal, answer))
+                    if refusal.popitem()[1] == "1":
+                        self.assertEqual([(answer.stdout.decode()[:1], answer.returncode) for answer in lines], [("{", 4), ("{", 4), ("b", 4)])
 
 
 if __name__ == "__main__":

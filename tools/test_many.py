@@ -1,5 +1,6 @@
 #!/usr/bin/python3
-"""Tests when `tcpwit many` prints its answers, in which order, how much memory it needs, and how it ends if a read or a write fails."""
+"""Tests when `tcpwit many` prints its answers, in which order, what it answers to lines that are too long, how much memory it needs, and how it
+ends if a read or a write fails."""
 import os
 import shlex
 import socket
@@ -103,6 +104,21 @@ class Many(unittest.TestCase):
                 source.seek(0)
                 ended = subprocess.run(command(workers), stdin=source, stdout=subprocess.PIPE, timeout=20 * PATIENCE)
                 self.assertEqual((ended.stdout.decode(), ended.returncode), (wanted, REFUSED), workers)
+
+    def test_lines_that_are_too_long(self):
+        # A line has at most 140,000 bytes, not counting its end. The answer has the length of a longer one, whatever follows it.
+        cases, answers = [], []
+        for length in (140_001, 140_002, 140_003, 1_000_000):
+            for end in ("\n", "\r\n"):
+                line, long = "a" * length + end, f"0 {length} line-too-long\n"
+                for before, place in (("", "trace 1"), (HEADER, "trace 7"), (EXPLAINED, "witness 8")):
+                    for after in ("", "x\n", "witness 1\n", line):
+                        cases.append(before + line + after)
+                        answers.append(f"bad {place} {long}")
+        text = "".join(case + "end\n" for case in cases) + HEADER + "a" * 300_000
+        for workers in WORKERS:
+            ended = subprocess.run(command(workers), input=text.encode(), stdout=subprocess.PIPE, timeout=PATIENCE)
+            self.assertEqual(ended.stdout.decode().splitlines(True), [*answers, "bad trace 7 0 300000 line-too-long\n"])
 
     def test_memory(self):
         count = 400

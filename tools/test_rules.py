@@ -1,5 +1,6 @@
 #!/usr/bin/python3
-"""Compares the rules in the code with docs/reference/rules.md: each rule's number, name, words, causes and RFC sections."""
+"""Compares the rules in the code with docs/reference/rules.md: each rule's number, name, words, causes and RFC sections, and which rules
+depend on the level."""
 import os
 import re
 import unittest
@@ -24,6 +25,19 @@ def read(name):
     """The text of a file of the repository."""
     with open(os.path.join(TOP, name), encoding="utf-8") as file:
         return file.read()
+
+
+def levels_in_table(names, table):
+    """The numbers of the rules that depend on the level, in the code."""
+    listed = table[table.index("pub const LEVEL_RULES") :].split("];")[0]
+    headings = numbered(names)
+    return {int(headings[variant].split()[0]) for variant in re.findall(r"Rule::(\w+), Control::", listed)}
+
+
+def levels_in_page(page):
+    """The same in the section of the page."""
+    section = re.search(r"(?ms)^## What each level checks\n(.*?)(?=^## |\Z)", page)[1]
+    return {int(number) for number in re.findall(r"\b\d\d\b", section)}
 
 
 def value_of(string):
@@ -138,6 +152,16 @@ class Rules(unittest.TestCase):
     def test_the_page_has_the_texts_of_the_code(self):
         found = faults(*self.texts.values())
         self.assertFalse(found, "\n" + "\n".join(found))
+
+    def test_the_page_has_the_rules_that_depend_on_the_level(self):
+        page = self.texts[PAGE]
+        code = levels_in_table(self.texts[NAMES], self.texts[TABLE])
+        self.assertEqual(code, {20, 22, 33, 37, 50, 51})
+        self.assertEqual(levels_in_page(page), code)
+        # The entry of a rule that a level leaves out says so.
+        for heading, level in (("50 resent", "not at the level `none`"), ("51 resent-beyond", "only at the level `full`")):
+            entry = re.search(rf"(?ms)^### {heading}\n(.*?)^### ", page)[1]
+            self.assertIn(level, " ".join(entry.split()))
 
     def test_what_differs_is_found(self):
         for name, old, new, fault in (

@@ -204,6 +204,17 @@ class Lines(WithCaptures):
         self.assertEqual(self.text("kept/" + names[3]), YES + "\nexplained\n")
         self.assertEqual(self.fails(*self.files(), *self.lab(), "--report", report), f"tcpwit-judge: {report} isn't empty")
 
+    def test_rules_that_inferred_calls_leave_out(self):
+        # `judge` prints what its level judges; rule 48, start-late, needs the real calls.
+        said = "full      yes 57 88\nNo duty was late{} (rules {}).\n"
+        for time, rules, judged in (("", "40 to 52", "40 to 47 and 49 to 52"), (" by more than 1 second", "40 to 50 and 52", "40 to 47, 49, 50 and 52"),
+                                    ("", "40 to 49 and 52", "40 to 47, 49 and 52")):
+            report = f"{self.folder}/{rules}"
+            _, out, _ = run(*self.files(), *self.lab(said.format(time, rules)), "--report", report, "--json")
+            found = json.loads(out)
+            self.assertEqual(found["said"], said.format(time, judged).splitlines())
+            self.assertEqual(self.text(os.path.relpath(found["files"][3], self.folder)), said.format(time, judged) + "\nexplained\n")
+
     def test_a_fault_of_the_lab(self):
         status, out, _ = run(*self.files(), *self.lab("bad trace 3 number\n", 2))
         self.assertEqual(status, 2)

@@ -97,6 +97,12 @@ class Package(unittest.TestCase):
         found = tcpwit.find(trace_of(contents(f"{TOP}/examples/handshake.case")))
         self.assertEqual(tcpwit.check(found).lines, 18)
 
+    def test_a_witness_for_a_segment_with_a_port_0_can_be_read(self):
+        for name in ("port-0-source", "port-0-destination"):
+            trace = contents(f"{TOP}/crates/test_cases/data/judged/{name}.trace")
+            self.assertEqual(str(tcpwit.check(tcpwit.find(trace))), "no 2 11 not-made")
+            self.assertEqual(str(tcpwit.judge(trace)).splitlines()[0], "full      no 2 11 not-made")
+
     def test_a_trace_that_cannot_be_read_is_refused_everywhere(self):
         for call in (tcpwit.check, tcpwit.find, tcpwit.judge, tcpwit.remark):
             with self.assertRaises(tcpwit.TraceError) as caught:

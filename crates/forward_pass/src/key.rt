@@ -46,6 +46,11 @@ impl EndpointKey {
         }
     }
 
+    /// Whether a step can build its segments: the text of a step has no port 0.
+    pub(crate) fn can_build(self) -> bool {
+        self.lport != 0 && self.rport != 0
+    }
+
     /// Its host.
     pub fn host(self) -> Host {
         if self.host == 0 {

@@ -466,10 +466,13 @@ impl Progress {
         Ok(done?)
     }
 
-    /// A host builds a segment. The result is the segment's number.
+    /// A host builds a segment. The result is the segment's number. If no step can build it, none is written down.
     pub(crate) fn make(&mut self, host: Host, plan: SegmentPlan, will: Will) -> Result<u32, Stop> {
         if plan.pos > GREATEST_POSITION {
             return Err(Stop::OutOfMemory);
+        }
+        if !EndpointKey::new(host, plan.lport, plan.rport).can_build() {
+            return Err(Stop::Broken(Rule::NotMade));
         }
         self.hidden(Label::M { host, plan }, will)?;
         Ok(self.world.count())

@@ -53,7 +53,7 @@ fn say_meaning(
     match last.facts.verdict {
         Verdict::Yes { .. } => {
             out.push_str(meaning(last.level))?;
-            say_slack(out, question.slack)?;
+            say_slack(out, question.slack, last.level)?;
             say_connections(out, last.facts.connections)
         }
         Verdict::No { .. } => say_none(out, levels, last.ending),
@@ -117,14 +117,25 @@ The choice of when to retransmit data isn't judged either.\n",
     }
 }
 
-// Writes how late a host may have been with its duties, in microseconds. None: they weren't judged.
-fn say_slack(out: &mut String, slack: Option<u64>) -> Result<(), OutOfMemory> {
+// The rules of version 5 that a level judges.
+fn duty_rules(level: Judged) -> &'static str {
+    match level {
+        Judged::Full => "rules 40 to 52",
+        Judged::Recovery => "rules 40 to 50 and 52",
+        Judged::NoControl => "rules 40 to 49 and 52",
+    }
+}
+
+// Writes how late a host may have been with its duties, in microseconds, and which rules say that at a level. None:
+// they weren't judged.
+fn say_slack(out: &mut String, slack: Option<u64>, level: Judged) -> Result<(), OutOfMemory> {
+    let rules = duty_rules(level);
     match slack {
         None => Ok(()),
-        Some(0) => out.push_str("No duty was late (rules 40 to 52).\n"),
+        Some(0) => writeln!(out, "No duty was late ({rules})."),
         Some(slack) => writeln!(
             out,
-            "No duty was late by more than {} (rules 40 to 52).",
+            "No duty was late by more than {} ({rules}).",
             Time(slack)
         ),
     }

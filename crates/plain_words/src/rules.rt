@@ -39,11 +39,13 @@ pub enum Control {
 }
 
 /// The rules that a laxer level may leave unjudged. All others are the same at each level.
-pub const LEVEL_RULES: [(Rule, Control); 4] = [
+pub const LEVEL_RULES: [(Rule, Control); 6] = [
     (Rule::OldData, Control::Retransmission),
     (Rule::Congestion, Control::Windows),
     (Rule::Growth, Control::Windows),
     (Rule::Recovery, Control::Retransmission),
+    (Rule::Resent, Control::Retransmission),
+    (Rule::ResentBeyond, Control::Windows),
 ];
 
 /// The meaning of a rule.
@@ -154,7 +156,8 @@ the wrong place",
         },
         Rule::NotMade => &Meaning {
             refused: "its host sends no such segment at this point",
-            usual: "the witness's numbers of built segments are off by one, or the trace has a line twice",
+            usual: "the witness's numbers of built segments are off by one, the trace has a line twice, or the \
+segment has a port 0, as no endpoint has",
             ..PLAIN
         },
         Rule::PayloadRange => &Meaning {

@@ -3,6 +3,7 @@
 use case_forms::Judged;
 use drawing::Range;
 use judging::{GREATEST_SLACK, Slack};
+use std::env::{Env, FillError};
 use why::Origin;
 use witness_search::USUAL_BUDGET;
 
@@ -78,6 +79,20 @@ fn form_of(options: &[&str]) -> Form {
         Some(_) => Form::Json,
         None => Form::Lines,
     }
+}
+
+/// How the answer is written if memory runs out before the process's words are read. No memory is needed to find the
+/// word `--json`.
+pub(crate) fn unread_form<E: Env>(env: &E) -> Form {
+    let mut word = [0; 6];
+    for place in 0..usize::MAX {
+        match env.arg(place, &mut word) {
+            Ok(length) if word.get(..length) == Some(JSON.as_bytes()) => return Form::Json,
+            Ok(_) | Err(FillError::TooLong) => {}
+            Err(FillError::NotPresent) => break,
+        }
+    }
+    Form::Lines
 }
 
 // Where `--simulated` or its absence says that the segments come from. None: other words.

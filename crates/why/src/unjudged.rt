@@ -38,6 +38,9 @@ fn lenient_level(scene: &Scene, rule: Rule) -> Option<Judged> {
         (Control::Windows, Object::Building(_) | Object::Processing(_) | Object::Expiring(_)) => {
             Some(Judged::Recovery)
         }
+        (Control::Retransmission, Object::Building(_)) if rule == Rule::Resent => {
+            Some(Judged::NoControl)
+        }
         // Fast recovery, which permits retransmitting outstanding data, begins only after the handshake.
         (Control::Retransmission, Object::Building(it)) => match misplaced(it.endpoint, it.plan) {
             Reason::Again { .. } if it.endpoint.is_up() => Some(Judged::NoControl),

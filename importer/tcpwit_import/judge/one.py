@@ -23,6 +23,10 @@ LINE = re.compile(r"line (\d+)\b")
 TIMEOUT = re.compile(rb"^\d+ \d+ T (?!.* giveup)", re.M)
 # How many bytes of a case are searched at once.
 PIECE = 1 << 20
+# The rules by which `judge` says that no duty was late, each time with those that judge inferred calls: all but 48, start-late.
+RULES = {b"(rules 40 to 52)": b"(rules 40 to 47 and 49 to 52)",
+         b"(rules 40 to 50 and 52)": b"(rules 40 to 47, 49, 50 and 52)",
+         b"(rules 40 to 49 and 52)": b"(rules 40 to 47, 49 and 52)"}
 
 
 @dataclass
@@ -183,7 +187,7 @@ class Judge:
         read(found, done.stdout, done.stderr, done.returncode)
         judging.draw(self.program, trace)
         explained = judging.on_file([self.program, "explain"], case)
-        write_file(text_of(trace), [done.stdout, b"\n", explained.stdout])
+        write_file(text_of(trace), [inferred(done.stdout), b"\n", explained.stdout])
         found.files += [name for name in (case, trace.removesuffix(".trace") + ".svg", text_of(trace)) if os.path.exists(name)]
         return timeouts_in(open(case, "rb"))
 
@@ -206,12 +210,19 @@ def read(found, out, error, status):
     if status not in (judging.YES, judging.NO):
         said = "; ".join(decoded(out).splitlines()[:1] + decoded(error).splitlines()[-1:])
         raise Problem(said or judging.ended(status), "")
-    found.said, found.status, found.sentence, found.packet = decoded(out).splitlines(), status, "", None
+    found.said, found.status, found.sentence, found.packet = decoded(inferred(out)).splitlines(), status, "", None
     rows = [row for line in found.said if (row := ROW.match(line))]
     found.level, found.answer = rows[-1][1], rows[-1][2]
     if rows[-1][3] == "no":
         start = f"Under {found.level}: "
         found.sentence = next((line.removeprefix(start) for line in found.said if line.startswith(start)), "")
+
+
+def inferred(out):
+    """What `judge` printed, with the rules that judge inferred calls."""
+    for rules, judged in RULES.items():
+        out = out.replace(rules, judged)
+    return out
 
 
 def text_of(trace):

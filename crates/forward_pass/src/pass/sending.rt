@@ -16,6 +16,9 @@ use verdict::Rule;
 // How many remedies are tried so that a segment may be built.
 const REMEDIES: usize = 20;
 
+// The number of no segment.
+const UNBUILT: u32 = 0;
+
 /// The position at which a segment of an endpoint begins, near what it built.
 pub(crate) fn position_of(endpoint: &Endpoint, seq: Word) -> Option<u64> {
     let near = endpoint.snd_max();
@@ -140,8 +143,12 @@ impl<'t> Pass<'t> {
         self.catch_up(key)
     }
 
-    // Builds the segment that a line shows. If that isn't permitted yet, remedies come first.
+    // Builds the segment that a line shows. If that isn't permitted yet, remedies come first. If no step can build it,
+    // the line is refused, since it names no segment that was built.
     fn make_shown(&mut self, key: EndpointKey, wire: &Wire) -> Result<u32, Stop> {
+        if !key.can_build() {
+            return Ok(UNBUILT);
+        }
         let host = key.host();
         if wire.seg.has(Flag::Syn) {
             self.progress.expire_before_syn(key)?;
