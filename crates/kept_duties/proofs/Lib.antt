@@ -12,3 +12,6 @@ pub mod Counts
 pub mod Events
 pub mod Facts
 pub mod Drops
+pub mod Asking
+pub mod Timing
+pub mod Resets

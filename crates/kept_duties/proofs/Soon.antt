@@ -14,7 +14,6 @@ use Rattle.interval_order.specs.Placed.{Placed}
 use Rattle.spec_network.specs.Hosts.{World}
 use Rattle.spec_tcp.specs.Machine.{tcp_shape}
 use Rattle.spec_tcp.specs.declared.endpoint.EndpointId.{EndpointId}
-use Rattle.spec_tcp_laws.specs.Consequences.{find}
 use Rattle.spec_tcp_laws.proofs.Rules.{neither}
 use Rattle.spec_duties.specs.Acknowledge.{acknowledge_due, asks_ack, is_answer, longest_delay, receives}
 use Rattle.spec_duties.specs.Deadlines.{is_late}
@@ -35,14 +34,13 @@ use Rattle.checker.specs.Seen.{moves}
 use Rattle.kept_duties.specs.Soon.{Answers, ExpiriesAreFollowed, IsNotIdle, IsDoneBy, ProbesAreSent, ReceiptsAreAnswered, SendsAnything, SendsOldest}
 use Rattle.kept_duties.specs.Soon.{WorkIsBegun}
 use Rattle.kept_duties.proofs.Inbox.{not_late}
-use Rattle.kept_duties.proofs.Repeats.{goes_of, happens_to, owes_of}
+use Rattle.kept_duties.proofs.Repeats.{happens_to, owes_of}
 use Rattle.kept_duties.proofs.Runs.{Run, world_is}
-use Rattle.kept_duties.proofs.Segments.{within}
-use Rattle.kept_duties.proofs.Since.{Duty, Still, closes, done_by, not_after, steady_at}
-use Rattle.kept_duties.proofs.Touched.{Owes, seen, there_after}
+use Rattle.kept_duties.proofs.Since.{Duty, becomes, from_step, not_after, wait_of}
+use Rattle.kept_duties.proofs.Touched.{Owes, seen}
 
 -- all that is owed after a step, unless the endpoint is CLOSED then
-open_or_closed : (P : Owed → Type 0) (event : Event) (before after : View) (moment : ℕ) (listener : Option ℕ) (counts : Bool) (o : Owed)
+pub open_or_closed : (P : Owed → Type 0) (event : Event) (before after : View) (moment : ℕ) (listener : Option ℕ) (counts : Bool) (o : Owed)
     → (is_closed after.state ≡ true → P (once_closed (owed_open event before after moment listener counts o)))
     → P (owed_open event before after moment listener counts o) → P (owed_after event before after moment listener counts o)
 open_or_closed P event before after moment listener counts o closed open' = by (is_closed after.state) refl
@@ -89,13 +87,13 @@ acknowledge_back event before after moment listener counts o since =
     by false false is = inr is
 
 -- what is late of an endpoint that isn't CLOSED
-late_open : (P : Lates → Type 0) (slack moment : ℕ) (v : View) (listener : Option ℕ) (o : Owed) → is_closed v.state ≡ false
+pub late_open : (P : Lates → Type 0) (slack moment : ℕ) (v : View) (listener : Option ℕ) (o : Owed) → is_closed v.state ≡ false
     → P (lates_of slack moment v listener o) → P (lates_of_open slack moment v o (is_late slack moment (reset_since v listener o.reset)))
 late_open P slack moment v listener o open' =
     subst (λ (c : Bool). P (if c then none_late (is_late slack moment (reset_since v listener o.reset))
     else lates_of_open slack moment v o (is_late slack moment (reset_since v listener o.reset)))) open'
 
-acknowledge_duty : Duty (λ o. o.acknowledge) longest_delay Answers (λ l. l.acknowledge)
+pub acknowledge_duty : Duty (λ o. o.acknowledge) longest_delay Answers (λ l. l.acknowledge)
 acknowledge_duty = record {
   nothing = refl;
   onward = acknowledge_onward;
@@ -125,7 +123,7 @@ acknowledge_begins length before after moment listener counts o some receives' =
     kept None = (moment, ap (λ (b : Bool). if b then Some moment else None) asks)
     kept (Some m) = (m, ap (λ (b : Bool). if b then Some m else Some m) asks)
 
-since_now : (q : Option ℕ) (moment : ℕ) → (since : ℕ) × (option_or q (Some moment) ≡ Some since)
+pub since_now : (q : Option ℕ) (moment : ℕ) → (since : ℕ) × (option_or q (Some moment) ≡ Some since)
 since_now None moment = (moment, refl)
 since_now (Some m) moment = (m, refl)
 
@@ -272,18 +270,18 @@ module _ (t : Trace) (w : Witness) (slack : ℕ) (r : Run t.header slack (length
     (placed : Placed t.header t.lines (moves w.steps))
     (late : first_broken (end_rules slack (last_moment (moves w.steps)) (known_before t w (length w.steps)).duties
     (known_before t w (length w.steps)).model) ≡ None) where
-  arises : (me : EndpointId) (get : Owed → Option ℕ) (extra : ℕ) (Kind : Event → (before after : View) → Type 0) (sel : Lates → Bool)
+  pub arises : (me : EndpointId) (get : Owed → Option ℕ) (extra : ℕ) (Kind : Event → (before after : View) → Type 0) (sel : Lates → Bool)
       (duty : Duty get extra Kind sel)
       → (place moment : ℕ) (event : Event) → Happens t w place moment me event
-      → ((before after : View) (moment : ℕ) (listener : Option ℕ) (counts : Bool) (o : Owed) → before ≡ seen_before t w place me
-      → after ≡ seen_before t w (suc place) me
-      → (is_closed after.state ≡ true) ⊎ ((since : ℕ) × (get (owed_after event before after moment listener counts o) ≡ Some since)))
+      → ((before after : View) (now : ℕ) (listener : Option ℕ) (counts : Bool) (o : Owed) → before ≡ seen_before t w place me
+      → after ≡ seen_before t w (suc place) me → now ≡ moment → o ≡ owed_by (known_before t w place).duties me.host me.number
+      → (is_closed after.state ≡ true) ⊎ ((since : ℕ) × (get (owed_after event before after now listener counts o) ≡ Some since)))
       → IsDoneBy t w place (moment + extra + slack) me Kind
   arises me get extra Kind sel duty place moment event a begins =
       subst (λ (m : ℕ). IsDoneBy t w place (m + extra + slack) me Kind) a.time
       (by (begins (seen (known_before t w place).model me) (seen (known_before t w (suc place)).model me) a.act.moment owes.listener owes.counts
       (owed_by (known_before t w place).duties me.host me.number) (ap (λ (v : World tcp_shape). seen v me) (world_is t w place))
-      (ap (λ (v : World tcp_shape). seen v me) (world_is t w (suc place)))))
+      (ap (λ (v : World tcp_shape). seen v me) (world_is t w (suc place))) a.time refl))
     where
       owes : Owes t.header slack (known_before t w place) (known_before t w (suc place)) a.act me event
       owes = owes_of t w slack r place a.act me event a.is (happens_to t w place moment me event a)
@@ -291,23 +289,16 @@ module _ (t : Trace) (w : Witness) (slack : ℕ) (r : Run t.header slack (length
       -- the endpoint is CLOSED by the step itself
       at_once : is_closed (seen (known_before t w (suc place)).model me).state ≡ true → IsDoneBy t w place (a.act.moment + extra + slack) me Kind
       at_once closed =
-          inr (inl (closes t w slack r placed me get extra Kind sel duty place a.act a.is (within t w place a.act a.is) place a.act (omega arith)
-          (λ less. absurd (omega (arith, less))) a.is closed
-          (λ event shows. omega arith)))
+          inr (inl (becomes t w slack r placed me (λ v. is_closed v.state) place (a.act.moment + extra + slack) place a.act (omega arith)
+          (λ less. absurd (omega (arith, less))) a.is closed (λ event shows. omega arith)))
 
       since_then : (since : ℕ) → get (owed_by (known_before t w (suc place)).duties me.host me.number) ≡ Some since
           → (c : Bool) → is_closed (seen (known_before t w (suc place)).model me).state ≡ c → IsDoneBy t w place (a.act.moment + extra + slack) me Kind
       since_then since now true closed = at_once closed
       since_then since now false open' =
-          let low = within t w place a.act a.is in
-          let goes = goes_of t w slack r place a.act a.is in
-          let e = there_after t.header a.act.moment (known_before t w place).model a.act.step me event
-          (steady_at t w slack r placed place (omega (arith, low))) goes.permitted
-          (happens_to t w place moment me event a) in
-          let still : Still t w slack r placed me get extra Kind sel duty place a.act a.is low since (known_before t w (suc place)) =
-          record { owes = now; open' = open'; there = (e.0, ap (λ (v : World tcp_shape). find v.hosts me) goes.model ∙ e.1) } in
-          done_by t w slack r placed me get extra Kind sel duty place a.act a.is low since
-          (not_after t w slack r placed me get extra Kind sel duty place a.act a.is low since now) late (inr (inr still))
+          let old = not_after t w slack r placed me get extra Kind sel duty place a.act a.is since now in
+          from_step t w slack r placed me (λ o. get o ≡ Some since) Kind (λ v. is_closed v.state) sel place (a.act.moment + extra + slack)
+          (wait_of duty slack since (a.act.moment + extra + slack) (omega (arith, old))) late moment event a open' now
 
       by : (is_closed (seen (known_before t w (suc place)).model me).state ≡ true)
           ⊎ ((since : ℕ) × (get (owed_after event (seen (known_before t w place).model me)
@@ -321,7 +312,7 @@ module _ (t : Trace) (w : Witness) (slack : ℕ) (r : Run t.header slack (length
   pub receipts_answered : ReceiptsAreAnswered t w slack
   receipts_answered place moment length me a some receives' =
       arises me (λ o. o.acknowledge) longest_delay Answers (λ l. l.acknowledge) acknowledge_duty place moment (Processes length false) a
-      (λ before after moment listener counts o is now. acknowledge_begins length before after moment listener counts o some
+      (λ before after moment listener counts o is now at old. acknowledge_begins length before after moment listener counts o some
       (ap (λ (v : View). receives v.state) is ∙ receives'))
 
   -- an expiry is followed by a retransmission
@@ -329,18 +320,18 @@ module _ (t : Trace) (w : Witness) (slack : ℕ) (r : Run t.header slack (length
   expiries_followed place moment me a =
       subst (λ (m : ℕ). IsDoneBy t w place m me SendsOldest) (let e : moment + 0 + slack ≡ moment + slack = omega arith in e)
       (arises me (λ o. o.retransmit) 0 SendsOldest (λ l. l.retransmit) retransmit_duty place moment (Expires Rto) a
-      (λ before after moment listener counts o is now. retransmit_begins before after moment listener counts o))
+      (λ before after moment listener counts o is now at old. retransmit_begins before after moment listener counts o))
 
   -- and one of the persist timer by any segment
   pub probes_sent : ProbesAreSent t w slack
   probes_sent place moment me a =
       subst (λ (m : ℕ). IsDoneBy t w place m me SendsAnything) (let e : moment + 0 + slack ≡ moment + slack = omega arith in e)
       (arises me (λ o. o.probe) 0 SendsAnything (λ l. l.retransmit) probe_duty place moment (Expires Persist) a
-      (λ before after moment listener counts o is now. probe_begins before after moment listener counts o))
+      (λ before after moment listener counts o is now at old. probe_begins before after moment listener counts o))
 
   -- work is begun
   pub work_begun : WorkIsBegun t w slack
   work_begun place moment me event a idle =
       arises me (λ o. o.start) longest_wait IsNotIdle (λ l. l.start) start_duty place moment event a
-      (λ before after moment listener counts o is now. start_begins event before after moment listener counts o
+      (λ before after moment listener counts o is now at old. start_begins event before after moment listener counts o
       (ap is_idle_with_work now ∙ idle))

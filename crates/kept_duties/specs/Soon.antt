@@ -1,6 +1,6 @@
 -- What a yes with a slack says of acknowledgments, retransmissions, probes and waiting data: by when they are sent (RFC
 -- 9293, 3.8.6 and 3.10.7.4; RFC 5681, 4.2; RFC 6298, 5.4). Moments and slacks are in microseconds.
-use Rattle.std.specs.Prelude.{◌≡◌, ◌⊎◌, ◌+◌, ◌<◌, ◌≤◌, ℕ, suc, true, false, ◌||◌}
+use Rattle.std.specs.Prelude.{◌≡◌, ◌⊎◌, ◌+◌, ◌<◌, ◌≤◌, ℕ, suc, Bool, true, false, ◌||◌}
 use Rattle.case_forms.specs.States.{is_closed}
 use Rattle.case_forms.specs.declared.steps.Witness.{Witness}
 use Rattle.case_forms.specs.declared.timer.Timer.TheVariants.{Persist, Rto}
@@ -27,19 +27,23 @@ pub record HappensBy (t : Trace) (w : Witness) (place by : ℕ) (me : EndpointId
   pub kind : Kind event (seen_before t w later me) (seen_before t w (suc later) me)
   pub soon : moment ≤ by
 
--- the endpoint is CLOSED after the step at this place, or becomes CLOSED by a later one. If that step does something at
--- the endpoint, it is by this moment; otherwise, as when its listener is closed, it may be later
-pub record ClosesBy (t : Trace) (w : Witness) (place by : ℕ) (me : EndpointId) : Type 0 where
+-- after the step at this place the endpoint is in such a state, or a later step brings it there. If that step does
+-- something at the endpoint, it is by this moment; otherwise, as when its listener is closed, it may be later
+pub record BecomesBy (t : Trace) (w : Witness) (place by : ℕ) (me : EndpointId) (Is : View → Bool) : Type 0 where
   pub later : ℕ
   pub behind : place ≤ later
-  pub open_before : place < later → is_closed (seen_before t w later me).state ≡ false
-  pub closed_after : is_closed (seen_before t w (suc later) me).state ≡ true
+  pub before : place < later → Is (seen_before t w later me) ≡ false
+  pub after : Is (seen_before t w (suc later) me) ≡ true
   pub soon : (moment : ℕ) (event : Event) → Happens t w later moment me event → moment ≤ by
 
--- one of these: it happens, the endpoint is CLOSED, or the witness ends
+-- one of these: it happens, the endpoint comes into such a state, or the witness ends
+abbrev pub IsDoneUnless : Trace → Witness → (place by : ℕ) → EndpointId → (Event → (before after : View) → Type 0)
+    → (View → Bool) → Type 0
+IsDoneUnless t w place by me Kind Is = HappensBy t w place by me Kind ⊎ BecomesBy t w place by me Is ⊎ EndsBy w by
+
+-- it happens, the endpoint is CLOSED, or the witness ends
 abbrev pub IsDoneBy : Trace → Witness → (place by : ℕ) → EndpointId → (Event → (before after : View) → Type 0) → Type 0
-IsDoneBy t w place by me Kind =
-    HappensBy t w place by me Kind ⊎ ClosesBy t w place by me ⊎ EndsBy w by
+IsDoneBy t w place by me Kind = IsDoneUnless t w place by me Kind (λ v. is_closed v.state)
 
 -- a segment with ACK or RST is sent
 abbrev pub Answers : Event → (before after : View) → Type 0

@@ -1,0 +1,125 @@
+-- What a yes with a slack says of timers and resets: by when an armed retransmission timer expires, a closed window is
+-- probed, and an aborted connection is reset (RFC 6298, 5.1 to 5.3; RFC 9293, 3.8.6.1 and 3.10.5). Moments, times and
+-- slacks are in microseconds.
+use Rattle.std.specs.Prelude.{◌≡◌, ◌⊎◌, ◌+◌, ◌*◌, ◌^◌, ◌<◌, ◌≤◌, ◌==◌, ℕ, zero, suc, nat_lt, Bool, true, false, not}
+use Rattle.std.specs.Prelude.{◌&&◌, if◌then◌else◌, Option, None, Some}
+use Rattle.std.specs.Option.{option_map_or}
+use Rattle.case_forms.specs.States.{is_closed}
+use Rattle.case_forms.specs.declared.steps.Witness.{Witness}
+use Rattle.case_forms.specs.declared.timer.Timer.TheVariants.{Rto}
+use Rattle.case_forms.specs.declared.trace.Trace.{Trace}
+use Rattle.timer_rules.specs.Timeouts.{longest_rto}
+use Rattle.spec_network.specs.Hosts.{Stamped}
+use Rattle.spec_network.specs.Tables.{on}
+use Rattle.spec_tcp.specs.Machine.{tcp_shape}
+use Rattle.spec_tcp.specs.declared.endpoint.EndpointId.{EndpointId}
+use Rattle.spec_duties.specs.Expire.{has_expiry_due, longest_run}
+use Rattle.spec_duties.specs.Probe.{is_closed_with_work, is_probe}
+use Rattle.spec_duties.specs.Reset.{sends_reset}
+use Rattle.spec_duties.specs.Sights.{sight}
+use Rattle.spec_duties.specs.declared.events.Event.{Event}
+use Rattle.spec_duties.specs.declared.events.Event.TheVariants.{Calls, Expires}
+use Rattle.spec_duties.specs.declared.views.View.{View}
+use Rattle.kept_duties.specs.Counts.{event_for}
+use Rattle.kept_duties.specs.Happens.{Happens, act_at, seen_before, world_before}
+use Rattle.kept_duties.specs.Segments.{EndsBy}
+use Rattle.kept_duties.specs.Soon.{HappensBy, IsDoneUnless}
+
+-- ---- the retransmission timer
+
+-- the timer runs since this moment, an expiry is due, and the endpoint isn't CLOSED
+abbrev pub runs_since : ℕ → View → Bool
+runs_since since v =
+    not (is_closed v.state) && has_expiry_due v && option_map_or (λ m. m == since) v.timers.rto_armed false
+
+-- the timer runs on as it did first: as long, and the window is open or closed as it was
+abbrev pub runs_on : ℕ → (first now : View) → Bool
+runs_on since first now =
+    runs_since since now && longest_run now == longest_run first
+    && (if nat_lt 0 first.snd_wnd then nat_lt 0 now.snd_wnd else now.snd_wnd == 0)
+
+-- no step up to this place opened the offered window after this moment
+abbrev pub IsOpenedBy : Trace → Witness → (place by : ℕ) → EndpointId → Type 0
+IsOpenedBy t w place by me =
+    (earlier moment : ℕ) (event : Event) → earlier ≤ place → Happens t w earlier moment me event
+    → (seen_before t w earlier me).snd_wnd ≡ 0 → 0 < (seen_before t w (suc earlier) me).snd_wnd → moment ≤ by
+
+-- the timer expires
+abbrev pub TimesOut : Event → (before after : View) → Type 0
+TimesOut event before after = event ≡ Expires Rto
+
+-- a timer that runs after a step expires within the timeout (three timeouts before the first sample) and the slack,
+-- counted from when it was armed and the window was opened last; unless it stops, is set anew or gets another time, the
+-- window is closed or opened, the endpoint is CLOSED, or the witness ends
+abbrev pub ExpiriesAreInTime : Trace → Witness → (slack : ℕ) → Type 0
+ExpiriesAreInTime t w slack =
+    (place moment since from : ℕ) (me : EndpointId) (event : Event) → Happens t w place moment me event
+    → runs_since since (seen_before t w (suc place) me) ≡ true → since ≤ from → IsOpenedBy t w place from me
+    → IsDoneUnless t w place (from + longest_run (seen_before t w (suc place) me) + slack) me TimesOut
+    (λ v. not (runs_on since (seen_before t w (suc place) me) v))
+
+-- ---- probes
+
+-- the probes of a window that is closed while bytes wait or are outstanding: when it was probed last, or else closed,
+-- and how often it was probed since it was closed
+pub record Probes : Type 0 where
+  pub since : ℕ
+  pub count : ℕ
+
+-- after a step at the endpoint
+abbrev pub still_probed : Event → (before : View) → (moment : ℕ) → Probes → Probes
+still_probed event before moment p =
+    if is_probe event before then record { since = moment; count = suc p.count } else p
+
+abbrev pub probes_after : Event → (before after : View) → (moment : ℕ) → Option Probes → Option Probes
+probes_after event before after moment probes =
+    if not (is_closed after.state) && is_closed_with_work after
+    then Some (option_map_or (still_probed event before moment) probes (record { since = moment; count = 0 }))
+    else None
+
+-- before a step
+abbrev pub probes_by : Trace → Witness → EndpointId → (place : ℕ) → Option Probes → Stamped tcp_shape → Option Probes
+probes_by t w me place probes x =
+    on (event_for me (sight t.header x.moment (world_before t w place) x.step).touched) probes
+    (λ event. probes_after event (seen_before t w place me) (seen_before t w (suc place) me) x.moment probes)
+
+abbrev pub probes_before : Trace → Witness → EndpointId → (place : ℕ) → Option Probes
+probes_before t w me zero = None
+probes_before t w me (suc place) =
+    on (act_at t w place) (probes_before t w me place) (probes_by t w me place (probes_before t w me place))
+
+-- the window is probed, by a segment or by an expiry
+abbrev pub ProbesIt : Event → (before after : View) → Type 0
+ProbesIt event before after = is_probe event before ≡ true
+
+-- the window is still closed with work, the timeout is the same, and the endpoint isn't CLOSED
+abbrev pub awaits_probe : (rto : ℕ) → View → Bool
+awaits_probe rto v = not (is_closed v.state) && is_closed_with_work v && v.timers.rto == rto
+
+-- how long a probe may take after so many probes: the timeout, doubled at each
+abbrev pub probe_time : View → (count : ℕ) → ℕ
+probe_time v count = v.timers.rto * 2 ^ count
+
+-- a closed window is probed within the timeout and the slack, then within twice as long, and so on, up to a minute;
+-- unless it is opened, no work is left, the timeout is another, the endpoint is CLOSED, or the witness ends
+abbrev pub ProbesAreInTime : Trace → Witness → (slack : ℕ) → Type 0
+ProbesAreInTime t w slack =
+    (place moment : ℕ) (me : EndpointId) (event : Event) (p : Probes) → Happens t w place moment me event
+    → probes_before t w me (suc place) ≡ Some p
+    → probe_time (seen_before t w (suc place) me) p.count < longest_rto
+    → IsDoneUnless t w place (p.since + probe_time (seen_before t w (suc place) me) p.count + slack) me ProbesIt
+    (λ v. not (awaits_probe (seen_before t w (suc place) me).timers.rto v))
+
+-- ---- resets
+
+-- a segment with RST is sent
+abbrev pub SendsReset : Event → (before after : View) → Type 0
+SendsReset event before after = sends_reset event ≡ true
+
+-- after `abort` of a connection that then has to be reset, a segment with RST is sent within the slack, or the witness
+-- ends
+abbrev pub AbortsAreReset : Trace → Witness → (slack : ℕ) → Type 0
+AbortsAreReset t w slack =
+    (place moment : ℕ) (me : EndpointId) → Happens t w place moment me (Calls true)
+    → (seen_before t w (suc place) me).resets ≡ true
+    → HappensBy t w place (moment + slack) me SendsReset ⊎ EndsBy w (moment + slack)
