@@ -25,9 +25,10 @@ use Rattle.spec_duties.specs.declared.views.View.{View}
 use Rattle.checker.specs.Again.{nowhere}
 use Rattle.kept_duties.specs.Counts.{builds_mere, count_before, event_for, sent_by}
 use Rattle.kept_duties.specs.Places.{ArrivesAt, IsProcessed, SendsAt, built_before}
+use Rattle.kept_duties.specs.Resets.{SendsReset, awaits_reset}
 use Rattle.kept_duties.specs.Segments.{EndsBy, IsBuiltBefore, LeavesBy}
 use Rattle.kept_duties.specs.Soon.{Answers, SendsOldest}
-use Rattle.kept_duties.specs.Timing.{SendsReset, probe_time, probes_after, runs_on, runs_since}
+use Rattle.kept_duties.specs.Timing.{probe_time, probes_after, runs_on, runs_since}
 
 -- an empty acknowledgment, and three bytes
 abbrev ack : SegmentPlan
@@ -187,6 +188,16 @@ acknowledged_instead = refl
 
 reset_is_sent : SendsReset (happening.Sends (record { flags = record ack.flags { rst = true }; pos = 4; length = 0 })) sent_four sent_four
 reset_is_sent = refl
+
+-- a child of listener 3 that has to be reset
+abbrev child_of_three : View
+child_of_three = record unborn { resets = true; listener = Some 3 }
+
+child_awaits_reset : awaits_reset 3 child_of_three ≡ true
+child_awaits_reset = refl
+
+not_of_another_listener : awaits_reset 4 child_of_three ≡ false
+not_of_another_listener = refl
 
 -- a timer that runs since 5
 abbrev armed_at_five : View

@@ -15,3 +15,4 @@ pub mod Drops
 pub mod Asking
 pub mod Timing
 pub mod Resets
+pub mod Children

@@ -42,9 +42,9 @@ use Rattle.spec_duties.specs.declared.tables.Listening.{Listening}
 use Rattle.spec_duties.specs.declared.views.View.{View}
 use Rattle.checker.specs.Seen.{moves}
 use Rattle.kept_duties.specs.Happens.{Happens, act_at, known_before, seen_before}
+use Rattle.kept_duties.specs.Resets.{AbortsAreReset, SendsReset}
 use Rattle.kept_duties.specs.Segments.{EndsBy}
 use Rattle.kept_duties.specs.Soon.{BecomesBy, HappensBy, IsDoneUnless}
-use Rattle.kept_duties.specs.Timing.{AbortsAreReset, SendsReset}
 use Rattle.kept_duties.proofs.Inbox.{not_late}
 use Rattle.kept_duties.proofs.Repeats.{happens_to, owes_of}
 use Rattle.kept_duties.proofs.Runs.{Goes, Run, run_keeps, world_is}
@@ -55,7 +55,7 @@ use Rattle.kept_duties.proofs.Touched.{Owes, Touches, seen, touched, touches_or_
 
 -- ---- when a listener was closed
 
-abbrev closed_in : List (ℕ × Listening) → (place : ℕ) → Option ℕ
+abbrev pub closed_in : List (ℕ × Listening) → (place : ℕ) → Option ℕ
 closed_in table place = (listening_at table place).closed
 
 -- an entry that keeps this, or sets it to now
@@ -123,7 +123,7 @@ none_first h One place = refl
 
 -- ---- the duty
 
-reset_is : (event : Event) (before after : View) (moment : ℕ) (listener : Option ℕ) (counts : Bool) (o : Owed)
+pub reset_is : (event : Event) (before after : View) (moment : ℕ) (listener : Option ℕ) (counts : Bool) (o : Owed)
     → (owed_after event before after moment listener counts o).reset
     ≡ (if sends_reset event then None else option_or (reset_since before listener o.reset) (if aborts event after then Some moment else None))
 reset_is event before after moment listener counts o =
@@ -155,7 +155,18 @@ reset_back event before after moment listener counts o since is =
         third (inl now) = inl now
         third (inr l) = inr (inl l)
 
-reset_wait : (since by slack : ℕ) → since + slack ≤ by → Wait (λ o. o.reset ≡ Some since) SendsReset (λ v. false) (λ l. l.reset) slack by
+pub late_reset : (slack moment : ℕ) (v : View) (listener : Option ℕ) (o : Owed)
+    → (lates_of slack moment v listener o).reset ≡ is_late slack moment (reset_since v listener o.reset)
+late_reset slack moment v listener o = by (is_closed v.state)
+  where
+    by : (c : Bool)
+        → (if c then none_late (is_late slack moment (reset_since v listener o.reset))
+        else lates_of_open slack moment v o (is_late slack moment (reset_since v listener o.reset))).reset
+        ≡ is_late slack moment (reset_since v listener o.reset)
+    by true = refl
+    by false = refl
+
+pub reset_wait : (since by slack : ℕ) → since + slack ≤ by → Wait (λ o. o.reset ≡ Some since) SendsReset (λ v. false) (λ l. l.reset) slack by
 reset_wait since by slack low = record { onward = onward'; rules = λ l all. all.1.1.1.1.1.0; either = λ a b. refl; fine = fine }
   where
     onward' : (event : Event) (before after : View) (moment : ℕ) (listener : Option ℕ) (counts : Bool) (o : Owed) → false ≡ false → o.reset ≡ Some since
@@ -170,35 +181,24 @@ reset_wait since by slack low = record { onward = onward'; rules = λ l all. all
             ∙ ap (λ (b : Bool). if b then None else option_or (reset_since before listener o.reset) (if aborts event after then Some moment else None)) none
             ∙ ap (λ (q : Option ℕ). option_or (reset_since before listener q) (if aborts event after then Some moment else None)) is))
 
-    late_reset : (moment : ℕ) (v : View) (listener : Option ℕ) (o : Owed)
-        → (lates_of slack moment v listener o).reset ≡ is_late slack moment (reset_since v listener o.reset)
-    late_reset moment v listener o = by' (is_closed v.state)
-      where
-        by' : (c : Bool)
-            → (if c then none_late (is_late slack moment (reset_since v listener o.reset))
-            else lates_of_open slack moment v o (is_late slack moment (reset_since v listener o.reset))).reset
-            ≡ is_late slack moment (reset_since v listener o.reset)
-        by' true = refl
-        by' false = refl
-
     fine : (moment : ℕ) (v : View) (listener : Option ℕ) (o : Owed) → (lates_of slack moment v listener o).reset ≡ false → false ≡ false
         → o.reset ≡ Some since → moment ≤ by
     fine moment v listener o none same is =
         let le = not_late slack since moment (reset_since v listener o.reset) (ap (λ (q : Option ℕ). reset_since v listener q) is)
-        (sym (late_reset moment v listener o) ∙ none) in
+        (sym (late_reset slack moment v listener o) ∙ none) in
         omega (arith, le, low)
 
 module _ (t : Trace) (w : Witness) (slack : ℕ) (r : Run t.header slack (length w.steps) (act_at t w) (known_before t w))
     (placed : Placed t.header t.lines (moves w.steps)) where
   -- ---- it began by the step
 
-  abbrev ListenersBegan : ℕ → Known → Type 0
+  abbrev pub ListenersBegan : ℕ → Known → Type 0
   ListenersBegan j k = (host : Host) (place since : ℕ) → closed_in (pick k.duties.listening host) place ≡ Some since → Began t w j since
 
-  abbrev ResetBegan : EndpointId → ℕ → Known → Type 0
+  abbrev pub ResetBegan : EndpointId → ℕ → Known → Type 0
   ResetBegan me j k = (since : ℕ) → (owed_by k.duties me.host me.number).reset ≡ Some since → Began t w j since
 
-  began_at : (me : EndpointId) (to : ℕ) → to ≤ length w.steps → ListenersBegan to (known_before t w to) × ResetBegan me to (known_before t w to)
+  pub began_at : (me : EndpointId) (to : ℕ) → to ≤ length w.steps → ListenersBegan to (known_before t w to) × ResetBegan me to (known_before t w to)
   began_at me to high =
       run_keeps t.header slack (length w.steps) (act_at t w) (known_before t w) r (λ j k. ListenersBegan j k × ResetBegan me j k)
       (λ j k all. (λ host place since is. began_before t w j since (all.0 host place since is), λ since is. began_before t w j since (all.1 since is)))

@@ -7,3 +7,4 @@ pub mod Counts
 pub mod Drops
 pub mod Asking
 pub mod Timing
+pub mod Resets

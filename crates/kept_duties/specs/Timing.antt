@@ -1,7 +1,6 @@
--- What a yes with a slack says of timers and resets: by when an armed retransmission timer expires, a closed window is
--- probed, and an aborted connection is reset (RFC 6298, 5.1 to 5.3; RFC 9293, 3.8.6.1 and 3.10.5). Moments, times and
--- slacks are in microseconds.
-use Rattle.std.specs.Prelude.{◌≡◌, ◌⊎◌, ◌+◌, ◌*◌, ◌^◌, ◌<◌, ◌≤◌, ◌==◌, ℕ, zero, suc, nat_lt, Bool, true, false, not}
+-- What a yes with a slack says of timers: by when an armed retransmission timer expires, and a closed window is probed
+-- (RFC 6298, 5.1 to 5.3; RFC 9293, 3.8.6.1). Moments, times and slacks are in microseconds.
+use Rattle.std.specs.Prelude.{◌≡◌, ◌+◌, ◌*◌, ◌^◌, ◌<◌, ◌≤◌, ◌==◌, ℕ, zero, suc, nat_lt, Bool, true, false, not}
 use Rattle.std.specs.Prelude.{◌&&◌, if◌then◌else◌, Option, None, Some}
 use Rattle.std.specs.Option.{option_map_or}
 use Rattle.case_forms.specs.States.{is_closed}
@@ -15,15 +14,13 @@ use Rattle.spec_tcp.specs.Machine.{tcp_shape}
 use Rattle.spec_tcp.specs.declared.endpoint.EndpointId.{EndpointId}
 use Rattle.spec_duties.specs.Expire.{has_expiry_due, longest_run}
 use Rattle.spec_duties.specs.Probe.{is_closed_with_work, is_probe}
-use Rattle.spec_duties.specs.Reset.{sends_reset}
 use Rattle.spec_duties.specs.Sights.{sight}
 use Rattle.spec_duties.specs.declared.events.Event.{Event}
-use Rattle.spec_duties.specs.declared.events.Event.TheVariants.{Calls, Expires}
+use Rattle.spec_duties.specs.declared.events.Event.TheVariants.{Expires}
 use Rattle.spec_duties.specs.declared.views.View.{View}
 use Rattle.kept_duties.specs.Counts.{event_for}
 use Rattle.kept_duties.specs.Happens.{Happens, act_at, seen_before, world_before}
-use Rattle.kept_duties.specs.Segments.{EndsBy}
-use Rattle.kept_duties.specs.Soon.{HappensBy, IsDoneUnless}
+use Rattle.kept_duties.specs.Soon.{IsDoneUnless}
 
 -- ---- the retransmission timer
 
@@ -109,17 +106,3 @@ ProbesAreInTime t w slack =
     → probe_time (seen_before t w (suc place) me) p.count < longest_rto
     → IsDoneUnless t w place (p.since + probe_time (seen_before t w (suc place) me) p.count + slack) me ProbesIt
     (λ v. not (awaits_probe (seen_before t w (suc place) me).timers.rto v))
-
--- ---- resets
-
--- a segment with RST is sent
-abbrev pub SendsReset : Event → (before after : View) → Type 0
-SendsReset event before after = sends_reset event ≡ true
-
--- after `abort` of a connection that then has to be reset, a segment with RST is sent within the slack, or the witness
--- ends
-abbrev pub AbortsAreReset : Trace → Witness → (slack : ℕ) → Type 0
-AbortsAreReset t w slack =
-    (place moment : ℕ) (me : EndpointId) → Happens t w place moment me (Calls true)
-    → (seen_before t w (suc place) me).resets ≡ true
-    → HappensBy t w place (moment + slack) me SendsReset ⊎ EndsBy w (moment + slack)

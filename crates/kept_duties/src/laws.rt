@@ -13,7 +13,8 @@ ghost use Rattle.kept_duties.specs.Counts.{AcknowledgmentsAreFew};
 ghost use Rattle.kept_duties.specs.Soon.{ReceiptsAreAnswered, ExpiriesAreFollowed, ProbesAreSent, WorkIsBegun};
 ghost use Rattle.kept_duties.specs.Drops.{DropsAreLawful, NextIsKept};
 ghost use Rattle.kept_duties.specs.Asking.{DropsAreAnswered};
-ghost use Rattle.kept_duties.specs.Timing.{AbortsAreReset, ExpiriesAreInTime, ProbesAreInTime};
+ghost use Rattle.kept_duties.specs.Timing.{ExpiriesAreInTime, ProbesAreInTime};
+ghost use Rattle.kept_duties.specs.Resets.{AbortsAreReset, ChildrenAreReset};
 
 /// If a witness explains a trace, each segment that arrived was processed, dropped or answered with a reset, by the
 /// host at which it arrived, at most the slack later; unless the last step is at most the slack later (RFC 9293,
@@ -108,6 +109,14 @@ pub fn probes_are_in_time()
 pub fn aborts_are_reset()
     ensures { (t : Trace) (w : Witness) (slack : ℕ) → Explains t w → t.header.slack ≡ Some slack
         → AbortsAreReset t w slack }
+{}
+
+/// Once a listener was closed for the last time, each child that then had to be reset sent a segment with RST at most
+/// the slack later; unless a step that did nothing at the child ended this, or the last step is at most that much later
+/// (RFC 9293, 3.10.5).
+pub fn children_are_reset()
+    ensures { (t : Trace) (w : Witness) (slack : ℕ) → Explains t w → t.header.slack ≡ Some slack
+        → ChildrenAreReset t w slack }
 {}
 
 /// After each expiry of a retransmission timer, the oldest unacknowledged position was sent again or acknowledged at
