@@ -36,7 +36,7 @@ use Rattle.spec_duties.specs.declared.events.Sending.{Sending}
 use Rattle.spec_duties.specs.declared.owed.Owed.{Owed}
 use Rattle.spec_duties.specs.declared.views.View.{View}
 use Rattle.checker.specs.Seen.{act_of, moves}
-use Rattle.kept_duties.specs.Asking.{AcknowledgesMore, Asks, CouldBeProcessed, DropsAreAnswered, DropsAt, IsChallenged, IsUnacceptable, SentNoneLately}
+use Rattle.kept_duties.specs.Asking.{AcknowledgesUnsent, Asks, CouldBeProcessed, DropsAreAnswered, DropsAt, IsChallenged, IsUnacceptable, SentNoneLately}
 use Rattle.kept_duties.specs.Drops.{host_before}
 use Rattle.kept_duties.specs.Happens.{Happens, act_at, known_before, seen_before, world_before}
 use Rattle.kept_duties.specs.Soon.{Answers}
@@ -59,7 +59,7 @@ asks_by syn_sent rst ack next breaks =
 
 asks_is : (breaks : Option Rule) (e : Endpoint) (m : Emission) → is_syn_sent e.state ≡ false → Asks breaks e m → asks m breaks e ≡ true
 asks_is breaks e m sent (IsUnacceptable rst is) = λ i. asks_by (sent i) (rst i) m.flags.ack (is_next e m) (is i)
-asks_is breaks e m sent (AcknowledgesMore rst ack is) = λ i. asks_by (sent i) (rst i) (ack i) (is_next e m) (is i)
+asks_is breaks e m sent (AcknowledgesUnsent rst ack is) = λ i. asks_by (sent i) (rst i) (ack i) (is_next e m) (is i)
 asks_is breaks e m sent (CouldBeProcessed rst is) = λ i. asks_by (sent i) (rst i) m.flags.ack (is_next e m) (is i)
 asks_is breaks e m sent (IsChallenged rst other is) = λ i. asks_by (sent i) (rst i) m.flags.ack (other i) (is i)
 

@@ -48,7 +48,7 @@ use Rattle.kept_duties.specs.Segments.{EndsBy}
 use Rattle.kept_duties.specs.Soon.{HappensBy, IsDoneUnless}
 use Rattle.kept_duties.proofs.Inbox.{not_late}
 use Rattle.kept_duties.proofs.Repeats.{goes_of, happens_from, happens_to, owes_of}
-use Rattle.kept_duties.proofs.Resets.{began_at, closed_in, late_reset, reset_is, reset_wait}
+use Rattle.kept_duties.proofs.Resets.{began_at, closed_in, late_reset, reset_is, reset_wait, sends_from}
 use Rattle.kept_duties.proofs.Runs.{Goes, Run, run_keeps, world_is}
 use Rattle.kept_duties.proofs.Segments.{within}
 use Rattle.kept_duties.proofs.Since.{began_low, from_step, sel_all, steady_at}
@@ -270,7 +270,7 @@ module _ (t : Trace) (w : Witness) (slack : ℕ) (r : Run t.header slack (length
             event = touch.event;
             behind = omega (arith, behind);
             happens = happens_from t w j y me touch.event at touch.shows;
-            kind = sends;
+            kind = sends_from touch.event (seen_before t w j me) (seen_before t w (suc j) me) sends;
             soon = soon;
           })
           test false none =

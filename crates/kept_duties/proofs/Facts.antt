@@ -1,5 +1,5 @@
 -- What the definitions say of a few steps.
-use Rattle.std.proofs.Common.{◌≡◌, ℕ, true, false, [], ◌∷◌, None, Some, refl, arith}
+use Rattle.std.proofs.Common.{◌≡◌, ℕ, inl, inr, true, false, [], ◌∷◌, None, Some, refl, arith}
 use Rattle.std.specs.Prelude.{◌==◌}
 use Rattle.case_forms.specs.declared.calls.Host.TheVariants.{Zero, One}
 use Rattle.case_forms.specs.declared.named_line.Extras.TheVariants as extras
@@ -27,7 +27,7 @@ use Rattle.kept_duties.specs.Counts.{builds_mere, count_before, event_for, sent_
 use Rattle.kept_duties.specs.Places.{ArrivesAt, IsProcessed, SendsAt, built_before}
 use Rattle.kept_duties.specs.Resets.{SendsReset, awaits_reset}
 use Rattle.kept_duties.specs.Segments.{EndsBy, IsBuiltBefore, LeavesBy}
-use Rattle.kept_duties.specs.Soon.{Answers, SendsOldest}
+use Rattle.kept_duties.specs.Soon.{Answers, IsIdle, SendsOldest}
 use Rattle.kept_duties.specs.Timing.{probe_time, probes_after, runs_on, runs_since}
 
 -- an empty acknowledgment, and three bytes
@@ -178,16 +178,34 @@ ack_answers : Answers (happening.Sends (record { flags = ack.flags; pos = 4; len
 ack_answers = refl
 
 first_position_again : SendsOldest (happening.Sends (record { flags = ack.flags; pos = 1; length = 1 })) sent_four sent_four
-first_position_again = refl
+first_position_again = inl (omega arith, omega arith)
 
 later_position_is_not : SendsOldest (happening.Sends (record { flags = ack.flags; pos = 2; length = 1 })) sent_four sent_four → ⊥
-later_position_is_not e = cc e
+later_position_is_not (inl held) = omega (arith, held.0)
+later_position_is_not (inr (inl shut)) = cc shut
+later_position_is_not (inr (inr more)) = omega (arith, more)
 
 acknowledged_instead : SendsOldest happening.Recovers sent_four (record sent_four { snd_una = 2 })
-acknowledged_instead = refl
+acknowledged_instead = omega arith
 
 reset_is_sent : SendsReset (happening.Sends (record { flags = record ack.flags { rst = true }; pos = 4; length = 0 })) sent_four sent_four
 reset_is_sent = refl
+
+-- an endpoint with three bytes to send and nothing outstanding
+abbrev idle : View
+idle = record unborn { snd_una = 1; snd_max = 1; snd_wnd = 9000; end = 4; rcv_nxt = 1 }
+
+waits_with_bytes : IsIdle idle
+waits_with_bytes = record {
+  open_yet = refl;
+  acknowledged = refl;
+  waits = inl (omega arith);
+  may_begin = inr (omega arith, omega arith);
+  window = inl (omega arith);
+}
+
+nothing_outstanding : IsIdle (record idle { snd_max = 2 }) → ⊥
+nothing_outstanding i = omega (arith, i.acknowledged)
 
 -- a child of listener 3 that has to be reset
 abbrev child_of_three : View

@@ -31,7 +31,7 @@ use Rattle.spec_duties.specs.Sights.{sight, view_in}
 use Rattle.spec_duties.specs.Watching.{Duties, closed_at, counts_for, joined, left, listener_closed, listening_after, listening_at, moved, moved_by}
 use Rattle.spec_duties.specs.Watching.{owed_by, queued}
 use Rattle.spec_duties.specs.declared.events.Event.{Event}
-use Rattle.spec_duties.specs.declared.events.Event.TheVariants.{Calls}
+use Rattle.spec_duties.specs.declared.events.Event.TheVariants.{Calls, Sends}
 use Rattle.spec_duties.specs.declared.owed.Lates.{Lates}
 use Rattle.spec_duties.specs.declared.owed.Owed.{Owed}
 use Rattle.spec_duties.specs.declared.sights.Queueing.{Queueing}
@@ -155,6 +155,10 @@ reset_back event before after moment listener counts o since is =
         third (inl now) = inl now
         third (inr l) = inr (inl l)
 
+pub sends_from : (event : Event) (before after : View) → sends_reset event ≡ true → SendsReset event before after
+sends_from (Sends s) before after is = is
+sends_from event before after is = absurd cc
+
 pub late_reset : (slack moment : ℕ) (v : View) (listener : Option ℕ) (o : Owed)
     → (lates_of slack moment v listener o).reset ≡ is_late slack moment (reset_since v listener o.reset)
 late_reset slack moment v listener o = by (is_closed v.state)
@@ -175,7 +179,7 @@ reset_wait since by slack low = record { onward = onward'; rules = λ l all. all
       where
         test : (b : Bool) → sends_reset event ≡ b
             → SendsReset event before after ⊎ (false ≡ true) ⊎ ((owed_after event before after moment listener counts o).reset ≡ Some since)
-        test true sends = inl sends
+        test true sends = inl (sends_from event before after sends)
         test false none =
             inr (inr (reset_is event before after moment listener counts o
             ∙ ap (λ (b : Bool). if b then None else option_or (reset_since before listener o.reset) (if aborts event after then Some moment else None)) none

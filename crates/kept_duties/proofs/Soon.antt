@@ -1,10 +1,12 @@
 -- Acknowledgments and retransmissions are sent in time.
-use Rattle.std.proofs.Common.{◌≡◌, ℕ, suc, ◌+◌, ◌<◌, ◌⊎◌, inl, inr, Bool, true, false, length, Option, Some, None, refl, ap, sym, subst, ◌∙◌, arith}
+use Rattle.std.proofs.Common.{◌≡◌, ℕ, suc, ◌+◌, ◌<◌, ◌≤◌, ◌⊎◌, inl, inr, Bool, true, false, length, Option, Some, None, refl, ap, sym, subst, ◌∙◌, arith}
 use Rattle.std.proofs.lemmas.Bool.Decides.{nat_tests}
-use Rattle.std.specs.Prelude.{◌&&◌, ◌||◌, if◌then◌else◌, nat_lt, not}
+use Rattle.std.specs.Prelude.{◌==◌, ◌&&◌, ◌||◌, if◌then◌else◌, nat_le, nat_lt, not}
 use Rattle.std.specs.Option.{option_map, option_or}
 use Rattle.std.proofs.lemmas.Option.{none-some, same_Some}
 use Rattle.case_forms.specs.States.{is_closed}
+use Rattle.case_forms.specs.declared.calls.State.{State}
+use Rattle.case_forms.specs.declared.calls.State.TheVariants as states
 use Rattle.case_forms.specs.declared.steps.Witness.{Witness}
 use Rattle.case_forms.specs.declared.timer.Timer.TheVariants.{Persist, Rto}
 use Rattle.case_forms.specs.declared.trace.Trace.{Trace}
@@ -14,25 +16,26 @@ use Rattle.interval_order.specs.Placed.{Placed}
 use Rattle.spec_network.specs.Hosts.{World}
 use Rattle.spec_tcp.specs.Machine.{tcp_shape}
 use Rattle.spec_tcp.specs.declared.endpoint.EndpointId.{EndpointId}
-use Rattle.spec_tcp_laws.proofs.Rules.{neither}
+use Rattle.spec_tcp_laws.proofs.Rules.{at_most_to, both_true, neither, true_false, zero_from}
 use Rattle.spec_duties.specs.Acknowledge.{acknowledge_due, asks_ack, is_answer, longest_delay, receives}
 use Rattle.spec_duties.specs.Deadlines.{is_late}
 use Rattle.spec_duties.specs.End.{end_rules}
-use Rattle.spec_duties.specs.Events.{acknowledges_more, is_sending}
+use Rattle.spec_duties.specs.Events.{acknowledges_more, holds, is_sending}
 use Rattle.spec_duties.specs.Owed.{lates_of, lates_of_open, none_late, once_closed, owed_after, owed_open}
 use Rattle.spec_duties.specs.Reset.{reset_since}
 use Rattle.spec_duties.specs.Retransmit.{is_probe_timeout, is_timeout, sends_oldest}
-use Rattle.spec_duties.specs.Start.{is_idle_with_work, longest_wait, start_due}
+use Rattle.spec_duties.specs.Start.{is_free_to_send, is_idle_with_work, longest_wait, start_due, work_end}
+use Rattle.spec_duties.specs.Views.{is_up}
 use Rattle.spec_duties.specs.Watching.{owed_by}
 use Rattle.spec_duties.specs.declared.events.Event.{Event}
-use Rattle.spec_duties.specs.declared.events.Event.TheVariants.{Expires, Processes}
+use Rattle.spec_duties.specs.declared.events.Event.TheVariants.{Expires, Processes, Sends}
 use Rattle.spec_duties.specs.declared.owed.Lates.{Lates}
 use Rattle.spec_duties.specs.declared.owed.Owed.{Owed}
 use Rattle.spec_duties.specs.declared.views.View.{View}
 use Rattle.kept_duties.specs.Happens.{Happens, act_at, known_before, seen_before}
 use Rattle.checker.specs.Seen.{moves}
-use Rattle.kept_duties.specs.Soon.{Answers, ExpiriesAreFollowed, IsNotIdle, IsDoneBy, ProbesAreSent, ReceiptsAreAnswered, SendsAnything, SendsOldest}
-use Rattle.kept_duties.specs.Soon.{WorkIsBegun}
+use Rattle.kept_duties.specs.Soon.{AcknowledgesMore, Answers, ExpiriesAreFollowed, IsDoneBy, IsIdle, IsNotIdle, ProbesAreSent, ReceiptsAreAnswered}
+use Rattle.kept_duties.specs.Soon.{SendsAnything, SendsOldest, WorkIsBegun, is_ended}
 use Rattle.kept_duties.proofs.Inbox.{not_late}
 use Rattle.kept_duties.proofs.Repeats.{happens_to, owes_of}
 use Rattle.kept_duties.proofs.Runs.{Run, world_is}
@@ -49,6 +52,89 @@ open_or_closed P event before after moment listener counts o closed open' = by (
         → P (if c then once_closed (owed_open event before after moment listener counts o) else owed_open event before after moment listener counts o)
     by true is = closed is
     by false is = open'
+
+-- ---- what duties test is what the laws say
+
+either_true : (a b : Bool) → (a || b) ≡ true → (a ≡ true) ⊎ (b ≡ true)
+either_true true b is = inl refl
+either_true false b is = inr is
+
+or_true : (a b : Bool) → b ≡ true → (a || b) ≡ true
+or_true true b is = refl
+or_true false b is = is
+
+pub answers_from : (event : Event) (before after : View) → is_answer event ≡ true → Answers event before after
+answers_from (Sends s) before after is = is
+answers_from event before after is = absurd cc
+
+receives_in : (state : State) → is_ended state ≡ false → receives state ≡ true
+receives_in states.Listen is = refl
+receives_in states.SynSent is = refl
+receives_in states.SynReceived is = refl
+receives_in states.Established is = refl
+receives_in states.FinWait1 is = refl
+receives_in states.FinWait2 is = refl
+receives_in state is = absurd cc
+
+more_from : (before after : View) → acknowledges_more before after ≡ true → AcknowledgesMore before after
+more_from before after is = grind (arith, nat_tests, is)
+
+sends_oldest_from : (event : Event) (before after : View) → (sends_oldest event before || acknowledges_more before after) ≡ true
+    → SendsOldest event before after
+sends_oldest_from (Sends s) before after is =
+    by (either_true (holds s before.snd_una || before.snd_wnd == 0) (acknowledges_more before after) is)
+  where
+    one : (holds s before.snd_una ≡ true) ⊎ ((before.snd_wnd == 0) ≡ true) → SendsOldest (Sends s) before after
+    one (inl held) =
+        let both = both_true (nat_le s.pos before.snd_una) (nat_lt before.snd_una (s.pos + s.length)) held in
+        let low : s.pos ≤ before.snd_una = at_most_to s.pos before.snd_una both.0 in
+        let high : before.snd_una < s.pos + s.length = grind (arith, nat_tests, both.1) in
+        inl (low, high)
+    one (inr shut) = inr (inl (zero_from before.snd_wnd shut))
+
+    by : ((holds s before.snd_una || before.snd_wnd == 0) ≡ true) ⊎ (acknowledges_more before after ≡ true) → SendsOldest (Sends s) before after
+    by (inl sends) = one (either_true (holds s before.snd_una) (before.snd_wnd == 0) sends)
+    by (inr more) = inr (inr (more_from before after more))
+sends_oldest_from event before after is = more_from before after is
+
+sends_anything_from : (event : Event) (before after : View) → (is_sending event || acknowledges_more before after) ≡ true
+    → SendsAnything event before after
+sends_anything_from (Sends s) before after is = tt
+sends_anything_from event before after is = more_from before after is
+
+idle_is : (v : View) → IsIdle v → is_idle_with_work v ≡ true
+idle_is v idle =
+    λ i. not (idle.open_yet i) && all_acknowledged i && waits idle.waits i && begins idle.may_begin i && window idle.window i
+  where
+    all_acknowledged : (v.snd_una == v.snd_max) ≡ true
+    all_acknowledged = let same = idle.acknowledged in grind (arith, nat_tests, same)
+
+    more : (b : Bool) → v.snd_max < v.end → nat_lt v.snd_max (if b then v.end + 1 else v.end) ≡ true
+    more true less = grind (arith, nat_tests, less)
+    more false less = grind (arith, nat_tests, less)
+
+    waits : (v.snd_max < v.end) ⊎ ((v.ended ≡ true) × (v.snd_max ≤ v.end)) → nat_lt v.snd_max (work_end v) ≡ true
+    waits (inl less) = more v.ended less
+    waits (inr fin) =
+        let low : v.snd_max ≤ v.end = fin.1 in
+        let next : nat_lt v.snd_max (v.end + 1) ≡ true = grind (arith, nat_tests, low) in
+        ap (λ (b : Bool). nat_lt v.snd_max (if b then v.end + 1 else v.end)) fin.0 ∙ next
+
+    begins : (v.snd_max ≡ 0) ⊎ ((1 ≤ v.snd_una) × (1 ≤ v.rcv_nxt)) → (is_up v || v.snd_max == 0) ≡ true
+    begins (inl zero') = or_true (is_up v) (v.snd_max == 0) (grind (arith, nat_tests, zero'))
+    begins (inr up) =
+        let own : nat_le 1 v.snd_una ≡ true = grind (arith, nat_tests, up.0) in
+        let peer : nat_le 1 v.rcv_nxt ≡ true = grind (arith, nat_tests, up.1) in
+        (λ i. (own i && peer i) || v.snd_max == 0)
+
+    window : (0 < v.snd_wnd) ⊎ (v.snd_max ≡ 0) ⊎ (v.snd_max ≡ v.end) → is_free_to_send v ≡ true
+    window (inl some) =
+        let is : nat_lt 0 v.snd_wnd ≡ true = grind (arith, nat_tests, some) in
+        (λ i. is i || v.snd_max == 0 || v.snd_max == v.end)
+    window (inr (inl zero')) =
+        let is : (v.snd_max == 0) ≡ true = grind (arith, nat_tests, zero') in
+        ap (λ (b : Bool). b || v.snd_max == v.end) (or_true (nat_lt 0 v.snd_wnd) (v.snd_max == 0) is)
+    window (inr (inr last)) = or_true (nat_lt 0 v.snd_wnd || v.snd_max == 0) (v.snd_max == v.end) (grind (arith, nat_tests, last))
 
 -- ---- acknowledge
 
@@ -67,7 +153,7 @@ acknowledge_onward event before after moment listener counts o since is =
         → Answers event before after ⊎ (is_closed after.state ≡ true)
         ⊎ ((if b then None else if asks_ack event before.state moment o.acknowledged then option_or o.acknowledge (Some moment) else o.acknowledge)
         ≡ Some since)
-    by true answers = inl answers
+    by true answers = inl (answers_from event before after answers)
     by false answers = inr (inr (asks (asks_ack event before.state moment o.acknowledged)))
 
 or_now : (o : Option ℕ) (moment since : ℕ) → option_or o (Some moment) ≡ Some since → (since ≡ moment) ⊎ (o ≡ Some since)
@@ -140,7 +226,7 @@ retransmit_onward event before after moment listener counts o since is =
         → SendsOldest event before after ⊎ (is_closed after.state ≡ true)
         ⊎ ((if a then option_or o.retransmit (Some moment) else if b then None else o.retransmit) ≡ Some since)
     by true b sends = inr (inr (ap (λ (q : Option ℕ). option_or q (Some moment)) is))
-    by false true sends = inl sends
+    by false true sends = inl (sends_oldest_from event before after sends)
     by false false sends = inr (inr is)
 
 retransmit_back : (event : Event) (before after : View) (moment : ℕ) (listener : Option ℕ) (counts : Bool) (o : Owed) (since : ℕ)
@@ -187,7 +273,7 @@ probe_onward event before after moment listener counts o since is =
         → SendsAnything event before after ⊎ (is_closed after.state ≡ true)
         ⊎ ((if a then option_or o.probe (Some moment) else if b then None else o.probe) ≡ Some since)
     by true b sends = inr (inr (ap (λ (q : Option ℕ). option_or q (Some moment)) is))
-    by false true sends = inl sends
+    by false true sends = inl (sends_anything_from event before after sends)
     by false false sends = inr (inr is)
 
 probe_back : (event : Event) (before after : View) (moment : ℕ) (listener : Option ℕ) (counts : Bool) (o : Owed) (since : ℕ)
@@ -233,7 +319,7 @@ start_onward event before after moment listener counts o since is =
     by : (b : Bool) → is_idle_with_work after ≡ b
         → IsNotIdle event before after ⊎ (is_closed after.state ≡ true) ⊎ ((if b then option_or o.start (Some moment) else None) ≡ Some since)
     by true idle = inr (inr (ap (λ (q : Option ℕ). option_or q (Some moment)) is))
-    by false busy = inl busy
+    by false busy = inl (λ idle. true_false (idle_is after idle) busy)
 
 start_back : (event : Event) (before after : View) (moment : ℕ) (listener : Option ℕ) (counts : Bool) (o : Owed) (since : ℕ)
     → (owed_after event before after moment listener counts o).start ≡ Some since → (since ≡ moment) ⊎ (o.start ≡ Some since)
@@ -313,7 +399,7 @@ module _ (t : Trace) (w : Witness) (slack : ℕ) (r : Run t.header slack (length
   receipts_answered place moment length me a some receives' =
       arises me (λ o. o.acknowledge) longest_delay Answers (λ l. l.acknowledge) acknowledge_duty place moment (Processes length false) a
       (λ before after moment listener counts o is now at old. acknowledge_begins length before after moment listener counts o some
-      (ap (λ (v : View). receives v.state) is ∙ receives'))
+      (ap (λ (v : View). receives v.state) is ∙ receives_in (seen_before t w place me).state receives'))
 
   -- an expiry is followed by a retransmission
   pub expiries_followed : ExpiriesAreFollowed t w slack
@@ -334,4 +420,4 @@ module _ (t : Trace) (w : Witness) (slack : ℕ) (r : Run t.header slack (length
   work_begun place moment me event a idle =
       arises me (λ o. o.start) longest_wait IsNotIdle (λ l. l.start) start_duty place moment event a
       (λ before after moment listener counts o is now at old. start_begins event before after moment listener counts o
-      (ap is_idle_with_work now ∙ idle))
+      (ap is_idle_with_work now ∙ idle_is (seen_before t w (suc place) me) idle))

@@ -8,7 +8,7 @@ use Rattle.std.specs.Prelude.{◌==◌, ◌&&◌, ◌||◌, if◌then◌else◌,
 use Rattle.std.specs.Option.{option_map, option_map_or}
 use Rattle.case_forms.specs.States.{is_closed}
 use Rattle.case_forms.specs.declared.steps.Witness.{Witness}
-use Rattle.case_forms.specs.declared.timer.Timer.TheVariants.{Rto}
+use Rattle.case_forms.specs.declared.timer.Timer.TheVariants.{Persist, Rto}
 use Rattle.case_forms.specs.declared.trace.Header.{Header}
 use Rattle.case_forms.specs.declared.trace.Trace.{Trace}
 use Rattle.timer_rules.specs.Timeouts.{longest_rto}
@@ -23,13 +23,13 @@ use Rattle.spec_tcp_laws.proofs.Rules.{both_true, not_false, not_true, number_sa
 use Rattle.spec_duties.specs.Cases.{Known}
 use Rattle.spec_duties.specs.Deadlines.{is_late}
 use Rattle.spec_duties.specs.End.{end_rules}
-use Rattle.spec_duties.specs.Expire.{expiry_due, has_expiry_due, longest_run, opened_after}
+use Rattle.spec_duties.specs.Expire.{expiry_due, has_expiry_due, opened_after}
 use Rattle.spec_duties.specs.Owed.{lates_of, lates_of_open, none_late, once_closed, owed_after, owed_open}
-use Rattle.spec_duties.specs.Probe.{first_probing, greatest_factor, is_closed_with_work, is_probe, next_probe_due, probing_due, still_probing}
+use Rattle.spec_duties.specs.Probe.{first_probing, greatest_factor, is_probe, next_probe_due, probing_due, still_probing}
 use Rattle.spec_duties.specs.Sights.{sight}
 use Rattle.spec_duties.specs.Watching.{owed_by}
 use Rattle.spec_duties.specs.declared.events.Event.{Event}
-use Rattle.spec_duties.specs.declared.events.Event.TheVariants.{Expires}
+use Rattle.spec_duties.specs.declared.events.Event.TheVariants.{Expires, Sends}
 use Rattle.spec_duties.specs.declared.owed.Lates.{Lates}
 use Rattle.spec_duties.specs.declared.owed.Owed.{Owed}
 use Rattle.spec_duties.specs.declared.owed.Probing.{Probing}
@@ -40,7 +40,7 @@ use Rattle.kept_duties.specs.Counts.{event_for}
 use Rattle.kept_duties.specs.Happens.{Happens, act_at, known_before, seen_before, world_before}
 use Rattle.kept_duties.specs.Soon.{IsDoneUnless}
 use Rattle.kept_duties.specs.Timing.{ExpiriesAreInTime, IsOpenedBy, Probes, ProbesAreInTime, ProbesIt, TimesOut, awaits_probe, probe_time, probes_after}
-use Rattle.kept_duties.specs.Timing.{probes_before, probes_by, runs_on, runs_since, still_probed}
+use Rattle.kept_duties.specs.Timing.{is_probing, is_shut, probes_before, probes_by, run_time, runs_on, runs_since, still_probed}
 use Rattle.kept_duties.proofs.Counts.{event_here, event_of}
 use Rattle.kept_duties.proofs.Inbox.{not_late}
 use Rattle.kept_duties.proofs.Repeats.{happens_from, owes_of}
@@ -89,7 +89,7 @@ record RunsOn (since : ℕ) (first now : View) : Type 0 where
   open' : is_closed now.state ≡ false
   due : has_expiry_due now ≡ true
   armed : now.timers.rto_armed ≡ Some since
-  time : longest_run now ≡ longest_run first
+  time : run_time now ≡ run_time first
   window : as_open first.snd_wnd now.snd_wnd ≡ true
 
 armed_is : (o : Option ℕ) (since : ℕ) → option_map_or (λ m. m == since) o false ≡ true → o ≡ Some since
@@ -98,25 +98,25 @@ armed_is (Some m) since is = ap (λ (n : ℕ). Some n) (number_same m since is)
 
 runs_parts : (since : ℕ) (first now : View) → runs_on since first now ≡ true → RunsOn since first now
 runs_parts since first now is =
-    let a = both_true (runs_since since now && longest_run now == longest_run first) (as_open first.snd_wnd now.snd_wnd) is in
-    let b = both_true (runs_since since now) (longest_run now == longest_run first) a.0 in
+    let a = both_true (runs_since since now && run_time now == run_time first) (as_open first.snd_wnd now.snd_wnd) is in
+    let b = both_true (runs_since since now) (run_time now == run_time first) a.0 in
     let c = both_true (not (is_closed now.state) && has_expiry_due now) (option_map_or (λ m. m == since) now.timers.rto_armed false) b.0 in
     let d = both_true (not (is_closed now.state)) (has_expiry_due now) c.0 in
     record {
       open' = not_true (is_closed now.state) d.0;
       due = d.1;
       armed = armed_is now.timers.rto_armed since c.1;
-      time = number_same (longest_run now) (longest_run first) b.1;
+      time = number_same (run_time now) (run_time first) b.1;
       window = a.1;
     }
 
 runs_self : (since : ℕ) (first : View) → runs_since since first ≡ true → runs_on since first first ≡ true
 runs_self since first is =
-    let same : (longest_run first == longest_run first) ≡ true = grind (arith, nat_tests) in
+    let same : (run_time first == run_time first) ≡ true = grind (arith, nat_tests) in
     (λ i. is i && same i && as_open_self first.snd_wnd i)
 
 expiry_wait : (since from slack : ℕ) (first : View) → since ≤ from
-    → Wait (λ o. o.opened ≤ from) TimesOut (λ v. not (runs_on since first v)) (λ l. l.expire) slack (from + longest_run first + slack)
+    → Wait (λ o. o.opened ≤ from) TimesOut (λ v. not (runs_on since first v)) (λ l. l.expire) slack (from + run_time first + slack)
 expiry_wait since from slack first low = record { onward = onward'; rules = λ l all. all.1.0; either = λ a b. refl; fine = fine }
   where
     onward' : (event : Event) (before after : View) (moment : ℕ) (listener : Option ℕ) (counts : Bool) (o : Owed) → not (runs_on since first before) ≡ false
@@ -138,13 +138,13 @@ expiry_wait since from slack first low = record { onward = onward'; rules = λ l
             inr (inr (subst (λ (n : ℕ). n ≤ from) (sym same) opened))
 
     fine : (moment : ℕ) (v : View) (listener : Option ℕ) (o : Owed) → (lates_of slack moment v listener o).expire ≡ false → not (runs_on since first v) ≡ false
-        → o.opened ≤ from → moment ≤ from + longest_run first + slack
+        → o.opened ≤ from → moment ≤ from + run_time first + slack
     fine moment v listener o none runs opened =
         let now = runs_parts since first v (not_false (runs_on since first v) runs) in
-        let due : expiry_due v o.opened ≡ Some (max since o.opened + longest_run v) =
-        ap (λ (b : Bool). if b then option_map (λ since. max since o.opened + longest_run v) v.timers.rto_armed else None) now.due
-        ∙ ap (option_map (λ since. max since o.opened + longest_run v)) now.armed in
-        let le = not_late slack (max since o.opened + longest_run v) moment (expiry_due v o.opened) due
+        let due : expiry_due v o.opened ≡ Some (max since o.opened + run_time v) =
+        ap (λ (b : Bool). if b then option_map (λ since. max since o.opened + run_time v) v.timers.rto_armed else None) now.due
+        ∙ ap (option_map (λ since. max since o.opened + run_time v)) now.armed in
+        let le = not_late slack (max since o.opened + run_time v) moment (expiry_due v o.opened) due
         (late_open (λ l. l.expire ≡ false) slack moment v listener o now.open' none) in
         let time = now.time in
         omega (arith, le, time, opened, low)
@@ -167,10 +167,17 @@ times_cut (suc rto) n low =
     let same : min n greatest_factor ≡ n = omega (arith, small) in
     ap (λ (m : ℕ). suc rto * m) same
 
+-- what duties test is what the law says
+probing_test : (event : Event) (v : View) → is_probe event v ≡ is_probing event v
+probing_test (Expires Rto) v = refl
+probing_test (Expires Persist) v = refl
+probing_test (Sends s) v = refl
+probing_test event v = refl
+
 probing_is : (event : Event) (before after : View) (moment : ℕ) (listener : Option ℕ) (counts : Bool) (o : Owed) (p : Option Probes)
     → o.probing ≡ option_map probing_of p
     → (owed_after event before after moment listener counts o).probing ≡ option_map probing_of (probes_after event before after moment p)
-probing_is event before after moment listener counts o p is = by (is_closed after.state) (is_closed_with_work after)
+probing_is event before after moment listener counts o p is = by (is_closed after.state) (is_shut after)
   where
     probed : (b : Bool) (q : Probes)
         → (if b then record { since = moment; factor = min (2 * min (2 ^ q.count) greatest_factor) greatest_factor } else probing_of q)
@@ -184,7 +191,10 @@ probing_is event before after moment listener counts o p is = by (is_closed afte
         → Some (option_map_or (still_probing event before moment) (option_map probing_of p) (first_probing moment))
         ≡ option_map probing_of (Some (option_map_or (still_probed event before moment) p (record { since = moment; count = 0 })))
     again None = refl
-    again (Some q) = ap (λ (g : Probing). Some g) (probed (is_probe event before) q)
+    again (Some q) =
+        ap (λ (b : Bool). Some (if b then record { since = moment; factor = min (2 * min (2 ^ q.count) greatest_factor) greatest_factor }
+        else probing_of q)) (probing_test event before)
+        ∙ ap (λ (g : Probing). Some g) (probed (is_probing event before) q)
 
     by : (c d : Bool)
         → (if c then once_closed (record (owed_open event before after moment listener counts o) {
@@ -205,13 +215,13 @@ probing_is event before after moment listener counts o p is = by (is_closed afte
 -- what it means that a probe is awaited
 record Awaits (rto : ℕ) (v : View) : Type 0 where
   open' : is_closed v.state ≡ false
-  work : is_closed_with_work v ≡ true
+  work : is_shut v ≡ true
   same : v.timers.rto ≡ rto
 
 awaits_parts : (rto : ℕ) (v : View) → awaits_probe rto v ≡ true → Awaits rto v
 awaits_parts rto v is =
-    let a = both_true (not (is_closed v.state) && is_closed_with_work v) (v.timers.rto == rto) is in
-    let b = both_true (not (is_closed v.state)) (is_closed_with_work v) a.0 in
+    let a = both_true (not (is_closed v.state) && is_shut v) (v.timers.rto == rto) is in
+    let b = both_true (not (is_closed v.state)) (is_shut v) a.0 in
     record { open' = not_true (is_closed v.state) b.0; work = b.1; same = number_same v.timers.rto rto a.1 }
 
 probe_wait : (rto slack : ℕ) (p : Probes) → rto * 2 ^ p.count < longest_rto
@@ -222,9 +232,9 @@ probe_wait rto slack p low = record { onward = onward'; rules = λ l all. all.1.
         → o.probing ≡ Some (probing_of p)
         → ProbesIt event before after ⊎ (not (awaits_probe rto after) ≡ true)
         ⊎ ((owed_after event before after moment listener counts o).probing ≡ Some (probing_of p))
-    onward' event before after moment listener counts o awaits is = by (is_probe event before) (awaits_probe rto after) refl refl
+    onward' event before after moment listener counts o awaits is = by (is_probing event before) (awaits_probe rto after) refl refl
       where
-        by : (a b : Bool) → is_probe event before ≡ a → awaits_probe rto after ≡ b
+        by : (a b : Bool) → is_probing event before ≡ a → awaits_probe rto after ≡ b
             → ProbesIt event before after ⊎ (not (awaits_probe rto after) ≡ true)
             ⊎ ((owed_after event before after moment listener counts o).probing ≡ Some (probing_of p))
         by true b probes awaits = inl probes
@@ -232,7 +242,7 @@ probe_wait rto slack p low = record { onward = onward'; rules = λ l all. all.1.
         by false true none awaits =
             let now = awaits_parts rto after awaits in
             inr (inr (probing_is event before after moment listener counts o (Some p) is
-            ∙ ap (λ (c : Bool). option_map probing_of (if not c && is_closed_with_work after then Some (still_probed event before moment p)
+            ∙ ap (λ (c : Bool). option_map probing_of (if not c && is_shut after then Some (still_probed event before moment p)
             else None)) now.open'
             ∙ ap (λ (c : Bool). option_map probing_of (if true && c then Some (still_probed event before moment p) else None)) now.work
             ∙ ap (λ (c : Bool). Some (probing_of (if c then record { since = moment; count = suc p.count } else p))) none))
@@ -319,7 +329,7 @@ module _ (t : Trace) (w : Witness) (slack : ℕ) (r : Run t.header slack (length
       → ExpiriesAreInTime t w slack
   expiries_in_time placed late place moment since from me event a runs low opened =
       from_step t w slack r placed me (λ o. o.opened ≤ from) TimesOut (λ v. not (runs_on since first v)) (λ l. l.expire) place
-      (from + longest_run first + slack) (expiry_wait since from slack first low) late moment event a
+      (from + run_time first + slack) (expiry_wait since from slack first low) late moment event a
       (ap (λ (v : World tcp_shape). not (runs_on since first (seen v me))) (world_is t w (suc place)) ∙ ap not (runs_self since first runs))
       (opened_low me place from (within t w place a.act a.is) opened)
     where
@@ -412,7 +422,7 @@ module _ (t : Trace) (w : Witness) (slack : ℕ) (r : Run t.header slack (length
 
       awaits : awaits_probe first.timers.rto first ≡ true
       awaits =
-          let so = is_so (not (is_closed first.state) && is_closed_with_work first)
+          let so = is_so (not (is_closed first.state) && is_shut first)
           (option_map_or (still_probed event (seen_before t w place me) a.act.moment) old (record { since = a.act.moment; count = 0 })) (sym shows ∙ probes) in
           let same : (first.timers.rto == first.timers.rto) ≡ true = grind (arith, nat_tests) in
           (λ i. so i && same i)

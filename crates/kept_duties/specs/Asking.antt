@@ -34,7 +34,7 @@ pub data Asks (breaks : Option Rule) (e : Endpoint) (m : Emission) : Type 0 wher
   -- it is unacceptable
   IsUnacceptable : m.flags.rst ≡ false → breaks ≡ Some rules.Unacceptable → Asks breaks e m
   -- it acknowledges what was never sent
-  AcknowledgesMore : m.flags.rst ≡ false → m.flags.ack ≡ true → breaks ≡ Some rules.AckRange → Asks breaks e m
+  AcknowledgesUnsent : m.flags.rst ≡ false → m.flags.ack ≡ true → breaks ≡ Some rules.AckRange → Asks breaks e m
   -- it could be processed
   CouldBeProcessed : m.flags.rst ≡ false → breaks ≡ None → Asks breaks e m
   -- it is a reset that is acceptable, but not the next position expected: it is challenged (RFC 5961, 3.2)

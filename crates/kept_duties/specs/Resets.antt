@@ -8,10 +8,9 @@ use Rattle.case_forms.specs.declared.trace.Trace.{Trace}
 use Rattle.spec_network.specs.Hosts.{Stamped}
 use Rattle.spec_tcp.specs.Machine.{tcp_shape}
 use Rattle.spec_tcp.specs.declared.endpoint.EndpointId.{EndpointId}
-use Rattle.spec_duties.specs.Reset.{sends_reset}
 use Rattle.spec_duties.specs.Sights.{sight}
 use Rattle.spec_duties.specs.declared.events.Event.{Event}
-use Rattle.spec_duties.specs.declared.events.Event.TheVariants.{Calls}
+use Rattle.spec_duties.specs.declared.events.Event.TheVariants.{Calls, Sends}
 use Rattle.spec_duties.specs.declared.sights.Queueing.TheVariants.{Closes}
 use Rattle.spec_duties.specs.declared.views.View.{View}
 use Rattle.kept_duties.specs.Happens.{Happens, act_at, seen_before, world_before}
@@ -20,7 +19,8 @@ use Rattle.kept_duties.specs.Soon.{HappensBy}
 
 -- a segment with RST is sent
 abbrev pub SendsReset : Event → (before after : View) → Type 0
-SendsReset event before after = sends_reset event ≡ true
+SendsReset (Sends s) before after = s.flags.rst ≡ true
+SendsReset event before after = ⊥
 
 -- after `abort` of a connection that then has to be reset, a segment with RST is sent within the slack, or the witness
 -- ends

@@ -2,16 +2,16 @@
 -- 9293, 3.8.6 and 3.10.7.4; RFC 5681, 4.2; RFC 6298, 5.4). Moments and slacks are in microseconds.
 use Rattle.std.specs.Prelude.{◌≡◌, ◌⊎◌, ◌+◌, ◌<◌, ◌≤◌, ℕ, suc, Bool, true, false, ◌||◌}
 use Rattle.case_forms.specs.States.{is_closed}
+use Rattle.case_forms.specs.declared.calls.State.{State}
+use Rattle.case_forms.specs.declared.calls.State.TheVariants as states
 use Rattle.case_forms.specs.declared.steps.Witness.{Witness}
 use Rattle.case_forms.specs.declared.timer.Timer.TheVariants.{Persist, Rto}
 use Rattle.case_forms.specs.declared.trace.Trace.{Trace}
 use Rattle.spec_tcp.specs.declared.endpoint.EndpointId.{EndpointId}
-use Rattle.spec_duties.specs.Acknowledge.{is_answer, longest_delay, receives}
-use Rattle.spec_duties.specs.Events.{acknowledges_more, is_sending}
-use Rattle.spec_duties.specs.Retransmit.{sends_oldest}
-use Rattle.spec_duties.specs.Start.{is_idle_with_work, longest_wait}
+use Rattle.spec_duties.specs.Acknowledge.{longest_delay}
+use Rattle.spec_duties.specs.Start.{longest_wait}
 use Rattle.spec_duties.specs.declared.events.Event.{Event}
-use Rattle.spec_duties.specs.declared.events.Event.TheVariants.{Expires, Processes}
+use Rattle.spec_duties.specs.declared.events.Event.TheVariants.{Expires, Processes, Sends}
 use Rattle.spec_duties.specs.declared.views.View.{View}
 use Rattle.kept_duties.specs.Happens.{Happens, seen_before}
 use Rattle.kept_duties.specs.Segments.{EndsBy}
@@ -47,18 +47,36 @@ IsDoneBy t w place by me Kind = IsDoneUnless t w place by me Kind (λ v. is_clos
 
 -- a segment with ACK or RST is sent
 abbrev pub Answers : Event → (before after : View) → Type 0
-Answers event before after = is_answer event ≡ true
+Answers (Sends s) before after = (s.flags.ack || s.flags.rst) ≡ true
+Answers event before after = ⊥
+
+-- the states in which nothing more is received: CLOSED, and those after the peer's FIN (RFC 9293, 3.10.7.4). A
+-- listener's child is in LISTEN before it exists
+abbrev pub is_ended : State → Bool
+is_ended states.CloseWait = true
+is_ended states.Closing = true
+is_ended states.LastAck = true
+is_ended states.TimeWait = true
+is_ended states.Closed = true
+is_ended state = false
 
 -- when an endpoint receives bytes, a SYN or a FIN, it sends a segment with ACK or RST within half a second and the
 -- slack
 abbrev pub ReceiptsAreAnswered : Trace → Witness → (slack : ℕ) → Type 0
 ReceiptsAreAnswered t w slack =
     (place moment length : ℕ) (me : EndpointId) → Happens t w place moment me (Processes length false) → 0 < length
-    → receives (seen_before t w place me).state ≡ true → IsDoneBy t w place (moment + longest_delay + slack) me Answers
+    → is_ended (seen_before t w place me).state ≡ false → IsDoneBy t w place (moment + longest_delay + slack) me Answers
+
+-- more is acknowledged: the oldest unacknowledged position rises
+abbrev pub AcknowledgesMore : (before after : View) → Type 0
+AcknowledgesMore before after = before.snd_una < after.snd_una
 
 -- the oldest unacknowledged position is sent again, or is acknowledged; into a closed window any segment will do
 abbrev pub SendsOldest : Event → (before after : View) → Type 0
-SendsOldest event before after = (sends_oldest event before || acknowledges_more before after) ≡ true
+SendsOldest (Sends s) before after =
+    ((s.pos ≤ before.snd_una) × (before.snd_una < s.pos + s.length)) ⊎ (before.snd_wnd ≡ 0)
+    ⊎ AcknowledgesMore before after
+SendsOldest event before after = AcknowledgesMore before after
 
 -- after an expiry of the retransmission timer this happens within the slack
 abbrev pub ExpiriesAreFollowed : Trace → Witness → (slack : ℕ) → Type 0
@@ -68,7 +86,8 @@ ExpiriesAreFollowed t w slack =
 
 -- after one of the persist timer, any segment is sent, or more is acknowledged (RFC 9293, 3.8.6.1)
 abbrev pub SendsAnything : Event → (before after : View) → Type 0
-SendsAnything event before after = (is_sending event || acknowledges_more before after) ≡ true
+SendsAnything (Sends s) before after = Unit {0}
+SendsAnything event before after = AcknowledgesMore before after
 
 -- that happens within the slack
 abbrev pub ProbesAreSent : Trace → Witness → (slack : ℕ) → Type 0
@@ -76,14 +95,23 @@ ProbesAreSent t w slack =
     (place moment : ℕ) (me : EndpointId) → Happens t w place moment me (Expires Persist)
     → IsDoneBy t w place (moment + slack) me SendsAnything
 
--- nothing waits with nothing outstanding any more: a part of it was built, or the window was closed
-abbrev pub IsNotIdle : Event → (before after : View) → Type 0
-IsNotIdle event before after = is_idle_with_work after ≡ false
+-- something waits to be sent, nothing is outstanding, and no window holds it back
+pub record IsIdle (v : View) : Type 0 where
+  pub open_yet : is_closed v.state ≡ false
+  pub acknowledged : v.snd_una ≡ v.snd_max
+  -- a SYN or bytes, or a FIN
+  pub waits : (v.snd_max < v.end) ⊎ ((v.ended ≡ true) × (v.snd_max ≤ v.end))
+  -- it is the SYN, or the connection is up
+  pub may_begin : (v.snd_max ≡ 0) ⊎ ((1 ≤ v.snd_una) × (1 ≤ v.rcv_nxt))
+  -- the offered window is open, or only a SYN or a FIN is left
+  pub window : (0 < v.snd_wnd) ⊎ (v.snd_max ≡ 0) ⊎ (v.snd_max ≡ v.end)
 
--- if something waits to be sent after a step, with nothing outstanding and no window that holds it back, it is begun
--- within a second and the slack (RFC 9293, 3.8.6.2.1, 3.10.2 and 3.10.4)
+-- this isn't so any more: a part of it was built, or the window was closed
+abbrev pub IsNotIdle : Event → (before after : View) → Type 0
+IsNotIdle event before after = IsIdle after → ⊥
+
+-- what waits so after a step is begun within a second and the slack (RFC 9293, 3.8.6.2.1, 3.10.2 and 3.10.4)
 abbrev pub WorkIsBegun : Trace → Witness → (slack : ℕ) → Type 0
 WorkIsBegun t w slack =
     (place moment : ℕ) (me : EndpointId) (event : Event) → Happens t w place moment me event
-    → is_idle_with_work (seen_before t w (suc place) me) ≡ true
-    → IsDoneBy t w place (moment + longest_wait + slack) me IsNotIdle
+    → IsIdle (seen_before t w (suc place) me) → IsDoneBy t w place (moment + longest_wait + slack) me IsNotIdle
