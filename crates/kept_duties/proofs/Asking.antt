@@ -2,7 +2,8 @@
 use Rattle.std.proofs.Common.{◌≡◌, ℕ, suc, ◌+◌, ◌<◌, ◌≤◌, ◌⊎◌, inl, inr, Bool, true, false, length, Option, Some, None, refl, ap, sym, subst, ◌∙◌, arith}
 use Rattle.std.proofs.lemmas.Bool.Decides.{nat_tests}
 use Rattle.std.proofs.lemmas.Option.{none-some, same_Some}
-use Rattle.std.specs.Prelude.{◌&&◌, ◌||◌, if◌then◌else◌, is_some, nat_le, not}
+use Rattle.std.specs.Prelude.{◌&&◌, ◌||◌, if◌then◌else◌, is_some, nat_le, nat_lt, not}
+use Rattle.seqno.specs.Numbers.{number_of}
 use Rattle.std.specs.Option.{option_map_or, option_or}
 use Rattle.case_forms.specs.States.{is_closed, is_syn_sent}
 use Rattle.case_forms.specs.declared.steps.Step.{Step as WitnessStep}
@@ -21,6 +22,9 @@ use Rattle.spec_tcp.specs.Machine.{tcp_shape}
 use Rattle.spec_tcp.specs.declared.endpoint.Emission.{Emission}
 use Rattle.spec_tcp.specs.declared.endpoint.Endpoint.{Endpoint}
 use Rattle.spec_tcp.specs.declared.endpoint.EndpointId.{EndpointId}
+use Rattle.spec_tcp.specs.Endpoints.{rcv_nxt}
+use Rattle.spec_tcp.specs.Same.{same_word}
+use Rattle.spec_tcp_laws.proofs.Rules.{is_not, map_or_true}
 use Rattle.spec_tcp_laws.proofs.Takes.{taker_there}
 use Rattle.spec_duties.specs.Acknowledge.{acknowledged_after, answered_lately, longest_delay}
 use Rattle.spec_duties.specs.Cases.{Known}
@@ -37,7 +41,7 @@ use Rattle.spec_duties.specs.declared.owed.Owed.{Owed}
 use Rattle.spec_duties.specs.declared.views.View.{View}
 use Rattle.checker.specs.Seen.{act_of, moves}
 use Rattle.kept_duties.specs.Asking.{AcknowledgesUnsent, Asks, CouldBeProcessed, DropsAreAnswered, DropsAt, IsChallenged, IsUnacceptable, SentNoneLately}
-use Rattle.kept_duties.specs.Drops.{host_before}
+use Rattle.kept_duties.specs.Drops.{IsNext, host_before}
 use Rattle.kept_duties.specs.Happens.{Happens, act_at, known_before, seen_before, world_before}
 use Rattle.kept_duties.specs.Soon.{Answers}
 use Rattle.kept_duties.proofs.Events.{place_touched}
@@ -45,7 +49,7 @@ use Rattle.kept_duties.proofs.Repeats.{happens_from, owes_of}
 use Rattle.kept_duties.proofs.Runs.{Goes, Run, run_keeps}
 use Rattle.kept_duties.proofs.Segments.{within}
 use Rattle.kept_duties.proofs.Since.{nothing_first}
-use Rattle.kept_duties.proofs.Soon.{acknowledge_duty, arises, open_or_closed, since_now}
+use Rattle.kept_duties.proofs.Soon.{acknowledge_duty, arises, open_or_closed, or_true, since_now}
 use Rattle.kept_duties.proofs.Touched.{Touches, seen, touched, touches_or_not}
 
 -- ---- what asks
@@ -57,11 +61,17 @@ asks_by syn_sent rst ack next breaks =
     && (if rst then not (is_some breaks) && (rst && not syn_sent && not next)
     else is_unacceptable breaks || is_ack_range breaks && ack || not (is_some breaks))
 
+not_next : (e : Endpoint) (m : Emission) → (IsNext e m → ⊥) → is_next e m ≡ false
+not_next e m other =
+    is_not (is_next e m) (λ is.
+    let f = map_or_true e.irs (λ irs. same_word m.seq (number_of irs (rcv_nxt e))) is in
+    other (f.0, f.1, f.2))
+
 asks_is : (breaks : Option Rule) (e : Endpoint) (m : Emission) → is_syn_sent e.state ≡ false → Asks breaks e m → asks m breaks e ≡ true
 asks_is breaks e m sent (IsUnacceptable rst is) = λ i. asks_by (sent i) (rst i) m.flags.ack (is_next e m) (is i)
 asks_is breaks e m sent (AcknowledgesUnsent rst ack is) = λ i. asks_by (sent i) (rst i) (ack i) (is_next e m) (is i)
 asks_is breaks e m sent (CouldBeProcessed rst is) = λ i. asks_by (sent i) (rst i) m.flags.ack (is_next e m) (is i)
-asks_is breaks e m sent (IsChallenged rst other is) = λ i. asks_by (sent i) (rst i) m.flags.ack (other i) (is i)
+asks_is breaks e m sent (IsChallenged rst other is) = λ i. asks_by (sent i) (rst i) m.flags.ack (not_next e m other i) (is i)
 
 -- the duty arises
 asks_begins : (unlimited : Bool) (before after : View) (moment : ℕ) (listener : Option ℕ) (counts : Bool) (o : Owed)
@@ -197,10 +207,13 @@ module _ (t : Trace) (w : Witness) (slack : ℕ) (r : Run t.header slack (length
           (drop_happens place moment line me m e at)
 
       limits : (now : ℕ) (o : Owed) → now ≡ moment → o ≡ owed_by (known_before t w place).duties me.host me.number
-          → (has_content m ≡ true) ⊎ SentNoneLately t w place moment me
+          → (0 < length m.payload) ⊎ (m.flags.fin ≡ true) ⊎ SentNoneLately t w place moment me
           → (has_content m ≡ true) ⊎ (answered_lately now o.acknowledged ≡ false)
-      limits now o same old (inl content) = inl content
-      limits now o same old (inr none) =
+      limits now o same old (inl some) =
+          let more : nat_lt 0 (length m.payload) ≡ true = grind (arith, nat_tests, some) in
+          inl (λ i. more i || m.flags.fin)
+      limits now o same old (inr (inl fin)) = inl (or_true (nat_lt 0 (length m.payload)) m.flags.fin fin)
+      limits now o same old (inr (inr none)) =
           inr (subst (λ (n : ℕ). answered_lately n o.acknowledged ≡ false) (sym same)
           (subst (λ (o : Owed). answered_lately moment o.acknowledged ≡ false) (sym old)
           (not_lately me place moment (let low = within t w place happens.act happens.is in omega (arith, low)) none)))

@@ -1,6 +1,6 @@
 -- What a yes with a slack says of dropped segments that ask for an acknowledgment: it is sent within half a second (RFC
 -- 9293, 3.10.7.4, first, second and fifth). Moments and slacks are in microseconds.
-use Rattle.std.specs.Prelude.{◌≡◌, ◌⊎◌, ◌+◌, ◌<◌, ℕ, true, false, Option, None, Some}
+use Rattle.std.specs.Prelude.{◌≡◌, ◌⊎◌, ◌+◌, ◌<◌, ℕ, true, false, length, Option, None, Some}
 use Rattle.case_forms.specs.States.{is_syn_sent}
 use Rattle.case_forms.specs.declared.steps.Label.TheVariants as labels
 use Rattle.case_forms.specs.declared.steps.Witness.{Witness}
@@ -13,10 +13,10 @@ use Rattle.spec_tcp.specs.declared.endpoint.Emission.{Emission}
 use Rattle.spec_tcp.specs.declared.endpoint.Endpoint.{Endpoint}
 use Rattle.spec_tcp.specs.declared.endpoint.EndpointId.{EndpointId}
 use Rattle.spec_duties.specs.Acknowledge.{longest_delay}
-use Rattle.spec_duties.specs.Dropped.{has_content, is_next, taking_breaks}
+use Rattle.spec_duties.specs.Dropped.{taking_breaks}
 use Rattle.spec_duties.specs.declared.events.Event.TheVariants.{Sends}
 use Rattle.spec_duties.specs.declared.events.Sending.{Sending}
-use Rattle.kept_duties.specs.Drops.{host_before}
+use Rattle.kept_duties.specs.Drops.{IsNext, host_before}
 use Rattle.kept_duties.specs.Happens.{Happens, world_before}
 use Rattle.kept_duties.specs.Places.{IsStep}
 use Rattle.kept_duties.specs.Soon.{Answers, IsDoneBy}
@@ -38,7 +38,7 @@ pub data Asks (breaks : Option Rule) (e : Endpoint) (m : Emission) : Type 0 wher
   -- it could be processed
   CouldBeProcessed : m.flags.rst ≡ false → breaks ≡ None → Asks breaks e m
   -- it is a reset that is acceptable, but not the next position expected: it is challenged (RFC 5961, 3.2)
-  IsChallenged : m.flags.rst ≡ true → is_next e m ≡ false → breaks ≡ None → Asks breaks e m
+  IsChallenged : m.flags.rst ≡ true → (IsNext e m → ⊥) → breaks ≡ None → Asks breaks e m
 
 -- the endpoint sent no segment with ACK within half a second before
 abbrev pub SentNoneLately : Trace → Witness → (place moment : ℕ) → EndpointId → Type 0
@@ -52,5 +52,5 @@ abbrev pub DropsAreAnswered : Trace → Witness → (slack : ℕ) → Type 0
 DropsAreAnswered t w slack =
     (place moment line : ℕ) (me : EndpointId) (m : Emission) (e : Endpoint) → DropsAt t w place moment line me m e
     → is_syn_sent e.state ≡ false → Asks (taking_breaks t.header moment (world_before t w place) me.host line) e m
-    → (has_content m ≡ true) ⊎ SentNoneLately t w place moment me
+    → (0 < length m.payload) ⊎ (m.flags.fin ≡ true) ⊎ SentNoneLately t w place moment me
     → IsDoneBy t w place (moment + longest_delay + slack) me Answers
