@@ -1,4 +1,4 @@
--- With a greater slack, what explains a trace still explains it; with `any`, no rule of a duty is named.
+-- With a greater slack, what explains a trace still explains it; with `any`, duties ask for nothing, and no rule of a duty is named.
 use Rattle.std.proofs.Common.{◌≡◌, ℕ, ◌≤◌, Bool, true, false, List, [], ◌∷◌, ◌++◌, Option, None, Some, inl, inr, refl, sym, ap, subst, ◌∙◌}
 use Rattle.std.proofs.Common.{◌+◌, ◌⊎◌, take}
 use Rattle.std.specs.Prelude.{nat_le}
@@ -19,12 +19,13 @@ use Rattle.interval_order.specs.Orders.{Move, last_moment, order_of}
 use Rattle.interval_order.specs.Placed.{Placed}
 use Rattle.spec_network.specs.HostRules.{step_rules}
 use Rattle.spec_network.specs.HostSteps.{start, Lawful}
-use Rattle.spec_network.specs.Hosts.{Stamped}
+use Rattle.spec_network.specs.Hosts.{Idle, Stamped}
+use Rattle.spec_network.specs.Turns.{Turns}
 use Rattle.spec_network.proofs.Turns.{turns}
 use Rattle.spec_tcp.specs.Machine.{tcp, tcp_shape}
 use Rattle.spec_tcp_laws.specs.Ascending.{rule_number}
 use Rattle.spec_tcp_laws.proofs.Rules.{at_most_to, both_true}
-use Rattle.duties.proofs.SlackLemmas.{late_any, nothing_judged}
+use Rattle.duties.proofs.SlackLemmas.{dutiful_any, late_any, nothing_judged}
 use Rattle.spec_duties.specs.Cases.{Dutiful, Known, first_known, known_after_all, late_at_end, watch_rules}
 use Rattle.spec_duties.specs.Sights.{sight}
 use Rattle.spec_duties.specs.Slack.{AtMost, with_slack}
@@ -85,6 +86,18 @@ less_late_stays_yes slack = record {
 }
 
 -- ---- with `any`
+
+-- lines that are placed, in turns, by a run of the model are explained
+pub explained_by_model : (t : Trace) (w : Witness) → t.header.slack ≡ None → Placed t.header t.lines (moves w.steps)
+    → ((thread : ℕ) → Turns (tcp t.header) thread Idle (stamped t.header t.lines w.steps))
+    → Lawful (tcp t.header) (start (tcp t.header)) (stamped t.header t.lines w.steps) → Explains t w
+explained_by_model t w any placed take_turns run = record {
+  placed = placed;
+  turns = take_turns;
+  run = run;
+  duties = dutiful_any t.header (first_known t.header) (stamped t.header t.lines w.steps) any;
+  in_time = late_any t.header (last_moment (moves w.steps)) (known_after_all t.header (first_known t.header) (stamped t.header t.lines w.steps)) any;
+}
 
 tops_both : (xs ys : List (Rule × Bool)) → tops xs ≡ true → tops ys ≡ true → tops (xs ++ ys) ≡ true
 tops_both [] ys a b = b

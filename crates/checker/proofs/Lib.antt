@@ -25,4 +25,4 @@ pub mod StreamLemmas
 pub mod StepSpans
 pub mod PrintedLemmas
 pub mod JudgedLemmas
-mod LessLateLemmas
+pub mod LessLateLemmas

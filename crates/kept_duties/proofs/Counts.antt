@@ -71,7 +71,7 @@ host_self : (host : Host) → host_is host host ≡ true
 host_self Zero = refl
 host_self One = refl
 
-event_here : (v : World tcp_shape) (me : EndpointId) (event : Event) → event_for me (Some (touched v me event)) ≡ Some event
+pub event_here : (v : World tcp_shape) (me : EndpointId) (event : Event) → event_for me (Some (touched v me event)) ≡ Some event
 event_here v me event =
     let number : nat_eq me.number me.number ≡ true = grind (arith, nat_tests) in
     ap (λ (b : Bool). if b && me.number == me.number then Some event else None) (host_self me.host)
@@ -106,7 +106,7 @@ counted false false false true sent came answers s c e le = absurd (let f : fals
 counted false true false false sent came answers s c e le = omega (arith, le)
 counted false false false false sent came answers s c e le = omega (arith, le)
 
-event_of : (me : EndpointId) (o : Option Touched) (event : Event) → event_for me o ≡ Some event
+pub event_of : (me : EndpointId) (o : Option Touched) (event : Event) → event_for me o ≡ Some event
     → (s : Touched) × (o ≡ Some s) × (s.host ≡ me.host) × (s.place ≡ me.number) × (s.event ≡ event)
 event_of me None event is = absurd (none-some event is)
 event_of me (Some s) event is = by (host_is s.host me.host && s.place == me.number) refl is

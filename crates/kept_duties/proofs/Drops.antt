@@ -1,27 +1,41 @@
 -- A dropped segment need neither be processed nor answered.
-use Rattle.std.proofs.Common.{◌≡◌, ℕ, ◌⊎◌, inl, inr, Bool, true, false, length, Option, Some, None, refl, ap, sym, subst, ◌∙◌, arith}
+use Rattle.std.proofs.Common.{◌≡◌, ℕ, ◌+◌, ◌<◌, ◌⊎◌, inl, inr, Bool, true, false, length, Option, Some, None, refl, ap, sym, subst, ◌∙◌, arith}
 use Rattle.std.proofs.lemmas.Bool.Decides.{nat_tests}
 use Rattle.std.proofs.lemmas.Option.{slice_get_within}
-use Rattle.std.specs.Prelude.{◌&&◌, ◌||◌, if◌then◌else◌, is_some, not, slice_get}
+use Rattle.std.specs.Prelude.{◌==◌, ◌&&◌, ◌||◌, if◌then◌else◌, is_some, nat_le, nat_lt, not, slice_get}
+use Rattle.seqno.specs.Numbers.{number_of}
+use Rattle.seqno.specs.declared.word.Word.{Word}
+use Rattle.case_forms.specs.States.{is_syn_sent}
 use Rattle.std.specs.Option.{option_map_or}
 use Rattle.case_forms.specs.declared.calls.Host.{Host}
+use Rattle.case_forms.specs.declared.calls.State.{State}
+use Rattle.case_forms.specs.declared.calls.State.TheVariants as states
+use Rattle.case_forms.specs.declared.steps.TakeChoice.{TakeChoice}
 use Rattle.case_forms.specs.declared.steps.Step.{Step as WitnessStep}
 use Rattle.case_forms.specs.declared.steps.Witness.{Witness}
 use Rattle.case_forms.specs.declared.trace.Trace.{Trace}
+use Rattle.verdict.specs.declared.rule.Rule.{Rule}
 use Rattle.verdict.specs.declared.rule.Rule.TheVariants as rules
 use Rattle.verdict.proofs.RuleLemmas.{none_all}
 use Rattle.spec_network.specs.Hosts.{At, Drops, Takes, World}
 use Rattle.spec_network.specs.Tables.{on, pick, waiting}
 use Rattle.spec_tcp.specs.Arrives.{AtEndpoint, AtListener, Nobody, Taker, taker}
+use Rattle.spec_tcp.specs.Endpoints.{rcv_nxt, receive_window, segment_length}
+use Rattle.spec_tcp.specs.Heard.{as_read}
 use Rattle.spec_tcp.specs.Machine.{tcp_shape}
+use Rattle.spec_tcp.specs.Same.{same_word}
 use Rattle.spec_tcp.specs.declared.endpoint.Emission.{Emission}
+use Rattle.spec_tcp.specs.declared.endpoint.Endpoint.{Endpoint}
 use Rattle.spec_tcp.specs.declared.endpoint.Listener.{Listener}
-use Rattle.spec_tcp_laws.proofs.Rules.{not_false, on_passes}
-use Rattle.spec_duties.specs.Dropped.{answering_breaks, discards_at, dropping_of, is_challenged, is_unacceptable, meets_closed_window, spared_by, taking_breaks}
+use Rattle.spec_tcp_laws.proofs.Rules.{both_true, less_to, not_false, not_true, on_passes, true_false, zero_from}
+use Rattle.spec_duties.specs.Dropped.{answering_breaks, discards, discards_at, dropping_of, holds_next, is_challenged, is_next, is_unacceptable}
+use Rattle.spec_duties.specs.Dropped.{keeps_order, meets_closed_window, spared_by, taking_breaks}
 use Rattle.spec_duties.specs.Sights.{dropping_sight, sight, taking_sight, unseen}
 use Rattle.spec_duties.specs.Watching.{drops_needed, duty_rules, is_spared}
 use Rattle.spec_duties.specs.declared.sights.Spared.TheVariants as spareds
-use Rattle.kept_duties.specs.Drops.{ByEndpoint, ByListener, DropsAreLawful, MayBeDropped, MayBeSpared, NextIsKept, host_before}
+use Rattle.kept_duties.specs.Drops.{ByListener, DropsAreLawful, HoldsNext, IsChallenged, MayBeDropped, MayBeSpared, MeetsClosedWindow, NextIsKept}
+use Rattle.kept_duties.specs.Drops.{host_before, keeps_next}
+use Rattle.kept_duties.proofs.Soon.{either_true}
 use Rattle.kept_duties.specs.Happens.{act_at, known_before, world_before}
 use Rattle.checker.specs.Seen.{act_of}
 use Rattle.kept_duties.proofs.Runs.{Run, run_goes, world_is}
@@ -37,6 +51,37 @@ answers_not true unacceptable e = inl refl
 answers_not false true e = inr refl
 answers_not false false e = absurd cc
 
+unacceptable_is : (o : Option Rule) → is_unacceptable o ≡ true → o ≡ Some rules.Unacceptable
+unacceptable_is (Some rules.Unacceptable) e = refl
+unacceptable_is o e = absurd cc
+
+keeps_is : (state : State) → keeps_next state ≡ true → keeps_order state ≡ true
+keeps_is states.SynReceived e = refl
+keeps_is states.Established e = refl
+keeps_is states.FinWait1 e = refl
+keeps_is states.FinWait2 e = refl
+keeps_is state e = absurd cc
+
+-- what is next isn't discarded, so something is kept
+kept_of : (choice : TakeChoice) (e : Endpoint) (m : Emission) → HoldsNext e m → discards choice e m ≡ false → choice.keep ≡ true
+kept_of choice e m next fine = by choice.keep refl
+  where
+    room : nat_lt (rcv_nxt e) e.window.rcv_adv ≡ true
+    room = less_to (rcv_nxt e) e.window.rcv_adv next.room
+
+    held : holds_next e m ≡ true
+    held =
+        let low : nat_le m.pos (rcv_nxt e) ≡ true = let le = next.begins in grind (arith, nat_tests, le) in
+        let high = less_to (rcv_nxt e) (m.pos + segment_length m) next.ends in
+        (λ i. low i && high i)
+
+    by : (b : Bool) → choice.keep ≡ b → b ≡ true
+    by true is = refl
+    by false is =
+        let all : discards choice e m ≡ true =
+        λ i. not (is i) && keeps_is e.state next.in_state i && not (next.open_yet i) && not (next.no_reset i) && room i && held i in
+        absurd (true_false all fine)
+
 module _ (t : Trace) (w : Witness) (slack : ℕ) (r : Run t.header slack (length w.steps) (act_at t w) (known_before t w)) where
   spared : (place : ℕ) (host : Host) (m : Emission) → is_spared (known_before t w place).duties host
       (spared_by (host_before t w place host) m (taker (host_before t w place host) m)) ≡ true
@@ -46,6 +91,26 @@ module _ (t : Trace) (w : Witness) (slack : ℕ) (r : Run t.header slack (length
       ends : (c : Bool) → (is_spared (known_before t w place).duties host (if c then spareds.Yes else spareds.No)) ≡ true → c ≡ true
       ends true e = refl
       ends false e = absurd cc
+
+      challenged : (i : ℕ) (f : Endpoint) → taker (host_before t w place host) m ≡ AtEndpoint i f → is_challenged f m ≡ true → MayBeSpared t w place host m
+      challenged i f goes is =
+          let a = both_true (m.flags.rst && not (is_syn_sent f.state)) (not (is_next f m)) is in
+          let b = both_true m.flags.rst (not (is_syn_sent f.state)) a.0 in
+          IsChallenged i f goes (not_true (is_syn_sent f.state) b.1) b.0
+          (λ next. true_false (ap (λ (o : Option Word). option_map_or (λ irs. same_word m.seq (number_of irs (rcv_nxt f))) o false) next.1 ∙ next.2)
+          (not_true (is_next f m) a.1))
+
+      shut : (i : ℕ) (f : Endpoint) → taker (host_before t w place host) m ≡ AtEndpoint i f → meets_closed_window f m ≡ true → MayBeSpared t w place host m
+      shut i f goes is =
+          let a = both_true (not (is_syn_sent f.state) && receive_window f == 0) (nat_lt 0 (segment_length m)) is in
+          let b = both_true (not (is_syn_sent f.state)) (receive_window f == 0) a.0 in
+          let some : 0 < segment_length m = grind (arith, nat_tests, a.1) in
+          MeetsClosedWindow i f goes (not_true (is_syn_sent f.state) b.0) (zero_from (receive_window f) b.1) some
+
+      at_endpoint : (i : ℕ) (f : Endpoint) → taker (host_before t w place host) m ≡ AtEndpoint i f
+          → (is_challenged f m ≡ true) ⊎ (meets_closed_window f m ≡ true) → MayBeSpared t w place host m
+      at_endpoint i f goes (inl is) = challenged i f goes is
+      at_endpoint i f goes (inr is) = shut i f goes is
 
       full : (l : ℕ) → taker (host_before t w place host) m ≡ AtListener l → (o : Option Listener) → slice_get (host_before t w place host).listeners l ≡ o
           → is_spared (known_before t w place).duties host (option_map_or (λ x. spareds.IfFull l x.backlog) o spareds.No) ≡ true → MayBeSpared t w place host m
@@ -57,7 +122,8 @@ module _ (t : Trace) (w : Witness) (slack : ℕ) (r : Run t.header slack (length
           → MayBeSpared t w place host m
       by Nobody goes e = absurd cc
       by (AtListener l) goes e = full l goes (slice_get (host_before t w place host).listeners l) refl e
-      by (AtEndpoint i f) goes e = ByEndpoint i f goes (ends (is_challenged f m || meets_closed_window f m) e)
+      by (AtEndpoint i f) goes e = at_endpoint i f goes (either_true (is_challenged f m) (meets_closed_window f m)
+          (ends (is_challenged f m || meets_closed_window f m) e))
 
   pub drops_lawful : DropsAreLawful t w
   drops_lawful place moment line host is =
@@ -89,9 +155,16 @@ module _ (t : Trace) (w : Witness) (slack : ℕ) (r : Run t.header slack (length
             segment = m;
             waits = waits;
             processing = process both.0;
-            answering = answers_not (is_some answering) (is_unacceptable taking) both.1;
+            answering = answer (answers_not (is_some answering) (is_unacceptable taking) both.1);
           }
         where
+          answer : (is_some (answering_breaks t.header (world_before t w place) host line) ≡ true)
+              ⊎ (is_unacceptable (taking_breaks t.header moment (world_before t w place) host line) ≡ true)
+              → (is_some (answering_breaks t.header (world_before t w place) host line) ≡ true)
+              ⊎ (taking_breaks t.header moment (world_before t w place) host line ≡ Some rules.Unacceptable)
+          answer (inl breaks) = inl breaks
+          answer (inr is) = inr (unacceptable_is (taking_breaks t.header moment (world_before t w place) host line) is)
+
           process : (not (is_some (taking_breaks t.header moment (world_before t w place) host line)) ≡ false)
               ⊎ (is_spared (known_before t w place).duties host (spared_by (host_before t w place host) m (taker (host_before t w place host) m)) ≡ true)
               → (is_some (taking_breaks t.header moment (world_before t w place) host line) ≡ true) ⊎ MayBeSpared t w place host m
@@ -99,7 +172,7 @@ module _ (t : Trace) (w : Witness) (slack : ℕ) (r : Run t.header slack (length
           process (inr full) = inr (spared place host m full)
 
   pub next_kept : NextIsKept t w
-  next_kept place moment line i host choice m e is waits goes_to =
+  next_kept place moment line i host choice m e is waits goes_to next =
       let low = slice_get_within w.steps place _ is.here in
       let goes = run_goes t.header slack (length w.steps) (act_at t w) (known_before t w) r place
       (record { moment = moment; step = At host (Takes line choice) }) low
@@ -109,5 +182,6 @@ module _ (t : Trace) (w : Witness) (slack : ℕ) (r : Run t.header slack (length
       let here : (sight t.header moment (world_before t w place) (At host (Takes line choice))).discards ≡ false =
       subst (λ (v : World tcp_shape). (sight t.header moment v (At host (Takes line choice))).discards ≡ false) (world_is t w place) fine in
       let b = host_before t w place host in
-      sym (ap (λ (o : Option Emission). (on o unseen (λ m. taking_sight t.header host b line choice m (taker b m))).discards) waits
-      ∙ ap (λ (k : Taker). discards_at t.header.version choice m k) goes_to) ∙ here
+      kept_of choice e (as_read t.header.version e m) next
+      (sym (ap (λ (o : Option Emission). (on o unseen (λ m. taking_sight t.header host b line choice m (taker b m))).discards) waits
+      ∙ ap (λ (k : Taker). discards_at t.header.version choice m k) goes_to) ∙ here)

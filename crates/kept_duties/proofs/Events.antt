@@ -68,7 +68,7 @@ events_by_steps t w place moment me event a =
 -- ---- the other way round
 
 -- an endpoint that is there is touched
-place_touched : (v : World tcp_shape) (host : Host) (event : Event) (i : ℕ) (e : Endpoint) → slice_get (pick v.hosts host).body.endpoints i ≡ Some e
+pub place_touched : (v : World tcp_shape) (host : Host) (event : Event) (i : ℕ) (e : Endpoint) → slice_get (pick v.hosts host).body.endpoints i ≡ Some e
     → at_place host (pick v.hosts host).body event i ≡ Some (touched v (record { host = host; number = i }) event)
 place_touched v host event i e is =
     ap (option_map (λ (e : Endpoint). record { host = host; place = i; event = event; before = view_of e })) is

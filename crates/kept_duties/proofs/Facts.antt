@@ -1,5 +1,5 @@
 -- What the definitions say of a few steps.
-use Rattle.std.proofs.Common.{◌≡◌, ℕ, true, false, [], ◌∷◌, None, Some, refl, arith}
+use Rattle.std.proofs.Common.{◌≡◌, ℕ, inl, inr, true, false, [], ◌∷◌, None, Some, refl, arith}
 use Rattle.std.specs.Prelude.{◌==◌}
 use Rattle.case_forms.specs.declared.calls.Host.TheVariants.{Zero, One}
 use Rattle.case_forms.specs.declared.named_line.Extras.TheVariants as extras
@@ -10,6 +10,7 @@ use Rattle.case_forms.specs.declared.steps.SegmentPlan.{SegmentPlan}
 use Rattle.case_forms.specs.declared.steps.Step.{Step}
 use Rattle.case_forms.specs.declared.steps.TakeChoice.{TakeChoice}
 use Rattle.case_forms.specs.declared.steps.Witness.{Witness}
+use Rattle.case_forms.specs.declared.timer.Timer.TheVariants.{Persist}
 use Rattle.case_forms.specs.declared.trace.Event.TheVariants as events
 use Rattle.case_forms.specs.declared.trace.Trace.{Trace}
 use Rattle.case_forms.specs.declared.trace.Wire.{Wire}
@@ -24,8 +25,10 @@ use Rattle.spec_duties.specs.declared.views.View.{View}
 use Rattle.checker.specs.Again.{nowhere}
 use Rattle.kept_duties.specs.Counts.{builds_mere, count_before, event_for, sent_by}
 use Rattle.kept_duties.specs.Places.{ArrivesAt, IsProcessed, SendsAt, built_before}
+use Rattle.kept_duties.specs.Resets.{SendsReset, awaits_reset}
 use Rattle.kept_duties.specs.Segments.{EndsBy, IsBuiltBefore, LeavesBy}
-use Rattle.kept_duties.specs.Soon.{Answers, SendsOldest}
+use Rattle.kept_duties.specs.Soon.{Answers, IsIdle, SendsOldest}
+use Rattle.kept_duties.specs.Timing.{probe_time, probes_after, runs_on, runs_since}
 
 -- an empty acknowledgment, and three bytes
 abbrev ack : SegmentPlan
@@ -175,10 +178,76 @@ ack_answers : Answers (happening.Sends (record { flags = ack.flags; pos = 4; len
 ack_answers = refl
 
 first_position_again : SendsOldest (happening.Sends (record { flags = ack.flags; pos = 1; length = 1 })) sent_four sent_four
-first_position_again = refl
+first_position_again = inl (omega arith, omega arith)
 
 later_position_is_not : SendsOldest (happening.Sends (record { flags = ack.flags; pos = 2; length = 1 })) sent_four sent_four → ⊥
-later_position_is_not e = cc e
+later_position_is_not (inl held) = omega (arith, held.0)
+later_position_is_not (inr (inl shut)) = cc shut
+later_position_is_not (inr (inr more)) = omega (arith, more)
 
 acknowledged_instead : SendsOldest happening.Recovers sent_four (record sent_four { snd_una = 2 })
-acknowledged_instead = refl
+acknowledged_instead = omega arith
+
+reset_is_sent : SendsReset (happening.Sends (record { flags = record ack.flags { rst = true }; pos = 4; length = 0 })) sent_four sent_four
+reset_is_sent = refl
+
+-- an endpoint with three bytes to send and nothing outstanding
+abbrev idle : View
+idle = record unborn { snd_una = 1; snd_max = 1; snd_wnd = 9000; end = 4; rcv_nxt = 1 }
+
+waits_with_bytes : IsIdle idle
+waits_with_bytes = record {
+  open_yet = refl;
+  acknowledged = refl;
+  waits = inl (omega arith);
+  may_begin = inr (omega arith, omega arith);
+  window = inl (omega arith);
+}
+
+nothing_outstanding : IsIdle (record idle { snd_max = 2 }) → ⊥
+nothing_outstanding i = omega (arith, i.acknowledged)
+
+-- a child of listener 3 that has to be reset
+abbrev child_of_three : View
+child_of_three = record unborn { resets = true; listener = Some 3 }
+
+child_awaits_reset : awaits_reset 3 child_of_three ≡ true
+child_awaits_reset = refl
+
+not_of_another_listener : awaits_reset 4 child_of_three ≡ false
+not_of_another_listener = refl
+
+-- a timer that runs since 5
+abbrev armed_at_five : View
+armed_at_five = record sent_four { timers = record sent_four.timers { rto_armed = Some 5 } }
+
+runs_since_five : runs_since 5 armed_at_five ≡ true
+runs_since_five = refl
+
+not_since_six : runs_since 6 armed_at_five ≡ false
+not_since_six = refl
+
+not_into_a_closed_window : runs_since 5 (record armed_at_five { snd_wnd = 0 }) ≡ false
+not_into_a_closed_window = refl
+
+runs_on_as_it_did : runs_on 5 armed_at_five armed_at_five ≡ true
+runs_on_as_it_did = refl
+
+not_with_another_time : runs_on 5 armed_at_five (record armed_at_five { timers = record armed_at_five.timers { srtt = Some 100 } }) ≡ false
+not_with_another_time = refl
+
+-- a window that is closed with six bytes left
+abbrev shut : View
+shut = record sent_four { snd_wnd = 0; end = 10; rcv_nxt = 1 }
+
+shut_at_seventy : probes_after happening.Recovers sent_four shut 70 None ≡ Some (record { since = 70; count = 0 })
+shut_at_seventy = refl
+
+probed_at_ninety : probes_after (happening.Expires Persist) shut shut 90 (Some (record { since = 70; count = 0 })) ≡ Some (record { since = 90; count = 1 })
+probed_at_ninety = refl
+
+opened_again : probes_after happening.Recovers shut sent_four 95 (Some (record { since = 90; count = 1 })) ≡ None
+opened_again = refl
+
+after_two_probes : probe_time shut 2 ≡ 4000000
+after_two_probes = refl

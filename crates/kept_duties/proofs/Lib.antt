@@ -12,3 +12,7 @@ pub mod Counts
 pub mod Events
 pub mod Facts
 pub mod Drops
+pub mod Asking
+pub mod Timing
+pub mod Resets
+pub mod Children

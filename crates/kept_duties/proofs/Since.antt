@@ -1,4 +1,4 @@
--- What an endpoint owes since a moment is done in time, or it is CLOSED, or the witness ends.
+-- What an endpoint owes is done in time, or it comes into a state that ends this, or the witness ends.
 use Rattle.std.proofs.Common.{◌≡◌, ℕ, zero, suc, ◌+◌, ◌<◌, ◌≤◌, ◌⊎◌, inl, inr, Bool, true, false, List, [], ◌∷◌, length, Option, Some, None, refl, ap, sym}
 use Rattle.std.proofs.Common.{subst, ◌∙◌, arith}
 use Rattle.std.proofs.Math.Nat.{eq-or-lt_of_le, zero-add}
@@ -35,14 +35,23 @@ use Rattle.spec_duties.specs.declared.events.Event.{Event}
 use Rattle.spec_duties.specs.declared.owed.Lates.{Lates}
 use Rattle.spec_duties.specs.declared.owed.Owed.{Owed}
 use Rattle.spec_duties.specs.declared.views.View.{View}
-use Rattle.kept_duties.specs.Happens.{act_at, known_before, seen_before}
+use Rattle.kept_duties.specs.Happens.{Happens, act_at, known_before, seen_before}
 use Rattle.checker.specs.Seen.{move_of, moves}
-use Rattle.kept_duties.specs.Soon.{ClosesBy, HappensBy, IsDoneBy}
+use Rattle.kept_duties.specs.Soon.{BecomesBy, HappensBy, IsDoneUnless}
 use Rattle.kept_duties.proofs.Labels.{builder_is}
-use Rattle.kept_duties.proofs.Repeats.{happens_from, happens_to, owes_of}
+use Rattle.kept_duties.proofs.Repeats.{goes_of, happens_from, happens_to, owes_of}
 use Rattle.kept_duties.proofs.Runs.{Goes, Run, run_keeps, world_is}
-use Rattle.kept_duties.proofs.Segments.{step_of_act}
-use Rattle.kept_duties.proofs.Touched.{Owes, Touches, seen, touched, touches_or_not}
+use Rattle.kept_duties.proofs.Segments.{step_of_act, within}
+use Rattle.kept_duties.proofs.Touched.{Owes, Touches, seen, there_after, touched, touches_or_not}
+
+-- what an endpoint is to do: while what it owes is like this, and its state isn't one that ends it, it isn't late by this moment
+pub record Wait (Inv : Owed → Type 0) (Kind : Event → (before after : View) → Type 0) (Is : View → Bool) (sel : Lates → Bool) (slack by : ℕ) : Type 0 where
+  pub onward : (event : Event) (before after : View) (moment : ℕ) (listener : Option ℕ) (counts : Bool) (o : Owed) → Is before ≡ false → Inv o
+      → Kind event before after ⊎ (Is after ≡ true) ⊎ Inv (owed_after event before after moment listener counts o)
+  pub rules : (l : Lates) → AllByRecursion (λ r. r.1 ≡ false) (late_rules l) → sel l ≡ false
+  pub either : (a b : Lates) → sel (either a b) ≡ (sel a || sel b)
+  pub fine : (moment : ℕ) (v : View) (listener : Option ℕ) (o : Owed) → sel (lates_of slack moment v listener o) ≡ false → Is v ≡ false → Inv o
+      → moment ≤ by
 
 -- a duty that an endpoint has since a moment: `get`. It has this much time, and this kind of event ends it, or CLOSED
 pub record Duty (get : Owed → Option ℕ) (extra : ℕ) (Kind : Event → (before after : View) → Type 0) (sel : Lates → Bool) : Type 0 where
@@ -55,6 +64,16 @@ pub record Duty (get : Owed → Option ℕ) (extra : ℕ) (Kind : Event → (bef
   pub either : (a b : Lates) → sel (either a b) ≡ (sel a || sel b)
   pub fine : (slack moment : ℕ) (v : View) (listener : Option ℕ) (o : Owed) (since : ℕ) → sel (lates_of slack moment v listener o) ≡ false
       → is_closed v.state ≡ false → get o ≡ Some since → moment ≤ since + extra + slack
+
+-- such a duty is something to do
+pub wait_of : {get : Owed → Option ℕ} {extra : ℕ} {Kind : Event → (before after : View) → Type 0} {sel : Lates → Bool} → Duty get extra Kind sel
+    → (slack since by : ℕ) → since + extra + slack ≤ by → Wait (λ o. get o ≡ Some since) Kind (λ v. is_closed v.state) sel slack by
+wait_of duty slack since by low = record {
+  onward = λ event before after moment listener counts o open' is. duty.onward event before after moment listener counts o since is;
+  rules = duty.rules;
+  either = duty.either;
+  fine = λ moment v listener o none open' is. let at = duty.fine slack moment v listener o since none open' is in omega (arith, at, low);
+}
 
 -- the comparison at the end looks at each endpoint
 module _ (sel : Lates → Bool) (joins : (a b : Lates) → sel (either a b) ≡ (sel a || sel b)) (slack moment : ℕ) (d : Duties) where
@@ -90,7 +109,7 @@ module _ (sel : Lates → Bool) (joins : (a b : Lates) → sel (either a b) ≡ 
           let first = sel_from Zero 0 (none_late false) w.hosts.zero.body.endpoints all.0 in
           subst (λ (n : ℕ). sel (lates_at slack moment d Zero n e) ≡ false) (zero-add me.number) (first.1 me.number e is)
 
-nothing_first : (h : Header) (host : Host) (n : ℕ) → owed_by (first_known h).duties host n ≡ owed.nothing
+pub nothing_first : (h : Header) (host : Host) (n : ℕ) → owed_by (first_known h).duties host n ≡ owed.nothing
 nothing_first h Zero n = refl
 nothing_first h One n = refl
 
@@ -106,6 +125,33 @@ moments_rise t w placed i j x y a b less =
     let second = (builder_is t.header t.lines u.0 y u.2).1 in
     subst (λ (m : ℕ). m ≤ y.moment) first (subst (λ (m : ℕ). s.0.moment ≤ m) second le)
 
+module _ (t : Trace) (w : Witness) where
+  -- something began at the moment of an act
+  pub record Began (to since : ℕ) : Type 0 where
+    pub place : ℕ
+    pub act : Stamped tcp_shape
+    pub low : place < to
+    pub is : act_at t w place ≡ Some act
+    pub time : act.moment ≡ since
+
+  abbrev pub began_before : (j since : ℕ) → Began j since → Began (suc j) since
+  began_before j since b = record { place = b.place; act = b.act; low = (let low = b.low in omega arith); is = b.is; time = b.time }
+
+  abbrev pub began_now : (j : ℕ) (x : Stamped tcp_shape) → act_at t w j ≡ Some x → (since : ℕ) → since ≡ x.moment → Began (suc j) since
+  began_now j x is since same = record { place = j; act = x; low = omega arith; is = is; time = sym same }
+
+  -- so not after an act that is the last one
+  pub began_low : Placed t.header t.lines (moves w.steps) → (i : ℕ) (x : Stamped tcp_shape) → act_at t w i ≡ Some x → (since : ℕ) → Began (suc i) since
+      → since ≤ x.moment
+  began_low placed i x is since b = let behind = b.low in by b (eq-or-lt_of_le (let le : b.place ≤ i = omega arith in le))
+    where
+      by : (b : Began (suc i) since) → (b.place ≡ i) ⊎ (b.place < i) → since ≤ x.moment
+      by b (inl here) =
+          let one : b.act ≡ x = same_Some b.act x (sym b.is ∙ ap (act_at t w) here ∙ is) in
+          let same : since ≡ x.moment = sym b.time ∙ ap (λ (y : Stamped tcp_shape). y.moment) one in
+          omega (arith, same)
+      by b (inr less) = subst (λ (m : ℕ). m ≤ x.moment) b.time (moments_rise t w placed b.place i b.act x b.is is less)
+
 module _ (t : Trace) (w : Witness) (slack : ℕ) (r : Run t.header slack (length w.steps) (act_at t w) (known_before t w))
     (placed : Placed t.header t.lines (moves w.steps)) where
   pub steady_at : (to : ℕ) → to ≤ length w.steps → Steady (known_before t w to).model.hosts
@@ -115,180 +161,166 @@ module _ (t : Trace) (w : Witness) (slack : ℕ) (r : Run t.header slack (length
       (λ j x low less is goes s. subst (λ (v : World tcp_shape). Steady v.hosts) (sym goes.model)
       (steady_step t.header x.moment (known_before t w j).model x.step s goes.permitted))
 
+  -- ---- a duty began at the moment of an act
+
   module _ (me : EndpointId) (get : Owed → Option ℕ) (extra : ℕ) (Kind : Event → (before after : View) → Type 0) (sel : Lates → Bool)
       (duty : Duty get extra Kind sel) where
-    abbrev pub since_at : Known → Option ℕ
+    abbrev since_at : Known → Option ℕ
     since_at k = get (owed_by k.duties me.host me.number)
 
-    -- it is owed since the moment of an act
-    record Began (to since : ℕ) : Type 0 where
-      place : ℕ
-      act : Stamped tcp_shape
-      low : place < to
-      is : act_at t w place ≡ Some act
-      time : act.moment ≡ since
-
-    abbrev began_before : (j since : ℕ) → Began j since → Began (suc j) since
-    began_before j since b = record { place = b.place; act = b.act; low = (let low = b.low in omega arith); is = b.is; time = b.time }
-
-    began_at : (to : ℕ) → to ≤ length w.steps → (since : ℕ) → since_at (known_before t w to) ≡ Some since → Began to since
+    began_at : (to : ℕ) → to ≤ length w.steps → (since : ℕ) → since_at (known_before t w to) ≡ Some since → Began t w to since
     began_at to high =
-        run_keeps t.header slack (length w.steps) (act_at t w) (known_before t w) r (λ j k. (since : ℕ) → since_at k ≡ Some since → Began j since)
-        (λ j k all since is. began_before j since (all since is)) 0 to (omega arith) high
+        run_keeps t.header slack (length w.steps) (act_at t w) (known_before t w) r (λ j k. (since : ℕ) → since_at k ≡ Some since → Began t w j since)
+        (λ j k all since is. began_before t w j since (all since is)) 0 to (omega arith) high
         (λ since is. absurd (none-some since (sym (ap since_at r.start ∙ ap get (nothing_first t.header me.host me.number) ∙ duty.nothing) ∙ is)))
         (λ j x low less is goes all since now. next j x is goes all since now
         (touches_or_not t.header slack (known_before t w j) (known_before t w (suc j)) x me goes))
       where
         next : (j : ℕ) (x : Stamped tcp_shape) → act_at t w j ≡ Some x → Goes t.header slack (known_before t w j) (known_before t w (suc j)) x
-            → ((since : ℕ) → since_at (known_before t w j) ≡ Some since → Began j since) → (since : ℕ) → since_at (known_before t w (suc j)) ≡ Some since
+            → ((since : ℕ) → since_at (known_before t w j) ≡ Some since → Began t w j since) → (since : ℕ)
+            → since_at (known_before t w (suc j)) ≡ Some since
             → Touches t.header (known_before t w j) x me
             ⊎ ((owed_by (known_before t w (suc j)).duties me.host me.number ≡ owed_by (known_before t w j).duties me.host me.number)
             × ((event : Event) → (sight t.header x.moment (known_before t w j).model x.step).touched ≡ Some (touched (known_before t w j).model me event) → ⊥))
-            → Began (suc j) since
-        next j x is goes all since now (inr same) = began_before j since (all since (sym (ap get same.0) ∙ now))
+            → Began t w (suc j) since
+        next j x is goes all since now (inr same) = began_before t w j since (all since (sym (ap get same.0) ∙ now))
         next j x is goes all since now (inl at) =
             let owes = owes_of t w slack r j x me at.event is at.shows in
             by (duty.back at.event (seen (known_before t w j).model me) (seen (known_before t w (suc j)).model me) x.moment owes.listener owes.counts
             (owed_by (known_before t w j).duties me.host me.number) since (sym (ap get owes.after) ∙ now))
           where
-            by : (since ≡ x.moment) ⊎ (since_at (known_before t w j) ≡ Some since) → Began (suc j) since
-            by (inl here) = record { place = j; act = x; low = omega arith; is = is; time = sym here }
-            by (inr old) = began_before j since (all since old)
+            by : (since ≡ x.moment) ⊎ (since_at (known_before t w j) ≡ Some since) → Began t w (suc j) since
+            by (inl here) = began_now t w j x is since here
+            by (inr old) = began_before t w j since (all since old)
 
-    module _ (i : ℕ) (x : Stamped tcp_shape) (is : act_at t w i ≡ Some x) (low : i < length w.steps) where
-      abbrev pub by_then : ℕ
-      by_then = x.moment + extra + slack
+    pub not_after : (i : ℕ) (x : Stamped tcp_shape) → act_at t w i ≡ Some x → (since : ℕ) → since_at (known_before t w (suc i)) ≡ Some since
+        → since ≤ x.moment
+    not_after i x is since now =
+        began_low t w placed i x is since (began_at (suc i) (let low = within t w i x is in omega (arith, low)) since now)
 
-      pub not_after : (since : ℕ) → since_at (known_before t w (suc i)) ≡ Some since → since ≤ x.moment
-      not_after since now =
-          let b = began_at (suc i) (omega (arith, low)) since now in
-          let behind = b.low in
-          by b (eq-or-lt_of_le (let le : b.place ≤ i = omega arith in le))
-        where
-          by : (b : Began (suc i) since) → (b.place ≡ i) ⊎ (b.place < i) → since ≤ x.moment
-          by b (inl here) =
-              let one : b.act ≡ x = same_Some b.act x (sym b.is ∙ ap (act_at t w) here ∙ is) in
-              let same : since ≡ x.moment = sym b.time ∙ ap (λ (y : Stamped tcp_shape). y.moment) one in
-              omega (arith, same)
-          by b (inr less) = subst (λ (m : ℕ). m ≤ x.moment) b.time (moments_rise t w placed b.place i b.act x b.is is less)
+  -- ---- from a step on
 
-      -- what is still owed, by an endpoint that isn't CLOSED
-      pub record Still (since : ℕ) (k : Known) : Type 0 where
-        pub owes : since_at k ≡ Some since
-        pub open' : is_closed (seen k.model me).state ≡ false
-        pub there : (e : Endpoint) × (find k.model.hosts me ≡ Some e)
+  -- the endpoint comes into such a state by an act that is in time, if it is one of the endpoint
+  pub becomes : (me : EndpointId) (Is : View → Bool) (i by : ℕ) (j : ℕ) (y : Stamped tcp_shape) → i ≤ j
+      → (i < j → Is (seen (known_before t w j).model me) ≡ false) → act_at t w j ≡ Some y
+      → Is (seen (known_before t w (suc j)).model me) ≡ true
+      → ((event : Event) → (sight t.header y.moment (known_before t w j).model y.step).touched ≡ Some (touched (known_before t w j).model me event)
+      → y.moment ≤ by)
+      → BecomesBy t w i by me Is
+  becomes me Is i by j y behind before at after soon = record {
+    later = j;
+    behind = behind;
+    before = λ less. ap (λ (v : World tcp_shape). Is (seen v me)) (sym (world_is t w j)) ∙ before less;
+    after = ap (λ (v : World tcp_shape). Is (seen v me)) (sym (world_is t w (suc j))) ∙ after;
+    soon = λ moment event a.
+        let one : a.act ≡ y = same_Some a.act y (sym a.is ∙ at) in
+        let time : y.moment ≡ moment = sym (ap (λ (z : Stamped tcp_shape). z.moment) one) ∙ a.time in
+        subst (λ (m : ℕ). m ≤ by) time (soon event
+        (subst (λ (z : Stamped tcp_shape). (sight t.header z.moment (known_before t w j).model z.step).touched
+        ≡ Some (touched (known_before t w j).model me event))
+        one (happens_to t w j moment me event a)));
+  }
 
-      abbrev pub Goes_on : (since : ℕ) → Known → Type 0
-      Goes_on since k = HappensBy t w i by_then me Kind ⊎ ClosesBy t w i by_then me ⊎ Still since k
+  module _ (me : EndpointId) (Inv : Owed → Type 0) (Kind : Event → (before after : View) → Type 0) (Is : View → Bool) (sel : Lates → Bool) (i by_then : ℕ)
+      (wait : Wait Inv Kind Is sel slack by_then) where
+    -- what is still to be done
+    record Still (k : Known) : Type 0 where
+      owes : Inv (owed_by k.duties me.host me.number)
+      open' : Is (seen k.model me) ≡ false
+      there : (e : Endpoint) × (find k.model.hosts me ≡ Some e)
 
-      -- the endpoint is CLOSED after an act that is in time, if it is one of the endpoint
-      pub closes : (j : ℕ) (y : Stamped tcp_shape) → i ≤ j → (i < j → is_closed (seen (known_before t w j).model me).state ≡ false) → act_at t w j ≡ Some y
-          → is_closed (seen (known_before t w (suc j)).model me).state ≡ true
-          → ((event : Event) → (sight t.header y.moment (known_before t w j).model y.step).touched ≡ Some (touched (known_before t w j).model me event)
-          → y.moment ≤ by_then)
-          → ClosesBy t w i by_then me
-      closes j y behind opened at closed soon = record {
-        later = j;
-        behind = behind;
-        open_before = λ less. ap (λ (v : World tcp_shape). is_closed (seen v me).state) (sym (world_is t w j)) ∙ opened less;
-        closed_after = ap (λ (v : World tcp_shape). is_closed (seen v me).state) (sym (world_is t w (suc j))) ∙ closed;
-        soon = λ moment event a.
-            let one : a.act ≡ y = same_Some a.act y (sym a.is ∙ at) in
-            let time : y.moment ≡ moment = sym (ap (λ (z : Stamped tcp_shape). z.moment) one) ∙ a.time in
-            subst (λ (m : ℕ). m ≤ by_then) time (soon event
-            (subst (λ (z : Stamped tcp_shape). (sight t.header z.moment (known_before t w j).model z.step).touched
-            ≡ Some (touched (known_before t w j).model me event))
-            one (happens_to t w j moment me event a)));
-      }
+    abbrev Goes_on : Known → Type 0
+    Goes_on k = HappensBy t w i by_then me Kind ⊎ BecomesBy t w i by_then me Is ⊎ Still k
 
-      module _ (since : ℕ) (old : since ≤ x.moment) where
-        next : (j : ℕ) (y : Stamped tcp_shape) → suc i ≤ j → j < length w.steps → act_at t w j ≡ Some y
-            → Goes t.header slack (known_before t w j) (known_before t w (suc j)) y → Goes_on since (known_before t w j)
-            → Goes_on since (known_before t w (suc j))
-        next j y behind less at goes (inl done) = inl done
-        next j y behind less at goes (inr (inl closed)) = inr (inl closed)
-        next j y behind less at goes (inr (inr still)) =
-            by_step (touches_or_not t.header slack (known_before t w j) (known_before t w (suc j)) y me goes)
+    next : (j : ℕ) (y : Stamped tcp_shape) → suc i ≤ j → j < length w.steps → act_at t w j ≡ Some y
+        → Goes t.header slack (known_before t w j) (known_before t w (suc j)) y → Goes_on (known_before t w j)
+        → Goes_on (known_before t w (suc j))
+    next j y behind less at goes (inl done) = inl done
+    next j y behind less at goes (inr (inl closed)) = inr (inl closed)
+    next j y behind less at goes (inr (inr still)) =
+        by_step (touches_or_not t.header slack (known_before t w j) (known_before t w (suc j)) y me goes)
+      where
+        there : (e : Endpoint) × (find (known_before t w (suc j)).model.hosts me ≡ Some e)
+        there =
+            let f = later_step t.header y.moment (known_before t w j).model y.step
+            (steady_at j (omega (arith, less))) goes.permitted me still.there.0 still.there.1 in
+            (f.0, ap (λ (v : World tcp_shape). find v.hosts me) goes.model ∙ f.1)
+
+        stays : Inv (owed_by (known_before t w (suc j)).duties me.host me.number)
+            → ((event : Event) → (sight t.header y.moment (known_before t w j).model y.step).touched ≡ Some (touched (known_before t w j).model me event)
+            → y.moment ≤ by_then)
+            → Goes_on (known_before t w (suc j))
+        stays now soon = test (Is (seen (known_before t w (suc j)).model me)) refl
           where
-            k : Known
-            k = known_before t w j
+            test : (c : Bool) → Is (seen (known_before t w (suc j)).model me) ≡ c → Goes_on (known_before t w (suc j))
+            test true closed = inr (inl (becomes me Is i by_then j y (omega (arith, behind)) (λ less. still.open') at closed soon))
+            test false open' = inr (inr (record { owes = now; open' = open'; there = there }))
 
-            there : (e : Endpoint) × (find (known_before t w (suc j)).model.hosts me ≡ Some e)
-            there =
-                let f = later_step t.header y.moment (known_before t w j).model y.step
-                (steady_at j (omega (arith, less))) goes.permitted me still.there.0 still.there.1 in
-                (f.0, ap (λ (v : World tcp_shape). find v.hosts me) goes.model ∙ f.1)
-
-            stays : since_at (known_before t w (suc j)) ≡ Some since
-                → ((event : Event) → (sight t.header y.moment (known_before t w j).model y.step).touched ≡ Some (touched (known_before t w j).model me event)
-                → y.moment ≤ by_then)
-                → Goes_on since (known_before t w (suc j))
-            stays now soon = test (is_closed (seen (known_before t w (suc j)).model me).state) refl
-              where
-                test : (c : Bool) → is_closed (seen (known_before t w (suc j)).model me).state ≡ c → Goes_on since (known_before t w (suc j))
-                test true closed = inr (inl (closes j y (omega (arith, behind)) (λ less. still.open') at closed soon))
-                test false open' = inr (inr (record { owes = now; open' = open'; there = there }))
-
-            by_step : Touches t.header (known_before t w j) y me
-                ⊎ ((owed_by (known_before t w (suc j)).duties me.host me.number ≡ owed_by (known_before t w j).duties me.host me.number)
-                × ((event : Event) → (sight t.header y.moment (known_before t w j).model y.step).touched ≡ Some (touched (known_before t w j).model me event)
-                → ⊥))
-                → Goes_on since (known_before t w (suc j))
-            by_step (inr same) = stays (ap get same.0 ∙ still.owes) (λ event shows. absurd (same.1 event shows))
-            by_step (inl touch) = ends (duty.onward touch.event before after' y.moment owes.listener owes.counts
-                (owed_by (known_before t w j).duties me.host me.number) since still.owes)
-              where
-                before : View
-                before = seen (known_before t w j).model me
-
-                after' : View
-                after' = seen (known_before t w (suc j)).model me
-
-                owes : Owes t.header slack (known_before t w j) (known_before t w (suc j)) y me touch.event
-                owes = owes_of t w slack r j y me touch.event at touch.shows
-
-                soon : y.moment ≤ by_then
-                soon =
-                    let le = duty.fine slack y.moment before owes.listener (owed_by (known_before t w j).duties me.host me.number) since
-                    (duty.rules _ owes.lates) still.open' still.owes in
-                    omega (arith, le, old)
-
-                ends : Kind touch.event before after' ⊎ (is_closed after'.state ≡ true)
-                    ⊎ (get (owed_after touch.event before after' y.moment owes.listener owes.counts (owed_by (known_before t w j).duties me.host me.number))
-                    ≡ Some since)
-                    → Goes_on since (known_before t w (suc j))
-                ends (inl kind) = inl (record {
-                  later = j;
-                  moment = y.moment;
-                  event = touch.event;
-                  behind = omega (arith, behind);
-                  happens = happens_from t w j y me touch.event at touch.shows;
-                  kind =
-                      subst (λ (v : World tcp_shape). Kind touch.event (seen_before t w j me) (seen v me)) (world_is t w (suc j))
-                      (subst (λ (v : World tcp_shape). Kind touch.event (seen v me) after') (world_is t w j) kind);
-                  soon = soon;
-                })
-                ends (inr (inl closed)) = inr (inl (closes j y (omega (arith, behind)) (λ less. still.open') at closed (λ event shows. soon)))
-                ends (inr (inr on)) = stays (ap get owes.after ∙ on) (λ event shows. soon)
-
-        -- from the act on to the end
-        pub done_by : (late : first_broken (end_rules slack (last_moment (moves w.steps)) (known_before t w (length w.steps)).duties
-            (known_before t w (length w.steps)).model) ≡ None) → Goes_on since (known_before t w (suc i)) → IsDoneBy t w i by_then me Kind
-        done_by late begins =
-            at_end (run_keeps t.header slack (length w.steps) (act_at t w) (known_before t w) r (λ j k. Goes_on since k) (λ j k p. p) (suc i) (length w.steps)
-            (omega (arith, low)) (omega arith) begins next)
+        by_step : Touches t.header (known_before t w j) y me
+            ⊎ ((owed_by (known_before t w (suc j)).duties me.host me.number ≡ owed_by (known_before t w j).duties me.host me.number)
+            × ((event : Event) → (sight t.header y.moment (known_before t w j).model y.step).touched ≡ Some (touched (known_before t w j).model me event)
+            → ⊥))
+            → Goes_on (known_before t w (suc j))
+        by_step (inr same) = stays (subst Inv (sym same.0) still.owes) (λ event shows. absurd (same.1 event shows))
+        by_step (inl touch) = ends (wait.onward touch.event before after' y.moment owes.listener owes.counts
+            (owed_by (known_before t w j).duties me.host me.number) still.open' still.owes)
           where
-            at_end : Goes_on since (known_before t w (length w.steps)) → IsDoneBy t w i by_then me Kind
-            at_end (inl done) = inl done
-            at_end (inr (inl closed)) = inr (inl closed)
-            at_end (inr (inr still)) =
-                let last = last_moment (moves w.steps) in
-                let k = known_before t w (length w.steps) in
-                let e = still.there in
-                let none = duty.rules _ (none_all (end_rules slack last k.duties k.model) late).1 in
-                let here = sel_all sel duty.either slack last k.duties k.model none me e.0 e.1 in
-                let open' : is_closed (view_of e.0).state ≡ false =
-                sym (ap (λ (o : Option Endpoint). is_closed (option_map_or view_of o unborn).state) e.1) ∙ still.open' in
-                let le = duty.fine slack last (view_of e.0) (listener_closed k.duties me.host (view_of e.0))
-                (owed_by k.duties me.host me.number) since here open' still.owes in
-                inr (inr (omega (arith, le, old)))
+            before : View
+            before = seen (known_before t w j).model me
+
+            after' : View
+            after' = seen (known_before t w (suc j)).model me
+
+            owes : Owes t.header slack (known_before t w j) (known_before t w (suc j)) y me touch.event
+            owes = owes_of t w slack r j y me touch.event at touch.shows
+
+            soon : y.moment ≤ by_then
+            soon = wait.fine y.moment before owes.listener (owed_by (known_before t w j).duties me.host me.number) (wait.rules _ owes.lates) still.open'
+                still.owes
+
+            ends : Kind touch.event before after' ⊎ (Is after' ≡ true)
+                ⊎ Inv (owed_after touch.event before after' y.moment owes.listener owes.counts (owed_by (known_before t w j).duties me.host me.number))
+                → Goes_on (known_before t w (suc j))
+            ends (inl kind) = inl (record {
+              later = j;
+              moment = y.moment;
+              event = touch.event;
+              behind = omega (arith, behind);
+              happens = happens_from t w j y me touch.event at touch.shows;
+              kind =
+                  subst (λ (v : World tcp_shape). Kind touch.event (seen_before t w j me) (seen v me)) (world_is t w (suc j))
+                  (subst (λ (v : World tcp_shape). Kind touch.event (seen v me) after') (world_is t w j) kind);
+              soon = soon;
+            })
+            ends (inr (inl closed)) = inr (inl (becomes me Is i by_then j y (omega (arith, behind)) (λ less. still.open') at closed (λ event shows. soon)))
+            ends (inr (inr on)) = stays (subst Inv (sym owes.after) on) (λ event shows. soon)
+
+    -- from a step at the endpoint on to the end
+    pub from_step : (late : first_broken (end_rules slack (last_moment (moves w.steps)) (known_before t w (length w.steps)).duties
+        (known_before t w (length w.steps)).model) ≡ None) → (moment : ℕ) (event : Event) → Happens t w i moment me event
+        → Is (seen (known_before t w (suc i)).model me) ≡ false → Inv (owed_by (known_before t w (suc i)).duties me.host me.number)
+        → IsDoneUnless t w i by_then me Kind Is
+    from_step late moment event a open' owes =
+        at_end (run_keeps t.header slack (length w.steps) (act_at t w) (known_before t w) r (λ j k. Goes_on k) (λ j k p. p) (suc i) (length w.steps)
+        (let low = within t w i a.act a.is in omega (arith, low)) (omega arith) (inr (inr (record { owes = owes; open' = open'; there = there }))) next)
+      where
+        there : (e : Endpoint) × (find (known_before t w (suc i)).model.hosts me ≡ Some e)
+        there =
+            let low = within t w i a.act a.is in
+            let goes = goes_of t w slack r i a.act a.is in
+            let e = there_after t.header a.act.moment (known_before t w i).model a.act.step me event (steady_at i (omega (arith, low))) goes.permitted
+            (happens_to t w i moment me event a) in
+            (e.0, ap (λ (v : World tcp_shape). find v.hosts me) goes.model ∙ e.1)
+
+        at_end : Goes_on (known_before t w (length w.steps)) → IsDoneUnless t w i by_then me Kind Is
+        at_end (inl done) = inl done
+        at_end (inr (inl closed)) = inr (inl closed)
+        at_end (inr (inr still)) =
+            let last = last_moment (moves w.steps) in
+            let k = known_before t w (length w.steps) in
+            let e = still.there in
+            let none = wait.rules _ (none_all (end_rules slack last k.duties k.model) late).1 in
+            let here = sel_all sel wait.either slack last k.duties k.model none me e.0 e.1 in
+            let open' : Is (view_of e.0) ≡ false =
+            sym (ap (λ (o : Option Endpoint). Is (option_map_or view_of o unborn)) e.1) ∙ still.open' in
+            inr (inr (wait.fine last (view_of e.0) (listener_closed k.duties me.host (view_of e.0)) (owed_by k.duties me.host me.number) here open' still.owes))

@@ -331,6 +331,7 @@ pub record Owes (h : Header) (slack : ℕ) (k next : Known) (x : Stamped tcp_sha
   pub counts : Bool
   pub listener : Option ℕ
   pub counted : counts ≡ counts_now (built_by k.duties (sight h x.moment k.model x.step).post)
+  pub listens : listener ≡ listener_closed k.duties me.host (seen k.model me)
   pub lates : AllByRecursion (λ r. r.1 ≡ false) (late_rules (lates_of slack x.moment (seen k.model me) listener (owed_by k.duties me.host me.number)))
   pub resent : is_resent h.congestion event (seen k.model me) (owed_by k.duties me.host me.number).again ≡ false
   pub beyond : is_resent_beyond h.congestion event (seen k.model me) ≡ false
@@ -351,6 +352,7 @@ module _ (h : Header) (slack : ℕ) (k next : Known) (x : Stamped tcp_shape) (me
         counts = counts;
         listener = listener_closed k.duties me.host (seen k.model me);
         counted = refl;
+        listens = refl;
         lates = (here.0, (here.1.0, (here.1.1.0, (here.1.1.1.0, (here.1.1.1.1.0, (here.1.1.1.1.1.0, tt))))));
         resent = here.1.1.1.1.1.1.0;
         beyond = here.1.1.1.1.1.1.1.0;

@@ -1,5 +1,5 @@
--- What a yes with a slack says of empty acknowledgments: an endpoint sends at most one for each segment that comes,
--- except to announce more window (RFC 5681, 4.2).
+-- What a yes with a slack says of mere acknowledgments: an endpoint sends at most one for each segment that comes (RFC
+-- 5681, 4.2). Segments with anything else, at another position or that announce more window aren't counted.
 use Rattle.std.specs.Prelude.{ℕ, zero, suc, ◌≤◌, ◌==◌, nat_eq, Bool, false, ◌&&◌, if◌then◌else◌, List, [], ◌∷◌, length}
 use Rattle.std.specs.Prelude.{Option, None, Some, slice_get}
 use Rattle.std.specs.List.{list_any}

@@ -1,20 +1,27 @@
 -- What a yes with a slack says of segments that are dropped: neither to process nor to answer them was required; and of
 -- those that are processed: what is next in order was kept (RFC 9293, 3.10.7).
-use Rattle.std.specs.Prelude.{◌≡◌, ◌⊎◌, ◌≤◌, ℕ, true, false, ◌||◌, slice_get, Some, is_some}
+use Rattle.std.specs.Prelude.{◌≡◌, ◌⊎◌, ◌+◌, ◌<◌, ◌≤◌, ℕ, Bool, true, false, slice_get, Some, is_some}
+use Rattle.seqno.specs.Numbers.{number_of}
+use Rattle.seqno.specs.declared.word.Word.{Word}
+use Rattle.case_forms.specs.States.{is_syn_sent}
 use Rattle.case_forms.specs.declared.calls.Host.{Host}
+use Rattle.case_forms.specs.declared.calls.State.{State}
+use Rattle.case_forms.specs.declared.calls.State.TheVariants as states
 use Rattle.case_forms.specs.declared.steps.Label.TheVariants as labels
 use Rattle.case_forms.specs.declared.steps.TakeChoice.{TakeChoice}
 use Rattle.case_forms.specs.declared.steps.Witness.{Witness}
 use Rattle.case_forms.specs.declared.trace.Trace.{Trace}
+use Rattle.verdict.specs.declared.rule.Rule.TheVariants.{Unacceptable}
 use Rattle.spec_network.specs.Tables.{pick, waiting}
 use Rattle.spec_tcp.specs.Arrives.{AtEndpoint, AtListener, taker}
+use Rattle.spec_tcp.specs.Endpoints.{rcv_nxt, receive_window, segment_length}
 use Rattle.spec_tcp.specs.Heard.{as_read}
 use Rattle.spec_tcp.specs.HostTcp.{HostTcp}
+use Rattle.spec_tcp.specs.Same.{same_word}
 use Rattle.spec_tcp.specs.declared.endpoint.Emission.{Emission}
 use Rattle.spec_tcp.specs.declared.endpoint.Endpoint.{Endpoint}
 use Rattle.spec_tcp.specs.declared.endpoint.Listener.{Listener}
-use Rattle.spec_duties.specs.Dropped.{answering_breaks, discards, is_challenged, is_unacceptable, meets_closed_window}
-use Rattle.spec_duties.specs.Dropped.{taking_breaks}
+use Rattle.spec_duties.specs.Dropped.{answering_breaks, taking_breaks}
 use Rattle.spec_duties.specs.Watching.{listening_at}
 use Rattle.kept_duties.specs.Happens.{known_before, world_before}
 use Rattle.kept_duties.specs.Places.{IsStep}
@@ -27,11 +34,17 @@ children_before t w place host l = (listening_at (pick (known_before t w place).
 abbrev pub host_before : Trace → Witness → (place : ℕ) → Host → HostTcp
 host_before t w place host = (pick (world_before t w place).hosts host).body
 
--- what could be processed need not be: a reset is challenged (RFC 5961, 3.2), or the receive window is closed (RFC
--- 9293, 3.10.7.4, first); or the listener's backlog is reached (3.9.1.2)
+-- the segment's number is the next one expected
+abbrev pub IsNext : Endpoint → Emission → Type 0
+IsNext e m = (irs : Word) × (e.irs ≡ Some irs) × (same_word m.seq (number_of irs (rcv_nxt e)) ≡ true)
+
+-- what could be processed need not be: a reset that isn't next is challenged (RFC 5961, 3.2), or what doesn't fit meets
+-- a closed receive window (RFC 9293, 3.10.7.4, first); or the listener's backlog is reached (3.9.1.2)
 pub data MayBeSpared (t : Trace) (w : Witness) (place : ℕ) (host : Host) (m : Emission) : Type 0 where
-  ByEndpoint : (i : ℕ) (e : Endpoint) → taker (host_before t w place host) m ≡ AtEndpoint i e
-      → (is_challenged e m || meets_closed_window e m) ≡ true → MayBeSpared t w place host m
+  IsChallenged : (i : ℕ) (e : Endpoint) → taker (host_before t w place host) m ≡ AtEndpoint i e
+      → is_syn_sent e.state ≡ false → m.flags.rst ≡ true → (IsNext e m → ⊥) → MayBeSpared t w place host m
+  MeetsClosedWindow : (i : ℕ) (e : Endpoint) → taker (host_before t w place host) m ≡ AtEndpoint i e
+      → is_syn_sent e.state ≡ false → receive_window e ≡ 0 → 0 < segment_length m → MayBeSpared t w place host m
   ByListener : (l : ℕ) (x : Listener) → taker (host_before t w place host) m ≡ AtListener l
       → slice_get (host_before t w place host).listeners l ≡ Some x → x.backlog ≤ children_before t w place host l
       → MayBeSpared t w place host m
@@ -45,7 +58,7 @@ pub record MayBeDropped (t : Trace) (w : Witness) (place moment : ℕ) (host : H
       ⊎ MayBeSpared t w place host segment
   -- to answer it with a reset would break one, or the segment is unacceptable, so that an acknowledgment is as good
   pub answering : (is_some (answering_breaks t.header (world_before t w place) host line) ≡ true)
-      ⊎ (is_unacceptable (taking_breaks t.header moment (world_before t w place) host line) ≡ true)
+      ⊎ (taking_breaks t.header moment (world_before t w place) host line ≡ Some Unacceptable)
 
 -- each `K` step drops a segment that may be dropped
 abbrev pub DropsAreLawful : Trace → Witness → Type 0
@@ -53,12 +66,29 @@ DropsAreLawful t w =
     (place moment line : ℕ) (host : Host) → IsStep w place moment (labels.K host line)
     → MayBeDropped t w place moment host line
 
--- a `T` step discards nothing of a segment that holds the next position expected, if the endpoint keeps order, has room
--- and isn't closed by its program (3.10.7.4, seventh)
+-- the states in which what is next in order is kept
+abbrev pub keeps_next : State → Bool
+keeps_next states.SynReceived = true
+keeps_next states.Established = true
+keeps_next states.FinWait1 = true
+keeps_next states.FinWait2 = true
+keeps_next state = false
+
+-- the segment holds the next position expected, and there is room for it; once the socket is closed, a reset may answer
+-- (3.6.1)
+pub record HoldsNext (e : Endpoint) (m : Emission) : Type 0 where
+  pub in_state : keeps_next e.state ≡ true
+  pub open_yet : e.closed ≡ false
+  pub no_reset : m.flags.rst ≡ false
+  pub room : rcv_nxt e < e.window.rcv_adv
+  pub begins : m.pos ≤ rcv_nxt e
+  pub ends : rcv_nxt e < m.pos + segment_length m
+
+-- a `T` step keeps something of a segment that holds what is next in order (3.10.7.4, seventh)
 abbrev pub NextIsKept : Trace → Witness → Type 0
 NextIsKept t w =
     (place moment line i : ℕ) (host : Host) (choice : TakeChoice) (m : Emission) (e : Endpoint)
     → IsStep w place moment (labels.T host line choice)
     → waiting line (pick (world_before t w place).hosts host).inbox ≡ Some m
     → taker (host_before t w place host) m ≡ AtEndpoint i e
-    → discards choice e (as_read t.header.version e m) ≡ false
+    → HoldsNext e (as_read t.header.version e m) → choice.keep ≡ true

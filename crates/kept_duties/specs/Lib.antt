@@ -5,3 +5,6 @@ pub mod Repeats
 pub mod Soon
 pub mod Counts
 pub mod Drops
+pub mod Asking
+pub mod Timing
+pub mod Resets

@@ -12,6 +12,9 @@ ghost use Rattle.kept_duties.specs.Repeats.{NothingIsResentTwice, RepeatsStayWit
 ghost use Rattle.kept_duties.specs.Counts.{AcknowledgmentsAreFew};
 ghost use Rattle.kept_duties.specs.Soon.{ReceiptsAreAnswered, ExpiriesAreFollowed, ProbesAreSent, WorkIsBegun};
 ghost use Rattle.kept_duties.specs.Drops.{DropsAreLawful, NextIsKept};
+ghost use Rattle.kept_duties.specs.Asking.{DropsAreAnswered};
+ghost use Rattle.kept_duties.specs.Timing.{ExpiriesAreInTime, ProbesAreInTime};
+ghost use Rattle.kept_duties.specs.Resets.{AbortsAreReset, ChildrenAreReset};
 
 /// If a witness explains a trace, each segment that arrived was processed, dropped or answered with a reset, by the
 /// host at which it arrived, at most the slack later; unless the last step is at most the slack later (RFC 9293,
@@ -62,8 +65,8 @@ pub fn repeats_stay_within()
         → judges_windows t.header.congestion ≡ true → RepeatsStayWithin t w }
 {}
 
-/// At each moment, an endpoint had sent at most as many empty acknowledgments as segments had come to it; those that
-/// announced more window aren't counted (RFC 5681, 4.2).
+/// At each moment, an endpoint had sent at most as many mere acknowledgments as segments had come to it: empty ones at
+/// the next position to be sent that announced no more window. Others aren't counted (RFC 5681, 4.2).
 pub fn acknowledgments_are_few()
     ensures { (t : Trace) (w : Witness) (slack : ℕ) → Explains t w → t.header.slack ≡ Some slack
         → AcknowledgmentsAreFew t w }
@@ -74,6 +77,46 @@ pub fn acknowledgments_are_few()
 pub fn receipts_are_answered()
     ensures { (t : Trace) (w : Witness) (slack : ℕ) → Explains t w → t.header.slack ≡ Some slack
         → ReceiptsAreAnswered t w slack }
+{}
+
+/// Once an endpoint dropped a segment that asks for an acknowledgment, it sent a segment with ACK or RST at most half a
+/// second and the slack later; unless it was CLOSED, or the last step is at most that much later (RFC 9293, 3.10.7.4).
+/// If the segment has no bytes and no FIN, this holds unless a segment with ACK was sent within half a second before
+/// (RFC 5961, 7).
+pub fn drops_are_answered()
+    ensures { (t : Trace) (w : Witness) (slack : ℕ) → Explains t w → t.header.slack ≡ Some slack
+        → DropsAreAnswered t w slack }
+{}
+
+/// An armed retransmission timer expired at most its timeout and the slack after it was armed or the window was opened
+/// (three timeouts before the first sample); unless it stopped, was set anew or got another timeout, the window was
+/// closed or opened, the endpoint was CLOSED, or the last step is at most that much later (RFC 6298, 5.1 to 5.3).
+pub fn expiries_are_in_time()
+    ensures { (t : Trace) (w : Witness) (slack : ℕ) → Explains t w → t.header.slack ≡ Some slack
+        → ExpiriesAreInTime t w slack }
+{}
+
+/// A window that is closed while bytes wait or are outstanding was probed at most a timeout and the slack later, then
+/// at most twice as long, and so on, up to a minute; unless it was opened, no work was left, the timeout changed, the
+/// endpoint was CLOSED, or the last step is at most that much later (RFC 9293, 3.8.6.1).
+pub fn probes_are_in_time()
+    ensures { (t : Trace) (w : Witness) (slack : ℕ) → Explains t w → t.header.slack ≡ Some slack
+        → ProbesAreInTime t w slack }
+{}
+
+/// After `abort` of a connection that then has to be reset, a segment with RST was sent at most the slack later, unless
+/// the last step is at most that much later (RFC 9293, 3.10.5).
+pub fn aborts_are_reset()
+    ensures { (t : Trace) (w : Witness) (slack : ℕ) → Explains t w → t.header.slack ≡ Some slack
+        → AbortsAreReset t w slack }
+{}
+
+/// Once a listener was closed for the last time, each child that then had to be reset sent a segment with RST at most
+/// the slack later; unless a step that did nothing at the child ended this, or the last step is at most that much later
+/// (RFC 9293, 3.10.5).
+pub fn children_are_reset()
+    ensures { (t : Trace) (w : Witness) (slack : ℕ) → Explains t w → t.header.slack ≡ Some slack
+        → ChildrenAreReset t w slack }
 {}
 
 /// After each expiry of a retransmission timer, the oldest unacknowledged position was sent again or acknowledged at

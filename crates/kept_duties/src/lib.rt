@@ -14,13 +14,17 @@
 //! - `specs/Drops`: each segment that was dropped may be; what was next in order was kept
 //! - `specs/Happens`: what happens at an endpoint
 //! - `specs/Soon`: by when acknowledgments, retransmissions, probes and waiting data are sent
-//! - `specs/Repeats`, `specs/Counts`: how often positions and empty acknowledgments are sent at most
+//! - `specs/Asking`: which dropped segments ask for an acknowledgment, and by when it is sent
+//! - `specs/Timing`: by when timers expire and closed windows are probed
+//! - `specs/Resets`: by when aborted connections, and children of closed listeners, are reset
+//! - `specs/Repeats`, `specs/Counts`: how often positions and mere acknowledgments are sent at most
 #![tactic(auto)]
 
 mod laws;
 
 pub use laws::{
-    acknowledgments_are_few, arrivals_are_handled, drops_are_lawful, events_are_steps,
-    expiries_are_followed, next_is_kept, nothing_is_resent_twice, probes_are_sent,
-    receipts_are_answered, repeats_stay_within, sendings_are_fresh, work_is_begun,
+    aborts_are_reset, acknowledgments_are_few, arrivals_are_handled, children_are_reset,
+    drops_are_answered, drops_are_lawful, events_are_steps, expiries_are_followed,
+    expiries_are_in_time, next_is_kept, nothing_is_resent_twice, probes_are_in_time,
+    probes_are_sent, receipts_are_answered, repeats_stay_within, sendings_are_fresh, work_is_begun,
 };

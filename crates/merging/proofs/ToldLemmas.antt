@@ -26,7 +26,7 @@ use Rattle.case_forms.specs.Steps.{extras_count}
 use Rattle.case_forms.specs.TakenLines.{taken_of}
 use Rattle.case_forms.specs.Traces.{first_event_line, line_at, IsRecorded}
 use Rattle.case_forms.specs.Versions.{is_half}
-use Rattle.interval_order.specs.Orders.{Take, Move, last_moment, taking}
+use Rattle.interval_order.specs.Orders.{Take, Move, taking}
 use Rattle.interval_order.specs.OrderRules.{extras_of}
 use Rattle.interval_order.specs.Placed.{Placed, TakesAt, IsTimely}
 use Rattle.spec_network.specs.Hosts.{Stamped}
@@ -37,9 +37,8 @@ use Rattle.spec_network.specs.HostSteps.{start, Lawful}
 use Rattle.spec_tcp.specs.Machine.{tcp, tcp_shape}
 use Rattle.spec_tcp.specs.Steps.{line_step, step_of}
 use Rattle.checker.specs.Seen.{take_of, move_of, moves, act_of, stamped}
-use Rattle.spec_duties.specs.Cases.{first_known, known_after_all}
-use Rattle.duties.proofs.SlackLemmas.{dutiful_any, late_any}
 use Rattle.checker.specs.Explains.{Explains}
+use Rattle.checker.proofs.LessLateLemmas.{explained_by_model}
 use Rattle.merging.specs.Told.{line_told, TakesWell, AllTakeWell, Tells}
 
 -- 1. lines under their numbers
@@ -370,10 +369,5 @@ told_explains t w steps e told =
     Placement (tcp t.header) t.header.skew (first_event_line t.header) ls (stamped t.header t.lines w.steps))
     (sym tells.lines_are)
     (subst (λ (xs : List (Stamped tcp_shape)). Placement (tcp t.header) t.header.skew (first_event_line t.header) (lines_of (tcp t.header) xs) xs) seen e.0) in
-    record {
-      placed = is_placed t w tells placement;
-      turns = placement.turns;
-      run = subst (λ (xs : List (Stamped tcp_shape)). Lawful (tcp t.header) (start (tcp t.header)) xs) seen e.1;
-      duties = dutiful_any t.header (first_known t.header) (stamped t.header t.lines w.steps) told.slack;
-      in_time = late_any t.header (last_moment (moves w.steps)) (known_after_all t.header (first_known t.header) (stamped t.header t.lines w.steps)) told.slack;
-    }
+    explained_by_model t w told.slack (is_placed t w tells placement) placement.turns
+    (subst (λ (xs : List (Stamped tcp_shape)). Lawful (tcp t.header) (start (tcp t.header)) xs) seen e.1)

@@ -1,0 +1,428 @@
+-- Timers expire and closed windows are probed in time.
+use Rattle.std.proofs.Common.{◌≡◌, ℕ, zero, suc, ◌+◌, ◌*◌, ◌^◌, ◌<◌, ◌≤◌, ◌⊎◌, inl, inr, Bool, true, false, length, Option, Some, None, refl, ap, sym, subst}
+use Rattle.std.proofs.Common.{◌∙◌, arith, max, min}
+use Rattle.std.proofs.Math.Nat.{pow-succ', suc-mul, zero-mul}
+use Rattle.std.proofs.lemmas.Bool.Decides.{nat_tests}
+use Rattle.std.proofs.lemmas.Option.{none-some, same_Some}
+use Rattle.std.specs.Prelude.{◌==◌, ◌&&◌, ◌||◌, if◌then◌else◌, nat_lt, not}
+use Rattle.std.specs.Option.{option_map, option_map_or}
+use Rattle.case_forms.specs.States.{is_closed}
+use Rattle.case_forms.specs.declared.steps.Witness.{Witness}
+use Rattle.case_forms.specs.declared.timer.Timer.TheVariants.{Persist, Rto}
+use Rattle.case_forms.specs.declared.trace.Header.{Header}
+use Rattle.case_forms.specs.declared.trace.Trace.{Trace}
+use Rattle.timer_rules.specs.Timeouts.{longest_rto}
+use Rattle.verdict.specs.Rules.{first_broken}
+use Rattle.interval_order.specs.Orders.{last_moment}
+use Rattle.interval_order.specs.Placed.{Placed}
+use Rattle.spec_network.specs.Hosts.{Stamped, Step, World}
+use Rattle.spec_network.specs.Tables.{on}
+use Rattle.spec_tcp.specs.Machine.{tcp_shape}
+use Rattle.spec_tcp.specs.declared.endpoint.EndpointId.{EndpointId}
+use Rattle.spec_tcp_laws.proofs.Rules.{both_true, not_false, not_true, number_same, zero_from}
+use Rattle.spec_duties.specs.Cases.{Known}
+use Rattle.spec_duties.specs.Deadlines.{is_late}
+use Rattle.spec_duties.specs.End.{end_rules}
+use Rattle.spec_duties.specs.Expire.{expiry_due, has_expiry_due, opened_after}
+use Rattle.spec_duties.specs.Owed.{lates_of, lates_of_open, none_late, once_closed, owed_after, owed_open}
+use Rattle.spec_duties.specs.Probe.{first_probing, greatest_factor, is_probe, next_probe_due, probing_due, still_probing}
+use Rattle.spec_duties.specs.Sights.{sight}
+use Rattle.spec_duties.specs.Watching.{owed_by}
+use Rattle.spec_duties.specs.declared.events.Event.{Event}
+use Rattle.spec_duties.specs.declared.events.Event.TheVariants.{Expires, Sends}
+use Rattle.spec_duties.specs.declared.owed.Lates.{Lates}
+use Rattle.spec_duties.specs.declared.owed.Owed.{Owed}
+use Rattle.spec_duties.specs.declared.owed.Probing.{Probing}
+use Rattle.spec_duties.specs.declared.sights.Touched.{Touched}
+use Rattle.spec_duties.specs.declared.views.View.{View}
+use Rattle.checker.specs.Seen.{moves}
+use Rattle.kept_duties.specs.Counts.{event_for}
+use Rattle.kept_duties.specs.Happens.{Happens, act_at, known_before, seen_before, world_before}
+use Rattle.kept_duties.specs.Soon.{IsDoneUnless}
+use Rattle.kept_duties.specs.Timing.{ExpiriesAreInTime, IsOpenedBy, Probes, ProbesAreInTime, ProbesIt, TimesOut, awaits_probe, probe_time, probes_after}
+use Rattle.kept_duties.specs.Timing.{is_probing, is_shut, probes_before, probes_by, run_time, runs_on, runs_since, still_probed}
+use Rattle.kept_duties.proofs.Counts.{event_here, event_of}
+use Rattle.kept_duties.proofs.Inbox.{not_late}
+use Rattle.kept_duties.proofs.Repeats.{happens_from, owes_of}
+use Rattle.kept_duties.proofs.Runs.{Goes, Run, Steps, onward, run_keeps, world_is}
+use Rattle.kept_duties.proofs.Segments.{within}
+use Rattle.kept_duties.proofs.Since.{Wait, from_step, nothing_first}
+use Rattle.kept_duties.proofs.Soon.{late_open, open_or_closed}
+use Rattle.kept_duties.proofs.Touched.{AsBefore, AsShown, Touches, as_before, seen, touched, touches_or_not}
+
+-- ---- the retransmission timer
+
+-- the window is open, or closed, as it was
+abbrev as_open : (first now : ℕ) → Bool
+as_open first now = if nat_lt 0 first then nat_lt 0 now else now == 0
+
+not_opened : (first before after : ℕ) → as_open first before ≡ true → as_open first after ≡ true → (before == 0 && nat_lt 0 after) ≡ false
+not_opened first before after = by (nat_lt 0 first)
+  where
+    none : (b : Bool) → (b && false) ≡ false
+    none true = refl
+    none false = refl
+
+    by : (b : Bool) → (if b then nat_lt 0 before else before == 0) ≡ true → (if b then nat_lt 0 after else after == 0) ≡ true
+        → (before == 0 && nat_lt 0 after) ≡ false
+    by true open' now =
+        let some : (before == 0) ≡ false = grind (arith, nat_tests, open') in
+        ap (λ (b : Bool). b && nat_lt 0 after) some
+    by false shut now =
+        let no-more : nat_lt 0 after ≡ false = grind (arith, nat_tests, now) in
+        ap (λ (b : Bool). before == 0 && b) no-more ∙ none (before == 0)
+
+as_open_self : (first : ℕ) → as_open first first ≡ true
+as_open_self first = by (nat_lt 0 first) refl
+  where
+    by : (b : Bool) → nat_lt 0 first ≡ b → (if b then nat_lt 0 first else first == 0) ≡ true
+    by true is = is
+    by false is = grind (arith, nat_tests, is)
+
+opened_is : (event : Event) (before after : View) (moment : ℕ) (listener : Option ℕ) (counts : Bool) (o : Owed)
+    → (owed_after event before after moment listener counts o).opened ≡ opened_after before after moment o.opened
+opened_is event before after moment listener counts o =
+    open_or_closed (λ n. n.opened ≡ opened_after before after moment o.opened) event before after moment listener counts o (λ closed. refl) refl
+
+-- what it means that the timer runs on
+record RunsOn (since : ℕ) (first now : View) : Type 0 where
+  open' : is_closed now.state ≡ false
+  due : has_expiry_due now ≡ true
+  armed : now.timers.rto_armed ≡ Some since
+  time : run_time now ≡ run_time first
+  window : as_open first.snd_wnd now.snd_wnd ≡ true
+
+armed_is : (o : Option ℕ) (since : ℕ) → option_map_or (λ m. m == since) o false ≡ true → o ≡ Some since
+armed_is None since is = absurd cc
+armed_is (Some m) since is = ap (λ (n : ℕ). Some n) (number_same m since is)
+
+runs_parts : (since : ℕ) (first now : View) → runs_on since first now ≡ true → RunsOn since first now
+runs_parts since first now is =
+    let a = both_true (runs_since since now && run_time now == run_time first) (as_open first.snd_wnd now.snd_wnd) is in
+    let b = both_true (runs_since since now) (run_time now == run_time first) a.0 in
+    let c = both_true (not (is_closed now.state) && has_expiry_due now) (option_map_or (λ m. m == since) now.timers.rto_armed false) b.0 in
+    let d = both_true (not (is_closed now.state)) (has_expiry_due now) c.0 in
+    record {
+      open' = not_true (is_closed now.state) d.0;
+      due = d.1;
+      armed = armed_is now.timers.rto_armed since c.1;
+      time = number_same (run_time now) (run_time first) b.1;
+      window = a.1;
+    }
+
+runs_self : (since : ℕ) (first : View) → runs_since since first ≡ true → runs_on since first first ≡ true
+runs_self since first is =
+    let same : (run_time first == run_time first) ≡ true = grind (arith, nat_tests) in
+    (λ i. is i && same i && as_open_self first.snd_wnd i)
+
+expiry_wait : (since from slack : ℕ) (first : View) → since ≤ from
+    → Wait (λ o. o.opened ≤ from) TimesOut (λ v. not (runs_on since first v)) (λ l. l.expire) slack (from + run_time first + slack)
+expiry_wait since from slack first low = record { onward = onward'; rules = λ l all. all.1.0; either = λ a b. refl; fine = fine }
+  where
+    onward' : (event : Event) (before after : View) (moment : ℕ) (listener : Option ℕ) (counts : Bool) (o : Owed) → not (runs_on since first before) ≡ false
+        → o.opened ≤ from
+        → TimesOut event before after ⊎ (not (runs_on since first after) ≡ true)
+        ⊎ ((owed_after event before after moment listener counts o).opened ≤ from)
+    onward' event before after moment listener counts o runs opened = test (runs_on since first after) refl
+      where
+        test : (b : Bool) → runs_on since first after ≡ b
+            → TimesOut event before after ⊎ (not (runs_on since first after) ≡ true)
+            ⊎ ((owed_after event before after moment listener counts o).opened ≤ from)
+        test false stops = inr (inl (ap not stops))
+        test true on' =
+            let was = runs_parts since first before (not_false (runs_on since first before) runs) in
+            let now = runs_parts since first after on' in
+            let same : (owed_after event before after moment listener counts o).opened ≡ o.opened =
+            opened_is event before after moment listener counts o
+            ∙ ap (λ (b : Bool). if b then moment else o.opened) (not_opened first.snd_wnd before.snd_wnd after.snd_wnd was.window now.window) in
+            inr (inr (subst (λ (n : ℕ). n ≤ from) (sym same) opened))
+
+    fine : (moment : ℕ) (v : View) (listener : Option ℕ) (o : Owed) → (lates_of slack moment v listener o).expire ≡ false → not (runs_on since first v) ≡ false
+        → o.opened ≤ from → moment ≤ from + run_time first + slack
+    fine moment v listener o none runs opened =
+        let now = runs_parts since first v (not_false (runs_on since first v) runs) in
+        let due : expiry_due v o.opened ≡ Some (max since o.opened + run_time v) =
+        ap (λ (b : Bool). if b then option_map (λ since. max since o.opened + run_time v) v.timers.rto_armed else None) now.due
+        ∙ ap (option_map (λ since. max since o.opened + run_time v)) now.armed in
+        let le = not_late slack (max since o.opened + run_time v) moment (expiry_due v o.opened) due
+        (late_open (λ l. l.expire ≡ false) slack moment v listener o now.open' none) in
+        let time = now.time in
+        omega (arith, le, time, opened, low)
+
+-- ---- probes
+
+abbrev probing_of : Probes → Probing
+probing_of p = record { since = p.since; factor = min (2 ^ p.count) greatest_factor }
+
+-- doubling a value that was cut at a limit, and cutting again
+cut_twice : (limit n m : ℕ) → m ≡ 2 * n → min (2 * min n limit) limit ≡ min m limit
+cut_twice limit n m e = omega arith
+
+-- a cut that changes nothing
+times_cut : (rto n : ℕ) → rto * n < longest_rto → rto * min n greatest_factor ≡ rto * n
+times_cut zero n low = zero-mul (min n greatest_factor) ∙ sym (zero-mul n)
+times_cut (suc rto) n low =
+    let more : suc rto * n ≡ rto * n + n = suc-mul rto n in
+    let small : n < longest_rto = omega (arith, more, low) in
+    let same : min n greatest_factor ≡ n = omega (arith, small) in
+    ap (λ (m : ℕ). suc rto * m) same
+
+-- what duties test is what the law says
+probing_test : (event : Event) (v : View) → is_probe event v ≡ is_probing event v
+probing_test (Expires Rto) v = refl
+probing_test (Expires Persist) v = refl
+probing_test (Sends s) v = refl
+probing_test event v = refl
+
+probing_is : (event : Event) (before after : View) (moment : ℕ) (listener : Option ℕ) (counts : Bool) (o : Owed) (p : Option Probes)
+    → o.probing ≡ option_map probing_of p
+    → (owed_after event before after moment listener counts o).probing ≡ option_map probing_of (probes_after event before after moment p)
+probing_is event before after moment listener counts o p is = by (is_closed after.state) (is_shut after)
+  where
+    probed : (b : Bool) (q : Probes)
+        → (if b then record { since = moment; factor = min (2 * min (2 ^ q.count) greatest_factor) greatest_factor } else probing_of q)
+        ≡ probing_of (if b then record { since = moment; count = suc q.count } else q)
+    probed true q =
+        ap (λ (n : ℕ). let g : Probing = record { since = moment; factor = n } in g)
+        (cut_twice greatest_factor (2 ^ q.count) (2 ^ suc q.count) (pow-succ' 2 q.count))
+    probed false q = refl
+
+    again : (p : Option Probes)
+        → Some (option_map_or (still_probing event before moment) (option_map probing_of p) (first_probing moment))
+        ≡ option_map probing_of (Some (option_map_or (still_probed event before moment) p (record { since = moment; count = 0 })))
+    again None = refl
+    again (Some q) =
+        ap (λ (b : Bool). Some (if b then record { since = moment; factor = min (2 * min (2 ^ q.count) greatest_factor) greatest_factor }
+        else probing_of q)) (probing_test event before)
+        ∙ ap (λ (g : Probing). Some g) (probed (is_probing event before) q)
+
+    by : (c d : Bool)
+        → (if c then once_closed (record (owed_open event before after moment listener counts o) {
+          probing =
+              if d then Some (option_map_or (still_probing event before moment) o.probing (first_probing moment))
+              else None;
+        })
+        else record (owed_open event before after moment listener counts o) {
+          probing =
+              if d then Some (option_map_or (still_probing event before moment) o.probing (first_probing moment))
+              else None;
+        }).probing
+        ≡ option_map probing_of (if not c && d then Some (option_map_or (still_probed event before moment) p (record { since = moment; count = 0 })) else None)
+    by true d = refl
+    by false true = ap (λ (g : Option Probing). Some (option_map_or (still_probing event before moment) g (first_probing moment))) is ∙ again p
+    by false false = refl
+
+-- what it means that a probe is awaited
+record Awaits (rto : ℕ) (v : View) : Type 0 where
+  open' : is_closed v.state ≡ false
+  work : is_shut v ≡ true
+  same : v.timers.rto ≡ rto
+
+awaits_parts : (rto : ℕ) (v : View) → awaits_probe rto v ≡ true → Awaits rto v
+awaits_parts rto v is =
+    let a = both_true (not (is_closed v.state) && is_shut v) (v.timers.rto == rto) is in
+    let b = both_true (not (is_closed v.state)) (is_shut v) a.0 in
+    record { open' = not_true (is_closed v.state) b.0; work = b.1; same = number_same v.timers.rto rto a.1 }
+
+probe_wait : (rto slack : ℕ) (p : Probes) → rto * 2 ^ p.count < longest_rto
+    → Wait (λ o. o.probing ≡ Some (probing_of p)) ProbesIt (λ v. not (awaits_probe rto v)) (λ l. l.probe) slack (p.since + rto * 2 ^ p.count + slack)
+probe_wait rto slack p low = record { onward = onward'; rules = λ l all. all.1.1.1.0; either = λ a b. refl; fine = fine }
+  where
+    onward' : (event : Event) (before after : View) (moment : ℕ) (listener : Option ℕ) (counts : Bool) (o : Owed) → not (awaits_probe rto before) ≡ false
+        → o.probing ≡ Some (probing_of p)
+        → ProbesIt event before after ⊎ (not (awaits_probe rto after) ≡ true)
+        ⊎ ((owed_after event before after moment listener counts o).probing ≡ Some (probing_of p))
+    onward' event before after moment listener counts o awaits is = by (is_probing event before) (awaits_probe rto after) refl refl
+      where
+        by : (a b : Bool) → is_probing event before ≡ a → awaits_probe rto after ≡ b
+            → ProbesIt event before after ⊎ (not (awaits_probe rto after) ≡ true)
+            ⊎ ((owed_after event before after moment listener counts o).probing ≡ Some (probing_of p))
+        by true b probes awaits = inl probes
+        by false false none stops = inr (inl (ap not stops))
+        by false true none awaits =
+            let now = awaits_parts rto after awaits in
+            inr (inr (probing_is event before after moment listener counts o (Some p) is
+            ∙ ap (λ (c : Bool). option_map probing_of (if not c && is_shut after then Some (still_probed event before moment p)
+            else None)) now.open'
+            ∙ ap (λ (c : Bool). option_map probing_of (if true && c then Some (still_probed event before moment p) else None)) now.work
+            ∙ ap (λ (c : Bool). Some (probing_of (if c then record { since = moment; count = suc p.count } else p))) none))
+
+    fine : (moment : ℕ) (v : View) (listener : Option ℕ) (o : Owed) → (lates_of slack moment v listener o).probe ≡ false → not (awaits_probe rto v) ≡ false
+        → o.probing ≡ Some (probing_of p) → moment ≤ p.since + rto * 2 ^ p.count + slack
+    fine moment v listener o none awaits is =
+        let now = awaits_parts rto v (not_false (awaits_probe rto v) awaits) in
+        let cut = times_cut rto (2 ^ p.count) low in
+        let below : nat_lt (rto * min (2 ^ p.count) greatest_factor) longest_rto ≡ true = grind (arith, nat_tests, cut, low) in
+        let due : probing_due v o.probing ≡ Some (p.since + rto * 2 ^ p.count) =
+        ap (λ (g : Option Probing). option_map_or (next_probe_due v.timers.rto) g None) is
+        ∙ ap (λ (n : ℕ). next_probe_due n (probing_of p)) now.same
+        ∙ ap (λ (b : Bool). if b then Some (p.since + rto * min (2 ^ p.count) greatest_factor) else None) below
+        ∙ ap (λ (n : ℕ). Some (p.since + n)) cut in
+        not_late slack (p.since + rto * 2 ^ p.count) moment (probing_due v o.probing) due
+        (late_open (λ l. l.probe ≡ false) slack moment v listener o now.open' none)
+
+-- a step that does nothing at the endpoint has no event for it
+no_event : (h : Header) (moment : ℕ) (v : World tcp_shape) (step : Step tcp_shape) (me : EndpointId)
+    → ((event : Event) → (sight h moment v step).touched ≡ Some (touched v me event) → ⊥) → event_for me (sight h moment v step).touched ≡ None
+no_event h moment v step me none = by (event_for me (sight h moment v step).touched) refl
+  where
+    same : (event : Event) (s : Touched) → (sight h moment v step).touched ≡ Some s → s.host ≡ me.host → s.place ≡ me.number → s.event ≡ event
+        → AsShown v step s → ⊥
+    same event s shows host number is found =
+        none event (shows ∙ (λ i. Some (record {
+          host = host i;
+          place = number i;
+          event = is i;
+          before = (found.before ∙ (λ i. seen v (record { host = host i; number = number i }))) i;
+        })))
+
+    by : (o : Option Event) → event_for me (sight h moment v step).touched ≡ o → o ≡ None
+    by None is = refl
+    by (Some event) is =
+        let s = event_of me (sight h moment v step).touched event is in
+        absurd (same event s.0 s.1 s.2 s.3 s.4 (subst (AsBefore v step) s.1 (as_before h moment v step)))
+
+-- ---- from the step on
+
+module _ (t : Trace) (w : Witness) (slack : ℕ) (r : Run t.header slack (length w.steps) (act_at t w) (known_before t w)) where
+  -- when the window was opened
+  opened_low : (me : EndpointId) (to from : ℕ) → suc to ≤ length w.steps → IsOpenedBy t w to from me
+      → (owed_by (known_before t w (suc to)).duties me.host me.number).opened ≤ from
+  opened_low me to from high by_then =
+      run_keeps t.header slack (length w.steps) (act_at t w) (known_before t w) r (λ j k. (owed_by k.duties me.host me.number).opened ≤ from)
+      (λ j k p. p) 0 (suc to) (omega arith) high
+      (let first : (owed_by (known_before t w 0).duties me.host me.number).opened ≡ 0 =
+      ap (λ (k : Known). (owed_by k.duties me.host me.number).opened) r.start
+      ∙ ap (λ (o : Owed). o.opened) (nothing_first t.header me.host me.number) in omega (arith, first))
+      (λ j x low less is goes old. next j x (omega (arith, less)) is old
+      (touches_or_not t.header slack (known_before t w j) (known_before t w (suc j)) x me goes))
+    where
+      next : (j : ℕ) (x : Stamped tcp_shape) → j ≤ to → act_at t w j ≡ Some x → (owed_by (known_before t w j).duties me.host me.number).opened ≤ from
+          → Touches t.header (known_before t w j) x me
+          ⊎ ((owed_by (known_before t w (suc j)).duties me.host me.number ≡ owed_by (known_before t w j).duties me.host me.number)
+          × ((event : Event) → (sight t.header x.moment (known_before t w j).model x.step).touched ≡ Some (touched (known_before t w j).model me event) → ⊥))
+          → (owed_by (known_before t w (suc j)).duties me.host me.number).opened ≤ from
+      next j x low is old (inr same) = subst (λ (n : ℕ). n ≤ from) (sym (ap (λ (o : Owed). o.opened) same.0)) old
+      next j x low is old (inl at) =
+          let before = seen (known_before t w j).model me in
+          let after = seen (known_before t w (suc j)).model me in
+          let o = owed_by (known_before t w j).duties me.host me.number in
+          let owes = owes_of t w slack r j x me at.event is at.shows in
+          subst (λ (n : ℕ). n ≤ from)
+          (sym (ap (λ (o : Owed). o.opened) owes.after ∙ opened_is at.event before after x.moment owes.listener owes.counts o))
+          (by (before.snd_wnd == 0 && nat_lt 0 after.snd_wnd) refl)
+        where
+          by : (b : Bool) → ((seen (known_before t w j).model me).snd_wnd == 0 && nat_lt 0 (seen (known_before t w (suc j)).model me).snd_wnd) ≡ b
+              → (if b then x.moment else (owed_by (known_before t w j).duties me.host me.number).opened) ≤ from
+          by false is' = old
+          by true opens =
+              let both = both_true ((seen (known_before t w j).model me).snd_wnd == 0) (nat_lt 0 (seen (known_before t w (suc j)).model me).snd_wnd) opens in
+              let shut : (seen (known_before t w j).model me).snd_wnd ≡ 0 = zero_from (seen (known_before t w j).model me).snd_wnd both.0 in
+              let more : 0 < (seen (known_before t w (suc j)).model me).snd_wnd = grind (arith, nat_tests, both.1) in
+              by_then j x.moment at.event low (happens_from t w j x me at.event is at.shows)
+              (subst (λ (v : World tcp_shape). (seen v me).snd_wnd ≡ 0) (world_is t w j) shut)
+              (subst (λ (v : World tcp_shape). 0 < (seen v me).snd_wnd) (world_is t w (suc j)) more)
+
+  pub expiries_in_time : (placed : Placed t.header t.lines (moves w.steps))
+      → first_broken (end_rules slack (last_moment (moves w.steps)) (known_before t w (length w.steps)).duties
+      (known_before t w (length w.steps)).model) ≡ None
+      → ExpiriesAreInTime t w slack
+  expiries_in_time placed late place moment since from me event a runs low opened =
+      from_step t w slack r placed me (λ o. o.opened ≤ from) TimesOut (λ v. not (runs_on since first v)) (λ l. l.expire) place
+      (from + run_time first + slack) (expiry_wait since from slack first low) late moment event a
+      (ap (λ (v : World tcp_shape). not (runs_on since first (seen v me))) (world_is t w (suc place)) ∙ ap not (runs_self since first runs))
+      (opened_low me place from (within t w place a.act a.is) opened)
+    where
+      first : View
+      first = seen_before t w (suc place) me
+
+  -- the probes of a window by what duties keep
+  abbrev Agree : EndpointId → ℕ → Type 0
+  Agree me j = (owed_by (known_before t w j).duties me.host me.number).probing ≡ option_map probing_of (probes_before t w me j)
+
+  agree_next : (me : EndpointId) (j : ℕ) → j < length w.steps → Agree me j → Agree me (suc j)
+  agree_next me j low old = by (act_at t w j) refl (r.each j low)
+    where
+      before : View
+      before = seen (known_before t w j).model me
+
+      after : View
+      after = seen (known_before t w (suc j)).model me
+
+      probes : Option Probes
+      probes = probes_before t w me j
+
+      touch_or : (x : Stamped tcp_shape) → act_at t w j ≡ Some x
+          → Touches t.header (known_before t w j) x me
+          ⊎ ((owed_by (known_before t w (suc j)).duties me.host me.number ≡ owed_by (known_before t w j).duties me.host me.number)
+          × ((event : Event) → (sight t.header x.moment (known_before t w j).model x.step).touched ≡ Some (touched (known_before t w j).model me event) → ⊥))
+          → (owed_by (known_before t w (suc j)).duties me.host me.number).probing ≡ option_map probing_of (probes_by t w me j probes x)
+      touch_or x at (inr same) =
+          let none = no_event t.header x.moment (known_before t w j).model x.step me same.1 in
+          ap (λ (o : Owed). o.probing) same.0 ∙ old
+          ∙ ap (λ (o : Option Event). option_map probing_of (on o probes
+          (λ event. probes_after event (seen_before t w j me) (seen_before t w (suc j) me) x.moment probes))) (sym none)
+          ∙ ap (λ (v : World tcp_shape). option_map probing_of (on (event_for me (sight t.header x.moment v x.step).touched) probes
+          (λ event. probes_after event (seen_before t w j me) (seen_before t w (suc j) me) x.moment probes))) (world_is t w j)
+      touch_or x at (inl touch) =
+          let owes = owes_of t w slack r j x me touch.event at touch.shows in
+          let here : event_for me (sight t.header x.moment (known_before t w j).model x.step).touched ≡ Some touch.event =
+          ap (event_for me) touch.shows ∙ event_here (known_before t w j).model me touch.event in
+          ap (λ (o : Owed). o.probing) owes.after
+          ∙ probing_is touch.event before after x.moment owes.listener owes.counts (owed_by (known_before t w j).duties me.host me.number) probes old
+          ∙ ap (λ (v : World tcp_shape). option_map probing_of (probes_after touch.event (seen v me) after x.moment probes)) (world_is t w j)
+          ∙ ap (λ (v : World tcp_shape). option_map probing_of (probes_after touch.event (seen_before t w j me) (seen v me) x.moment probes))
+          (world_is t w (suc j))
+          ∙ ap (λ (o : Option Event). option_map probing_of (on o probes
+          (λ event. probes_after event (seen_before t w j me) (seen_before t w (suc j) me) x.moment probes))) (sym here)
+          ∙ ap (λ (v : World tcp_shape). option_map probing_of (on (event_for me (sight t.header x.moment v x.step).touched) probes
+          (λ event. probes_after event (seen_before t w j me) (seen_before t w (suc j) me) x.moment probes))) (world_is t w j)
+
+      by : (o : Option (Stamped tcp_shape)) → act_at t w j ≡ o → Steps t.header slack (known_before t w j) (known_before t w (suc j)) o → Agree me (suc j)
+      by None at same =
+          ap (λ (k : Known). (owed_by k.duties me.host me.number).probing) same ∙ old
+          ∙ ap (λ (o : Option (Stamped tcp_shape)). option_map probing_of (on o probes (probes_by t w me j probes))) (sym at)
+      by (Some x) at goes =
+          touch_or x at (touches_or_not t.header slack (known_before t w j) (known_before t w (suc j)) x me goes)
+          ∙ ap (λ (o : Option (Stamped tcp_shape)). option_map probing_of (on o probes (probes_by t w me j probes))) (sym at)
+
+  agree_at : (me : EndpointId) (to : ℕ) → to ≤ length w.steps → Agree me to
+  agree_at me to high =
+      onward (Agree me) 0 to (omega arith)
+      (ap (λ (k : Known). (owed_by k.duties me.host me.number).probing) r.start ∙ ap (λ (o : Owed). o.probing) (nothing_first t.header me.host me.number))
+      (λ j low less old. agree_next me j (omega (arith, less, high)) old)
+
+  pub probes_in_time : (placed : Placed t.header t.lines (moves w.steps))
+      → first_broken (end_rules slack (last_moment (moves w.steps)) (known_before t w (length w.steps)).duties
+      (known_before t w (length w.steps)).model) ≡ None
+      → ProbesAreInTime t w slack
+  probes_in_time placed late place moment me event p a probes low =
+      from_step t w slack r placed me (λ o. o.probing ≡ Some (probing_of p)) ProbesIt (λ v. not (awaits_probe first.timers.rto v)) (λ l. l.probe) place
+      (p.since + probe_time first p.count + slack) (probe_wait first.timers.rto slack p low) late moment event a
+      (ap (λ (v : World tcp_shape). not (awaits_probe first.timers.rto (seen v me))) (world_is t w (suc place)) ∙ ap not awaits)
+      (agree_at me (suc place) (within t w place a.act a.is) ∙ ap (option_map probing_of) probes)
+    where
+      first : View
+      first = seen_before t w (suc place) me
+
+      old : Option Probes
+      old = probes_before t w me place
+
+      -- the step is one of the endpoint
+      shows : probes_before t w me (suc place) ≡ probes_after event (seen_before t w place me) first a.act.moment old
+      shows =
+          ap (λ (o : Option (Stamped tcp_shape)). on o old (probes_by t w me place old)) a.is
+          ∙ ap (λ (o : Option Touched). on (event_for me o) old (λ event. probes_after event (seen_before t w place me) first a.act.moment old)) a.touches
+          ∙ ap (λ (o : Option Event). on o old (λ event. probes_after event (seen_before t w place me) first a.act.moment old))
+          (event_here (world_before t w place) me event)
+
+      is_so : (b : Bool) (q : Probes) → (if b then Some q else None) ≡ Some p → b ≡ true
+      is_so true q is = refl
+      is_so false q is = absurd (none-some p is)
+
+      awaits : awaits_probe first.timers.rto first ≡ true
+      awaits =
+          let so = is_so (not (is_closed first.state) && is_shut first)
+          (option_map_or (still_probed event (seen_before t w place me) a.act.moment) old (record { since = a.act.moment; count = 0 })) (sym shows ∙ probes) in
+          let same : (first.timers.rto == first.timers.rto) ≡ true = grind (arith, nat_tests) in
+          (λ i. so i && same i)

@@ -1,0 +1,126 @@
+-- What a yes with a slack says of timers: by when an armed retransmission timer expires, and a closed window is probed
+-- (RFC 6298, 5.1 to 5.3; RFC 9293, 3.8.6.1). Moments, times and slacks are in microseconds.
+use Rattle.std.specs.Prelude.{◌≡◌, ◌+◌, ◌*◌, ◌^◌, ◌<◌, ◌≤◌, ◌==◌, ℕ, zero, suc, nat_le, nat_lt, Bool, true, false}
+use Rattle.std.specs.Prelude.{not, ◌&&◌, ◌||◌, if◌then◌else◌, Option, None, Some, is_some}
+use Rattle.std.specs.Option.{option_map_or}
+use Rattle.case_forms.specs.States.{is_closed}
+use Rattle.case_forms.specs.declared.steps.Witness.{Witness}
+use Rattle.case_forms.specs.declared.timer.Timer.TheVariants.{Persist, Rto}
+use Rattle.case_forms.specs.declared.trace.Trace.{Trace}
+use Rattle.timer_rules.specs.Timeouts.{longest_rto}
+use Rattle.spec_network.specs.Hosts.{Stamped}
+use Rattle.spec_network.specs.Tables.{on}
+use Rattle.spec_tcp.specs.Machine.{tcp_shape}
+use Rattle.spec_tcp.specs.declared.endpoint.EndpointId.{EndpointId}
+use Rattle.spec_duties.specs.Sights.{sight}
+use Rattle.spec_duties.specs.declared.events.Event.{Event}
+use Rattle.spec_duties.specs.declared.events.Event.TheVariants.{Expires, Sends}
+use Rattle.spec_duties.specs.declared.views.View.{View}
+use Rattle.kept_duties.specs.Counts.{event_for}
+use Rattle.kept_duties.specs.Happens.{Happens, act_at, seen_before, world_before}
+use Rattle.kept_duties.specs.Soon.{IsDoneUnless}
+
+-- ---- the retransmission timer
+
+-- how long the timer may run: before the first sample three timeouts, since more than a second is permitted (RFC 6298,
+-- 2.1)
+abbrev pub run_time : View → ℕ
+run_time v = if is_some v.timers.srtt then v.timers.rto else 3 * v.timers.rto
+
+-- the timer runs since this moment, with a timeout below a minute; the window is open, or nothing was acknowledged yet;
+-- and the endpoint isn't CLOSED
+abbrev pub runs_since : ℕ → View → Bool
+runs_since since v =
+    not (is_closed v.state) && (nat_lt v.timers.rto longest_rto && (nat_lt 0 v.snd_wnd || v.snd_una == 0))
+    && option_map_or (λ m. m == since) v.timers.rto_armed false
+
+-- the timer runs on as it did first: as long, and the window is open or closed as it was
+abbrev pub runs_on : ℕ → (first now : View) → Bool
+runs_on since first now =
+    runs_since since now && run_time now == run_time first
+    && (if nat_lt 0 first.snd_wnd then nat_lt 0 now.snd_wnd else now.snd_wnd == 0)
+
+-- no step up to this place opened the offered window after this moment
+abbrev pub IsOpenedBy : Trace → Witness → (place by : ℕ) → EndpointId → Type 0
+IsOpenedBy t w place by me =
+    (earlier moment : ℕ) (event : Event) → earlier ≤ place → Happens t w earlier moment me event
+    → (seen_before t w earlier me).snd_wnd ≡ 0 → 0 < (seen_before t w (suc earlier) me).snd_wnd → moment ≤ by
+
+-- the timer expires
+abbrev pub TimesOut : Event → (before after : View) → Type 0
+TimesOut event before after = event ≡ Expires Rto
+
+-- a timer that runs after a step expires within the timeout (three timeouts before the first sample) and the slack,
+-- counted from when it was armed and the window was opened last; unless it stops, is set anew or gets another time, the
+-- window is closed or opened, the endpoint is CLOSED, or the witness ends
+abbrev pub ExpiriesAreInTime : Trace → Witness → (slack : ℕ) → Type 0
+ExpiriesAreInTime t w slack =
+    (place moment since from : ℕ) (me : EndpointId) (event : Event) → Happens t w place moment me event
+    → runs_since since (seen_before t w (suc place) me) ≡ true → since ≤ from → IsOpenedBy t w place from me
+    → IsDoneUnless t w place (from + run_time (seen_before t w (suc place) me) + slack) me TimesOut
+    (λ v. not (runs_on since (seen_before t w (suc place) me) v))
+
+-- ---- probes
+
+-- the probes of a window that is closed while bytes wait or are outstanding: when it was probed last, or else closed,
+-- and how often it was probed since it was closed
+pub record Probes : Type 0 where
+  pub since : ℕ
+  pub count : ℕ
+
+-- the offered window is closed, and bytes wait or are outstanding
+abbrev pub is_shut : View → Bool
+is_shut v = nat_le 1 v.snd_una && nat_le 1 v.rcv_nxt && v.snd_wnd == 0 && nat_lt v.snd_una v.end
+
+-- it is probed: a timer expires, or a segment is sent that holds the oldest unacknowledged position or, as a keep-alive
+-- does, is empty and just below it
+abbrev pub is_probing : Event → View → Bool
+is_probing (Expires Rto) v = true
+is_probing (Expires Persist) v = true
+is_probing (Sends s) v =
+    (s.length == 0 && s.pos + 1 == v.snd_una) || (nat_le s.pos v.snd_una && nat_lt v.snd_una (s.pos + s.length))
+is_probing event v = false
+
+-- after a step at the endpoint
+abbrev pub still_probed : Event → (before : View) → (moment : ℕ) → Probes → Probes
+still_probed event before moment p =
+    if is_probing event before then record { since = moment; count = suc p.count } else p
+
+abbrev pub probes_after : Event → (before after : View) → (moment : ℕ) → Option Probes → Option Probes
+probes_after event before after moment probes =
+    if not (is_closed after.state) && is_shut after
+    then Some (option_map_or (still_probed event before moment) probes (record { since = moment; count = 0 }))
+    else None
+
+-- before a step
+abbrev pub probes_by : Trace → Witness → EndpointId → (place : ℕ) → Option Probes → Stamped tcp_shape → Option Probes
+probes_by t w me place probes x =
+    on (event_for me (sight t.header x.moment (world_before t w place) x.step).touched) probes
+    (λ event. probes_after event (seen_before t w place me) (seen_before t w (suc place) me) x.moment probes)
+
+abbrev pub probes_before : Trace → Witness → EndpointId → (place : ℕ) → Option Probes
+probes_before t w me zero = None
+probes_before t w me (suc place) =
+    on (act_at t w place) (probes_before t w me place) (probes_by t w me place (probes_before t w me place))
+
+-- the window is probed
+abbrev pub ProbesIt : Event → (before after : View) → Type 0
+ProbesIt event before after = is_probing event before ≡ true
+
+-- the window is still closed with work, the timeout is the same, and the endpoint isn't CLOSED
+abbrev pub awaits_probe : (rto : ℕ) → View → Bool
+awaits_probe rto v = not (is_closed v.state) && is_shut v && v.timers.rto == rto
+
+-- how long a probe may take after so many probes: the timeout, doubled at each
+abbrev pub probe_time : View → (count : ℕ) → ℕ
+probe_time v count = v.timers.rto * 2 ^ count
+
+-- a closed window is probed within the timeout and the slack, then within twice as long, and so on, up to a minute;
+-- unless it is opened, no work is left, the timeout is another, the endpoint is CLOSED, or the witness ends
+abbrev pub ProbesAreInTime : Trace → Witness → (slack : ℕ) → Type 0
+ProbesAreInTime t w slack =
+    (place moment : ℕ) (me : EndpointId) (event : Event) (p : Probes) → Happens t w place moment me event
+    → probes_before t w me (suc place) ≡ Some p
+    → probe_time (seen_before t w (suc place) me) p.count < longest_rto
+    → IsDoneUnless t w place (p.since + probe_time (seen_before t w (suc place) me) p.count + slack) me ProbesIt
+    (λ v. not (awaits_probe (seen_before t w (suc place) me).timers.rto v))
