@@ -7,6 +7,8 @@ use Rattle.case_forms.specs.declared.steps.SegmentPlan.{SegmentPlan}
 use Rattle.case_forms.specs.declared.steps.Witness.{Witness}
 use Rattle.case_forms.specs.declared.timer.Timer.TheVariants.{Persist, Rto}
 use Rattle.case_forms.specs.declared.trace.Trace.{Trace}
+use Rattle.case_forms.specs.declared.version.Judged.{Judged}
+use Rattle.case_forms.specs.declared.version.Judged.TheVariants as judged
 use Rattle.spec_network.specs.Hosts.{Stamped, World}
 use Rattle.spec_tcp.specs.Machine.{tcp_shape}
 use Rattle.spec_tcp.specs.Makes.Payload.{making_length}
@@ -36,6 +38,12 @@ again_is event before after moment listener counts o = by (is_closed after.state
         ≡ again_after event before after o.again
     by true = refl
     by false = refl
+
+-- the levels at which retransmissions are judged
+pub judged_repeats : (j : Judged) → (j ≡ judged.NoControl → ⊥) → judges_repeats j ≡ true
+judged_repeats judged.Full not_none = refl
+judged_repeats judged.Recovery not_none = refl
+judged_repeats judged.NoControl not_none = absurd (not_none refl)
 
 -- what duties test is what the law says
 begins_is : (event : Event) (before after : View) → begins_again event before after ≡ begins event before after
