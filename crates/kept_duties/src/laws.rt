@@ -81,16 +81,17 @@ pub fn receipts_are_answered()
 
 /// Once an endpoint dropped a segment that asks for an acknowledgment, it sent a segment with ACK or RST at most half a
 /// second and the slack later; unless it was CLOSED, or the last step is at most that much later (RFC 9293, 3.10.7.4).
-/// If the segment has no bytes and no FIN, this holds unless a segment with ACK was sent within half a second before
-/// (RFC 5961, 7).
+/// A segment without bytes and FIN may stay unanswered if one with ACK was sent within half a second before (RFC 5961,
+/// 7).
 pub fn drops_are_answered()
     ensures { (t : Trace) (w : Witness) (slack : ℕ) → Explains t w → t.header.slack ≡ Some slack
         → DropsAreAnswered t w slack }
 {}
 
-/// An armed retransmission timer expired at most its timeout and the slack after it was armed or the window was opened
-/// (three timeouts before the first sample); unless it stopped, was set anew or got another timeout, the window was
-/// closed or opened, the endpoint was CLOSED, or the last step is at most that much later (RFC 6298, 5.1 to 5.3).
+/// A retransmission timer with a timeout below a minute expired at most the timeout and the slack after it was armed or
+/// the window was opened; before the first sample, at most three timeouts. This holds while the window stays open, or
+/// stays closed because nothing was acknowledged yet. It holds unless the timer stopped, was set anew or got another
+/// timeout, the endpoint was CLOSED, or the last step is at most that much later (RFC 6298, 5.1 to 5.3).
 pub fn expiries_are_in_time()
     ensures { (t : Trace) (w : Witness) (slack : ℕ) → Explains t w → t.header.slack ≡ Some slack
         → ExpiriesAreInTime t w slack }
