@@ -12,10 +12,9 @@ use Rattle.spec_tcp.specs.Arrives.{AtEndpoint, taker}
 use Rattle.spec_tcp.specs.declared.endpoint.Emission.{Emission}
 use Rattle.spec_tcp.specs.declared.endpoint.Endpoint.{Endpoint}
 use Rattle.spec_tcp.specs.declared.endpoint.EndpointId.{EndpointId}
-use Rattle.spec_duties.specs.Dropped.{taking_breaks}
 use Rattle.spec_duties.specs.declared.events.Event.TheVariants.{Sends}
 use Rattle.spec_duties.specs.declared.events.Sending.{Sending}
-use Rattle.kept_duties.specs.Drops.{IsNext, host_before}
+use Rattle.kept_duties.specs.Drops.{IsNext, host_before, processing_breaks}
 use Rattle.kept_duties.specs.Happens.{Happens, world_before}
 use Rattle.kept_duties.specs.Places.{IsStep}
 use Rattle.kept_duties.specs.Soon.{Answers, IsDoneBy, half_a_second}
@@ -50,6 +49,6 @@ SentNoneLately t w place moment me =
 abbrev pub DropsAreAnswered : Trace → Witness → (slack : ℕ) → Type 0
 DropsAreAnswered t w slack =
     (place moment line : ℕ) (me : EndpointId) (m : Emission) (e : Endpoint) → DropsAt t w place moment line me m e
-    → is_syn_sent e.state ≡ false → Asks (taking_breaks t.header moment (world_before t w place) me.host line) e m
+    → is_syn_sent e.state ≡ false → Asks (processing_breaks t w place moment me.host line) e m
     → (0 < length m.payload) ⊎ (m.flags.fin ≡ true) ⊎ SentNoneLately t w place moment me
     → IsDoneBy t w place (moment + half_a_second + slack) me Answers
