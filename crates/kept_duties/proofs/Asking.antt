@@ -1,8 +1,8 @@
 -- A dropped segment that asks for an acknowledgment gets one in time.
-use Rattle.std.proofs.Common.{◌≡◌, ℕ, suc, ◌+◌, ◌<◌, ◌≤◌, ◌⊎◌, inl, inr, Bool, true, false, length, Option, Some, None, refl, ap, sym, subst, ◌∙◌, arith}
+use Rattle.std.proofs.Common.{◌≡◌, ℕ, suc, ◌<◌, ◌≤◌, ◌⊎◌, inl, inr, Bool, true, false, length, Option, Some, None, refl, ap, sym, subst, ◌∙◌, arith}
 use Rattle.std.proofs.lemmas.Bool.Decides.{nat_tests}
 use Rattle.std.proofs.lemmas.Option.{none-some, same_Some}
-use Rattle.std.specs.Prelude.{◌&&◌, ◌||◌, if◌then◌else◌, is_some, nat_le, nat_lt, not}
+use Rattle.std.specs.Prelude.{◌&&◌, ◌||◌, if◌then◌else◌, is_some, nat_lt, not}
 use Rattle.seqno.specs.Numbers.{number_of}
 use Rattle.std.specs.Option.{option_map_or, option_or}
 use Rattle.case_forms.specs.States.{is_closed, is_syn_sent}
@@ -11,12 +11,11 @@ use Rattle.case_forms.specs.declared.steps.Witness.{Witness}
 use Rattle.case_forms.specs.declared.trace.Trace.{Trace}
 use Rattle.verdict.specs.Rules.{first_broken}
 use Rattle.verdict.specs.declared.rule.Rule.{Rule}
-use Rattle.verdict.specs.declared.rule.Rule.TheVariants as rules
 use Rattle.interval_order.specs.Orders.{last_moment}
 use Rattle.interval_order.specs.Placed.{Placed}
 use Rattle.spec_network.specs.Hosts.{At, Stamped}
 use Rattle.spec_network.specs.Hosts as network
-use Rattle.spec_network.specs.Tables.{on, pick, waiting}
+use Rattle.spec_network.specs.Tables.{on}
 use Rattle.spec_tcp.specs.Arrives.{Taker, taker}
 use Rattle.spec_tcp.specs.Machine.{tcp_shape}
 use Rattle.spec_tcp.specs.declared.endpoint.Emission.{Emission}
@@ -30,8 +29,7 @@ use Rattle.spec_duties.specs.Acknowledge.{acknowledged_after, answered_lately, l
 use Rattle.spec_duties.specs.Cases.{Known}
 use Rattle.spec_duties.specs.Dropped.{answering_breaks, asks, has_content, is_ack_range, is_next, is_unacceptable, taking_breaks}
 use Rattle.spec_duties.specs.End.{end_rules}
-use Rattle.spec_duties.specs.Owed as owed
-use Rattle.spec_duties.specs.Owed.{once_closed, owed_after, owed_open}
+use Rattle.spec_duties.specs.Owed.{owed_after}
 use Rattle.spec_duties.specs.Sights.{at_drop, dropping_sight, sight, unseen}
 use Rattle.spec_duties.specs.Watching.{owed_by}
 use Rattle.spec_duties.specs.declared.events.Event.{Event}
@@ -42,11 +40,11 @@ use Rattle.spec_duties.specs.declared.views.View.{View}
 use Rattle.checker.specs.Seen.{act_of, moves}
 use Rattle.kept_duties.specs.Asking.{AcknowledgesUnsent, Asks, CouldBeProcessed, DropsAreAnswered, DropsAt, IsChallenged, IsUnacceptable, SentNoneLately}
 use Rattle.kept_duties.specs.Drops.{IsNext, host_before}
-use Rattle.kept_duties.specs.Happens.{Happens, act_at, known_before, seen_before, world_before}
+use Rattle.kept_duties.specs.Happens.{Happens, act_at, known_before, world_before}
 use Rattle.kept_duties.specs.Soon.{Answers}
 use Rattle.kept_duties.proofs.Events.{place_touched}
 use Rattle.kept_duties.proofs.Repeats.{happens_from, owes_of}
-use Rattle.kept_duties.proofs.Runs.{Goes, Run, run_keeps}
+use Rattle.kept_duties.proofs.Runs.{Run, run_keeps}
 use Rattle.kept_duties.proofs.Segments.{within}
 use Rattle.kept_duties.proofs.Since.{nothing_first}
 use Rattle.kept_duties.proofs.Soon.{acknowledge_duty, arises, open_or_closed, or_true, since_now}

@@ -2,9 +2,9 @@
 use Rattle.std.proofs.Common.{◌≡◌, ℕ, suc, ◌+◌, ◌<◌, ◌≤◌, ◌⊎◌, inl, inr, Bool, true, false, List, length, Option, Some, None, refl, ap, sym, subst, ◌∙◌}
 use Rattle.std.proofs.Common.{cond, nat_eq, arith}
 use Rattle.std.proofs.lemmas.Bool.Decides.{nat_tests}
-use Rattle.std.proofs.lemmas.Option.{none-some, same_Some}
+use Rattle.std.proofs.lemmas.Option.{same_Some}
 use Rattle.std.specs.Map.{lookup}
-use Rattle.std.specs.Prelude.{◌==◌, ◌&&◌, if◌then◌else◌, unwrap_or}
+use Rattle.std.specs.Prelude.{◌==◌, if◌then◌else◌, unwrap_or}
 use Rattle.std.specs.Option.{option_map_or, option_or}
 use Rattle.indexmap.specs.IndexMap.{insert_entry}
 use Rattle.case_forms.specs.declared.calls.Host.{Host}
@@ -26,13 +26,11 @@ use Rattle.spec_tcp_laws.specs.Consequences.{find}
 use Rattle.spec_tcp_laws.proofs.Rules.{both_true, map_or_true, number_same}
 use Rattle.spec_tcp_laws.proofs.Runs.{later_step}
 use Rattle.spec_duties.specs.Cases.{Known}
-use Rattle.spec_duties.specs.Deadlines.{is_late}
 use Rattle.spec_duties.specs.End.{end_rules}
-use Rattle.spec_duties.specs.Owed.{lates_of}
 use Rattle.spec_duties.specs.Reset.{aborts, reset_since, sends_reset}
 use Rattle.spec_duties.specs.Sights.{sight, view_in}
 use Rattle.spec_duties.specs.Views.{unborn, view_of}
-use Rattle.spec_duties.specs.Watching.{Duties, closed_at, counts_for, left, listener_closed, listening_after, moved, moved_by, owed_by, queued}
+use Rattle.spec_duties.specs.Watching.{Duties, closed_at, counts_for, left, listener_closed, moved, moved_by, owed_by, queued}
 use Rattle.spec_duties.specs.declared.events.Event.{Event}
 use Rattle.spec_duties.specs.declared.owed.Owed.{Owed}
 use Rattle.spec_duties.specs.declared.sights.Queueing.{Queueing}
@@ -42,7 +40,7 @@ use Rattle.spec_duties.specs.declared.sights.Touched.{Touched}
 use Rattle.spec_duties.specs.declared.tables.Listening.{Listening}
 use Rattle.spec_duties.specs.declared.views.View.{View}
 use Rattle.checker.specs.Seen.{moves}
-use Rattle.kept_duties.specs.Happens.{Happens, act_at, known_before, seen_before, world_before}
+use Rattle.kept_duties.specs.Happens.{act_at, known_before, seen_before}
 use Rattle.kept_duties.specs.Resets.{ChildrenAreReset, ClosesListener, EndsQuietly, SendsReset, awaits_reset}
 use Rattle.kept_duties.specs.Segments.{EndsBy}
 use Rattle.kept_duties.specs.Soon.{HappensBy, IsDoneUnless}

@@ -4,7 +4,7 @@ use Rattle.std.proofs.Common.{◌∙◌, nat_eq, arith}
 use Rattle.std.proofs.lemmas.Bool.Decides.{nat_tests}
 use Rattle.std.specs.List.{list_any}
 use Rattle.std.specs.Map.{lookup}
-use Rattle.std.specs.Prelude.{◌==◌, ◌&&◌, ◌||◌, if◌then◌else◌, slice_get}
+use Rattle.std.specs.Prelude.{◌==◌, ◌&&◌, ◌||◌, if◌then◌else◌, not, slice_get}
 use Rattle.std.specs.Option.{option_map, option_map_or}
 use Rattle.std.proofs.lemmas.Option.{none-some, same_Some, some_pair_parts}
 use Rattle.case_forms.specs.States.{is_closed}
@@ -12,6 +12,8 @@ use Rattle.case_forms.specs.Traces.{line_at}
 use Rattle.case_forms.specs.declared.calls.Answer.TheVariants as answers
 use Rattle.case_forms.specs.declared.calls.Host.{Host}
 use Rattle.case_forms.specs.declared.calls.Host.TheVariants.{Zero, One}
+use Rattle.case_forms.specs.declared.calls.State.{State}
+use Rattle.case_forms.specs.declared.calls.State.TheVariants as states
 use Rattle.case_forms.specs.declared.named_line.Extras.{Extras}
 use Rattle.case_forms.specs.declared.named_line.Extras.TheVariants.{One as OneExtra}
 use Rattle.case_forms.specs.declared.named_line.NamedLine.{NamedLine}
@@ -41,18 +43,19 @@ use Rattle.spec_tcp_laws.specs.Consequences.{find}
 use Rattle.spec_tcp_laws.proofs.Rules.{both_true, host_same, is_not, map_or_true, number_same}
 use Rattle.spec_tcp_laws.proofs.Runs.{later_step}
 use Rattle.spec_duties.specs.Cases.{Dutiful, Known, first_known}
-use Rattle.spec_duties.specs.Excess.{answers_after, is_arrival, is_excess, is_mere_ack, one_more}
+use Rattle.spec_duties.specs.Excess.{answers_after, is_arrival, is_excess, is_listen, is_mere_ack, one_more}
 use Rattle.spec_duties.specs.Owed.{once_closed, owed_after, owed_open}
 use Rattle.spec_duties.specs.Sights.{at_place, at_sender, sending_of, sight, unseen, view_in}
 use Rattle.spec_duties.specs.Views.{unborn, view_of}
 use Rattle.spec_duties.specs.Watching.{built_by, builds_mere_ack, counts_now, owed_by}
 use Rattle.spec_duties.specs.declared.events.Event.{Event}
-use Rattle.spec_duties.specs.declared.events.Event.TheVariants.{Builds}
+use Rattle.spec_duties.specs.declared.events.Event.TheVariants.{Builds, Drops, Processes}
 use Rattle.spec_duties.specs.declared.sights.Post.TheVariants as post
 use Rattle.spec_duties.specs.declared.owed.Owed.{Owed}
 use Rattle.spec_duties.specs.declared.sights.Touched.{Touched}
 use Rattle.spec_duties.specs.declared.views.View.{View}
-use Rattle.kept_duties.specs.Counts.{builds_mere, builds_mere_at, comes_at, count_before, event_at, event_for, mere_before, number_sent, sends_mere_at, sent_by}
+use Rattle.kept_duties.specs.Counts.{builds_mere, builds_mere_at, comes, comes_at, count_before, event_at, event_for, is_unborn, mere_before, number_sent}
+use Rattle.kept_duties.specs.Counts.{sends_mere_at, sent_by}
 use Rattle.kept_duties.specs.Happens.{act_at, known_before, seen_before, world_before}
 use Rattle.kept_duties.specs.Places.{SendsAt, built_before}
 use Rattle.checker.specs.Seen.{moves, stamped}
@@ -117,6 +120,16 @@ event_of me (Some s) event is = by (host_is s.host me.host && s.place == me.numb
     by true here is =
         let both = both_true (host_is s.host me.host) (s.place == me.number) here in
         (s, refl, host_same s.host me.host both.0, number_same s.place me.number both.1, same_Some s.event event is)
+
+-- what duties test is what the law says
+unborn_is : (state : State) → is_unborn state ≡ is_listen state
+unborn_is states.Listen = refl
+unborn_is state = refl
+
+comes_is : (event : Event) (before : View) → comes event before ≡ is_arrival event before
+comes_is (Processes length rst) before = ap not (unborn_is before.state)
+comes_is (Drops asks unlimited) before = refl
+comes_is event before = refl
 
 -- a mere acknowledgment is a segment that is built
 mere_builds : (event : Event) (before after : View) → builds_mere event before after ≡ true
@@ -459,13 +472,13 @@ module _ (t : Trace) (w : Witness) (slack : ℕ) (given : t.header.slack ≡ Som
           ≡ true)
           (same_Some k.0 y (sym k.1 ∙ at)) k.2.counts)
           (λ arrives.
-          ap (λ (o : Option (Stamped tcp_shape)). option_map_or (λ event. is_arrival event (seen_before t w j me))
+          ap (λ (o : Option (Stamped tcp_shape)). option_map_or (λ event. comes event (seen_before t w j me))
           (on o None (λ x. event_for me (sight t.header x.moment (world_before t w j) x.step).touched)) false) at
-          ∙ ap (λ (v : World tcp_shape). option_map_or (λ event. is_arrival event (seen v me))
+          ∙ ap (λ (v : World tcp_shape). option_map_or (λ event. comes event (seen v me))
           (event_for me (sight t.header y.moment v y.step).touched) false) (sym (world_is t w j))
-          ∙ ap (λ (o : Option Touched). option_map_or (λ event. is_arrival event before) (event_for me o) false) touch.shows
-          ∙ ap (λ (o : Option Event). option_map_or (λ event. is_arrival event before) o false) (event_here (known_before t w j).model me touch.event)
-          ∙ arrives)
+          ∙ ap (λ (o : Option Touched). option_map_or (λ event. comes event before) (event_for me o) false) touch.shows
+          ∙ ap (λ (o : Option Event). option_map_or (λ event. comes event before) o false) (event_here (known_before t w j).model me touch.event)
+          ∙ comes_is touch.event before ∙ arrives)
           owes.excess fits)
 
       by : (o : Option (Stamped tcp_shape)) → act_at t w j ≡ o → Steps t.header slack (known_before t w j) (known_before t w (suc j)) o → Fits (suc j)

@@ -17,7 +17,6 @@ use Rattle.case_forms.specs.declared.trace.Wire.{Wire}
 use Rattle.case_forms.specs.declared.version.Initial.TheVariants.{Rfc5681}
 use Rattle.case_forms.specs.declared.version.Judged.TheVariants.{Full}
 use Rattle.case_forms.specs.declared.version.Version.TheVariants.{Five}
-use Rattle.spec_duties.specs.Resent.{is_repeating, repeated_end}
 use Rattle.spec_duties.specs.Views.{unborn}
 use Rattle.spec_duties.specs.declared.events.Event.TheVariants as happening
 use Rattle.spec_duties.specs.declared.sights.Touched.{Touched}
@@ -25,6 +24,7 @@ use Rattle.spec_duties.specs.declared.views.View.{View}
 use Rattle.checker.specs.Again.{nowhere}
 use Rattle.kept_duties.specs.Counts.{builds_mere, count_before, event_for, sent_by}
 use Rattle.kept_duties.specs.Places.{ArrivesAt, IsProcessed, SendsAt, built_before}
+use Rattle.kept_duties.specs.Repeats.{again_end, begins}
 use Rattle.kept_duties.specs.Resets.{SendsReset, awaits_reset}
 use Rattle.kept_duties.specs.Segments.{EndsBy, IsBuiltBefore, LeavesBy}
 use Rattle.kept_duties.specs.Soon.{Answers, IsIdle, SendsOldest}
@@ -152,11 +152,14 @@ not_with_a_window : builds_mere (happening.Builds ack) sent_four (record sent_fo
 not_with_a_window = refl
 
 -- of bytes at 2 to 4, position 4 wasn't built before
-sent_before : is_repeating sent_four bytes ≡ true
-sent_before = refl
-
-ends_at_four : repeated_end sent_four bytes ≡ 4
+ends_at_four : again_end sent_four bytes ≡ 4
 ends_at_four = refl
+
+recovery_begins : begins happening.Recovers sent_four sent_four ≡ true
+recovery_begins = refl
+
+building_does_not : begins (happening.Builds bytes) sent_four sent_four ≡ false
+building_does_not = refl
 
 one_in_three : count_before (λ place. place == 1) 3 ≡ 1
 one_in_three = refl

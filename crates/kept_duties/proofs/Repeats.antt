@@ -1,25 +1,30 @@
 -- Each position is sent again once for each expiry.
 use Rattle.std.proofs.Common.{◌≡◌, ℕ, suc, ◌+◌, ◌<◌, ◌≤◌, ◌⊎◌, inl, inr, Bool, true, false, length, Option, Some, refl, ap, sym, subst, ◌∙◌, arith}
-use Rattle.std.specs.Prelude.{◌&&◌, if◌then◌else◌, max, nat_le, nat_lt}
+use Rattle.std.specs.Prelude.{◌&&◌, if◌then◌else◌, max, nat_le, nat_lt, not}
 use Rattle.std.proofs.lemmas.Bool.Decides.{nat_tests}
 use Rattle.case_forms.specs.States.{is_closed}
 use Rattle.case_forms.specs.declared.steps.SegmentPlan.{SegmentPlan}
 use Rattle.case_forms.specs.declared.steps.Witness.{Witness}
+use Rattle.case_forms.specs.declared.timer.Timer.TheVariants.{Persist, Rto}
 use Rattle.case_forms.specs.declared.trace.Trace.{Trace}
+use Rattle.case_forms.specs.declared.version.Judged.{Judged}
+use Rattle.case_forms.specs.declared.version.Judged.TheVariants as judged
 use Rattle.spec_network.specs.Hosts.{Stamped, World}
 use Rattle.spec_tcp.specs.Machine.{tcp_shape}
+use Rattle.spec_tcp.specs.Makes.Payload.{making_length}
 use Rattle.spec_tcp.specs.declared.endpoint.EndpointId.{EndpointId}
+use Rattle.spec_tcp_laws.proofs.Rules.{less_to}
 use Rattle.spec_duties.specs.Cases.{Known}
 use Rattle.spec_duties.specs.Owed.{once_closed, owed_after, owed_open}
 use Rattle.spec_duties.specs.Resent.{again_after, begins_again, is_repeating, judges_repeats, judges_windows, passed_by, repeated_end}
 use Rattle.spec_duties.specs.Sights.{sight}
 use Rattle.spec_duties.specs.Watching.{owed_by}
 use Rattle.spec_duties.specs.declared.events.Event.{Event}
-use Rattle.spec_duties.specs.declared.events.Event.TheVariants.{Builds}
+use Rattle.spec_duties.specs.declared.events.Event.TheVariants.{Builds, Expires, Processes, Recovers}
 use Rattle.spec_duties.specs.declared.owed.Owed.{Owed}
 use Rattle.spec_duties.specs.declared.views.View.{View}
 use Rattle.kept_duties.specs.Happens.{Happens, act_at, known_before, seen_before}
-use Rattle.kept_duties.specs.Repeats.{BuildsAgain, NothingBegins, NothingIsResentTwice, RepeatsStayWithin}
+use Rattle.kept_duties.specs.Repeats.{BuildsAgain, NothingBegins, NothingIsResentTwice, RepeatsStayWithin, begins}
 use Rattle.kept_duties.proofs.Runs.{Goes, Run, run_goes, run_keeps, world_is}
 use Rattle.kept_duties.proofs.Segments.{within}
 use Rattle.kept_duties.proofs.Touched.{Owes, Touches, owes_after, seen, touched, touches_or_not}
@@ -33,6 +38,27 @@ again_is event before after moment listener counts o = by (is_closed after.state
         ≡ again_after event before after o.again
     by true = refl
     by false = refl
+
+-- the levels at which retransmissions are judged
+pub judged_repeats : (j : Judged) → (j ≡ judged.NoControl → ⊥) → judges_repeats j ≡ true
+judged_repeats judged.Full not_none = refl
+judged_repeats judged.Recovery not_none = refl
+judged_repeats judged.NoControl not_none = absurd (not_none refl)
+
+-- what duties test is what the law says
+begins_is : (event : Event) (before after : View) → begins_again event before after ≡ begins event before after
+begins_is (Expires Rto) before after = refl
+begins_is (Expires Persist) before after = refl
+begins_is Recovers before after = refl
+begins_is (Processes length rst) before after = refl
+begins_is event before after = refl
+
+repeats_is : (t : Trace) (w : Witness) (place : ℕ) (me : EndpointId) (m : SegmentPlan) → BuildsAgain t w place me m
+    → is_repeating (seen_before t w place me) m ≡ true
+repeats_is t w place me m a =
+    let old = less_to m.pos (seen_before t w place me).snd_max a.again in
+    let some = less_to 0 (making_length m) a.some in
+    (λ i. old i && some i && not (a.not_syn_ack i) && not (a.no_reset i))
 
 passed_grows : (event : Event) (before : View) (again : ℕ) → again ≤ passed_by event before again
 passed_grows (Builds m) before again = by (is_repeating before m)
@@ -83,7 +109,7 @@ module _ (t : Trace) (w : Witness) (slack : ℕ) (r : Run t.header slack (length
         let k = known_before t w first in
         let owes = owes_of first x me (Builds p) a.happens.is (happens_to t w first a.moment me (Builds p) a.happens) in
         let repeats : is_repeating (seen k.model me) p ≡ true =
-        subst (λ (v : World tcp_shape). is_repeating (seen v me) p ≡ true) (sym (world_is t w first)) a.again in
+        subst (λ (v : World tcp_shape). is_repeating (seen v me) p ≡ true) (sym (world_is t w first)) (repeats_is t w first me p a) in
         let now : again (known_before t w (suc first)) ≡ max (again k) (repeated_end (seen k.model me) p) =
         ap (λ (o : Owed). o.again) owes.after
         ∙ again_is (Builds p) (seen k.model me) (seen (known_before t w (suc first)).model me) x.moment owes.listener owes.counts
@@ -112,6 +138,7 @@ module _ (t : Trace) (w : Witness) (slack : ℕ) (r : Run t.header slack (length
             let none : begins_again at.event before after ≡ false =
             ap (λ (v : World tcp_shape). begins_again at.event (seen v me) after) (world_is t w j)
             ∙ ap (λ (v : World tcp_shape). begins_again at.event (seen_before t w j me) (seen v me)) (world_is t w (suc j))
+            ∙ begins_is at.event (seen_before t w j me) (seen_before t w (suc j) me)
             ∙ nothing j y.moment at.event (omega arith) high (happens_from t w j y me at.event is at.shows) in
             let now : again (known_before t w (suc j)) ≡ passed_by at.event before (again (known_before t w j)) =
             ap (λ (o : Owed). o.again) owes.after
@@ -129,7 +156,7 @@ module _ (t : Trace) (w : Witness) (slack : ℕ) (r : Run t.header slack (length
         (omega (arith, less)) (omega (arith, low)) began goes_on in
         let owes = owes_of second y me (Builds q) b.happens.is (happens_to t w second b.moment me (Builds q) b.happens) in
         let repeats : is_repeating (seen k.model me) q ≡ true =
-        subst (λ (v : World tcp_shape). is_repeating (seen v me) q ≡ true) (sym (world_is t w second)) b.again in
+        subst (λ (v : World tcp_shape). is_repeating (seen v me) q ≡ true) (sym (world_is t w second)) (repeats_is t w second me q b) in
         at_most q.pos (again k) kept (sym (ap (λ (c : Bool). c && is_repeating (seen k.model me) q && nat_lt q.pos (again k)) judged
         ∙ ap (λ (c : Bool). true && c && nat_lt q.pos (again k)) repeats) ∙ owes.resent)
       where

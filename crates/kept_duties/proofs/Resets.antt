@@ -1,5 +1,5 @@
 -- An aborted connection is reset in time.
-use Rattle.std.proofs.Common.{◌≡◌, ℕ, suc, ◌+◌, ◌-◌, ◌<◌, ◌≤◌, ◌⊎◌, inl, inr, Bool, true, false, List, length, Option, Some, None, refl, ap, sym, subst}
+use Rattle.std.proofs.Common.{◌≡◌, ℕ, suc, ◌+◌, ◌≤◌, ◌⊎◌, inl, inr, Bool, true, false, List, length, Option, Some, None, refl, ap, sym}
 use Rattle.std.proofs.Common.{◌∙◌, cond, nat_eq, arith}
 use Rattle.std.proofs.lemmas.Bool.Decides.{nat_tests}
 use Rattle.std.proofs.lemmas.Option.{none-some, same_Some}
@@ -28,11 +28,10 @@ use Rattle.spec_duties.specs.End.{end_rules}
 use Rattle.spec_duties.specs.Owed.{lates_of, lates_of_open, none_late, owed_after}
 use Rattle.spec_duties.specs.Reset.{aborts, reset_since, sends_reset}
 use Rattle.spec_duties.specs.Sights.{sight, view_in}
-use Rattle.spec_duties.specs.Watching.{Duties, closed_at, counts_for, joined, left, listener_closed, listening_after, listening_at, moved, moved_by}
+use Rattle.spec_duties.specs.Watching.{Duties, closed_at, counts_for, left, listener_closed, listening_after, listening_at, moved, moved_by}
 use Rattle.spec_duties.specs.Watching.{owed_by, queued}
 use Rattle.spec_duties.specs.declared.events.Event.{Event}
 use Rattle.spec_duties.specs.declared.events.Event.TheVariants.{Calls, Sends}
-use Rattle.spec_duties.specs.declared.owed.Lates.{Lates}
 use Rattle.spec_duties.specs.declared.owed.Owed.{Owed}
 use Rattle.spec_duties.specs.declared.sights.Queueing.{Queueing}
 use Rattle.spec_duties.specs.declared.sights.Queueing.TheVariants as queueing
@@ -41,10 +40,10 @@ use Rattle.spec_duties.specs.declared.sights.Touched.{Touched}
 use Rattle.spec_duties.specs.declared.tables.Listening.{Listening}
 use Rattle.spec_duties.specs.declared.views.View.{View}
 use Rattle.checker.specs.Seen.{moves}
-use Rattle.kept_duties.specs.Happens.{Happens, act_at, known_before, seen_before}
+use Rattle.kept_duties.specs.Happens.{act_at, known_before}
 use Rattle.kept_duties.specs.Resets.{AbortsAreReset, SendsReset}
 use Rattle.kept_duties.specs.Segments.{EndsBy}
-use Rattle.kept_duties.specs.Soon.{BecomesBy, HappensBy, IsDoneUnless}
+use Rattle.kept_duties.specs.Soon.{HappensBy, IsDoneUnless}
 use Rattle.kept_duties.proofs.Inbox.{not_late}
 use Rattle.kept_duties.proofs.Repeats.{happens_to, owes_of}
 use Rattle.kept_duties.proofs.Runs.{Goes, Run, run_keeps, world_is}

@@ -3,8 +3,8 @@ use Rattle.std.proofs.Common.{◌≡◌, ℕ, zero, suc, ◌+◌, ◌*◌, ◌^�
 use Rattle.std.proofs.Common.{◌∙◌, arith, max, min}
 use Rattle.std.proofs.Math.Nat.{pow-succ', suc-mul, zero-mul}
 use Rattle.std.proofs.lemmas.Bool.Decides.{nat_tests}
-use Rattle.std.proofs.lemmas.Option.{none-some, same_Some}
-use Rattle.std.specs.Prelude.{◌==◌, ◌&&◌, ◌||◌, if◌then◌else◌, nat_lt, not}
+use Rattle.std.proofs.lemmas.Option.{none-some}
+use Rattle.std.specs.Prelude.{◌==◌, ◌&&◌, if◌then◌else◌, nat_lt, not}
 use Rattle.std.specs.Option.{option_map, option_map_or}
 use Rattle.case_forms.specs.States.{is_closed}
 use Rattle.case_forms.specs.declared.steps.Witness.{Witness}
@@ -21,30 +21,27 @@ use Rattle.spec_tcp.specs.Machine.{tcp_shape}
 use Rattle.spec_tcp.specs.declared.endpoint.EndpointId.{EndpointId}
 use Rattle.spec_tcp_laws.proofs.Rules.{both_true, not_false, not_true, number_same, zero_from}
 use Rattle.spec_duties.specs.Cases.{Known}
-use Rattle.spec_duties.specs.Deadlines.{is_late}
 use Rattle.spec_duties.specs.End.{end_rules}
 use Rattle.spec_duties.specs.Expire.{expiry_due, has_expiry_due, opened_after}
-use Rattle.spec_duties.specs.Owed.{lates_of, lates_of_open, none_late, once_closed, owed_after, owed_open}
+use Rattle.spec_duties.specs.Owed.{lates_of, once_closed, owed_after, owed_open}
 use Rattle.spec_duties.specs.Probe.{first_probing, greatest_factor, is_probe, next_probe_due, probing_due, still_probing}
 use Rattle.spec_duties.specs.Sights.{sight}
 use Rattle.spec_duties.specs.Watching.{owed_by}
 use Rattle.spec_duties.specs.declared.events.Event.{Event}
 use Rattle.spec_duties.specs.declared.events.Event.TheVariants.{Expires, Sends}
-use Rattle.spec_duties.specs.declared.owed.Lates.{Lates}
 use Rattle.spec_duties.specs.declared.owed.Owed.{Owed}
 use Rattle.spec_duties.specs.declared.owed.Probing.{Probing}
 use Rattle.spec_duties.specs.declared.sights.Touched.{Touched}
 use Rattle.spec_duties.specs.declared.views.View.{View}
 use Rattle.checker.specs.Seen.{moves}
 use Rattle.kept_duties.specs.Counts.{event_for}
-use Rattle.kept_duties.specs.Happens.{Happens, act_at, known_before, seen_before, world_before}
-use Rattle.kept_duties.specs.Soon.{IsDoneUnless}
+use Rattle.kept_duties.specs.Happens.{act_at, known_before, seen_before, world_before}
 use Rattle.kept_duties.specs.Timing.{ExpiriesAreInTime, IsOpenedBy, Probes, ProbesAreInTime, ProbesIt, TimesOut, awaits_probe, probe_time, probes_after}
 use Rattle.kept_duties.specs.Timing.{is_probing, is_shut, probes_before, probes_by, run_time, runs_on, runs_since, still_probed}
 use Rattle.kept_duties.proofs.Counts.{event_here, event_of}
 use Rattle.kept_duties.proofs.Inbox.{not_late}
 use Rattle.kept_duties.proofs.Repeats.{happens_from, owes_of}
-use Rattle.kept_duties.proofs.Runs.{Goes, Run, Steps, onward, run_keeps, world_is}
+use Rattle.kept_duties.proofs.Runs.{Run, Steps, onward, run_keeps, world_is}
 use Rattle.kept_duties.proofs.Segments.{within}
 use Rattle.kept_duties.proofs.Since.{Wait, from_step, nothing_first}
 use Rattle.kept_duties.proofs.Soon.{late_open, open_or_closed}

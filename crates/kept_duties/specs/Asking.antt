@@ -12,14 +12,12 @@ use Rattle.spec_tcp.specs.Arrives.{AtEndpoint, taker}
 use Rattle.spec_tcp.specs.declared.endpoint.Emission.{Emission}
 use Rattle.spec_tcp.specs.declared.endpoint.Endpoint.{Endpoint}
 use Rattle.spec_tcp.specs.declared.endpoint.EndpointId.{EndpointId}
-use Rattle.spec_duties.specs.Acknowledge.{longest_delay}
-use Rattle.spec_duties.specs.Dropped.{taking_breaks}
 use Rattle.spec_duties.specs.declared.events.Event.TheVariants.{Sends}
 use Rattle.spec_duties.specs.declared.events.Sending.{Sending}
-use Rattle.kept_duties.specs.Drops.{IsNext, host_before}
+use Rattle.kept_duties.specs.Drops.{IsNext, host_before, processing_breaks}
 use Rattle.kept_duties.specs.Happens.{Happens, world_before}
 use Rattle.kept_duties.specs.Places.{IsStep}
-use Rattle.kept_duties.specs.Soon.{Answers, IsDoneBy}
+use Rattle.kept_duties.specs.Soon.{Answers, IsDoneBy, half_a_second}
 
 -- the `K` step at this place drops the segment of a line, which came to this endpoint
 pub record DropsAt (t : Trace) (w : Witness) (place moment line : ℕ) (me : EndpointId) (m : Emission) (e : Endpoint)
@@ -44,13 +42,13 @@ pub data Asks (breaks : Option Rule) (e : Endpoint) (m : Emission) : Type 0 wher
 abbrev pub SentNoneLately : Trace → Witness → (place moment : ℕ) → EndpointId → Type 0
 SentNoneLately t w place moment me =
     (earlier since : ℕ) (s : Sending) → earlier < place → Happens t w earlier since me (Sends s) → s.flags.ack ≡ true
-    → since + longest_delay < moment
+    → since + half_a_second < moment
 
 -- when an endpoint drops a segment that asks, it sends a segment with ACK or RST within half a second and the slack;
 -- if that has no bytes and no FIN, only unless it sent one with ACK lately, since stacks limit the rate (RFC 5961, 7)
 abbrev pub DropsAreAnswered : Trace → Witness → (slack : ℕ) → Type 0
 DropsAreAnswered t w slack =
     (place moment line : ℕ) (me : EndpointId) (m : Emission) (e : Endpoint) → DropsAt t w place moment line me m e
-    → is_syn_sent e.state ≡ false → Asks (taking_breaks t.header moment (world_before t w place) me.host line) e m
+    → is_syn_sent e.state ≡ false → Asks (processing_breaks t w place moment me.host line) e m
     → (0 < length m.payload) ⊎ (m.flags.fin ≡ true) ⊎ SentNoneLately t w place moment me
-    → IsDoneBy t w place (moment + longest_delay + slack) me Answers
+    → IsDoneBy t w place (moment + half_a_second + slack) me Answers

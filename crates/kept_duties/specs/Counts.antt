@@ -1,10 +1,12 @@
--- What a yes with a slack says of mere acknowledgments: an endpoint sends at most one for each segment that comes (RFC
--- 5681, 4.2). Segments with anything else, at another position or that announce more window aren't counted.
-use Rattle.std.specs.Prelude.{ℕ, zero, suc, ◌≤◌, ◌==◌, nat_eq, Bool, false, ◌&&◌, if◌then◌else◌, List, [], ◌∷◌, length}
-use Rattle.std.specs.Prelude.{Option, None, Some, slice_get}
+-- What a yes with a slack says of mere acknowledgments, which are empty, at the next position to be sent, and announce
+-- no more window: an endpoint sends at most one for each segment that comes (RFC 5681, 4.2). Others aren't counted.
+use Rattle.std.specs.Prelude.{ℕ, zero, suc, ◌≤◌, ◌==◌, nat_eq, Bool, true, false, not, ◌&&◌, if◌then◌else◌, List, []}
+use Rattle.std.specs.Prelude.{◌∷◌, length, Option, None, Some, slice_get}
 use Rattle.std.specs.List.{list_any}
 use Rattle.std.specs.Option.{option_map_or}
 use Rattle.case_forms.specs.Traces.{line_at}
+use Rattle.case_forms.specs.declared.calls.State.{State}
+use Rattle.case_forms.specs.declared.calls.State.TheVariants as states
 use Rattle.case_forms.specs.declared.named_line.Extras.{Extras}
 use Rattle.case_forms.specs.declared.named_line.Extras.TheVariants.{One}
 use Rattle.case_forms.specs.declared.named_line.NamedLine.{NamedLine}
@@ -16,10 +18,9 @@ use Rattle.case_forms.specs.declared.trace.Event.TheVariants.{Sent}
 use Rattle.case_forms.specs.declared.trace.Trace.{Trace}
 use Rattle.spec_network.specs.Tables.{host_is, on}
 use Rattle.spec_tcp.specs.declared.endpoint.EndpointId.{EndpointId}
-use Rattle.spec_duties.specs.Excess.{is_arrival, is_mere_ack}
 use Rattle.spec_duties.specs.Sights.{sight}
 use Rattle.spec_duties.specs.declared.events.Event.{Event}
-use Rattle.spec_duties.specs.declared.events.Event.TheVariants.{Builds}
+use Rattle.spec_duties.specs.declared.events.Event.TheVariants.{Builds, Drops, Processes}
 use Rattle.spec_duties.specs.declared.sights.Touched.{Touched}
 use Rattle.spec_duties.specs.declared.views.View.{View}
 use Rattle.kept_duties.specs.Happens.{act_at, seen_before, world_before}
@@ -39,15 +40,27 @@ abbrev pub event_at : Trace → Witness → EndpointId → (place : ℕ) → Opt
 event_at t w me place =
     on (act_at t w place) None (λ x. event_for me (sight t.header x.moment (world_before t w place) x.step).touched)
 
+-- a listener's child doesn't exist before it processes its SYN
+abbrev pub is_unborn : State → Bool
+is_unborn states.Listen = true
+is_unborn state = false
+
 -- a segment comes to the endpoint: it is processed there, or dropped
+abbrev pub comes : Event → View → Bool
+comes (Processes length rst) before = not (is_unborn before.state)
+comes (Drops asks unlimited) before = true
+comes event before = false
+
 abbrev pub comes_at : Trace → Witness → EndpointId → (place : ℕ) → Bool
 comes_at t w me place =
-    option_map_or (λ event. is_arrival event (seen_before t w place me)) (event_at t w me place) false
+    option_map_or (λ event. comes event (seen_before t w place me)) (event_at t w me place) false
 
 -- a mere acknowledgment is built: it is empty, has ACK alone, is at the next position to be sent, and announces no more
 -- window
 abbrev pub builds_mere : Event → (before after : View) → Bool
-builds_mere (Builds m) before after = is_mere_ack m before after
+builds_mere (Builds m) before after =
+    m.flags.ack && not m.flags.syn && not m.flags.fin && not m.flags.rst && m.len == 0 && m.pos == before.snd_max
+    && after.rcv_adv == before.rcv_adv
 builds_mere event before after = false
 
 abbrev pub builds_mere_at : Trace → Witness → EndpointId → (place : ℕ) → Bool

@@ -1,6 +1,6 @@
 -- What a yes with a slack says of segments that are dropped: neither to process nor to answer them was required; and of
 -- those that are processed: what is next in order was kept (RFC 9293, 3.10.7).
-use Rattle.std.specs.Prelude.{◌≡◌, ◌⊎◌, ◌+◌, ◌<◌, ◌≤◌, ℕ, Bool, true, false, slice_get, Some, is_some}
+use Rattle.std.specs.Prelude.{◌≡◌, ◌⊎◌, ◌+◌, ◌<◌, ◌≤◌, ℕ, Bool, true, false, slice_get, Option, Some, is_some}
 use Rattle.seqno.specs.Numbers.{number_of}
 use Rattle.seqno.specs.declared.word.Word.{Word}
 use Rattle.case_forms.specs.States.{is_syn_sent}
@@ -11,17 +11,21 @@ use Rattle.case_forms.specs.declared.steps.Label.TheVariants as labels
 use Rattle.case_forms.specs.declared.steps.TakeChoice.{TakeChoice}
 use Rattle.case_forms.specs.declared.steps.Witness.{Witness}
 use Rattle.case_forms.specs.declared.trace.Trace.{Trace}
+use Rattle.verdict.specs.Rules.{first_broken}
+use Rattle.verdict.specs.declared.rule.Rule.{Rule}
 use Rattle.verdict.specs.declared.rule.Rule.TheVariants.{Unacceptable}
+use Rattle.spec_network.specs.HostRules.{step_rules}
+use Rattle.spec_network.specs.Hosts.{Answers, At, Takes}
 use Rattle.spec_network.specs.Tables.{pick, waiting}
 use Rattle.spec_tcp.specs.Arrives.{AtEndpoint, AtListener, taker}
 use Rattle.spec_tcp.specs.Endpoints.{rcv_nxt, receive_window, segment_length}
 use Rattle.spec_tcp.specs.Heard.{as_read}
 use Rattle.spec_tcp.specs.HostTcp.{HostTcp}
+use Rattle.spec_tcp.specs.Machine.{tcp}
 use Rattle.spec_tcp.specs.Same.{same_word}
 use Rattle.spec_tcp.specs.declared.endpoint.Emission.{Emission}
 use Rattle.spec_tcp.specs.declared.endpoint.Endpoint.{Endpoint}
 use Rattle.spec_tcp.specs.declared.endpoint.Listener.{Listener}
-use Rattle.spec_duties.specs.Dropped.{answering_breaks, taking_breaks}
 use Rattle.spec_duties.specs.Watching.{listening_at}
 use Rattle.kept_duties.specs.Happens.{known_before, world_before}
 use Rattle.kept_duties.specs.Places.{IsStep}
@@ -33,6 +37,17 @@ children_before t w place host l = (listening_at (pick (known_before t w place).
 -- a host, as it is before the step at a place
 abbrev pub host_before : Trace → Witness → (place : ℕ) → Host → HostTcp
 host_before t w place host = (pick (world_before t w place).hosts host).body
+
+-- the least rule of the model that `T host line 0 0 0` would break at this place
+abbrev pub processing_breaks : Trace → Witness → (place moment : ℕ) → Host → (line : ℕ) → Option Rule
+processing_breaks t w place moment host line =
+    first_broken (step_rules (tcp t.header) moment (world_before t w place)
+    (At host (Takes line (record { cwnd = 0; keep = false; sample = false }))))
+
+-- the same for `R host line`; whether it may be done doesn't depend on the moment
+abbrev pub answering_breaks : Trace → Witness → (place : ℕ) → Host → (line : ℕ) → Option Rule
+answering_breaks t w place host line =
+    first_broken (step_rules (tcp t.header) 0 (world_before t w place) (At host (Answers line)))
 
 -- the segment's number is the next one expected
 abbrev pub IsNext : Endpoint → Emission → Type 0
@@ -54,11 +69,11 @@ pub record MayBeDropped (t : Trace) (w : Witness) (place moment : ℕ) (host : H
   pub segment : Emission
   pub waits : waiting line (pick (world_before t w place).hosts host).inbox ≡ Some segment
   -- to process it would break a rule of the model, or it is spared
-  pub processing : (is_some (taking_breaks t.header moment (world_before t w place) host line) ≡ true)
+  pub processing : (is_some (processing_breaks t w place moment host line) ≡ true)
       ⊎ MayBeSpared t w place host segment
   -- to answer it with a reset would break one, or the segment is unacceptable, so that an acknowledgment is as good
-  pub answering : (is_some (answering_breaks t.header (world_before t w place) host line) ≡ true)
-      ⊎ (taking_breaks t.header moment (world_before t w place) host line ≡ Some Unacceptable)
+  pub answering : (is_some (answering_breaks t w place host line) ≡ true)
+      ⊎ (processing_breaks t w place moment host line ≡ Some Unacceptable)
 
 -- each `K` step drops a segment that may be dropped
 abbrev pub DropsAreLawful : Trace → Witness → Type 0

@@ -8,13 +8,18 @@ use Rattle.case_forms.specs.declared.steps.Witness.{Witness}
 use Rattle.case_forms.specs.declared.timer.Timer.TheVariants.{Persist, Rto}
 use Rattle.case_forms.specs.declared.trace.Trace.{Trace}
 use Rattle.spec_tcp.specs.declared.endpoint.EndpointId.{EndpointId}
-use Rattle.spec_duties.specs.Acknowledge.{longest_delay}
-use Rattle.spec_duties.specs.Start.{longest_wait}
 use Rattle.spec_duties.specs.declared.events.Event.{Event}
 use Rattle.spec_duties.specs.declared.events.Event.TheVariants.{Expires, Processes, Sends}
 use Rattle.spec_duties.specs.declared.views.View.{View}
 use Rattle.kept_duties.specs.Happens.{Happens, seen_before}
 use Rattle.kept_duties.specs.Segments.{EndsBy}
+
+-- the longest delay of an acknowledgment (RFC 9293, 3.8.6.3), and the longest that data is held back (3.8.6.2.1)
+abbrev pub half_a_second : ℕ
+half_a_second = 500000
+
+abbrev pub a_second : ℕ
+a_second = 1000000
 
 -- after this place and by this moment, something of this kind happens at the endpoint
 pub record HappensBy (t : Trace) (w : Witness) (place by : ℕ) (me : EndpointId)
@@ -65,7 +70,7 @@ is_ended state = false
 abbrev pub ReceiptsAreAnswered : Trace → Witness → (slack : ℕ) → Type 0
 ReceiptsAreAnswered t w slack =
     (place moment length : ℕ) (me : EndpointId) → Happens t w place moment me (Processes length false) → 0 < length
-    → is_ended (seen_before t w place me).state ≡ false → IsDoneBy t w place (moment + longest_delay + slack) me Answers
+    → is_ended (seen_before t w place me).state ≡ false → IsDoneBy t w place (moment + half_a_second + slack) me Answers
 
 -- more is acknowledged: the oldest unacknowledged position rises
 abbrev pub AcknowledgesMore : (before after : View) → Type 0
@@ -114,4 +119,4 @@ IsNotIdle event before after = IsIdle after → ⊥
 abbrev pub WorkIsBegun : Trace → Witness → (slack : ℕ) → Type 0
 WorkIsBegun t w slack =
     (place moment : ℕ) (me : EndpointId) (event : Event) → Happens t w place moment me event
-    → IsIdle (seen_before t w (suc place) me) → IsDoneBy t w place (moment + longest_wait + slack) me IsNotIdle
+    → IsIdle (seen_before t w (suc place) me) → IsDoneBy t w place (moment + a_second + slack) me IsNotIdle

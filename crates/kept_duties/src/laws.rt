@@ -1,10 +1,10 @@
 //! What a yes with a slack means for every trace and every witness.
 
-ghost use Rattle.std.specs.Prelude.{◌≡◌, ℕ, true, Some};
+ghost use Rattle.std.specs.Prelude.{◌≡◌, ◌≢◌, ℕ, Some};
 ghost use Rattle.case_forms.specs.Traces.{IsTrace};
 ghost use Rattle.case_forms.specs.declared.trace.Trace.{Trace};
 ghost use Rattle.case_forms.specs.declared.steps.Witness.{Witness};
-ghost use Rattle.spec_duties.specs.Resent.{judges_repeats, judges_windows};
+ghost use Rattle.case_forms.specs.declared.version.Judged.TheVariants.{Full, NoControl};
 ghost use Rattle.checker.specs.Explains.{Explains};
 ghost use Rattle.kept_duties.specs.Segments.{ArrivalsAreHandled, SendingsAreFresh};
 ghost use Rattle.kept_duties.specs.Happens.{EventsAreSteps, StepsAreEvents};
@@ -52,17 +52,17 @@ pub fn events_are_steps()
         → StepsAreEvents t w }
 {}
 
-/// Between two expiries or the like, an endpoint built no position twice again, if the header says that retransmissions
-/// are judged (RFC 6298, 5.4 and 5.5; RFC 5681, 3.2).
+/// Between two expiries or the like, an endpoint built no position twice again, unless the header says
+/// `congestion none` (RFC 6298, 5.4 and 5.5; RFC 5681, 3.2).
 pub fn nothing_is_resent_twice()
     ensures { (t : Trace) (w : Witness) (slack : ℕ) → Explains t w → t.header.slack ≡ Some slack
-        → judges_repeats t.header.congestion ≡ true → NothingIsResentTwice t w }
+        → t.header.congestion ≢ NoControl → NothingIsResentTwice t w }
 {}
 
-/// Bytes that are built again end within the congestion window, if the header says that it is judged (RFC 5681, 3.1).
+/// Bytes that are built again end within the congestion window, if the header says `congestion full` (RFC 5681, 3.1).
 pub fn repeats_stay_within()
     ensures { (t : Trace) (w : Witness) (slack : ℕ) → Explains t w → t.header.slack ≡ Some slack
-        → judges_windows t.header.congestion ≡ true → RepeatsStayWithin t w }
+        → t.header.congestion ≡ Full → RepeatsStayWithin t w }
 {}
 
 /// At each moment, an endpoint had sent at most as many mere acknowledgments as segments had come to it: empty ones at
@@ -81,16 +81,17 @@ pub fn receipts_are_answered()
 
 /// Once an endpoint dropped a segment that asks for an acknowledgment, it sent a segment with ACK or RST at most half a
 /// second and the slack later; unless it was CLOSED, or the last step is at most that much later (RFC 9293, 3.10.7.4).
-/// If the segment has no bytes and no FIN, this holds unless a segment with ACK was sent within half a second before
-/// (RFC 5961, 7).
+/// A segment without bytes and FIN may stay unanswered if one with ACK was sent within half a second before (RFC 5961,
+/// 7).
 pub fn drops_are_answered()
     ensures { (t : Trace) (w : Witness) (slack : ℕ) → Explains t w → t.header.slack ≡ Some slack
         → DropsAreAnswered t w slack }
 {}
 
-/// An armed retransmission timer expired at most its timeout and the slack after it was armed or the window was opened
-/// (three timeouts before the first sample); unless it stopped, was set anew or got another timeout, the window was
-/// closed or opened, the endpoint was CLOSED, or the last step is at most that much later (RFC 6298, 5.1 to 5.3).
+/// A retransmission timer with a timeout below a minute expired at most the timeout and the slack after it was armed or
+/// the window was opened; before the first sample, at most three timeouts. This holds while the window stays open, or
+/// stays closed because nothing was acknowledged yet. It holds unless the timer stopped, was set anew or got another
+/// timeout, the endpoint was CLOSED, or the last step is at most that much later (RFC 6298, 5.1 to 5.3).
 pub fn expiries_are_in_time()
     ensures { (t : Trace) (w : Witness) (slack : ℕ) → Explains t w → t.header.slack ≡ Some slack
         → ExpiriesAreInTime t w slack }

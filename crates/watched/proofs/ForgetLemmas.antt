@@ -84,7 +84,7 @@ drop-seen : (host : Host) (b : HostTcp) (m : Emission) (taking : Option Rule) (t
     → at_drop host (forget_body b) m taking (forget_taker t) ≡ at_drop host b m taking t
 drop-seen host b m taking Nobody = refl
 drop-seen host b m taking (AtListener l) = refl
-drop-seen host b m taking (AtEndpoint i e) = place-seen host b _ i
+drop-seen host b m taking (AtEndpoint i e) = rw (rcv_nxt-forget e) (place-seen host b _ i)
 
 spared-forget : (b : HostTcp) (m : Emission) (t : Taker) → spared_by (forget_body b) m (forget_taker t) ≡ spared_by b m t
 spared-forget b m Nobody = refl
