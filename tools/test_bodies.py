@@ -1,0 +1,65 @@
+#!/usr/bin/python3
+"""Tests tools/wrong_bodies without the prover: each edit can be applied, its clause exists, and each promise has an edit."""
+import os
+import re
+import sys
+import unittest
+
+TOP = os.path.dirname(os.path.dirname(os.path.abspath(__file__)))
+sys.path.insert(0, f"{TOP}/tools/wrong_bodies")
+import run
+
+# What a check prints for a body that two clauses refuse, and for one that only an index refuses.
+BY_CLAUSES = """\
+note: src/word.rt:27:1: it is not proved that what the function ensures holds when it returns (`returns-then-clause-reads`)
+note: src/word.rt:27:1: it is not proved that what the function ensures holds when it returns (`returns-else-clause-reads`)
+note: src/word.rt:27:1: it is not proved that what the function ensures holds when it returns (`returns-else`); the facts
+fn seqno::word::read_near: not proved
+"""
+BY_INDEX = """\
+note: src/word.rt:27:1: it is not proved that the index is in bounds (`index-in-bounds`)
+fn seqno::word::read_near: not proved
+"""
+
+
+def clauses(edit):
+    """The clauses of the function that an edit changes."""
+    path = next(value for key, value in edit.lines if key == "file")
+    name = edit.function.split("::")[-1]
+    head = re.search(rf"\bfn {name}\b.*?\n *\{{\n", run.read(f"{TOP}/crates/{edit.crate}/{path}"), re.S)
+    return [name or "result" for name in re.findall(r"\bensures (\w*) ?\{", head[0])] if head else []
+
+
+class Bodies(unittest.TestCase):
+    def test_each_edit_can_be_applied(self):
+        for edit in run.edits_of([]):
+            with self.subTest(edit.name):
+                self.assertTrue(edit.changed(TOP))
+                self.assertIn(edit.clause, clauses(edit))
+                self.assertEqual(edit.name.split("/")[1].split(".")[0], edit.function.split("::")[-1])
+
+    def test_each_promise_has_an_edit(self):
+        promises, tried = run.promises(), {edit.promise for edit in run.edits_of([])}
+        self.assertEqual(run.untried(run.edits_of([])), [])
+        self.assertLessEqual(tried, set(promises))
+        self.assertIn("checker::check", promises)
+        self.assertIn("parallel_check::check_many_plain", promises)
+
+    def test_laws_need_none(self):
+        self.assertFalse(run.has_result("checker::explained_is_yes"))
+        self.assertTrue(run.has_result("tcpwit_c::tcpwit_check"))
+
+    def test_the_clause_decides(self):
+        edit = next(edit for edit in run.edits_of([]) if edit.name.startswith("verdict/print_verdict."))
+        edit.clause = "reads"
+        self.assertEqual(run.judge(edit, 1, BY_CLAUSES), (True, "report::print_verdict: reads"))
+        edit.clause = "result"
+        self.assertTrue(run.judge(edit, 1, BY_CLAUSES)[0])
+        edit.clause = "only"
+        self.assertFalse(run.judge(edit, 1, BY_CLAUSES)[0])
+        self.assertFalse(run.judge(edit, 1, BY_INDEX)[0])
+        self.assertFalse(run.judge(edit, 0, "only=1 proved=1")[0])
+
+
+if __name__ == "__main__":
+    unittest.main()
