@@ -10,8 +10,8 @@ if its only `ensures` has no name).
 
 The script copies the crates, with what earlier checks kept in `out`, and checks that the functions are proved. Then it applies one edit
 after the other, checks the function, prints the clause and puts the file back. It fails if a body is proved, can't be applied or
-compiled, or isn't refused by its clause, or if a promise has no edit. Names, of crates or edits, select a part; --list only lists the
-edits. What isn't proved yet is proved first, which takes long: run `rt check` in the crate before.
+compiled, or isn't refused by its clause, or if a promise has no edit. Names, of crates or edits, select a part; --list only prints the
+rows for the table in docs/design/proving.md. What isn't proved yet is proved first, which takes long: run `rt check` in the crate before.
 """
 import glob
 import os
@@ -28,9 +28,12 @@ TOP = os.path.dirname(os.path.dirname(HERE))
 PAGE = f"{TOP}/docs/guarantees.md"
 PARTS = ("src", "specs", "proofs", "out")
 KEYS = ("promise", "function", "clause", "file", "old", "new")
-# What a check says of a clause, and of anything else that it doesn't prove.
-REFUSED = re.compile(r"^note: (\S+?):\d+:\d+: it is not proved that (.*?) \(`([^`]*)`\)", re.M)
-ENSURES = "what the function ensures holds when it returns"
+# What a check says of a goal that it doesn't prove: in a note, of a proof file, or in the line of a function whose proof it looked for.
+NOTE = re.compile(r"note: \S+?:\d+:\d+: it is not proved that what the function ensures holds when it returns \(`([^`]*)`\)")
+ANSWER = re.compile(r"\S+Answers\.antt:\d+:\d+: error: `(returns[^`]*)`: (.*)")
+SEARCH = re.compile(r"fn \S+: .*`search` did not prove (.*)")
+# A proof file that names what the edit took away says nothing of the clause.
+TAKEN = re.compile(r"has no field|is not in scope|has no `")
 
 
 class Edit:
@@ -75,9 +78,24 @@ def write(path, text):
         file.write(text)
 
 
+def uses():
+    """The libraries that each crate names, in the order of crates.txt."""
+    lines = [line.partition(":") for line in read(f"{TOP}/crates.txt").splitlines() if not line.startswith("#")]
+    return {crate.split()[0]: libraries.split() for crate, _, libraries in lines if crate}
+
+
+def below(crates):
+    """These crates and all that they use."""
+    found, left, known = set(), set(crates), uses()
+    while left:
+        found |= left
+        left = {library for crate in left for library in known[crate] if library in known} - found
+    return found
+
+
 def edits_of(names):
     """The edits that are selected, by crate in the order of crates.txt."""
-    crates = [line.split()[0].rstrip(":") for line in read(f"{TOP}/crates.txt").splitlines() if line and not line.startswith("#")]
+    crates = list(uses())
     edits = sorted((Edit(path) for path in glob.glob(f"{HERE}/*/*.edit")), key=lambda edit: (crates.index(edit.crate), edit.name))
     unknown = [name for name in names if not any(name in (edit.crate, edit.name) for edit in edits)]
     if unknown:
@@ -114,6 +132,14 @@ def untried(edits):
     return [name for name in promises() if has_result(name) and name not in {edit.promise for edit in edits}]
 
 
+def rows(edits):
+    """The rows of the table in proving.md: promise, wrong body, and the function and clause that refuse it."""
+    order = promises()
+    told = sorted(edits, key=lambda edit: order.index(edit.promise))
+    bodies = [edit.name.split(".", 1)[1].replace("_", " ") for edit in told]
+    return [f"| `{edit.promise}` | {body} | `{edit.crate}::{edit.function}`: {edit.clause} |" for edit, body in zip(told, bodies)]
+
+
 def linked(source, target):
     """Copies a file; what is proved is linked if possible, since a check replaces such a file and changes none."""
     if source.endswith(".oantt"):
@@ -124,10 +150,10 @@ def linked(source, target):
     return shutil.copy2(source, target)
 
 
-def copy_crates(folder):
+def copy_crates(folder, crates):
     for name in ("crates.txt", "HANDLES"):
         shutil.copy(f"{TOP}/{name}", folder)
-    for crate in os.listdir(f"{TOP}/crates"):
+    for crate in below(crates):
         for part in PARTS:
             if os.path.isdir(f"{TOP}/crates/{crate}/{part}"):
                 shutil.copytree(f"{TOP}/crates/{crate}/{part}", f"{folder}/crates/{crate}/{part}", copy_function=linked)
@@ -146,10 +172,18 @@ def check(folder, crate, functions):
         return ran.returncode, told
 
 
+def goals_in(line):
+    """The goals of clauses that a line of a check says aren't proved."""
+    note, answer, search = (form.match(line) for form in (NOTE, ANSWER, SEARCH))
+    if answer:
+        return [] if TAKEN.search(answer[2]) else [answer[1]]
+    return [note[1]] if note else re.findall(r"`(returns[^`]*)`", search[1]) if search else []
+
+
 def clauses_in(told):
     """The clauses that a check didn't prove, in the order of its lines."""
-    goals = [goal for _, what, goal in REFUSED.findall(told) if what == ENSURES]
-    return list(dict.fromkeys(goal.partition("-clause-")[2] or "result" for goal in goals))
+    goals = [goal for line in told.splitlines() for goal in goals_in(line)]
+    return list(dict.fromkeys(goal.partition("clause-")[2] or "result" for goal in goals))
 
 
 def judge(edit, status, told):
@@ -158,7 +192,7 @@ def judge(edit, status, told):
     if status == 0:
         return False, "PROVED"
     if not clauses:
-        lines = [line for line in told.splitlines() if "error" in line or REFUSED.match(line)]
+        lines = [line for line in told.splitlines() if "error" in line or "not proved" in line]
         return False, "NOT REFUSED BY A CLAUSE: " + (lines or told.splitlines())[0][:200]
     if edit.clause not in clauses:
         return False, f"refused by {', '.join(clauses)}, and NOT BY {edit.clause}"
@@ -207,8 +241,7 @@ def main():
     names = [word for word in words if word != "--list"]
     edits = edits_of(names)
     if "--list" in words:
-        for edit in edits:
-            print(f"{edit.promise}: {edit.name}: {edit.function}: {edit.clause}")
+        print("\n".join(rows(edits)))
         return
     lacking = [] if names else untried(edits)
     for name in lacking:
@@ -216,7 +249,7 @@ def main():
     begun = time.monotonic()
     os.makedirs(f"{TOP}/.built", exist_ok=True)
     with tempfile.TemporaryDirectory(prefix="bodies-", dir=f"{TOP}/.built") as folder:
-        copy_crates(folder)
+        copy_crates(folder, {edit.crate for edit in edits})
         failed = try_all(folder, edits) + len(lacking)
     print(f"{len(edits)} wrong bodies, {failed} failed, in {time.monotonic() - begun:.0f} seconds")
     sys.exit(failed > 0)
