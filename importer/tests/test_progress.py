@@ -19,20 +19,23 @@ class Terminal(io.StringIO):
 @mock.patch.object(progress, "PACE", 0.01)
 @mock.patch.object(Part, "command", "tcpwit-record")
 class Parts(unittest.TestCase):
-    def shown(self, output, *words, seconds=0.2, **options):
-        """What a part of this length prints."""
+    def shown(self, output, *words, seconds=0.2, least=0, **options):
+        """What a part of this length prints. If it has printed fewer states then, it goes on, for half a minute at most."""
         with contextlib.redirect_stderr(output), Part(*words, **options):
             time.sleep(seconds)
+            latest = time.monotonic() + 30
+            while output.getvalue().count("\r\033[K") < least and time.monotonic() < latest:
+                time.sleep(0.01)
         return output.getvalue()
 
     def test_a_part_that_takes_long_is_printed_once(self):
         self.assertEqual(self.shown(io.StringIO(), "judging a\x1b.trace"), "tcpwit-record: judging a\\x1b.trace\n")
 
     def test_a_terminal_shows_the_time_or_the_share(self):
-        lines = self.shown(Terminal(), "judging run.trace").split("\r\033[K")
+        lines = self.shown(Terminal(), "judging run.trace", least=1).split("\r\033[K")
         self.assertEqual((lines[0], lines[1], lines[-1]), ("", "tcpwit-record: judging run.trace: 0 s", ""))
         done = iter(range(0, 1000, 10))
-        lines = self.shown(Terminal(), "reading host0.log", 80, lambda: next(done)).split("\r\033[K")
+        lines = self.shown(Terminal(), "reading host0.log", 80, lambda: next(done), least=10).split("\r\033[K")
         self.assertEqual(lines[1:3], ["tcpwit-record: reading host0.log: 0 %", "tcpwit-record: reading host0.log: 12 %"])
         self.assertEqual(lines[10], "tcpwit-record: reading host0.log: 100 %")
 
