@@ -23,12 +23,13 @@ use Rattle.spec_duties.specs.declared.sights.Touched.{Touched}
 use Rattle.spec_duties.specs.declared.views.View.{View}
 use Rattle.checker.specs.Again.{nowhere}
 use Rattle.kept_duties.specs.Counts.{builds_mere, count_before, event_for, sent_by}
+use Rattle.kept_duties.specs.Expiries.{runs_on, runs_since}
 use Rattle.kept_duties.specs.Places.{ArrivesAt, IsProcessed, SendsAt, built_before}
+use Rattle.kept_duties.specs.Probes.{probe_time, probes_after}
 use Rattle.kept_duties.specs.Repeats.{again_end, begins}
 use Rattle.kept_duties.specs.Resets.{SendsReset, awaits_reset}
 use Rattle.kept_duties.specs.Segments.{EndsBy, IsBuiltBefore, LeavesBy}
 use Rattle.kept_duties.specs.Soon.{Answers, IsIdle, SendsOldest}
-use Rattle.kept_duties.specs.Timing.{probe_time, probes_after, runs_on, runs_since}
 
 -- an empty acknowledgment, and three bytes
 abbrev ack : SegmentPlan

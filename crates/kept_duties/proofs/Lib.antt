@@ -13,6 +13,7 @@ pub mod Events
 pub mod Facts
 pub mod Drops
 pub mod Asking
-pub mod Timing
+pub mod Expiries
+pub mod Probing
 pub mod Resets
 pub mod Children

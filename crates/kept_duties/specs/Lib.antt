@@ -6,5 +6,6 @@ pub mod Soon
 pub mod Counts
 pub mod Drops
 pub mod Asking
-pub mod Timing
+pub mod Expiries
+pub mod Probes
 pub mod Resets

@@ -13,7 +13,8 @@ ghost use Rattle.kept_duties.specs.Counts.{AcknowledgmentsAreFew};
 ghost use Rattle.kept_duties.specs.Soon.{ReceiptsAreAnswered, ExpiriesAreFollowed, ProbesAreSent, WorkIsBegun};
 ghost use Rattle.kept_duties.specs.Drops.{DropsAreLawful, NextIsKept};
 ghost use Rattle.kept_duties.specs.Asking.{DropsAreAnswered};
-ghost use Rattle.kept_duties.specs.Timing.{ExpiriesAreInTime, ProbesAreInTime};
+ghost use Rattle.kept_duties.specs.Expiries.{ExpiriesAreInTime};
+ghost use Rattle.kept_duties.specs.Probes.{ProbesAreInTime};
 ghost use Rattle.kept_duties.specs.Resets.{AbortsAreReset, ChildrenAreReset};
 
 /// If a witness explains a trace, each segment that arrived was processed, dropped or answered with a reset, by the

@@ -15,7 +15,7 @@
 //! - `specs/Happens`: what happens at an endpoint
 //! - `specs/Soon`: by when acknowledgments, retransmissions, probes and waiting data are sent
 //! - `specs/Asking`: which dropped segments ask for an acknowledgment, and by when it is sent
-//! - `specs/Timing`: by when timers expire and closed windows are probed
+//! - `specs/Expiries`, `specs/Probes`: by when retransmission timers expire and closed windows are probed
 //! - `specs/Resets`: by when aborted connections, and children of closed listeners, are reset
 //! - `specs/Repeats`, `specs/Counts`: how often positions and mere acknowledgments are sent at most
 #![tactic(auto)]

@@ -1,6 +1,6 @@
 use Rattle.kept_duties.proofs.Runs.{run_of}
 use Rattle.kept_duties.proofs.Segments.{end_fine}
-use Rattle.kept_duties.proofs.Timing.{expiries_in_time}
+use Rattle.kept_duties.proofs.Expiries.{expiries_in_time}
 use Rattle.kept_duties.proofs.laws.expiries_are_in_time.Goals as goal
 
 pub returns : goal.returns

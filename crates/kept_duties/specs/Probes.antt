@@ -1,7 +1,7 @@
--- What a yes with a slack says of timers: by when an armed retransmission timer expires, and a closed window is probed
--- (RFC 6298, 5.1 to 5.3; RFC 9293, 3.8.6.1). Moments, times and slacks are in microseconds.
-use Rattle.std.specs.Prelude.{◌≡◌, ◌+◌, ◌*◌, ◌^◌, ◌<◌, ◌≤◌, ◌==◌, ℕ, zero, suc, nat_le, nat_lt, Bool, true, false}
-use Rattle.std.specs.Prelude.{not, ◌&&◌, ◌||◌, if◌then◌else◌, Option, None, Some, is_some}
+-- What a yes with a slack says of probes: by when a closed window is probed, and by when again (RFC 9293, 3.8.6.1).
+-- Moments, times and slacks are in microseconds.
+use Rattle.std.specs.Prelude.{◌≡◌, ◌+◌, ◌*◌, ◌^◌, ◌<◌, ◌==◌, ℕ, zero, suc, nat_le, nat_lt, Bool, true, false}
+use Rattle.std.specs.Prelude.{not, ◌&&◌, ◌||◌, if◌then◌else◌, Option, None, Some}
 use Rattle.std.specs.Option.{option_map_or}
 use Rattle.case_forms.specs.States.{is_closed}
 use Rattle.case_forms.specs.declared.steps.Witness.{Witness}
@@ -19,48 +19,6 @@ use Rattle.spec_duties.specs.declared.views.View.{View}
 use Rattle.kept_duties.specs.Counts.{event_for}
 use Rattle.kept_duties.specs.Happens.{Happens, act_at, seen_before, world_before}
 use Rattle.kept_duties.specs.Soon.{IsDoneUnless}
-
--- ---- the retransmission timer
-
--- how long the timer may run: before the first sample three timeouts, since more than a second is permitted (RFC 6298,
--- 2.1)
-abbrev pub run_time : View → ℕ
-run_time v = if is_some v.timers.srtt then v.timers.rto else 3 * v.timers.rto
-
--- the timer runs since this moment, with a timeout below a minute; the window is open, or nothing was acknowledged yet;
--- and the endpoint isn't CLOSED
-abbrev pub runs_since : ℕ → View → Bool
-runs_since since v =
-    not (is_closed v.state) && (nat_lt v.timers.rto longest_rto && (nat_lt 0 v.snd_wnd || v.snd_una == 0))
-    && option_map_or (λ m. m == since) v.timers.rto_armed false
-
--- the timer runs on as it did first: as long, and the window is open or closed as it was
-abbrev pub runs_on : ℕ → (first now : View) → Bool
-runs_on since first now =
-    runs_since since now && run_time now == run_time first
-    && (if nat_lt 0 first.snd_wnd then nat_lt 0 now.snd_wnd else now.snd_wnd == 0)
-
--- no step up to this place opened the offered window after this moment
-abbrev pub IsOpenedBy : Trace → Witness → (place by : ℕ) → EndpointId → Type 0
-IsOpenedBy t w place by me =
-    (earlier moment : ℕ) (event : Event) → earlier ≤ place → Happens t w earlier moment me event
-    → (seen_before t w earlier me).snd_wnd ≡ 0 → 0 < (seen_before t w (suc earlier) me).snd_wnd → moment ≤ by
-
--- the timer expires
-abbrev pub TimesOut : Event → (before after : View) → Type 0
-TimesOut event before after = event ≡ Expires Rto
-
--- a timer that runs after a step expires within the timeout (three timeouts before the first sample) and the slack,
--- counted from when it was armed and the window was opened last; unless it stops, is set anew or gets another time, the
--- window is closed or opened, the endpoint is CLOSED, or the witness ends
-abbrev pub ExpiriesAreInTime : Trace → Witness → (slack : ℕ) → Type 0
-ExpiriesAreInTime t w slack =
-    (place moment since from : ℕ) (me : EndpointId) (event : Event) → Happens t w place moment me event
-    → runs_since since (seen_before t w (suc place) me) ≡ true → since ≤ from → IsOpenedBy t w place from me
-    → IsDoneUnless t w place (from + run_time (seen_before t w (suc place) me) + slack) me TimesOut
-    (λ v. not (runs_on since (seen_before t w (suc place) me) v))
-
--- ---- probes
 
 -- the probes of a window that is closed while bytes wait or are outstanding: when it was probed last, or else closed,
 -- and how often it was probed since it was closed
