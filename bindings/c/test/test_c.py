@@ -61,7 +61,8 @@ class Library(unittest.TestCase):
         for name, line in list(expected().items())[::40]:
             with open(case(name), "rb") as file:
                 text = file.read()
-            cut = re.search(rb"^witness ", text, re.MULTILINE)
+            version = re.match(rb"trace (\d+)", text)
+            cut = version and re.search(rb"^witness " + version[1] + rb"\r?\n", text, re.MULTILINE)
             place = cut.start() if cut else len(text)
             for part, piece in (("trace", text[:place]), ("witness", text[place:])):
                 with open(f"{self.folder}/{part}", "wb") as file:
