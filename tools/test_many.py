@@ -112,13 +112,26 @@ class Many(unittest.TestCase):
             for end in ("\n", "\r\n"):
                 line, long = "a" * length + end, f"0 {length} line-too-long\n"
                 for before, place in (("", "trace 1"), (HEADER, "trace 7"), (EXPLAINED, "witness 8")):
-                    for after in ("", "x\n", "witness 1\n", line):
+                    for after in ("", "x\n", "witness 1\n", line, "ends\n" + line + " end\n"):
                         cases.append(before + line + after)
                         answers.append(f"bad {place} {long}")
-        text = "".join(case + "end\n" for case in cases) + HEADER + "a" * 300_000
+                # After an earlier fault, it doesn't matter.
+                cases += [SPOILT + line, EXPLAINED + "14 L x\n" + line, EXPLAINED]
+                answers += [BAD, "bad witness 8 5 6 number\n", YES]
+        text = "".join(case + "end\n" for case in cases)
+        for last, answer in (("a" * 300_000, "bad trace 7 0 300000"), ("end" * 50_000 + "\r", "bad trace 7 0 150001")):
+            for workers in WORKERS:
+                ended = subprocess.run(command(workers), input=(text + HEADER + last).encode(), stdout=subprocess.PIPE, timeout=PATIENCE)
+                self.assertEqual(ended.stdout.decode().splitlines(True), [*answers, answer + " line-too-long\n"])
+
+    def test_answers_to_long_lines_are_those_of_check(self):
+        lines = [b"a" * 140_003 + end for end in (b"\n", b"\r\n", b"\r\r\n", b"\0\n")] + [b"\r" * 200_000 + b"\n", b"witness 1 " * 20_000 + b"\n"]
+        befores = [b"", HEADER.encode(), HEADER.encode() + b"10 1 B listen\n", EXPLAINED.encode(), b"trace 5\n", b"x\n" * 3]
+        cases = [before + line + after for line in lines for before in befores for after in (b"", b"witness 1\n1 L 2\n")]
+        wanted = b"".join(subprocess.run([*TCPWIT, "check"], input=case, stdout=subprocess.PIPE).stdout for case in cases)
         for workers in WORKERS:
-            ended = subprocess.run(command(workers), input=text.encode(), stdout=subprocess.PIPE, timeout=PATIENCE)
-            self.assertEqual(ended.stdout.decode().splitlines(True), [*answers, "bad trace 7 0 300000 line-too-long\n"])
+            ended = subprocess.run(command(workers), input=b"".join(case + b"end\n" for case in cases), stdout=subprocess.PIPE, timeout=PATIENCE)
+            self.assertEqual(ended.stdout, wanted)
 
     def test_memory(self):
         count = 400
@@ -134,6 +147,26 @@ class Many(unittest.TestCase):
                 self.assertEqual(answers.read().decode(), (BAD + YES) * count)
             self.assertEqual(int(ended), REFUSED)
             # A process has 14 MB until it runs the program; a list doubles as it grows.
+            self.assertLess(int(kilobytes), 16_000 + 2100 * (workers + 2), workers)
+
+    def test_memory_of_long_lines(self):
+        # Neither the line nor the rest of its case is kept.
+        size, piece = 60_000_000, b"a" * 1_000_000
+        for workers in WORKERS:
+            words = [sys.executable, "-c", MEASURE, *command(workers)]
+            with subprocess.Popen(words, stdin=subprocess.PIPE, stdout=subprocess.PIPE, stderr=subprocess.PIPE) as program:
+                for before in (HEADER, EXPLAINED):
+                    program.stdin.write(before.encode())
+                    for end in (b"", b"\n"):
+                        for _ in range(size // len(piece)):
+                            program.stdin.write(piece + end)
+                        program.stdin.write(b"\n")
+                    program.stdin.write(b"end\n" + EXPLAINED.encode() + b"end\n")
+                program.stdin.close()
+                answers = program.stdout.read().decode()
+                ended, kilobytes = program.stderr.read().split()[-2:]
+            self.assertEqual(answers, f"bad trace 7 0 {size} line-too-long\n{YES}bad witness 8 0 {size} line-too-long\n{YES}")
+            self.assertEqual(int(ended), REFUSED)
             self.assertLess(int(kilobytes), 16_000 + 2100 * (workers + 2), workers)
 
     def test_read_that_fails(self):

@@ -6,8 +6,6 @@ use Rattle.std.proofs.KnownBytes.{Appends-trans}
 use Rattle.std.proofs.Math.Nat.{max-zero}
 use Rattle.std.proofs.Math.Logic.{∥∥₁_elim, ∥∥₁_map, ∥∥₁_prop}
 use Rattle.std.proofs.lemmas.List.{take_more}
-use Rattle.parallel_check.proofs.Slots.{gives_answer}
-use Rattle.checker.specs.Cases.{GivesCase, case_result}
 use Rattle.std.proofs.lemmas.Grind.{common_steps}
 use Rattle.verdict.specs.declared.report.Verdict.{Verdict}
 use Rattle.checker.specs.declared.case.CaseFault.{CaseFault}
@@ -85,10 +83,6 @@ pub all_told : (input : Option (List ℕ)) (n status : ℕ) (old new : Option (L
 all_told input n status old new none t = record { cases = t.cases; all = all_of input t.cases n t.many t.first none; told = t.told }
 
 -- ---- as far as there is such a list
-
-pub answer_at : (input : Option (List ℕ)) (n : ℕ) (text : List ℕ) (answer : Result Verdict CaseFault) → GivesCase answer (case_result text)
-    → ∥ IsCaseAt input n text ∥₁ → ∥ IsAnswerAt input n answer ∥₁
-answer_at input n text answer gives at = ∥∥₁_map at (λ a. (text, a, gives_answer text answer gives))
 
 pub one_told : (input : Option (List ℕ)) (n status more : ℕ) (answer : Result Verdict CaseFault) (old mid new : Option (List ℕ))
     → TellsAnswer answer more mid new → ∥ IsAnswerAt input n answer ∥₁ → ∥ TellsFirst input n status old mid ∥₁

@@ -3,14 +3,14 @@
 ghost use Rattle.std.specs.Prelude.{◌≡◌, ◌++◌, OnErr, OnOk, max};
 ghost use Rattle.std.specs.Option.{ForSome};
 ghost use Rattle.answer_lines.specs.Output.{line_of, status_of};
-ghost use Rattle.answer_stream.specs.Left.{IsCaseAt};
+ghost use Rattle.answer_stream.specs.Left.{IsHeldAt};
 ghost use Rattle.answer_stream.specs.Told.{Continues, Gathers};
 
+use crate::long::check_held;
 use crate::source::Source;
 use crate::stream::{Done, Stream};
 use answer_lines::{MEMORY, append_line, status_of};
 use answers::Gathered;
-use checker::check_case;
 use parallel_check::CaseResult;
 use std::alloc::{AllocError, Global};
 use std::io::BufRead;
@@ -27,9 +27,12 @@ const SMALL_TEXT: usize = 4096;
 #[derive(Drop)]
 pub(crate) struct TakenCase<S: Stream> {
     number: Option<u64>,
+    // All of it, or the lines before one that is too long.
     text: Vec<u8>,
+    // The length of that line.
+    long: Option<u64>,
     of: PhantomData<S>,
-    ghost at: { ForSome number (λ n. ∥ IsCaseAt S.input n text.items ∥₁) },
+    ghost at: { ForSome number (λ n. ∥ IsHeldAt S.input n long text.items ∥₁) },
 }
 
 impl<S: Stream> TakenCase<S> {
@@ -38,6 +41,7 @@ impl<S: Stream> TakenCase<S> {
         TakenCase {
             number: None,
             text: Vec::new(alloc),
+            long: None,
             of: PhantomData,
         }
     }
@@ -45,13 +49,18 @@ impl<S: Stream> TakenCase<S> {
     // Takes the next case. Returns whether there is one.
     fn take<B: BufRead>(&mut self, source: &mut Source<'_, B, S>) -> bool {
         self.number = None;
-        self.number = source.take(&mut self.text);
-        self.number.is_some()
+        let Some((number, long)) = source.take(&mut self.text) else {
+            return false;
+        };
+        self.long = long;
+        self.number = Some(number);
+        true
     }
 
     // Takes the next case if it is at hand. Returns whether it was.
     fn take_at_hand<B: BufRead>(&mut self, source: &mut Source<'_, B, S>) -> bool {
         self.number = None;
+        self.long = None;
         self.number = source.take_at_hand(&mut self.text);
         self.number.is_some()
     }
@@ -61,7 +70,7 @@ impl<S: Stream> TakenCase<S> {
         let number = self.number?;
         Some(Done {
             number,
-            answer: check_case(alloc, self.text.as_slice()),
+            answer: check_held(alloc, self.text.as_slice(), self.long),
             of: PhantomData,
         })
     }

@@ -16,13 +16,14 @@
 //!
 //! - `stream`: which input and which writer the threads share
 //! - `source`: the input, which one worker at a time reads; `state`: whether it has a further case
-//! - `batch`: cases that are taken at once, and the lines of their answers
+//! - `batch`: cases that are taken at once, and the lines of their answers; `long`: a line that isn't held
 //! - `printer`: the answers, which one worker at a time prints
 //! - `work`: the workers, and the call that starts them
 //! - `run`: the whole run, with its status
 #![tactic(auto)]
 
 mod batch;
+mod long;
 mod printer;
 mod run;
 mod source;

@@ -1,10 +1,10 @@
 //! The input, which one worker at a time reads.
 
-ghost use Rattle.std.specs.Prelude.{◌≡◌, ◌≢◌, ◌<◌, ◌^◌, IfSome};
+ghost use Rattle.std.specs.Prelude.{◌≡◌, ◌≢◌, ◌<◌, ◌^◌, IfSome, None};
 ghost use Rattle.counted.specs.Counting.{left_of, failures_of};
 ghost use Rattle.answer_stream.specs.declared.state.State.{State};
 ghost use Rattle.counted.specs.declared.ends.ReadFault.{ReadFault};
-ghost use Rattle.answer_stream.specs.Left.{AreLeftIn, IsCaseAt};
+ghost use Rattle.answer_stream.specs.Left.{AreLeftIn, IsHeldAt};
 
 use crate::state::State;
 use crate::stream::{Lent, Stream};
@@ -47,9 +47,10 @@ impl<'a, B: BufRead, S: Stream> Source<'a, B, S> {
         }
     }
 
-    /// Reads the next case into `text`, and returns its number. `None`: no further case can be read.
-    pub fn take(&mut self, text: &mut Vec<u8>) -> Option<u64>
-        ensures { IfSome result (λ number. ∥ IsCaseAt S.input number text.new.items ∥₁) }
+    /// Reads the next case into `text`, and returns its number. If one of its lines is too long, `text` has the lines
+    /// before that one, whose length is returned, too. `None`: no further case can be read.
+    pub fn take(&mut self, text: &mut Vec<u8>) -> Option<(u64, Option<u64>)>
+        ensures { IfSome result (λ taken. ∥ IsHeldAt S.input taken.0 taken.1 text.new.items ∥₁) }
     {
         if self.state != State::Open {
             return None;
@@ -62,12 +63,21 @@ impl<'a, B: BufRead, S: Stream> Source<'a, B, S> {
         match next_case(self.at, &mut self.kept, text) {
             Ok(Next::Case) => {
                 self.taken = taken;
-                Some(number)
+                Some((number, None))
+            }
+            Ok(Next::LongCase(size)) => {
+                self.taken = taken;
+                Some((number, Some(size)))
             }
             Ok(Next::Last) => {
                 self.taken = taken;
                 self.state = State::Ended;
-                Some(number)
+                Some((number, None))
+            }
+            Ok(Next::LongLast(size)) => {
+                self.taken = taken;
+                self.state = State::Ended;
+                Some((number, Some(size)))
             }
             Ok(Next::Nothing) => {
                 self.state = State::Ended;
@@ -83,7 +93,7 @@ impl<'a, B: BufRead, S: Stream> Source<'a, B, S> {
     /// Reads the next case into `text`, if all of it is at hand, and returns its number. `None`: it isn't, or no
     /// further case can be read.
     pub fn take_at_hand(&mut self, text: &mut Vec<u8>) -> Option<u64>
-        ensures { IfSome result (λ number. ∥ IsCaseAt S.input number text.new.items ∥₁) }
+        ensures { IfSome result (λ number. ∥ IsHeldAt S.input number None text.new.items ∥₁) }
     {
         if self.state != State::Open {
             return None;

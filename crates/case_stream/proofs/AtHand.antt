@@ -48,7 +48,7 @@ word_ends raw line = elim line [
   | inr return ↦ ap ends_case return
 ]
 
-feed_raw : (raw : List ℕ) → EndsAtFeed raw → IsRaw raw
+pub feed_raw : (raw : List ℕ) → EndsAtFeed raw → IsRaw raw
 feed_raw raw ended = (ended.0, ended.1, (10 ∷ [], inl refl, ended.2))
 
 -- a text that is the word, or the word and CR

@@ -46,7 +46,7 @@ case_ended (Some old) (Some was) None text raw so_far takes ends = absurd takes
 case_ended (Some old) (Some was) (Some new) text raw so_far takes ends =
     so_far ∙ ap (cases_from text) takes ∙ rw ends refl
 
-nonempty_rest : (xs : List ℕ) → 0 < length xs → rest_case xs ≡ xs ∷ []
+pub nonempty_rest : (xs : List ℕ) → 0 < length xs → rest_case xs ≡ xs ∷ []
 nonempty_rest [] some = absurd (omega (some, arith))
 nonempty_rest (x ∷ xs) some = refl
 

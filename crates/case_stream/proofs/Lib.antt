@@ -1,3 +1,4 @@
 mod AtHand
 mod CaseSoFar
 mod CutBackLaw
+mod LongCase

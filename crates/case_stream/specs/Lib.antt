@@ -1,3 +1,4 @@
 pub mod Cases
 pub mod CutBack
 pub mod Left
+pub mod Long

@@ -10,18 +10,21 @@
 //!
 //! A line `end` ends a case; what follows the last one is one more case, unless it is empty. `specs/Cases` defines the
 //! cases of a text. Nothing after the line `end` is read before the case is returned, except what the reader buffers.
+//! A line that is too long for any text isn't kept, nor what follows it in its case: `specs/Long` says what is.
 //! `next_case_at_hand` takes a case only if the reader has all of it at hand, so it never waits for input; no clause
 //! says so. Lines are taken from the reader by `counted::Counted::append_lines`, all that are at hand at once.
 #![tactic(auto)]
 
 mod laws;
 
-ghost use Rattle.std.specs.Prelude.{◌≡◌, ◌^◌, [], true, false, OnOk, Ok, Err};
+ghost use Rattle.std.specs.Prelude.{◌≡◌, ◌^◌, ◌+◌, ◌<◌, ℕ, length, [], true, false, OnOk, Ok, Err};
 ghost use Rattle.std.specs.Io.KnownBytes.{Consumes};
 ghost use Rattle.counted.specs.Counting.{left_of, failures_of, one_more};
+ghost use Rattle.bstr.specs.Text.{without_terminator};
 ghost use Rattle.line_fields.specs.Lines.{is_ended};
 ghost use Rattle.case_stream.specs.Cases.{ends_case};
 ghost use Rattle.case_stream.specs.Left.{HasNoCase, TakesCase, TakesLast};
+ghost use Rattle.case_stream.specs.Long.{SkipsCase, SkipsLast, TakesLong, TakesLongLast};
 ghost use Rattle.case_stream.specs.declared.Next.{Next};
 ghost use Rattle.counted.specs.declared.ends.ReadFault.{ReadFault};
 
@@ -31,8 +34,8 @@ use line_fields::without_line_end;
 use std::alloc::Global;
 use std::io::BufRead;
 
-// A longer line isn't kept.
-const LONGEST_LINE: usize = 0xffff_ffff;
+// A longer line isn't kept: with its end, it has more bytes than any line of a text may have.
+const LONGEST_LINE: usize = 140_002;
 
 // Whether a line, given with its end, ends a case.
 fn ends_case(raw: &[u8]) -> bool
@@ -57,6 +60,11 @@ pub enum Next {
     Case,
     /// The last case, which the end of the input ends.
     Last,
+    /// A case with a line that is too long for any text, with the length of that line without its end. Only the lines
+    /// before it were kept.
+    LongCase(u64),
+    /// The same for the last case.
+    LongLast(u64),
     /// The input has no further case.
     Nothing,
 }
@@ -80,8 +88,36 @@ impl Kept {
     }
 }
 
-/// Reads the next case into `text`, without the line that ends it. A line of 2^32 bytes or more counts as out of
-/// memory.
+// How many bytes a line has without its end, of which the last are given, and how many came before those.
+fn line_length(before: u64, last: &[u8]) -> u64
+    requires { before + length last.now < 2 ^ 64 }
+    ensures { result ≡ before + length (without_terminator last.now) }
+{
+    let (text, _) = without_line_end(last);
+    before + text.len() as u64
+}
+
+// Reads the rest of a case, and keeps nothing of it. Returns whether a line ended the case.
+fn skip_case<B: BufRead>(r: &mut Counted<B>, line: &mut Vec<u8>) -> Result<bool, ReadFault>
+    ensures case { result ≡ Ok true → SkipsCase (left_of B.remaining r.old) (left_of B.remaining r.new) }
+    ensures last { result ≡ Ok false → SkipsLast (left_of B.remaining r.old) }
+    ensures ok { OnOk result (failures_of r.new ≡ failures_of r.old) }
+    ensures read { result ≡ Err ReadFault.Read → failures_of r.new ≡ one_more (failures_of r.old) }
+    ensures memory { result ≡ Err ReadFault.OutOfMemory → failures_of r.new ≡ failures_of r.old }
+{
+    for _ in 0..u64::MAX {
+        let Some(before) = r.read_line(LONGEST_LINE, line)? else {
+            return Ok(false);
+        };
+        if before == 0 && ends_case(line.as_slice()) {
+            return Ok(true);
+        }
+    }
+    Err(ReadFault::OutOfMemory)
+}
+
+/// Reads the next case into `text`, without the line that ends it. If one of its lines is too long for any text, only
+/// the lines before that one are kept.
 pub fn next_case<B: BufRead>(
     r: &mut Counted<B>,
     kept: &mut Kept,
@@ -90,6 +126,10 @@ pub fn next_case<B: BufRead>(
     ensures case { result ≡ Ok Next.Case → TakesCase (left_of B.remaining r.old) (left_of B.remaining r.new)
         text.new.items }
     ensures last { result ≡ Ok Next.Last → TakesLast (left_of B.remaining r.old) text.new.items }
+    ensures long { (size : ℕ) → result ≡ Ok (Next.LongCase size) → TakesLong (left_of B.remaining r.old)
+        (left_of B.remaining r.new) size text.new.items }
+    ensures long_last { (size : ℕ) → result ≡ Ok (Next.LongLast size) →
+        TakesLongLast (left_of B.remaining r.old) size text.new.items }
     ensures nothing { result ≡ Ok Next.Nothing → HasNoCase (left_of B.remaining r.old) }
     ensures ok { OnOk result (failures_of r.new ≡ failures_of r.old) }
     ensures read { result ≡ Err ReadFault.Read → failures_of r.new ≡ one_more (failures_of r.old) }
@@ -113,7 +153,13 @@ pub fn next_case<B: BufRead>(
             None if text.is_empty() => return Ok(Next::Nothing),
             None => return Ok(Next::Last),
             Some(0) => {}
-            Some(_) => return Err(ReadFault::OutOfMemory),
+            Some(before) => {
+                let length = line_length(before, kept.line.as_slice());
+                return match skip_case(r, &mut kept.line)? {
+                    true => Ok(Next::LongCase(length)),
+                    false => Ok(Next::LongLast(length)),
+                };
+            }
         }
         if ends_case(kept.line.as_slice()) {
             return Ok(Next::Case);

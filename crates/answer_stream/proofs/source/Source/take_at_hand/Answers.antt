@@ -1,5 +1,6 @@
 use Rattle.std.proofs.Common.{rules, ◌≡◌, ◌+◌}
 use Rattle.answer_stream.specs.declared.state.State.TheVariants.{Open}
+use Rattle.answer_stream.proofs.Held.{all_held}
 use Rattle.answer_stream.proofs.Taking.{after_case, after_nothing, at_case}
 use Rattle.answer_stream.proofs.source.Source.take_at_hand.Goals as goal
 
@@ -17,4 +18,4 @@ invariant_of-self-in-Ok-false-clause-left g c =
 pub returns-in-Ok-true : goal.returns-in-Ok-true
 returns-in-Ok-true g c =
     let is_open : c.args.self.now.state ≡ Open = search rules in
-    at_case _ _ _ _ _ _ is_open (c.next_case_at_hand.ensures.case (search rules)) c.args.self.now.left
+    all_held _ _ _ (at_case _ _ _ _ _ _ is_open (c.next_case_at_hand.ensures.case (search rules)) c.args.self.now.left)
