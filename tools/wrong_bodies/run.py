@@ -181,8 +181,12 @@ def goals_in(line):
 
 
 def clauses_in(told):
-    """The clauses that a check didn't prove, in the order of its lines."""
-    goals = [goal for line in told.splitlines() for goal in goals_in(line)]
+    """The clauses that a check didn't prove, in the order of its lines.
+
+    In a proof file, that may be a true clause whose proof doesn't fit the edit, so each edit names its clause.
+    """
+    lines = re.sub(r"\n  +", " ", told).splitlines()
+    goals = [goal for line in lines for goal in goals_in(line)]
     return list(dict.fromkeys(goal.partition("clause-")[2] or "result" for goal in goals))
 
 
