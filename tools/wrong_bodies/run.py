@@ -26,7 +26,7 @@ import time
 HERE = os.path.dirname(os.path.abspath(__file__))
 TOP = os.path.dirname(os.path.dirname(HERE))
 PAGE = f"{TOP}/docs/guarantees.md"
-PARTS = ("src", "specs", "proofs", "out")
+PARTS = ("src", "specs", "proofs")
 KEYS = ("promise", "function", "clause", "file", "old", "new")
 # What a check says of a goal that it doesn't prove: in a note, of a proof file, or in the line of a function whose proof it looked for.
 NOTE = re.compile(r"note: \S+?:\d+:\d+: it is not proved that what the function ensures holds when it returns \(`([^`]*)`\)")
@@ -151,10 +151,12 @@ def linked(source, target):
 
 
 def copy_crates(folder, crates):
+    """Copies the repository's crates, and what was proved of these and of those below them."""
     for name in ("crates.txt", "HANDLES"):
         shutil.copy(f"{TOP}/{name}", folder)
-    for crate in below(crates):
-        for part in PARTS:
+    proved = below(crates)
+    for crate in uses():
+        for part in (*PARTS, "out") if crate in proved else PARTS:
             if os.path.isdir(f"{TOP}/crates/{crate}/{part}"):
                 shutil.copytree(f"{TOP}/crates/{crate}/{part}", f"{folder}/crates/{crate}/{part}", copy_function=linked)
 
