@@ -343,7 +343,7 @@ memory pressure",
             ..PLAIN
         },
         Rule::AckLate => &Meaning {
-            refused: "an acknowledgment is more than half a second late",
+            refused: "no acknowledgment is sent within half a second and the slack",
             usual: "the stack delays acknowledgments by more than half a second, or doesn't acknowledge this segment",
             captured: "the capture lost the acknowledgment",
             rfc: "9293, 3.8.6.3, 3.10.7.4; 5681, 4.2",
