@@ -14,7 +14,6 @@ TOP = os.path.dirname(os.path.dirname(os.path.abspath(__file__)))
 LEFT_OUT = {
     "sudo ": "needs root, and namespaces, the network or a package",
     "(cd crates/": "proves",
-    "tools/wrong_bodies/run.py": "proves",
     "packaging/build --out": "packs proved programs",
     "bindings/c/build ": "takes minutes; bindings/test runs this and the programs that the page shows",
     "cc judge.c ": "needs the library",
