@@ -14,19 +14,28 @@ from tcpwit_import.judge.cli import main
 
 from .wire import ACK, FIN, RST, SECOND, SYN, Talk, ethernet, ip_packet, pcap, segment
 
-# Answers `judge` by what the test chose, saves the trace, and writes a case and a picture if requested.
+# Answers `judge` by what the test chose, saves the trace, and makes a case and a picture if requested.
 SCRIPT = """#!/bin/sh
 [ "$*" = judge ] && exit 2
 echo "$@" >> {folder}/words
 if [ "$1" = draw ]; then echo '<svg/>'; exit 0; fi
 if [ "$1" = explain ]; then echo 'explained'; exit 1; fi
 cat > {folder}/given
-for word; do [ "$before" = --case ] && cat {folder}/case > "$word"; before=$word; done
+for word; do [ "$before" = --case ] && echo 'a case' > "$word"; before=$word; done
 cat {folder}/answer
 exit {status}
 """
-YES = "full      yes 57 88\nThe run follows RFC 9293.\n"
-NO = "full      no 9 8 state\nrecovery  no 9 8 state\nnone      no 7 8 ack-late\nUnder none: line 8: it is late.\n"
+YES = {"levels": [{"level": "full", "answer": "yes", "lines": 57, "hidden": 88}], "said": ["full      yes 57 88", "The run follows RFC 9293."]}
+
+
+def no(rule="ack-late", **input_line):
+    """An answer whose last level is a no, by this rule and perhaps with the line of the trace that it refuses."""
+    verdict = {"answer": "no", "witness_line": 7, "trace_line": 8, **input_line, "rule": rule}
+    levels = [{"level": level, **verdict, "sentence": f"line 8: {level} is late."} for level in ("full", "none")]
+    return {"levels": levels, "said": [f"none      no 7 8 {rule}", "Under none: line 8: none is late."]}
+
+
+NO = no()
 INFERRED = "Calls were inferred: their answers aren't judged.\nNor is how soon a host sends what its program gave it (rule start-late).\n"
 
 
@@ -55,12 +64,10 @@ class WithCaptures(unittest.TestCase):
         self.talk.send(0, FIN | ACK)
         self.talk.send(1)
 
-    def lab(self, answer=YES, status=0, case="a case\n"):
-        """Writes a program with this answer and this case. Returns the options that name it."""
-        with open(f"{self.folder}/case", "w", encoding="ascii") as file:
-            file.write(case)
+    def lab(self, answer=YES, status=0):
+        """Writes a program with this answer, an object or a line. Returns the options that name it."""
         with open(f"{self.folder}/answer", "w", encoding="ascii") as file:
-            file.write(answer)
+            file.write(answer if isinstance(answer, str) else json.dumps(answer))
         with open(f"{self.folder}/lab", "w", encoding="ascii") as file:
             file.write(SCRIPT.format(folder=self.folder, status=status))
         os.chmod(f"{self.folder}/lab", 0o755)
@@ -91,28 +98,26 @@ class Lines(WithCaptures):
         status, out, error = run(*self.files(), *self.lab())
         self.assertEqual((status, error), (0, ""))
         self.assertEqual(out, f"10.9.0.1:4000 -> 10.9.0.2:80   full      yes 57 88\n1 connection: 1 yes, 0 no. {INFERRED}")
-        self.assertRegex(self.text("words"), r"^judge --least full --case /dev/fd/\d+\n$")
+        self.assertEqual(self.text("words"), "judge --json --least full --case /dev/null\n")
         self.assertIn("hosts 2\n", self.text("given"))
 
     def test_a_no(self):
         status, out, _ = run(*self.files(), *self.lab(NO, 1))
         self.assertEqual(status, 1)
-        self.assertEqual(out.splitlines()[0], "10.9.0.1:4000 -> 10.9.0.2:80   none      no 7 8 ack-late   line 8: it is late.")
+        self.assertEqual(out.splitlines()[0], "10.9.0.1:4000 -> 10.9.0.2:80   none      no 7 8 ack-late   line 8: none is late.")
         self.assertIn("1 connection: 0 yes, 1 no. ", out)
 
     def test_the_packet_of_a_no(self):
-        for line, place in ((13, "   (FOLDER/c0.pcap, packet 1)"), (12, ""), (10, ""), (999, "")):
-            _, out, _ = run(*self.files(), *self.lab(NO.replace("line 8:", f"line {line}:"), 1))
-            self.assertEqual(out.splitlines()[0].replace(self.folder, "FOLDER").split("ack-late")[1], f"   line {line}: it is late." + place)
-        # The case has two more lines before that of the packet.
-        lab = self.lab(NO.replace("line 8:", "line 15:"), 1, "x\n5 94 T 0 1 2 rto\n6 11 B status 0\n7 94 T 0 1 2 rto\n" + "x\n" * 20 + "7 94 T 0 1 2 rto\n")
+        for line, place in ((13, "   (FOLDER/c0.pcap, packet 1)"), (12, ""), (10, ""), (999, ""), (None, "")):
+            _, out, _ = run(*self.files(), *self.lab(no(**{} if line is None else {"input_line": line}), 1))
+            self.assertEqual(out.splitlines()[0].replace(self.folder, "FOLDER").split("ack-late")[1], "   line 8: none is late." + place)
         for words in ([], ["--report", f"{self.folder}/kept"]):
-            _, out, _ = run(*self.files(), *lab, "--json", *words)
+            _, out, _ = run(*self.files(), *self.lab(no(input_line=13), 1), "--json", *words)
             self.assertEqual((os.path.basename(json.loads(out)["capture"]), json.loads(out)["packet"]), ("c0.pcap", 1))
 
     def test_options_of_judge(self):
         run(*self.files(), *self.lab(), "--level", "none", "--slack", "any", "--budget", "7")
-        self.assertIn("judge --least none --slack any --budget 7 --case ", self.text("words"))
+        self.assertIn("judge --json --least none --slack any --budget 7 --case ", self.text("words"))
         self.assertIn("\nslack any\n", self.text("given"))
         run(*self.files(), *self.lab(), "--minrto", "1000000", "--initial", "5681", "--grain", "1", "--msl", "2")
         self.assertIn("\nmsl 2\ngrain 1\nminrto 1000000\nextra 65535\ninitial 5681\n", self.text("given"))
@@ -191,7 +196,7 @@ class Lines(WithCaptures):
         _, out, _ = run(*self.files(), *self.lab(NO, 1), "--json")
         self.assertEqual(json.loads(out), {
             "client": "10.9.0.1:4000", "server": "10.9.0.2:80", "begun": 100.0, "segments": 14, "judged": True, "hosts": 2, "level": "none", "answer": "no",
-            "status": 1, "witness_line": 7, "trace_line": 8, "rule": "ack-late", "sentence": "line 8: it is late.", "said": NO.splitlines()})
+            "status": 1, "witness_line": 7, "trace_line": 8, "rule": "ack-late", "sentence": "line 8: none is late.", "said": NO["said"]})
         _, out, _ = run(*self.files(), *self.lab(), "--json")
         self.assertEqual((json.loads(out)["lines"], json.loads(out)["steps"]), (57, 88))
 
@@ -201,24 +206,25 @@ class Lines(WithCaptures):
         names = [os.path.basename(name) for name in json.loads(out)["files"]]
         self.assertEqual(names, [f"1-10.9.0.1_4000-10.9.0.2_80.{end}" for end in ("trace", "case", "svg", "txt")])
         self.assertEqual(sorted(os.listdir(report)), sorted(names))
-        self.assertEqual(self.text("kept/" + names[3]), YES + "\nexplained\n")
+        self.assertEqual(self.text("kept/" + names[3]), "\n".join(YES["said"]) + "\n\nexplained\n")
         self.assertEqual(self.fails(*self.files(), *self.lab(), "--report", report), f"tcpwit-judge: {report} isn't empty")
 
     def test_rules_that_inferred_calls_leave_out(self):
         # `judge` prints what its level judges; rule 48, start-late, needs the real calls.
-        said = "full      yes 57 88\nNo duty was late{} (rules {}).\n"
+        said = "No duty was late{} (rules {})."
         for time, rules, judged in (("", "40 to 52", "40 to 47 and 49 to 52"), (" by more than 1 second", "40 to 50 and 52", "40 to 47, 49, 50 and 52"),
                                     ("", "40 to 49 and 52", "40 to 47, 49 and 52")):
             report = f"{self.folder}/{rules}"
-            _, out, _ = run(*self.files(), *self.lab(said.format(time, rules)), "--report", report, "--json")
+            _, out, _ = run(*self.files(), *self.lab(YES | {"said": [said.format(time, rules)]}), "--report", report, "--json")
             found = json.loads(out)
-            self.assertEqual(found["said"], said.format(time, judged).splitlines())
-            self.assertEqual(self.text(os.path.relpath(found["files"][3], self.folder)), said.format(time, judged) + "\nexplained\n")
+            self.assertEqual(found["said"], [said.format(time, judged)])
+            self.assertEqual(self.text(os.path.relpath(found["files"][3], self.folder)), said.format(time, judged) + "\n\nexplained\n")
 
     def test_a_fault_of_the_lab(self):
-        status, out, _ = run(*self.files(), *self.lab("bad trace 3 number\n", 2))
-        self.assertEqual(status, 2)
-        self.assertIn("not judged: bad trace 3 number", out)
+        for answer in ("bad usage\n", {"status": 2, "answer": "too many steps", "said": ["too many steps"]}):
+            status, out, _ = run(*self.files(), *self.lab(answer, 2))
+            self.assertEqual(status, 2)
+            self.assertIn("not judged: " + (answer.strip() if isinstance(answer, str) else answer["answer"]), out)
 
 
 class Hosts(WithCaptures):
@@ -350,15 +356,15 @@ class Faults(WithCaptures):
         for number in range(4):
             self.talk.send(0, payload=b"again")
             self.talk.next[0] -= 5
-        late = NO.replace("ack-late", "expiry-late")
+        late = no("expiry-late")
         run(*self.files(hosts=(0,)), *self.lab(late, 1), "--host", "client")
         # With that, it isn't a yes either, so the first verdict is found again.
-        self.assertEqual(self.text("words").count("judge --least"), 3)
+        self.assertEqual(self.text("words").count("judge --json"), 3)
         self.assertNotIn("giveup", self.text("given"))
         for answer in (NO, YES):
             os.remove(f"{self.folder}/words")
             run(*self.files(hosts=(0,)), *self.lab(answer, 1), "--host", "client")
-            self.assertEqual(self.text("words").count("judge --least"), 1)
+            self.assertEqual(self.text("words").count("judge --json"), 1)
 
     def test_a_bug_concerns_one_connection(self):
         with mock.patch("tcpwit_import.judge.one.Trace", side_effect=ValueError("x")):

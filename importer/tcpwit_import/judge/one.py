@@ -1,8 +1,7 @@
 """Judges one connection: reads its packets, infers its calls, and runs `tcpwit_lab judge` on the trace."""
+import json
 import os
-import re
 import subprocess
-from concurrent.futures import ThreadPoolExecutor
 from dataclasses import dataclass, field
 from typing import Any
 
@@ -17,29 +16,24 @@ from .conversion import Trace
 from .hosts import Undecided
 from .silence import LATE
 
-ROW = re.compile(r"^(full|recovery|none) +((yes|no) .*)$")
-LINE = re.compile(r"line (\d+)\b")
-# A timeout that the search may have added.
-TIMEOUT = re.compile(rb"^\d+ \d+ T (?!.* giveup)", re.M)
-# How many bytes of a case are searched at once.
-PIECE = 1 << 20
-# The rules by which `judge` says that no duty was late, each time with those that judge inferred calls: all but 48, start-late.
-RULES = {b"(rules 40 to 52)": b"(rules 40 to 47 and 49 to 52)",
-         b"(rules 40 to 50 and 52)": b"(rules 40 to 47, 49, 50 and 52)",
-         b"(rules 40 to 49 and 52)": b"(rules 40 to 47, 49 and 52)"}
+# What the line of a verdict has after its first word.
+NUMBERS = {"yes": ("lines", "hidden"), "no": ("witness_line", "trace_line", "rule")}
+# The rules by which `judge` says that no duty was late, each time with those that judge inferred calls: all but 48,
+# start-late.
+RULES = {"(rules 40 to 52)": "(rules 40 to 47 and 49 to 52)",
+         "(rules 40 to 50 and 52)": "(rules 40 to 47, 49, 50 and 52)",
+         "(rules 40 to 49 and 52)": "(rules 40 to 47, 49 and 52)"}
 
 
 @dataclass
 class Result:
-    """What was found out about a connection: `answer` is that of `judge` at the last level tried, with `sentence` after a no; without an answer,
-    `reason` says why the connection wasn't judged."""
+    """What was found out about a connection: `answer` has the members of `judge --json` for the last level tried; if
+    it's empty, `reason` says why the connection wasn't judged."""
     client: str
     server: str
     begun: int
     segments: int
-    level: str = ""
-    answer: str = ""
-    sentence: str = ""
+    answer: dict = field(default_factory=dict)
     reason: str = ""
     hosts: int = 0
     status: int = 0
@@ -56,18 +50,24 @@ class Result:
         return f"{self.client} -> {self.server}"
 
     @property
+    def verdict(self):
+        """`yes` or `no`, or None without an answer."""
+        return self.answer.get("answer")
+
+    @property
     def rule(self):
         """The rule of a no."""
-        words = self.answer.split()
-        return words[3] if words[:1] == ["no"] else None
+        return self.answer.get("rule")
 
     @property
     def line(self):
         """Its verdict, or why it has none."""
         if not self.answer:
             return f"not judged: {self.reason}"
-        said = [f"{self.level:<10}{self.answer}", self.sentence, f"({self.packet.place})" if self.packet else "", f"(its first {counted(self.segments, 'segment')})" if self.is_part else ""]
-        return "   ".join(filter(None, said))
+        row = f"{self.answer['level']:<10}{self.verdict} " + " ".join(str(self.answer[name]) for name in NUMBERS[self.verdict])
+        packet = f"({self.packet.place})" if self.packet else ""
+        part = f"(its first {counted(self.segments, 'segment')})" if self.is_part else ""
+        return "   ".join(filter(None, (row, self.answer.get("sentence"), packet, part)))
 
 
 class Judge:
@@ -131,12 +131,11 @@ class Judge:
     def verdict(self, number, trace, found):
         """Judges a trace."""
         if self.options.report:
-            timeouts = self.report(os.path.join(self.options.report, file_name(number, found)), trace.lines(), found)
+            self.report(os.path.join(self.options.report, file_name(number, found)), trace.lines(), found)
         else:
-            timeouts = self.run(trace.lines(), found)
-        if line := LINE.match(found.sentence):
-            # The case has a line for each timeout that the search added.
-            found.packet = trace.packet(int(line[1]) - sum(timeout < int(line[1]) for timeout in timeouts))
+            self.run(trace.lines(), found)
+        line = found.answer.get("input_line")
+        found.packet = None if line is None else trace.packet(line)
 
     def refuse_lost(self, connection):
         """Refuses a connection of which a capture lost packets, unless the user accepts that."""
@@ -149,23 +148,19 @@ class Judge:
     def words(self):
         """The options of `judge`."""
         options = self.options
-        words = ["judge", "--least", options.level]
+        words = ["judge", "--json", "--least", options.level]
         words += ["--slack", str(options.slack)] if options.slack is not None else []
         return words + (["--budget", str(options.budget)] if options.budget is not None else [])
 
     def run(self, lines, found):
-        """Judges a trace that isn't kept. Returns the numbers of the case's lines of timeouts."""
-        reader, writer = os.pipe()
+        """Judges a trace that isn't kept."""
+        # With a file for the case, `judge` also says which lines of the trace it has.
+        words = [self.program, *self.words(), "--case", os.devnull]
         try:
-            process = subprocess.Popen([self.program, *self.words(), "--case", f"/dev/fd/{writer}"], stdin=subprocess.PIPE, stdout=subprocess.PIPE,
-                                       stderr=subprocess.PIPE, pass_fds=[writer])
+            process = subprocess.Popen(words, stdin=subprocess.PIPE, stdout=subprocess.PIPE, stderr=subprocess.PIPE)
         except OSError as error:
-            os.close(reader)
             raise Problem(f"{self.program}: {error.strerror}", judging.NAME_IT) from error
-        finally:
-            os.close(writer)
-        with ThreadPoolExecutor(1) as thread, process:
-            timeouts = thread.submit(timeouts_in, open(reader, "rb"))
+        with process:
             try:
                 process.stdin.writelines(map(str.encode, lines))
             except BrokenPipeError:
@@ -176,53 +171,45 @@ class Judge:
                 raise
             out, error = process.communicate()
         read(found, out, error, process.returncode)
-        return timeouts.result()
 
     def report(self, trace, lines, found):
-        """Judges a trace that is kept, with its case, its picture and the explanation. Returns the numbers of the case's lines of timeouts."""
+        """Judges a trace that is kept, with its case, its picture and the explanation."""
         write_file(trace, map(str.encode, lines))
         case = judging.case_of(trace)
-        done = judging.on_file([self.program, *self.words(), "--case", "./" + os.path.basename(case)], trace, os.path.dirname(trace) or ".")
+        words = [self.program, *self.words(), "--case", "./" + os.path.basename(case)]
+        done = judging.on_file(words, trace, os.path.dirname(trace) or ".")
         found.files = [trace]
         read(found, done.stdout, done.stderr, done.returncode)
         judging.draw(self.program, trace)
         explained = judging.on_file([self.program, "explain"], case)
-        write_file(text_of(trace), [inferred(done.stdout), b"\n", explained.stdout])
-        found.files += [name for name in (case, trace.removesuffix(".trace") + ".svg", text_of(trace)) if os.path.exists(name)]
-        return timeouts_in(open(case, "rb"))
-
-
-def timeouts_in(file):
-    """The numbers of a case's lines of timeouts. The file is closed."""
-    found, before, rest = [], 0, b""
-    with file:
-        while data := file.read(PIECE):
-            data = rest + data
-            whole = data.rfind(b"\n") + 1
-            rest, data = data[whole:], data[:whole]
-            found += [before + data.count(b"\n", 0, line.start()) + 1 for line in TIMEOUT.finditer(data)]
-            before += data.count(b"\n")
-    return found
+        write_file(text_of(trace), [*(f"{line}\n".encode() for line in found.said), b"\n", explained.stdout])
+        kept = case, trace.removesuffix(".trace") + ".svg", text_of(trace)
+        found.files += [name for name in kept if os.path.exists(name)]
 
 
 def read(found, out, error, status):
-    """Reads what `judge` printed into a result."""
+    """Reads the object that `judge` printed into a result."""
     if status not in (judging.YES, judging.NO):
-        said = "; ".join(decoded(out).splitlines()[:1] + decoded(error).splitlines()[-1:])
+        said = "; ".join(said_in(out)[:1] + decoded(error).splitlines()[-1:])
         raise Problem(said or judging.ended(status), "")
-    found.said, found.status, found.sentence, found.packet = decoded(inferred(out)).splitlines(), status, "", None
-    rows = [row for line in found.said if (row := ROW.match(line))]
-    found.level, found.answer = rows[-1][1], rows[-1][2]
-    if rows[-1][3] == "no":
-        start = f"Under {found.level}: "
-        found.sentence = next((line.removeprefix(start) for line in found.said if line.startswith(start)), "")
+    judged = json.loads(out)
+    found.answer, found.status = judged["levels"][-1], status
+    found.said = [inferred(line) for line in judged["said"]]
 
 
-def inferred(out):
+def said_in(out):
+    """The lines in an object that `judge` printed, or those that it printed instead, such as `bad usage`."""
+    try:
+        return json.loads(out)["said"]
+    except ValueError:
+        return decoded(out).splitlines()
+
+
+def inferred(line):
     """What `judge` printed, with the rules that judge inferred calls."""
     for rules, judged in RULES.items():
-        out = out.replace(rules, judged)
-    return out
+        line = line.replace(rules, judged)
+    return line
 
 
 def text_of(trace):

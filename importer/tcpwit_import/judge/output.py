@@ -22,8 +22,8 @@ class Output:
     def add(self, result):
         """Prints a connection's result."""
         self.count += 1
-        self.yes += result.answer.startswith("yes")
-        self.no += result.answer.startswith("no")
+        self.yes += result.verdict == "yes"
+        self.no += result.verdict == "no"
         self.half += result.hosts == 1
         self.status = max(self.status, result.status)
         print(json.dumps(facts(result)) if self.options.json else plain(f"{result.name:<{self.width}}   {result.line}"), flush=True)
@@ -49,11 +49,11 @@ def facts(result):
         found["part"] = True
     if not result.answer:
         return found | {"judged": False, "reason": result.reason, "status": result.status}
-    words = result.answer.split()
-    found |= {"judged": True, "hosts": result.hosts, "level": result.level, "answer": words[0], "status": result.status}
-    if words[0] == "yes":
-        found |= {"lines": int(words[1]), "steps": int(words[2])}
+    answer = result.answer
+    found |= {"judged": True, "hosts": result.hosts, "level": answer["level"], "answer": result.verdict, "status": result.status}
+    if result.verdict == "yes":
+        found |= {"lines": answer["lines"], "steps": answer["hidden"]}
     else:
-        found |= {"witness_line": int(words[1]), "trace_line": int(words[2]), "rule": words[3], "sentence": result.sentence}
+        found |= {name: answer[name] for name in ("witness_line", "trace_line", "rule", "sentence")}
         found |= {"capture": result.packet.capture, "packet": result.packet.count} if result.packet else {}
     return found | {"said": result.said} | ({"files": result.files} if result.files else {})
