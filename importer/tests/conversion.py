@@ -2,11 +2,12 @@
 import tempfile
 import unittest
 
-from tcpwit_import.calls import HostCalls
-from tcpwit_import.cases import Case, Writer
-from tcpwit_import.clocks import SAME
-from tcpwit_import.connections import connections_of
-from tcpwit_import.problem import Notes
+from tcpwit_importer.calls.host_calls import HostCalls
+from tcpwit_importer.capture.clocks import SAME
+from tcpwit_importer.capture.connections import connections_of
+from tcpwit_importer.problem import Notes
+from tcpwit_importer.trace.cases import Case
+from tcpwit_importer.trace.lines import Writer
 
 from .wire import ONE, SECOND, ZERO, Talk, address, events, packets
 

@@ -4,12 +4,12 @@ import io
 import random
 import struct
 
-from tcpwit_import.captures import packet_at, packets_of
-from tcpwit_import.connections import connections_of
-from tcpwit_import.copies import without_copies
-from tcpwit_import.files import opened
-from tcpwit_import.frames import Layout
-from tcpwit_import.problem import Notes, Problem
+from tcpwit_importer.capture.connections import connections_of
+from tcpwit_importer.capture.copies import without_copies
+from tcpwit_importer.capture.frames import Layout
+from tcpwit_importer.capture.packets import packet_at, packets_of
+from tcpwit_importer.files import opened
+from tcpwit_importer.problem import Notes, Problem
 
 LENGTHS = (0, 1, 4, 11, 12, 19, 20, 28, 32, 0x7F, 0xFF, 0xFFFF, 0x10000, 0x7FFFFFFF, 0x80000000, 0xFFFFFFFC, 0xFFFFFFFF)
 

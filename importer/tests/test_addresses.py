@@ -2,8 +2,8 @@
 import re
 import unittest
 
-from tcpwit_import.calls.claims import CHOSEN, REMEDY
-from tcpwit_import.strace_words import Addresses, addresses_of, first_descriptor, unix_ends
+from tcpwit_importer.calls.claims import CHOSEN, REMEDY
+from tcpwit_importer.calls.strace_words import Addresses, addresses_of, first_descriptor, unix_ends
 
 from .conversion import AT, CONNECT, SOCKET, Conversion, both_of
 from .wire import ACK, FIN, ONE, RST, ZERO, Talk, address, packed

@@ -8,9 +8,9 @@ import tempfile
 import time
 import unittest
 
-from tcpwit_import.recording.cli import PACKAGES
-from tcpwit_import.recording.namespaces import Namespace
-from tcpwit_import.recording.running import ADDRESSES, Traced, strace
+from tcpwit_importer.commands.tcpwit_record import PACKAGES
+from tcpwit_importer.recording.namespaces import Namespace
+from tcpwit_importer.recording.programs import ADDRESSES, Traced, strace
 
 TOP = os.path.dirname(os.path.dirname(os.path.realpath(__file__)))
 RECORD, JUDGE = os.path.join(TOP, "tcpwit-record"), os.path.join(TOP, "tcpwit-judge")

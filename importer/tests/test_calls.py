@@ -1,7 +1,7 @@
 """Tests how system calls become the calls of a trace."""
 import unittest
 
-from tcpwit_import.problem import Problem
+from tcpwit_importer.problem import Problem
 
 from .conversion import AT, CONNECT, SOCKET, Conversion, both_of
 from .wire import ONE, RST, ZERO, Talk, address

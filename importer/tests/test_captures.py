@@ -10,11 +10,11 @@ import tracemalloc
 import unittest
 from unittest import mock
 
-from tcpwit_import.captures import Packet, packet_at, packets_of, read_capture, shown
-from tcpwit_import.cases import seen_once
-from tcpwit_import.files import opened
-from tcpwit_import.frames import Layout
-from tcpwit_import.problem import Notes, Problem
+from tcpwit_importer.capture.frames import Layout
+from tcpwit_importer.capture.packets import Packet, packet_at, packets_of, read_capture, shown
+from tcpwit_importer.files import opened
+from tcpwit_importer.problem import Notes, Problem
+from tcpwit_importer.trace.lines import seen_once
 
 from . import links, samples
 from .samples import MOMENT, SIX
@@ -146,7 +146,7 @@ class Captures(WithCapture):
         ends = [self.one(links.ethernet(packet)) for packet in (PACKET, PACKET_6)]
         self.assertEqual(layout.fragmented, {frozenset((packet.source[0], packet.target[0])) for packet in ends})
         self.assertEqual(layout.frames, 5)
-        with mock.patch("tcpwit_import.frames.MOST_FRAGMENTED", 1):
+        with mock.patch("tcpwit_importer.capture.frames.MOST_FRAGMENTED", 1):
             self.refused(links.pcap_file(samples.fragments()), "fragments between more than 1 pairs")
 
     def test_segments_that_a_snap_length_cut(self):

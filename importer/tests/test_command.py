@@ -10,9 +10,9 @@ import time
 import unittest
 from unittest import mock
 
-from tcpwit_import.cli import main as importing
-from tcpwit_import.recording.cli import main as recording
-from tcpwit_import.recording.folder import FOLDER
+from tcpwit_importer.commands.tcpwit_import import main as importing
+from tcpwit_importer.commands.tcpwit_record import main as recording
+from tcpwit_importer.recording.folder import FOLDER
 
 from .wire import ACK, FIN, ONE, PSH, RST, SECOND, ZERO, Talk, address, ethernet, ip_packet, log, pcap, segment
 
@@ -447,7 +447,7 @@ class Command(WithFiles):
             self.refused(["--no-check", "--transfer", "5"], "not installed: strace, tcpdump, ip, gzip\n  " + install + "\n", recording)
             self.refused(["--no-check", "--pair", "a b", "--", "c", "d"], "gzip, a, c\n  " + install + "; install a, c, or name", recording)
             self.refused(["--no-check", "--", "c", "d"], "not installed: strace, tcpdump, gzip, c\n", recording)
-            with mock.patch("tcpwit_import.judging.TOP", self.folder), mock.patch.dict(os.environ):
+            with mock.patch("tcpwit_importer.commands.lab.TOP", self.folder), mock.patch.dict(os.environ):
                 os.environ.pop("TCPWIT_LAB", None)
                 cause = "not installed: strace, tcpdump, gzip, c; tcpwit_lab is not in PATH, and not built in this repository\n"
                 self.refused(["--", "c"], cause, recording)
@@ -458,7 +458,7 @@ class Command(WithFiles):
         os.mkdir(f"{self.folder}/folder")
         names = [f"{self.folder}/{name}" for name in ("folder", "s0.log", "none\x1b[2J")]
         causes = [f"{names[0]}: Is a directory", f"{names[1]}: Permission denied", rf"{self.folder}/none\x1b[2J: No such file or directory"]
-        with mock.patch("os.geteuid", return_value=0), mock.patch("tcpwit_import.recording.cli.PACKAGES", {}):
+        with mock.patch("os.geteuid", return_value=0), mock.patch("tcpwit_importer.commands.tcpwit_record.PACKAGES", {}):
             for name, cause in zip(names, causes):
                 self.refused(["--no-check", "--", name], f"tcpwit-record: {cause}\n", recording)
             self.refused(["--no-check", "--pair", names[0], "--", names[1]], f"tcpwit-record: {causes[0]}; {causes[1]}\n", recording)

@@ -3,10 +3,10 @@ import io
 import unittest
 from unittest import mock
 
-from tcpwit_import import copies
-from tcpwit_import.captures import packets_of
-from tcpwit_import.copies import SOON, without_copies
-from tcpwit_import.problem import Notes
+from tcpwit_importer.capture import copies
+from tcpwit_importer.capture.copies import SOON, without_copies
+from tcpwit_importer.capture.packets import packets_of
+from tcpwit_importer.problem import Notes
 
 from . import links, samples, test_command
 from .wire import ACK, ONE, ZERO, pcap, segment

@@ -7,9 +7,9 @@ import tempfile
 import unittest
 from unittest import mock
 
-from tcpwit_import.problem import Problem
-from tcpwit_import.recording import folder as folders
-from tcpwit_import.recording.folder import Folder
+from tcpwit_importer.problem import Problem
+from tcpwit_importer.recording import folder as folders
+from tcpwit_importer.recording.folder import Folder
 
 
 class Files(unittest.TestCase):

@@ -10,7 +10,7 @@ import unittest
 from ipaddress import ip_address
 from unittest import mock
 
-from tcpwit_import.judge.cli import main
+from tcpwit_importer.commands.tcpwit_judge import main
 
 from .wire import ACK, FIN, RST, SECOND, SYN, Talk, ethernet, ip_packet, pcap, segment
 
@@ -367,14 +367,14 @@ class Faults(WithCaptures):
             self.assertEqual(self.text("words").count("judge --json"), 1)
 
     def test_a_bug_concerns_one_connection(self):
-        with mock.patch("tcpwit_import.judge.one.Trace", side_effect=ValueError("x")):
+        with mock.patch("tcpwit_importer.commands.verdicts.Trace", side_effect=ValueError("x")):
             status, out, _ = run(*self.files(), *self.lab())
         self.assertEqual(status, 2)
         self.assertRegex(out, r"not judged: ValueError: x \(mock.py, line \d+\); this is a bug: report it with the capture\n")
 
     def test_a_lack_of_memory_or_space(self):
         for error, said in ((MemoryError(), "memory ran out: judge fewer connections at once"), (OSError(28, "No space left on device", "x"), "x: No space left on device")):
-            with mock.patch("tcpwit_import.judge.one.Trace", side_effect=error):
+            with mock.patch("tcpwit_importer.commands.verdicts.Trace", side_effect=error):
                 status, out, _ = run(*self.files(), *self.lab())
             self.assertEqual(status, 2)
             self.assertIn("not judged: " + said, out)
@@ -384,7 +384,7 @@ class Faults(WithCaptures):
         second = Talk(zero=("10.9.0.1", 4001), at=99 * 10**9)
         for host in (0, 1):
             second.frames[host] += self.talk.frames[host]
-        with mock.patch("tcpwit_import.judge.one.Judge.result", lambda *_: os.kill(os.getpid(), 9)):
+        with mock.patch("tcpwit_importer.commands.verdicts.Judge.result", lambda *_: os.kill(os.getpid(), 9)):
             self.assertIn("a process that judges connections was ended", self.fails(*self.files(second), *self.lab()[:2], "--jobs", "2"))
 
 
@@ -392,7 +392,7 @@ class Faults(WithCaptures):
 class Verdicts(WithCaptures):
     def judged(self, talk, *words, hosts=(0, 1)):
         """The lines of a run with tcpwit_lab. On a busy machine, no part of the work is shown as one that takes long."""
-        with mock.patch("tcpwit_import.progress.PATIENCE", 600):
+        with mock.patch("tcpwit_importer.progress.PATIENCE", 600):
             _, out, error = run(*self.files(talk, hosts), *words)
         self.assertNotIn("tcpwit-judge: ", error)
         return out.splitlines()

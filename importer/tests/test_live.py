@@ -8,8 +8,8 @@ import unittest
 from types import SimpleNamespace
 from unittest import mock
 
-from tcpwit_import.captures import Packet
-from tcpwit_import.judge.live import CONNECTION, Stream
+from tcpwit_importer.capture.packets import Packet
+from tcpwit_importer.commands.live import CONNECTION, Stream
 
 from . import test_judge
 from .wire import ACK, FIN, ONE, RST, SECOND, SYN, ZERO, Talk, packets, segment

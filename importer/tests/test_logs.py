@@ -3,9 +3,9 @@ import os
 import tempfile
 import unittest
 
-from tcpwit_import.problem import Problem
-from tcpwit_import.strace_log import Exit, read_log
-from tcpwit_import.strace_words import Call, Text, arguments, whole_number
+from tcpwit_importer.calls.strace_log import Exit, read_log
+from tcpwit_importer.calls.strace_words import Call, Text, arguments, whole_number
+from tcpwit_importer.problem import Problem
 
 
 class Words(unittest.TestCase):

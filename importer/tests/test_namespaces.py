@@ -2,7 +2,7 @@
 import unittest
 from unittest import mock
 
-from tcpwit_import.recording import namespaces
+from tcpwit_importer.recording import namespaces
 
 
 class Namespaces(unittest.TestCase):

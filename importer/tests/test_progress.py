@@ -6,8 +6,8 @@ import time
 import unittest
 from unittest import mock
 
-from tcpwit_import import progress
-from tcpwit_import.progress import Part
+from tcpwit_importer import progress
+from tcpwit_importer.progress import Part
 
 
 class Terminal(io.StringIO):

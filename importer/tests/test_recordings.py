@@ -10,8 +10,8 @@ import tarfile
 import tempfile
 import unittest
 
-from tcpwit_import.header import LEVELS
-from tcpwit_import.judge.cli import main as judging
+from tcpwit_importer.commands.tcpwit_judge import main as judge
+from tcpwit_importer.trace.header import LEVELS
 
 from .test_command import run
 
@@ -67,7 +67,7 @@ class Recordings(unittest.TestCase):
             folder = os.path.join(self.folder.name, name)
             files = sorted(f"{folder}/{file}" for file in os.listdir(folder) if file.endswith(".pcap"))
             with self.subTest(name):
-                _, out, error = run(*files, *(["--host", "client"] if name.startswith("half") else []), "--json", command=judging)
+                _, out, error = run(*files, *(["--host", "client"] if name.startswith("half") else []), "--json", command=judge)
                 found = [json.loads(line) for line in out.splitlines()]
                 self.assertTrue(found, error)
                 for connection in found:

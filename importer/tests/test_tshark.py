@@ -6,11 +6,11 @@ import tarfile
 import tempfile
 import unittest
 
-from tcpwit_import.captures import packets_of
-from tcpwit_import.connections import connections_of
-from tcpwit_import.files import opened
-from tcpwit_import.frames import Layout, frames_of
-from tcpwit_import.problem import Notes
+from tcpwit_importer.capture.connections import connections_of
+from tcpwit_importer.capture.frames import Layout, frames_of
+from tcpwit_importer.capture.packets import packets_of
+from tcpwit_importer.files import opened
+from tcpwit_importer.problem import Notes
 
 from . import links, samples
 from .test_recordings import DATA

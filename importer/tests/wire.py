@@ -3,9 +3,9 @@ import io
 import socket
 import struct
 
-from tcpwit_import.captures import packets_of
-from tcpwit_import.problem import Notes
-from tcpwit_import.strace_log import read_log
+from tcpwit_importer.calls.strace_log import read_log
+from tcpwit_importer.capture.packets import packets_of
+from tcpwit_importer.problem import Notes
 
 ZERO, ONE = ("10.9.0.1", 4000), ("10.9.0.2", 80)
 ACK, PSH, SYN, FIN, RST = 16, 8, 2, 1, 4
