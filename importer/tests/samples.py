@@ -1,6 +1,8 @@
 """A capture of each kind that the importer reads, by name: a small connection in frames of each link and files of each format."""
+from tcpwit_importer.capture.segments import ACK, FIN, PSH, SYN
+
 from . import links
-from .wire import ACK, FIN, ONE, PSH, SECOND, SIZE, SYN, ZERO, segment
+from .wire import ONE, SECOND, SIZE, ZERO, segment
 
 SIX = ("fd09::1", 4000), ("fd09::2", 80)
 MOMENT = 1_700_000_000 * SECOND + 123_456_789

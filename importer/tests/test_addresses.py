@@ -4,9 +4,10 @@ import unittest
 
 from tcpwit_importer.calls.claims import CHOSEN, REMEDY
 from tcpwit_importer.calls.strace_words import Addresses, addresses_of, first_descriptor, unix_ends
+from tcpwit_importer.capture.segments import ACK, FIN, RST
 
 from .conversion import AT, CONNECT, SOCKET, Conversion, both_of
-from .wire import ACK, FIN, ONE, RST, ZERO, Talk, address, packed
+from .wire import ONE, ZERO, Talk, address, packed
 
 STEP = 2 * 10**7
 OTHER = ("10.9.0.1", 4001)

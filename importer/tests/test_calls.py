@@ -1,10 +1,11 @@
 """Tests how system calls become the calls of a trace."""
 import unittest
 
+from tcpwit_importer.capture.segments import RST
 from tcpwit_importer.problem import Problem
 
 from .conversion import AT, CONNECT, SOCKET, Conversion, both_of
-from .wire import ONE, RST, ZERO, Talk, address
+from .wire import ONE, ZERO, Talk, address
 
 
 class Calls(Conversion):

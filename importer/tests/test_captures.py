@@ -12,13 +12,14 @@ from unittest import mock
 
 from tcpwit_importer.capture.frames import Layout
 from tcpwit_importer.capture.packets import Packet, packet_at, packets_of, read_capture, shown
+from tcpwit_importer.capture.segments import ACK
 from tcpwit_importer.files import opened
 from tcpwit_importer.problem import Notes, Problem
 from tcpwit_importer.trace.lines import seen_once
 
 from . import links, samples
 from .samples import MOMENT, SIX
-from .wire import ACK, ONE, ZERO, segment
+from .wire import ONE, ZERO, segment
 
 BODY = segment(ZERO, ONE, 1, 2, ACK, b"hello")
 PACKET, PACKET_6 = links.v4(ZERO, ONE, BODY), links.v6(*SIX, BODY)

@@ -10,11 +10,12 @@ import time
 import unittest
 from unittest import mock
 
+from tcpwit_importer.capture.segments import ACK, FIN, PSH, RST
 from tcpwit_importer.commands.tcpwit_import import main as importing
 from tcpwit_importer.commands.tcpwit_record import main as recording
 from tcpwit_importer.recording.folder import FOLDER
 
-from .wire import ACK, FIN, ONE, PSH, RST, SECOND, ZERO, Talk, address, ethernet, ip_packet, log, pcap, segment
+from .wire import ONE, SECOND, ZERO, Talk, address, ethernet, ip_packet, log, pcap, segment
 
 TOP = os.path.dirname(os.path.dirname(os.path.realpath(__file__)))
 AT = 100 * SECOND

@@ -6,10 +6,11 @@ from unittest import mock
 from tcpwit_importer.capture import copies
 from tcpwit_importer.capture.copies import SOON, without_copies
 from tcpwit_importer.capture.packets import packets_of
+from tcpwit_importer.capture.segments import ACK
 from tcpwit_importer.problem import Notes
 
 from . import links, samples, test_command
-from .wire import ACK, ONE, ZERO, pcap, segment
+from .wire import ONE, ZERO, pcap, segment
 
 
 class Copies(unittest.TestCase):

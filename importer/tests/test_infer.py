@@ -2,10 +2,11 @@
 import unittest
 from types import SimpleNamespace
 
+from tcpwit_importer.capture.segments import ACK, FIN, RST, SYN
 from tcpwit_importer.infer.streams import Stream
 
 from . import inferred
-from .wire import ACK, FIN, RST, SYN, Talk
+from .wire import Talk
 
 OPENED = ["B open 0 4000 80", "E ok 2", "O 0"]
 LISTENED = ["B listen 1 80 0", "E ok 1"]

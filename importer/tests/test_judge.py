@@ -10,9 +10,10 @@ import unittest
 from ipaddress import ip_address
 from unittest import mock
 
+from tcpwit_importer.capture.segments import ACK, FIN, RST, SYN
 from tcpwit_importer.commands.tcpwit_judge import main
 
-from .wire import ACK, FIN, RST, SECOND, SYN, Talk, ethernet, ip_packet, pcap, segment
+from .wire import SECOND, Talk, ethernet, ip_packet, pcap, segment
 
 # Answers `judge` by what the test chose, saves the trace, and makes a case and a picture if requested.
 SCRIPT = """#!/bin/sh

@@ -2,8 +2,10 @@
 import os
 import unittest
 
+from tcpwit_importer.capture.segments import ACK, RST
+
 from .test_command import AT, CLIENT, WithFiles, run, talk
-from .wire import ACK, ONE, RST, SECOND, ZERO, Talk, address
+from .wire import ONE, SECOND, ZERO, Talk, address
 
 ZERO_6, ONE_6 = ("fd09::1", 4000), ("fd09::2", 80)
 ANY, ANY_6 = ("0.0.0.0", 80), ("::", 80)

@@ -9,10 +9,11 @@ from types import SimpleNamespace
 from unittest import mock
 
 from tcpwit_importer.capture.packets import Packet
+from tcpwit_importer.capture.segments import ACK, FIN, RST, SYN
 from tcpwit_importer.commands.live import CONNECTION, Stream
 
 from . import test_judge
-from .wire import ACK, FIN, ONE, RST, SECOND, SYN, ZERO, Talk, packets, segment
+from .wire import ONE, SECOND, ZERO, Talk, packets, segment
 
 IDLE = 5 * SECOND
 

@@ -2,9 +2,11 @@
 import tracemalloc
 import unittest
 
+from tcpwit_importer.capture.segments import ACK, FIN
+
 from . import test_command
 from .test_command import AT, CLIENT, SERVER, run
-from .wire import ACK, FIN, Talk
+from .wire import Talk
 
 COUNT, SIZE = 300, 1400
 

@@ -2,11 +2,12 @@
 import unittest
 from types import SimpleNamespace
 
+from tcpwit_importer.capture.segments import ACK, FIN
 from tcpwit_importer.infer import midpoint
 from tcpwit_importer.infer.midpoint import split
 
 from . import test_judge
-from .wire import ACK, FIN, Talk, packets
+from .wire import Talk, packets
 
 
 class Split(unittest.TestCase):

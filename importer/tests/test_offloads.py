@@ -4,10 +4,11 @@ import unittest
 from tcpwit_importer.capture.clocks import SAME, clock_of
 from tcpwit_importer.capture.connections import Connection
 from tcpwit_importer.capture.offloads import Flow, Outgoing, cut
+from tcpwit_importer.capture.segments import ACK, FIN, PSH
 from tcpwit_importer.problem import Notes, Problem
 from tcpwit_importer.trace.header import header
 
-from .wire import ACK, FIN, ONE, PSH, ZERO, Talk, packets, segment
+from .wire import ONE, ZERO, Talk, packets, segment
 
 CWR = 128
 

@@ -5,10 +5,10 @@ import struct
 
 from tcpwit_importer.calls.strace_log import read_log
 from tcpwit_importer.capture.packets import packets_of
+from tcpwit_importer.capture.segments import ACK, FIN, SYN
 from tcpwit_importer.problem import Notes
 
 ZERO, ONE = ("10.9.0.1", 4000), ("10.9.0.2", 80)
-ACK, PSH, SYN, FIN, RST = 16, 8, 2, 1, 4
 SECOND = 10**9
 
 

@@ -3,9 +3,9 @@
 strace prints the addresses that the kernel has for a socket; they name its connection. For a call without them, the connection is chosen
 by time and order, among those whose addresses the log doesn't have.
 """
+from ..capture.segments import FIN, RST
 from .strace_words import addresses_of, first_descriptor
 
-FIN, RST = 1, 4
 # Nanoseconds that a moment may be off: logs may have microseconds only.
 UNIT = 1000
 CHOSEN, REMEDY = "connections chosen by time and order, because their calls have no addresses", ": use strace --decode-fds=socket"

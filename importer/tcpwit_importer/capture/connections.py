@@ -4,9 +4,10 @@ from itertools import islice
 from ..problem import Problem
 from ..remedies import BUFFER, LARGER_BUFFER
 from .packets import shown
+from .segments import ACK, FIN, RST, SHORTEST, SIZE, SYN, WRAP, header_length, options, values
 
-WRAP = 1 << 32
-FIN, SYN, RST, ACK = 1, 2, 4, 16
+# The maximum segment size without the option (RFC 9293, 3.7.1).
+USUAL_SIZE = 536
 
 
 class Connection:
@@ -44,8 +45,8 @@ class Connection:
 
     def piece_size(self, segment):
         """The most bytes that a segment with these options has on the wire: the smaller MSS option minus the length of its options."""
-        sizes = [self.sizes.get(end) or 536 for end in (self.client, self.server)]
-        return max(1, min(sizes) - ((segment[12] >> 4) * 4 - 20))
+        sizes = [self.sizes.get(end) or USUAL_SIZE for end in (self.client, self.server)]
+        return max(1, min(sizes) - (header_length(segment) - SHORTEST))
 
     def completed(self, captures=()):
         """The moment of the client's first segment after its SYN in these captures, or in all; None if no capture has one."""
@@ -166,18 +167,8 @@ def _without_gap(spans):
 
 def _size_option(segment):
     """The maximum segment size in a SYN's options; None if it has none."""
-    options, at = segment[20:(segment[12] >> 4) * 4], 0
-    while at < len(options) and options[at] != 0:
-        if options[at] == 1:
-            at += 1
-            continue
-        length = options[at + 1] if at + 1 < len(options) else 0
-        if options[at] == 2 and length == 4:
-            return int.from_bytes(options[at + 2:at + 4], "big")
-        if length < 2:
-            return None
-        at += length
-    return None
+    found = values(SIZE, 2, options(segment))
+    return int.from_bytes(found[0], "big") if found else None
 
 
 def connections_of(captures, kind=Connection):

@@ -13,9 +13,10 @@ from array import array
 from ..files import opened
 from ..problem import Problem
 from ..progress import Part
-from .connections import FIN, RST, SYN, Connection, connections_of
+from .connections import Connection, connections_of
 from .frames import Layout
 from .packets import packet_at, packets_of
+from .segments import FIN, RST, SYN
 
 READABLE = "name a capture that can be read"
 # How many SYNs of each capture are kept, to compare the captures' clocks.

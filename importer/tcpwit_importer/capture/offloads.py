@@ -6,8 +6,8 @@ several consecutive pieces.
 """
 from typing import Any, NamedTuple
 
-WRAP = 1 << 32
-FIN, PSH, CWR = 1, 8, 128
+from .segments import CWR, FIN, PSH, WRAP, flags, header_length, number, payload
+
 MOVED = FIN | PSH | CWR
 
 
@@ -20,17 +20,16 @@ class Sent(NamedTuple):
 
 def cut(segment, size):
     """The pieces of at most `size` bytes: only the last has FIN and PSH, only the first CWR."""
-    head = (segment[12] >> 4) * 4
-    payload = segment[head:]
-    if len(payload) <= size:
+    head, data = header_length(segment), payload(segment)
+    if len(data) <= size:
         return [segment]
-    number, flags, pieces = int.from_bytes(segment[4:8], "big"), segment[13], []
-    for start in range(0, len(payload), size):
-        kept = flags & ~MOVED & 0xFF
-        kept |= flags & CWR if start == 0 else 0
-        kept |= flags & (FIN | PSH) if start + size >= len(payload) else 0
-        moved = ((number + start) % WRAP).to_bytes(4, "big")
-        pieces.append(segment[:4] + moved + segment[8:13] + bytes([kept]) + segment[14:head] + payload[start:start + size])
+    pieces = []
+    for start in range(0, len(data), size):
+        kept = flags(segment) & ~MOVED & 0xFF
+        kept |= flags(segment) & CWR if start == 0 else 0
+        kept |= flags(segment) & (FIN | PSH) if start + size >= len(data) else 0
+        moved = ((number(segment) + start) % WRAP).to_bytes(4, "big")
+        pieces.append(segment[:4] + moved + segment[8:13] + bytes([kept]) + segment[14:head] + data[start:start + size])
     return pieces
 
 
@@ -44,7 +43,7 @@ class Outgoing:
         """Adds a segment or a piece, in the order in which they were sent."""
         sent = Sent(moment, segment, [])
         self.equal.setdefault(segment, []).append(sent)
-        self.at.setdefault(_number(segment), []).append(sent)
+        self.at.setdefault(number(segment), []).append(sent)
 
     def parts(self, segment):
         """The sent segments of which this one consists; an empty list if none match."""
@@ -53,24 +52,25 @@ class Outgoing:
             best = _best(found)
             best.arrived.append(True)
             return [segment]
-        chain = self._chain(segment, _number(segment), _payload(segment), True)
+        chain = self._chain(segment, number(segment), payload(segment))
         for sent in chain or []:
             sent.arrived.append(True)
         return [sent.segment for sent in chain or []]
 
-    def _chain(self, whole, number, payload, first):
-        """Consecutive pieces whose payloads form the payload. The search isn't recursive, since a joined segment has many pieces."""
-        stack = [(number, 0, None)]
+    def _chain(self, whole, first, data):
+        """Consecutive pieces from a sequence number on whose payloads form these bytes. The search isn't recursive, since a joined segment has
+        many pieces."""
+        stack = [(first, 0, None)]
         while stack:
-            number, done, chain = stack.pop()
-            if done == len(payload) and chain:
-                if bool(chain[1].segment[13] & FIN) == bool(whole[13] & FIN):
+            at, done, chain = stack.pop()
+            if done == len(data) and chain:
+                if flags(chain[1].segment) & FIN == flags(whole) & FIN:
                     return _listed(chain)
                 continue
-            for sent in reversed(_preferred(self.at.get(number, []))):
-                part = _payload(sent.segment)
-                if part and _alike(sent.segment, whole, chain is None and first) and payload.startswith(part, done):
-                    stack.append(((number + len(part)) % WRAP, done + len(part), (chain, sent)))
+            for sent in reversed(_preferred(self.at.get(at, []))):
+                part = payload(sent.segment)
+                if part and _alike(sent.segment, whole, chain is None) and data.startswith(part, done):
+                    stack.append(((at + len(part)) % WRAP, done + len(part), (chain, sent)))
         return None
 
 
@@ -91,19 +91,11 @@ def _best(candidates):
     return _preferred(candidates)[0]
 
 
-def _number(segment):
-    return int.from_bytes(segment[4:8], "big")
-
-
-def _payload(segment):
-    return segment[(segment[12] >> 4) * 4:]
-
-
 def _alike(piece, whole, first):
     """Whether a piece may be part of a joined segment: it has the same acknowledgment, options, and flags except FIN, PSH and CWR. The first piece
     also has the same window."""
-    head = (piece[12] >> 4) * 4
-    return (piece[8:13] == whole[8:13] and (piece[13] ^ whole[13]) & ~MOVED & 0xFF == 0
+    head = header_length(piece)
+    return (piece[8:13] == whole[8:13] and (flags(piece) ^ flags(whole)) & ~MOVED & 0xFF == 0
             and piece[20:head] == whole[20:head] and (not first or piece[14:16] == whole[14:16]))
 
 

@@ -1,6 +1,5 @@
 """Reads the TCP packets of captures: all of a file, one after the other, or one by its offset."""
 import gzip
-import struct
 import zlib
 from ipaddress import ip_address
 
@@ -9,8 +8,7 @@ from ..problem import Problem
 from ..remedies import NOTHING_SENT, OFFLOADS_OFF, WHOLE_PACKETS
 from .frames import Damaged, Ended, Layout, frame_at, frames_of
 from .layers import Fragment, LeftOut, segment_in
-
-_PORTS = struct.Struct("!HH").unpack_from
+from .segments import ACK, SHORTEST, SYN, acknowledgment, flags, header_length, number, payload, ports, size
 
 
 class Packet:
@@ -43,32 +41,32 @@ class Packet:
     @property
     def flags(self):
         """The flags from CWR down to FIN."""
-        return self.segment[13]
+        return flags(self.segment)
 
     @property
     def number(self):
         """The sequence number."""
-        return int.from_bytes(self.segment[4:8], "big")
+        return number(self.segment)
 
     @property
     def acknowledgment(self):
         """The acknowledgment number."""
-        return int.from_bytes(self.segment[8:12], "big")
+        return acknowledgment(self.segment)
 
     @property
     def payload(self):
         """The bytes after the TCP header."""
-        return self.segment[(self.segment[12] >> 4) * 4:]
+        return payload(self.segment)
 
     @property
     def size(self):
         """How many bytes follow the TCP header."""
-        return len(self.segment) - (self.segment[12] >> 4) * 4
+        return size(self.segment)
 
     @property
     def is_syn(self):
         """Whether SYN is set, and ACK isn't."""
-        return self.segment[13] & 0x12 == 0x02
+        return flags(self.segment) & (SYN | ACK) == SYN
 
 
 def read_capture(name, notes, known, may_be_empty=False):
@@ -132,18 +130,18 @@ def _packet(frame, name, count, whole):
     source, target, start, end, identification, own_interface, own_sent = segment_in(link, data, max(length, len(data)))
     segment, wanted = data[start:end], end - start
     captured = len(segment)
-    if whole and captured < max(wanted, 20):
-        raise Problem(f"{name}, packet {count}: {captured} of its {max(wanted, 20)} bytes were captured", WHOLE_PACKETS, OFFLOADS_OFF)
-    head = (segment[12] >> 4) * 4 if captured > 12 else 20
-    if head < 20 or wanted < head:
+    if whole and captured < (least := max(wanted, SHORTEST)):
+        raise Problem(f"{name}, packet {count}: {captured} of its {least} bytes were captured", WHOLE_PACKETS, OFFLOADS_OFF)
+    head = header_length(segment) if captured > 12 else SHORTEST
+    if head < SHORTEST or wanted < head:
         raise LeftOut("segments with a wrong data offset")
     if captured < head:
         raise LeftOut("segments whose TCP headers the capture cut")
-    ports = _PORTS(segment)
+    own_port, other_port = ports(segment)
     outgoing = sent if own_sent is None else own_sent
     if own_interface is not None:
         interface = own_interface
-    return Packet(moment, (source, ports[0]), (target, ports[1]), segment, outgoing, name, count, wanted - captured, None, identification, interface)
+    return Packet(moment, (source, own_port), (target, other_port), segment, outgoing, name, count, wanted - captured, None, identification, interface)
 
 
 def shown(end):

@@ -14,8 +14,9 @@ from concurrent.futures.process import BrokenProcessPool
 from copy import copy
 from itertools import islice
 
-from ..capture.connections import ACK, FIN, RST, WRAP, Connection, begun_by, continues
+from ..capture.connections import Connection, begun_by, continues
 from ..capture.packets import packets_of
+from ..capture.segments import ACK, FIN, RST, WRAP
 from ..problem import Problem
 from ..remedies import LESS_AT_ONCE
 from . import workers

@@ -6,7 +6,7 @@ program received is what its host acknowledged, just before. So no verdict depen
 import heapq
 from itertools import islice
 
-from ..capture.connections import ACK, FIN, RST, SYN
+from ..capture.segments import ACK, FIN, RST, SYN
 from ..trace.endpoints import LONGEST, Data
 from .script import AFTER, BEFORE
 

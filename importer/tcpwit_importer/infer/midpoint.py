@@ -2,7 +2,7 @@
 import heapq
 from copy import copy
 
-from ..capture.connections import ACK, FIN, RST, SYN, WRAP
+from ..capture.segments import ACK, FIN, RST, SYN, WRAP
 
 
 def split(connection, name, longest):

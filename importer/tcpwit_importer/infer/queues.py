@@ -4,7 +4,7 @@ A connection whose handshake is complete waits in the queue for its program. If 
 the handshake, and those after it, until there is room (Linux; also with TCP_DEFER_ACCEPT, until there is data). How many connections were in the
 queue isn't known without calls. So what a server seems to have ignored then is left out, as if it had been lost.
 """
-from ..capture.connections import ACK, FIN, RST, SYN
+from ..capture.segments import ACK, FIN, RST, SYN
 
 # Nanoseconds by which an arrival may precede a SYN with ACK that was sent before the arrival was processed, and for which an acknowledgment
 # may be delayed (RFC 9293, 3.8.6.3).

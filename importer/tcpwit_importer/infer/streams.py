@@ -1,7 +1,7 @@
 """The bytes that an end of a connection sent, as captures have them, and segments of which a capture has only the beginning."""
 from bisect import bisect_left
 
-from ..capture.connections import FIN, RST, SYN, WRAP
+from ..capture.segments import FIN, RST, SYN, WRAP
 
 
 class Stream:

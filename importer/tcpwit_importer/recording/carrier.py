@@ -8,6 +8,7 @@ import threading
 import time
 
 from ..capture.layers import ETHERNET, LeftOut, segment_in
+from ..capture.segments import SHORTEST, size
 from ..problem import Problem
 
 ALL = 3
@@ -58,9 +59,9 @@ class Carrier:
         except LeftOut:
             return False
         segment = frame[start:end]
-        if len(segment) < 20:
+        if len(segment) < SHORTEST:
             return False
-        if side == 0 and len(segment) > (segment[12] >> 4) * 4:
+        if side == 0 and size(segment) > 0:
             self.data += 1
             if self.data in self.chances.lose:
                 return True
