@@ -57,7 +57,8 @@ def print_lines(lines):
                     file.write(line.encode())
             file.seek(0)
         except OSError as error:
-            raise Problem(f"{tempfile.gettempdir()}: {error.strerror}", "free some space there, or write to a file with --out") from error
+            raise Problem(f"{tempfile.gettempdir()}: {error.strerror}",
+                          "free some space there, or write to a file with --out") from error
         for line in file:
             sys.stdout.write(line.decode())
         sys.stdout.flush()

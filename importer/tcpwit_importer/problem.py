@@ -8,7 +8,8 @@ import traceback
 
 
 class Problem(Exception):
-    """An error of the input: its cause, and what to do about it. `recorded` is the remedy if tcpwit-record made the files, whose options differ."""
+    """An error of the input: its cause, and what to do about it. `recorded` is the remedy if tcpwit-record made the
+    files, whose options differ."""
 
     def __init__(self, cause, remedy, recorded=None):
         super().__init__(cause)
@@ -33,7 +34,8 @@ def one_line(data):
 
 
 def plain(text):
-    """A text with everything escaped that could control a terminal: control characters as `\\x1b`, bytes that aren't UTF-8 as `\\xff`."""
+    """A text with everything escaped that could control a terminal: control characters as `\\x1b`, bytes that aren't
+    UTF-8 as `\\xff`."""
     return "".join(letter if letter.isprintable() else escaped(ord(letter)) for letter in text)
 
 
@@ -70,7 +72,8 @@ def not_run(name):
 
 
 def status_of(command, act):
-    """The status that `act` returns. If `act` fails, prints the cause and a remedy on standard error and returns the status of the failure."""
+    """The status that `act` returns. If `act` fails, prints the cause and a remedy on standard error and returns the
+    status of the failure."""
     try:
         if sys.stdout is None:
             raise Problem("standard output is closed", "leave it open, or redirect it to a file")
@@ -81,14 +84,16 @@ def status_of(command, act):
         # The reader of the pipe is gone. At exit, Python flushes what is left and would fail again.
         os.dup2(os.open(os.devnull, os.O_WRONLY), 1)
     except OSError as error:
-        say(command, f"{error.filename or 'standard output'}: {error.strerror}", "choose a place that can be read and written")
+        say(command, f"{error.filename or 'standard output'}: {error.strerror}",
+            "choose a place that can be read and written")
     except subprocess.SubprocessError as error:
         say(command, str(error), "check whether the programs can be run")
     except KeyboardInterrupt:
         return 130
     except Exception as error:
         # Python's own status would be 1, the status of a no.
-        say(command, f"{type(error).__name__}: {error} ({place_of(error)})", f"this is a bug in {command}: report it with the command and its files")
+        say(command, f"{type(error).__name__}: {error} ({place_of(error)})",
+            f"this is a bug in {command}: report it with the command and its files")
     return 2
 
 

@@ -1,7 +1,7 @@
 """Shows on standard error which part of the work takes long.
 
-A part that takes two seconds is shown: on a terminal as a line that is updated, with the share that is done or the time, and removed
-at the end; elsewhere as a line that is printed once.
+A part that takes two seconds is shown: on a terminal as a line that is updated, with the share that is done or the
+time, and removed at the end; elsewhere as a line that is printed once.
 """
 import os
 import sys
@@ -16,7 +16,8 @@ REMOVED = "\r\033[K"
 
 
 class Part:
-    """A part of the work, to be used with `with`. `position` returns how much of `size` is done, and is called by another thread."""
+    """A part of the work, to be used with `with`. `position` returns how much of `size` is done, and is called by
+    another thread."""
     # A command that shows its parts sets this to its name.
     command = None
 
@@ -51,7 +52,9 @@ class Part:
 
     def line(self):
         """The line of a terminal."""
-        state = f"{min(100, self.position() * 100 // self.size)} %" if self.size else f"{time.monotonic() - self.began:.0f} s"
+        state = f"{time.monotonic() - self.began:.0f} s"
+        if self.size:
+            state = f"{min(100, self.position() * 100 // self.size)} %"
         return f"{self.command}: {self.what}: {state}"
 
 

@@ -54,6 +54,7 @@ class Conversion(unittest.TestCase):
 
     def server(self, *lines, **options):
         """The calls after those that accept number 2 as descriptor 4."""
-        found = self.told([SOCKET, f"bind(3, {address(ONE)}, 16) = 0", "listen(3, 5) = 0", f"accept(3, {address(ZERO)}, [16]) = 4", *lines], host=1, **options)
+        found = self.told([SOCKET, f"bind(3, {address(ONE)}, 16) = 0", "listen(3, 5) = 0",
+                           f"accept(3, {address(ZERO)}, [16]) = 4", *lines], host=1, **options)
         self.assertEqual(found[:4], ["B listen 1 80 5", "E ok 1", "B accept 1", "E ok 2"])
         return found[4:]

@@ -71,13 +71,16 @@ def damaged(data, dice):
 
 
 def read(name, whole):
-    """Reads a capture as the commands do: all packets, some again, the connections. Returns how many packets it has; None after a Problem."""
+    """Reads a capture as the commands do: all packets, some again, the connections. Returns how many packets it has;
+    None after a Problem."""
     notes, layout, packets = Notes(), Layout(), []
     try:
         with opened(name, "name a capture") as file:
             for packet in packets_of(name, file, notes, layout, whole):
                 packets.append(packet)
-                bytes((packet.size >= 0, packet.missing >= 0, packet.is_syn, packet.flags)), str(packet.place), packet.payload
+                bytes((packet.size >= 0, packet.missing >= 0, packet.is_syn, packet.flags))
+                str(packet.place)
+                bytes(packet.payload)
     except Problem as problem:
         problem = str(problem)
         if "\n  " not in problem or "Error" in problem:
@@ -97,8 +100,8 @@ def read(name, whole):
 
 
 def run(captures, seed, count, name, act=read):
-    """Reads this many damaged captures with `act`. Returns how many gave packets, and how many a Problem. An AssertionError names the capture that
-    failed."""
+    """Reads this many damaged captures with `act`. Returns how many gave packets, and how many a Problem. An
+    AssertionError names the capture that failed."""
     dice, good, bad = random.Random(seed), 0, 0
     for number in range(count):
         data = damaged(dice.choice(captures), dice)

@@ -35,11 +35,13 @@ class Calls(inferred.Inferring):
         talk.send(1, FIN | ACK)
         talk.send(0)
         zero, one = self.both(talk)
-        self.assertEqual(zero[5:], ["B send 1 6162", "E ok 2", "O 0", "I 0", "B shut 1", "E ok", "O 0", "I 0", "O 0", "B recv 1 65535", "E eof",
-                                    "B close 1", "E ok"])
+        self.assertEqual(zero[5:],
+                         ["B send 1 6162", "E ok 2", "O 0", "I 0", "B shut 1", "E ok", "O 0", "I 0", "O 0",
+                          "B recv 1 65535", "E eof", "B close 1", "E ok"])
         self.assertEqual(one[:3], ["B listen 0 80 0", "E ok 1", "B accept 1"])
-        self.assertEqual(one[6:], ["I 0", "O 0", "E ok 2", "B recv 2 65535", "E data 6162", "I 0", "B shut 2", "E ok", "O 0",
-                                   "B recv 2 65535", "E eof", "I 0", "B close 2", "E ok"])
+        self.assertEqual(one[6:],
+                         ["I 0", "O 0", "E ok 2", "B recv 2 65535", "E data 6162", "I 0", "B shut 2", "E ok", "O 0",
+                          "B recv 2 65535", "E eof", "I 0", "B close 2", "E ok"])
 
     def test_both_hosts(self):
         talk = Talk()
@@ -71,7 +73,8 @@ class Calls(inferred.Inferring):
         talk.next[1] -= 2
         talk.send(1, payload=b"aX")
         talk.send(0)
-        self.assertEqual([call for call in self.calls(talk, captures={0: "c0"}) if call.startswith("E data")], ["E data 61"])
+        self.assertEqual([call for call in self.calls(talk, captures={0: "c0"}) if call.startswith("E data")],
+                         ["E data 61"])
 
     def test_nothing_is_sent_after_the_end(self):
         talk = Talk()
@@ -82,7 +85,8 @@ class Calls(inferred.Inferring):
     def test_an_unanswered_syn_is_given_up(self):
         talk = Talk()
         talk.frames = {0: talk.frames[0][:1], 1: talk.frames[1][:0]}
-        self.assertEqual(self.calls(talk, captures={0: "c0"}), ["B open 0 4000 80", "E ok 1", "O 0", "B close 1", "E ok"])
+        self.assertEqual(self.calls(talk, captures={0: "c0"}),
+                         ["B open 0 4000 80", "E ok 1", "O 0", "B close 1", "E ok"])
 
     def test_a_refused_connection_has_no_listener(self):
         talk = Talk()
@@ -184,7 +188,8 @@ class Early(inferred.Inferring):
         talk.send(0, FIN | ACK)
         lines = [line.split(" ", 2) for line in self.trace(talk, captures={0: "c0"})[10:]]
         moments = {text.strip(): int(moment) for moment, _, text in lines}
-        self.assertEqual([moments[call] - moments["B open 0 4000 80"] for call in ("B send 1 6162", "E ok 2", "B shut 1", "E ok")],
+        self.assertEqual([moments[call] - moments["B open 0 4000 80"]
+                          for call in ("B send 1 6162", "E ok 2", "B shut 1", "E ok")],
                          [106000, 116000, 208000, 218000])
 
     def test_bytes_may_be_sent_before_an_arrival(self):
@@ -233,7 +238,8 @@ class Cut(inferred.Inferring):
         lines = self.trace(talk)
         self.assertIn("616263646566", next(line for line in lines if " B send" in line))
         self.assertEqual(len([line for line in lines if line.rstrip().endswith("616263646566")]), 3)
-        self.assertEqual(list(self.notes.changed), ["segments of which a capture has only the beginning, completed from other segments"])
+        self.assertEqual(list(self.notes.changed),
+                         ["segments of which a capture has only the beginning, completed from other segments"])
 
     def test_zeros_complete_a_segment(self):
         talk = Talk()
@@ -246,14 +252,16 @@ class Cut(inferred.Inferring):
     def test_many_segments_that_were_cut(self):
         # Each segment leaves a span of its own, in both captures. A search through all of them would take minutes.
         stream, count = Stream(1000), 30_000
-        found = [SimpleNamespace(number=1001 + 10 * at, flags=ACK, size=10, missing=6, payload=b"abcd" + bytes(6)) for at in range(count)]
+        found = [SimpleNamespace(number=1001 + 10 * at, flags=ACK, size=10, missing=6, payload=b"abcd" + bytes(6))
+                 for at in range(count)]
         for packet in found * 2:
             stream.add(packet)
         self.assertEqual(len(stream.spans), count)
         for at in range(count):
             self.assertTrue(stream.has(10 * at, 10 * at + 4))
             self.assertFalse(stream.has(10 * at + 4, 10 * at + 10))
-            self.assertEqual(stream.bytes_of(10 * at + 2, 10), b"cd" + bytes(6) + (b"ab" if at + 1 < count else bytes(2)))
+            self.assertEqual(stream.bytes_of(10 * at + 2, 10),
+                             b"cd" + bytes(6) + (b"ab" if at + 1 < count else bytes(2)))
 
     def test_a_retransmission_has_the_same_bytes(self):
         talk = Talk()

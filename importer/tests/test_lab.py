@@ -20,8 +20,8 @@ from tcpwit_importer.trace.endpoints import Endpoint
 from . import test_command
 from .test_command import run
 
-# Saves its arguments and the trace, and a case and a picture if requested; `judge` prints the answer that the test chose.
-# Before that, the commands check that it has `judge`, without other arguments and with an empty trace.
+# Saves its arguments and the trace, and a case and a picture if requested; `judge` prints the answer that the test
+# chose. Before that, the commands check that it has `judge`, without other arguments and with an empty trace.
 SCRIPT = """#!/bin/sh
 [ "$*" = judge ] && {known}
 echo "$@" >> {folder}/words
@@ -32,6 +32,7 @@ echo a case > "$2"
 cat {folder}/answer
 {end}
 """
+RECORDER = "tcpwit_importer.commands.tcpwit_record"
 LINES = "full      no 57 88 congestion\nnone      yes 101 85\nThe run follows RFC 9293.\n"
 
 
@@ -63,7 +64,9 @@ class Judging(test_command.WithFiles):
     def test_the_budget(self):
         self.importing(*self.lab(LINES), "--budget", "0")
         self.importing(*self.lab(LINES), "--budget", "5000000", "--congestion", "none")
-        self.assertEqual(self.text("words"), "judge --least full --budget 0 --case ./run.case\njudge --least none --budget 5000000 --case ./run.case\n")
+        self.assertEqual(self.text("words"),
+                         "judge --least full --budget 0 --case ./run.case\njudge --least none --budget 5000000 --case "
+                         "./run.case\n")
         for wrong in ("-1", "1.5", "x", str(2**64)):
             self.assertEqual(self.importing(*self.lab(LINES), "--budget=" + wrong)[0], 2)
 
@@ -72,7 +75,9 @@ class Judging(test_command.WithFiles):
         self.assertEqual(self.text("run.trace").splitlines()[9], "slack any")
         self.recorded(*self.lab(LINES), "--slack", "0")
         self.assertEqual(self.text("kept/run.trace").splitlines()[9], "slack 0")
-        self.assertEqual(self.text("words"), "judge --least full --slack any --case ./run.case\njudge --least full --slack 0 --case ./run.case\ndraw\n")
+        self.assertEqual(self.text("words"),
+                         "judge --least full --slack any --case ./run.case\njudge --least full --slack 0 --case "
+                         "./run.case\ndraw\n")
 
     def test_the_status_is_that_of_the_word(self):
         status, out, _ = self.importing(*self.lab(LINES, "exit 1"), "--congestion", "recovery")
@@ -90,7 +95,9 @@ class Judging(test_command.WithFiles):
             self.refused(words, "tcpwit-import: ValueError: some fault (")
             status, out, error = self.recorded(*self.lab(LINES, "exit 1"))
         self.assertEqual((status, out), (2, ""))
-        self.assertRegex(error, r"tcpwit-record: ValueError: some fault \(mock.py, line \d+\)\n  this is a bug in tcpwit-record: report it")
+        self.assertRegex(error,
+                         r"tcpwit-record: ValueError: some fault \(mock.py, line \d+\)\n  this is a bug in "
+                         r"tcpwit-record: report it")
 
     def test_several_traces_are_named(self):
         two = [test_command.talk(zero=("10.9.0.1", port)) for port in (4000, 4001)]
@@ -99,11 +106,14 @@ class Judging(test_command.WithFiles):
         second = [(9, moment, text) for _, moment, text in test_command.CLIENT[:4]]
         client = sorted(test_command.CLIENT[:4] + second, key=lambda line: line[1])
         self.captures, self.logs = two[0].write(self.folder)[:3], self.write_logs(client, [])[:3]
-        status, out, error = run(*self.captures, *self.logs, "--each", "connection", "--out", f"{self.folder}/out", *self.lab(LINES, "exit 1"))
+        status, out, error = run(*self.captures, *self.logs, "--each", "connection", "--out", f"{self.folder}/out",
+                                 *self.lab(LINES, "exit 1"))
         self.assertEqual(status, 1, error)
         lines = ["  " + line for line in LINES.splitlines()]
-        self.assertEqual(out.splitlines(), ["1-10.9.0.1:4000-10.9.0.2:80:", *lines, "2-10.9.0.1:4001-10.9.0.2:80:", *lines])
-        self.assertEqual(sorted(os.listdir(f"{self.folder}/out")), [f"{n}-10.9.0.1_400{n - 1}-10.9.0.2_80.{end}" for n in (1, 2) for end in ("case", "trace")])
+        self.assertEqual(out.splitlines(),
+                         ["1-10.9.0.1:4000-10.9.0.2:80:", *lines, "2-10.9.0.1:4001-10.9.0.2:80:", *lines])
+        self.assertEqual(sorted(os.listdir(f"{self.folder}/out")),
+                         [f"{n}-10.9.0.1_400{n - 1}-10.9.0.2_80.{end}" for n in (1, 2) for end in ("case", "trace")])
 
     def test_no_check_judges_nothing(self):
         status, out, _ = self.importing("--no-check", "--lab", "/nowhere")
@@ -112,12 +122,15 @@ class Judging(test_command.WithFiles):
     def test_a_program_that_fails(self):
         words = [*self.captures, *self.logs, "--out", f"{self.folder}/run.trace"]
         for answer, end, cause in (("bad trace 9 12 13 number\n", "exit 2", "run.trace: bad trace 9 12 13 number"),
-                                   ("bad usage\n", "exit 3", "run.trace: bad usage"), ("bad memory\n", "exit 4", "run.trace: bad memory"),
-                                   ("bad device\n", "echo ./run.case: full >&2; exit 5", "run.trace: bad device; ./run.case: full"),
-                                   ("", "exit 9", "ended with status 9"), ("", "kill -KILL $$", "ended by signal 9")):
+                                   ("bad usage\n", "exit 3", "run.trace: bad usage"),
+                                   ("bad memory\n", "exit 4", "run.trace: bad memory"),
+                                   ("bad device\n", "echo ./run.case: full >&2; exit 5",
+                                    "run.trace: bad device; ./run.case: full"), ("", "exit 9", "ended with status 9"),
+                                   ("", "kill -KILL $$", "ended by signal 9")):
             with self.subTest(end):
                 self.refused([*words, "--quiet", *self.lab(answer, end)], cause)
-        self.refused([*self.captures, *self.logs, "--quiet", "--out", "/dev/null", *self.lab(LINES)], "/dev/null isn't a file")
+        self.refused([*self.captures, *self.logs, "--quiet", "--out", "/dev/null", *self.lab(LINES)],
+                     "/dev/null isn't a file")
         for known in ("exit 0", "exit 1", "exit 3"):
             self.refused([*words, "--quiet", *self.lab(LINES, known=known)], "has no command judge")
 
@@ -140,12 +153,13 @@ class Judging(test_command.WithFiles):
             self.assertEqual(lab.program(None), f"{self.folder}/lab")
 
     def test_a_case_stands_beside_its_trace(self):
-        self.assertEqual([lab.case_of(name) for name in ("a/run.trace", "run", "a.case")], ["a/run.case", "run.case", "a.case.case"])
+        self.assertEqual([lab.case_of(name) for name in ("a/run.trace", "run", "a.case")],
+                         ["a/run.case", "run.case", "a.case.case"])
 
     def recorded(self, *words):
         """Records the same files."""
-        with mock.patch("os.geteuid", return_value=0), mock.patch("tcpwit_importer.commands.tcpwit_record.refuse_missing"), \
-                mock.patch("tcpwit_importer.commands.tcpwit_record.recorded", return_value=self.captures + self.logs):
+        with mock.patch("os.geteuid", return_value=0), mock.patch(f"{RECORDER}.refuse_missing"), \
+                mock.patch(f"{RECORDER}.recorded", return_value=self.captures + self.logs):
             return run("--transfer", "5", "--out", f"{self.folder}/kept", *words, command=recording)
 
     def test_a_recording_is_judged(self):
@@ -158,7 +172,8 @@ class Judging(test_command.WithFiles):
         self.assertEqual(self.text("kept/run.trace")[:8], "trace 5\n")
 
     def test_a_program_that_failed_is_named_with_the_verdict(self):
-        for status, said in ((0, None), (22, "curl\x1b[2J ended with status 22"), (-11, "curl\x1b[2J was ended by SIGSEGV")):
+        for status, said in ((0, None), (22, "curl\x1b[2J ended with status 22"),
+                             (-11, "curl\x1b[2J was ended by SIGSEGV")):
             program = Traced.__new__(Traced)
             program.words, program.process = ["curl\x1b[2J", "http://10.9.0.2/"], mock.Mock(returncode=status)
             with mock.patch.object(Traced, "logged", return_value=b"a call"), \
@@ -170,7 +185,8 @@ class Judging(test_command.WithFiles):
             self.assertEqual(kept.remarks, [kernel, said] if said else [kernel])
             with mock.patch("tcpwit_importer.commands.tcpwit_record.Recording", return_value=kept):
                 error = self.recorded(*self.lab(LINES))[2]
-            self.assertEqual([line for line in kept.remarks if f"tcpwit-record: {plain(line)}\n" in error], kept.remarks)
+            self.assertEqual([line for line in kept.remarks if f"tcpwit-record: {plain(line)}\n" in error],
+                             kept.remarks)
             self.assertNotIn("\x1b", error)
         # A program that --seconds ended didn't fail.
         program.process.wait.side_effect = subprocess.TimeoutExpired("curl", 1)
@@ -185,28 +201,35 @@ class Judging(test_command.WithFiles):
         program.process.wait.side_effect = KeyboardInterrupt
         for form in ({"pair": "b", "serve": False}, {"pair": None, "serve": True}):
             kept = Recording(mock.Mock(out=f"{self.folder}/kept", seconds=None, no_check=False, **form))
-            with mock.patch.object(Traced, "logged", return_value=b"a call"), contextlib.redirect_stderr(io.StringIO()) as error:
+            with mock.patch.object(Traced, "logged", return_value=b"a call"), \
+                    contextlib.redirect_stderr(io.StringIO()) as error:
                 kept.finish(program)
-            self.assertEqual(error.getvalue(), "tcpwit-record: interrupted: the programs are ended, and what was recorded is judged; Ctrl-C again stops that\n")
+            self.assertEqual(error.getvalue(),
+                             "tcpwit-record: interrupted: the programs are ended, and what was recorded is judged; "
+                             "Ctrl-C again stops that\n")
             self.assertEqual(kept.remarks, [])
 
     def test_what_is_kept_after_ctrl_c(self):
         words = ("--transfer", "5", "--out", f"{self.folder}/kept", *self.lab(LINES))
-        with mock.patch("os.geteuid", return_value=0), mock.patch("tcpwit_importer.commands.tcpwit_record.refuse_missing"), \
+        with mock.patch("os.geteuid", return_value=0), mock.patch(f"{RECORDER}.refuse_missing"), \
                 mock.patch.object(Recording, "pair", side_effect=KeyboardInterrupt):
             status, out, error = run(*words, command=recording)
         self.assertEqual((status, out), (130, ""))
-        self.assertEqual(error, f"tcpwit-record: ended before the recording was complete; its files so far are in {self.folder}/kept\n")
+        self.assertEqual(error,
+                         "tcpwit-record: ended before the recording was complete; its files so far are in "
+                         f"{self.folder}/kept\n")
         with mock.patch.object(lab, "on_file", side_effect=[mock.Mock(returncode=2), KeyboardInterrupt]):
             status, out, error = self.recorded(*self.lab(LINES))
         self.assertEqual((status, out), (130, ""))
-        self.assertEqual(error.split("tcpwit-record: ")[2:], ["interrupted before everything was judged\n", f"all files are in {self.folder}/kept\n"])
+        self.assertEqual(error.split("tcpwit-record: ")[2:],
+                         ["interrupted before everything was judged\n", f"all files are in {self.folder}/kept\n"])
         self.assertEqual(os.listdir(f"{self.folder}/kept"), ["run.trace"])
 
     def test_a_case_that_is_incomplete_is_removed(self):
         words = [*self.captures, *self.logs, "--quiet", "--out", f"{self.folder}/run.trace"]
-        for end, remedy in (("exit 5", "choose a place that can be written and has space for the case"), ("exit 4", "record fewer bytes"),
-                            ("kill -9 $$", "record fewer bytes"), ("exit 3", "check whether this works: ")):
+        for end, remedy in (("exit 5", "choose a place that can be written and has space for the case"),
+                            ("exit 4", "record fewer bytes"), ("kill -9 $$", "record fewer bytes"),
+                            ("exit 3", "check whether this works: ")):
             status, out, error = run(*words, *self.lab("", end))
             self.assertEqual((status, out), (2, ""))
             self.assertIn(f"\n  {remedy}", error)
@@ -228,7 +251,8 @@ class Judging(test_command.WithFiles):
         with mock.patch.object(folder, "LARGE", 9):
             status, out, error = self.recorded(*self.lab(LINES))
         self.assertEqual((status, out), (0, LINES))
-        self.assertTrue(error.endswith(f"tcpwit-record: all files are in {self.folder}/kept; the large ones are compressed: zcat FILE\n"), error)
+        self.assertTrue(error.endswith(f"tcpwit-record: all files are in {self.folder}/kept; the large ones are "
+                                       "compressed: zcat FILE\n"), error)
         self.assertEqual(sorted(os.listdir(f"{self.folder}/kept")), ["run.case", "run.svg", "run.trace.gz"])
         with gzip.open(f"{self.folder}/kept/run.trace.gz", "rt") as file:
             self.assertEqual(file.read(), self.text("given"))
@@ -246,16 +270,19 @@ class Judging(test_command.WithFiles):
         full = "standard output: No space left on device\n  choose a place that can be read and written\n"
         for number, said in ((errno.EPIPE, []), (errno.ENOSPC, [full])):
             error = OSError(number, os.strerror(number))
-            with self.subTest(error), mock.patch("tcpwit_importer.commands.lab.judge_all", side_effect=error), mock.patch("os.dup2"):
+            with self.subTest(error), mock.patch("os.dup2"), \
+                    mock.patch("tcpwit_importer.commands.lab.judge_all", side_effect=error):
                 status, out, shown = self.recorded(*self.lab(LINES))
                 self.assertEqual((status, out), (2, ""))
                 self.assertEqual(shown.split("tcpwit-record: ")[2:], [f"all files are in {self.folder}/kept\n", *said])
 
     def test_what_a_program_prints_is_escaped(self):
-        status, out, error = self.importing(*self.lab("full no 9 \x1b[2J\x7f\xff\n".encode("latin-1").decode("ascii", "ignore"), "printf '\\377\\n'; exit 1"))
+        answer = "full no 9 \x1b[2J\x7f\n"
+        status, out, error = self.importing(*self.lab(answer, "printf '\\377\\n'; exit 1"))
         self.assertEqual((status, out), (1, "full no 9 \\x1b[2J\\x7f\n\\xff\n"), error)
         words = [*self.captures, *self.logs, "--quiet", "--out", f"{self.folder}/run.trace"]
-        self.refused([*words, *self.lab("bad\x1b[2J\n", "printf 'a\\233b\\n' >&2; exit 5")], r"run.trace: bad\x1b[2J; a\x9bb")
+        self.refused([*words, *self.lab("bad\x1b[2J\n", "printf 'a\\233b\\n' >&2; exit 5")],
+                     r"run.trace: bad\x1b[2J; a\x9bb")
 
     def test_a_file_that_cannot_be_written_is_named(self):
         words = [*self.captures, *self.logs, "--quiet", *self.lab(LINES)]

@@ -13,12 +13,14 @@ from .wire import Talk, packets
 class Split(unittest.TestCase):
     def connection(self, talk):
         """A connection with a capture that is 1 ms from host 0 and 2 ms from host 1; host 1 answers at once."""
-        return SimpleNamespace(seen={"x": packets(talk, 0)}, hosts={(found.source): host for host, found in enumerate(packets(talk, 0)[:2])})
+        return SimpleNamespace(seen={"x": packets(talk, 0)},
+                               hosts={(found.source): host for host, found in enumerate(packets(talk, 0)[:2])})
 
     def test_the_distance_of_a_host(self):
         connection = self.connection(Talk())
         client, server = connection.hosts
-        # Talk's host 0 receives a segment 1 ms after it was sent, and answers after another 1 ms; the SYN is answered after 3 ms.
+        # Talk's host 0 receives a segment 1 ms after it was sent, and answers after another 1 ms; the SYN is answered
+        # after 3 ms.
         self.assertEqual(midpoint.fastest_answer(connection.seen["x"], client), 10**6)
         self.assertEqual(midpoint.fastest_answer(connection.seen["x"], server), 3 * 10**6)
         self.assertEqual(midpoint.fastest_answer([], client), 0)
@@ -35,7 +37,8 @@ class Split(unittest.TestCase):
     def test_a_limit(self):
         connection = self.connection(Talk())
         names = split(connection, "x", 1000)
-        self.assertEqual([packet.moment - 100 * 10**9 for packet in connection.seen[names[1]]], [1000, 2_999_000, 4_001_000])
+        self.assertEqual([packet.moment - 100 * 10**9 for packet in connection.seen[names[1]]],
+                         [1000, 2_999_000, 4_001_000])
 
     def test_a_router_shows_each_segment_twice(self):
         found = packets(Talk(), 0)
@@ -54,7 +57,8 @@ class Command(test_judge.WithCaptures):
 
     def test_words(self):
         for words in (["--host", "client"], ["--slack", "5"]):
-            self.assertIn("--between is given with --host or --slack", self.fails(*self.files(hosts=(0,)), "--between", *words, *self.lab()))
+            self.assertIn("--between is given with --host or --slack",
+                          self.fails(*self.files(hosts=(0,)), "--between", *words, *self.lab()))
         self.assertIn("is given with two captures", self.fails(*self.files(), "--between", *self.lab()))
 
     def test_a_fin_after_bytes_that_were_lost(self):

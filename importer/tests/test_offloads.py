@@ -21,7 +21,8 @@ def sent(number, payload, flags=ACK, acknowledgment=7, options=b"", window=1000)
 class Cutting(unittest.TestCase):
     def test_flags_numbers_and_sizes(self):
         found = cut(sent(2**32 - 2, b"abcdefg", ACK | PSH | FIN | CWR), 3)
-        self.assertEqual(found, [sent(2**32 - 2, b"abc", ACK | CWR), sent(1, b"def", ACK), sent(4, b"g", ACK | PSH | FIN)])
+        self.assertEqual(found,
+                         [sent(2**32 - 2, b"abc", ACK | CWR), sent(1, b"def", ACK), sent(4, b"g", ACK | PSH | FIN)])
 
     def test_what_fits_stays(self):
         for payload in (b"", b"abc"):
@@ -57,8 +58,9 @@ class Joining(unittest.TestCase):
 
     def test_what_is_no_join(self):
         self.add(sent(1, b"ab"), sent(3, b"cd"), sent(5, b"e", ACK | FIN))
-        for other in (sent(1, b"abcx"), sent(1, b"abcd", window=9), sent(1, b"abcd", acknowledgment=8), sent(1, b"abcd", options=b"\1\1\1\1"),
-                      sent(1, b"abcde"), sent(1, b"abcd", ACK | FIN), sent(1, b"abc"), sent(2, b"bcd"), sent(1, b"abcd", ACK | 32)):
+        for other in (sent(1, b"abcx"), sent(1, b"abcd", window=9), sent(1, b"abcd", acknowledgment=8),
+                      sent(1, b"abcd", options=b"\1\1\1\1"), sent(1, b"abcde"), sent(1, b"abcd", ACK | FIN),
+                      sent(1, b"abc"), sent(2, b"bcd"), sent(1, b"abcd", ACK | 32)):
             self.assertEqual(self.outgoing.parts(other), [])
 
     def test_pieces_of_two_sendings(self):
@@ -89,7 +91,8 @@ class Joining(unittest.TestCase):
 
 
 class Clocks(unittest.TestCase):
-    """Bounds of the clock difference, in nanoseconds: from above by segments that host 1 received, from below by those it sent."""
+    """Bounds of the clock difference, in nanoseconds: from above by segments that host 1 received, from below by those
+    it sent."""
 
     def test_bounds_that_fit_change_nothing(self):
         self.assertEqual(clock_of([(10, 5)], [(20, -3)]), SAME)
@@ -103,7 +106,8 @@ class Clocks(unittest.TestCase):
     def test_a_drift(self):
         # Host 1 gains 50 us a second; segments take 10 us each way.
         moments = range(0, 10 * 10**9, 10**8)
-        clock = clock_of([(moment, moment // 20000 + 10_000) for moment in moments], [(moment, moment // 20000 - 10_000) for moment in moments])
+        clock = clock_of([(moment, moment // 20000 + 10_000) for moment in moments],
+                         [(moment, moment // 20000 - 10_000) for moment in moments])
         self.assertAlmostEqual(clock.rate, 5e-5, delta=3e-6)
         self.assertEqual(clock.skew, 0)
         self.assertLess(abs(clock.at(10**10 + 500_000) - 10**10), 10_000)
@@ -111,7 +115,8 @@ class Clocks(unittest.TestCase):
     def test_what_no_clock_explains_is_skew(self):
         moments = range(0, 10 * 10**9, 10**8)
         step = [(moment, 300_000 if 4 * 10**9 < moment < 5 * 10**9 else 0) for moment in moments]
-        clock = clock_of([(moment, bound + 1000) for moment, bound in step], [(moment, bound - 1000) for moment, bound in step])
+        clock = clock_of([(moment, bound + 1000) for moment, bound in step],
+                         [(moment, bound - 1000) for moment, bound in step])
         self.assertGreater(clock.skew, 100_000)
         for moment, bound in step:
             true = moment - bound
@@ -122,17 +127,21 @@ class Headers(unittest.TestCase):
     def test_versions(self):
         whole = ["skew 0", "msl 60000000", "grain 4000", "minrto 200000", "extra 1", "initial 6928"]
         self.assertEqual(header(2, 0, {}), ["trace 5", *whole, "hosts 2", "congestion full", "slack 1000000"])
-        self.assertEqual(header(1, 5, {}), ["trace 5", "skew 5", *whole[1:], "hosts 1", "congestion full", "slack 1000000"])
+        self.assertEqual(header(1, 5, {}),
+                         ["trace 5", "skew 5", *whole[1:], "hosts 1", "congestion full", "slack 1000000"])
         self.assertEqual(header(2, 0, {"congestion": "none", "slack": "any"})[8:], ["congestion none", "slack any"])
         self.assertEqual(header(2, 0, {"slack": 0})[9:], ["slack 0"])
-        self.assertEqual(header(2, 3, {"msl": 9}, 1), ["trace 1", "skew 3", "msl 9", "grain 4000", "minrto 200000", "extra 1"])
+        self.assertEqual(header(2, 3, {"msl": 9}, 1),
+                         ["trace 1", "skew 3", "msl 9", "grain 4000", "minrto 200000", "extra 1"])
         self.assertEqual(header(2, 0, {}, 2), ["trace 2", *whole])
         self.assertEqual(header(1, 5, {}, 3)[0::7], ["trace 3", "half 0"])
         self.assertEqual(header(1, 0, {}, 4)[6:], ["initial 6928", "hosts 1", "congestion full"])
-        self.assertEqual(header(2, 7, {"congestion": "none"}, 4), ["trace 4", "skew 7", *whole[1:], "hosts 2", "congestion none"])
+        self.assertEqual(header(2, 7, {"congestion": "none"}, 4),
+                         ["trace 4", "skew 7", *whole[1:], "hosts 2", "congestion none"])
 
     def test_refusals(self):
-        for words in ((1, 0, {}, 2), (2, 0, {}, 3), (2, 0, {"congestion": "full"}, 2), (2, 0, {"initial": "5681"}, 1), (2, 0, {"slack": "any"}, 4)):
+        for words in ((1, 0, {}, 2), (2, 0, {}, 3), (2, 0, {"congestion": "full"}, 2), (2, 0, {"initial": "5681"}, 1),
+                      (2, 0, {"slack": "any"}, 4)):
             with self.assertRaises(Problem):
                 header(*words)
 

@@ -10,8 +10,10 @@ from tcpwit_importer.recording import programs, recorder
 from tcpwit_importer.recording.namespaces import Namespace
 
 HEAD = "  sl  local_address rem_address   st tx_queue rx_queue tr tm->when retrnsmt   uid  timeout inode\n"
-CONNECTED = "   0: 0209000A:0050 0109000A:0FA0 01 00000000:00000000 00:00000000 00000000     0        0 4711 1 0000000000000000 20 4 30 10 -1\n"
-LISTENER = "   1: 00000000:0050 00000000:0000 0A 00000000:00000000 00:00000000 00000000     0        0 4712 1 0000000000000000 100 0 0 10 0\n"
+CONNECTED = "   0: 0209000A:0050 0109000A:0FA0 01 00000000:00000000 00:00000000 00000000     0        0 4711 1 " \
+    "0000000000000000 20 4 30 10 -1\n"
+LISTENER = "   1: 00000000:0050 00000000:0000 0A 00000000:00000000 00:00000000 00000000     0        0 4712 1 " \
+    "0000000000000000 100 0 0 10 0\n"
 
 
 class Running(unittest.TestCase):
@@ -20,13 +22,16 @@ class Running(unittest.TestCase):
         server = programs.Traced.__new__(programs.Traced)
         server.words, server.log, server.process = ["server"], "host1.log", mock.Mock(**{"poll.return_value": None})
         server.namespace = mock.Mock(inside=contextlib.nullcontext)
-        for patch in (mock.patch.object(server, "logged", return_value=log), mock.patch.object(programs, "table_of_sockets", side_effect=tables.get)):
+        for patch in (mock.patch.object(server, "logged", return_value=log),
+                      mock.patch.object(programs, "table_of_sockets", side_effect=tables.get)):
             patch.start()
             self.addCleanup(patch.stop)
         return server
 
     def test_only_a_tcp_listener_counts(self):
-        self.assertEqual([programs.has_listener(table) for table in ("", HEAD, HEAD + CONNECTED, HEAD + CONNECTED + LISTENER)], [False, False, False, True])
+        self.assertEqual([programs.has_listener(table)
+                          for table in ("", HEAD, HEAD + CONNECTED, HEAD + CONNECTED + LISTENER)],
+                         [False, False, False, True])
         log = b"7 5.000000001 socket(AF_UNIX, SOCK_STREAM, 0) = 3\n7 5.000000002 listen(3, 5) = 0\n"
         for tables in ({"tcp": HEAD, "tcp6": ""}, {"tcp": HEAD + CONNECTED, "tcp6": HEAD}):
             with self.assertRaisesRegex(Problem, "server did not listen for TCP within 0 seconds"):
@@ -35,7 +40,8 @@ class Running(unittest.TestCase):
             self.server(tables, log).wait_for_listener(0)
 
     def test_a_program_that_the_system_refuses(self):
-        refused = b'8 execve("\\x61", ["\\x61"], 0x7ffc /* 35 vars */) = -1 ENOEXEC (Exec format error)\n7  5.9 +++ exited with 1 +++\n'
+        refused = b'8 execve("\\x61", ["\\x61"], 0x7ffc /* 35 vars */) = -1 ENOEXEC (Exec format error)\n' \
+            b"7  5.9 +++ exited with 1 +++\n"
         # A process has at least five columns, and a space after them.
         for log in (b"7     5." + refused, b"70000 5." + refused):
             with self.assertRaisesRegex(Problem, "^server: Exec format error\n"):
@@ -78,11 +84,15 @@ class Running(unittest.TestCase):
     def test_a_capture_that_lost_packets(self):
         capture = programs.Capture.__new__(programs.Capture)
         capture.file, capture.process = "host0.pcap", mock.Mock(**{"poll.return_value": None})
-        for said, cause in ((b"9 packets captured\n0 packets dropped by kernel\n", None), (b"1 packet dropped by kernel\n", "lost 1 packets"),
-                            (b"0 packets dropped by kernel\n7 packets dropped by interface\n", None), (b"70 packets dropped by kernel\n", "lost 70 packets")):
+        for said, cause in ((b"9 packets captured\n0 packets dropped by kernel\n", None),
+                            (b"1 packet dropped by kernel\n", "lost 1 packets"),
+                            (b"0 packets dropped by kernel\n7 packets dropped by interface\n", None),
+                            (b"70 packets dropped by kernel\n", "lost 70 packets")):
             with self.subTest(said), mock.patch.object(capture, "said", return_value=said):
                 if cause:
-                    with self.assertRaisesRegex(Problem, f"^host0.pcap: the capture {cause}\n  give the captures a larger buffer, such as --buffer 256"):
+                    with self.assertRaisesRegex(Problem,
+                                                f"^host0.pcap: the capture {cause}\n  give the captures a larger "
+                                                "buffer, such as --buffer 256"):
                         capture.stop()
                 else:
                     capture.stop()
@@ -98,8 +108,9 @@ class Running(unittest.TestCase):
         events = mock.Mock()
         options = mock.Mock(out=None, transfer=5, pair=None, chunk=5, echo=False, seconds=None, linger=0, wait=1)
         with tempfile.TemporaryDirectory() as options.out, mock.patch.multiple(
-                recorder, joined_pair=mock.Mock(return_value=(mock.Mock(), [mock.MagicMock(), mock.MagicMock()])), Chances=mock.Mock(),
-                Carrier=mock.Mock(return_value=events.carrier), Capture=mock.Mock(return_value=events.capture), Traced=mock.Mock(return_value=events.program)):
+            recorder, joined_pair=mock.Mock(return_value=(mock.Mock(), [mock.MagicMock(), mock.MagicMock()])),
+            Chances=mock.Mock(), Carrier=mock.Mock(return_value=events.carrier),
+            Capture=mock.Mock(return_value=events.capture), Traced=mock.Mock(return_value=events.program)):
             events.carrier.fault = None
             recorder.Recording(options).pair()
         names = [call[0] for call in events.mock_calls]

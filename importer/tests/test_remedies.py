@@ -15,10 +15,11 @@ OPTION = re.compile(r"(?<![\w-])--[a-z][a-z-]+")
 # Options of strace and tcpdump.
 OTHERS = {"--absolute-timestamps", "--decode-fds", "--immediate-mode"}
 # Only the importer fails like this: the recorder gives it the files itself.
-ONLY_IMPORTER = ("an address", "no such host", "is combined with", "no capture is given", "no log of calls", "has a log but no capture", "traces: ",
-                 "of another run", "isn't a file that can be read again")
+ONLY_IMPORTER = ("an address", "no such host", "is combined with", "no capture is given", "no log of calls",
+                 "has a log but no capture", "traces: ", "of another run", "isn't a file that can be read again")
 # The modules that only tcpwit-judge and tcpwit-record use.
-OF_JUDGE = ("infer/", "capture/index", "commands/live", "commands/output", "commands/tcpwit_judge", "commands/verdicts", "commands/workers")
+OF_JUDGE = ("infer/", "capture/index", "commands/live", "commands/output", "commands/tcpwit_judge", "commands/verdicts",
+            "commands/workers")
 OF_RECORDER = ("recording/", "commands/tcpwit_record")
 
 
@@ -46,11 +47,12 @@ class Remedies(unittest.TestCase):
                     yield [text_of(each, names) for each in call.args], os.path.relpath(path, PACKAGE)
 
     def test_options_exist(self):
-        options = {command: {name for action in parser()._actions for name in action.option_strings} | OTHERS  # noqa: SLF001
+        options = {command: OTHERS.union(*(action.option_strings for action in parser()._actions))  # noqa: SLF001
                    for command, parser in (("importer", of_importer), ("recorder", of_recorder), ("judge", of_judge))}
         count = 0
         for (cause, remedy, *recorded), module in self.problems():
-            commands = {"recorder": (recorded or [remedy])[0]} if not any(sign in cause for sign in ONLY_IMPORTER) else {}
+            commands = {"recorder": (recorded or [remedy])[0]} if not any(sign in cause
+                                                                          for sign in ONLY_IMPORTER) else {}
             commands |= {} if module.startswith(OF_RECORDER) else {"importer": remedy}
             commands = {"judge": remedy} if module.startswith(OF_JUDGE) else commands
             for command, text in commands.items():

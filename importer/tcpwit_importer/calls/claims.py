@@ -1,19 +1,20 @@
 """Finds the connections of the captures that calls open and accept.
 
-strace prints the addresses that the kernel has for a socket; they name its connection. For a call without them, the connection is chosen
-by time and order, among those whose addresses the log doesn't have.
+strace prints the addresses that the kernel has for a socket; they name its connection. For a call without them, the
+connection is chosen by time and order, among those whose addresses the log doesn't have.
 """
 from ..capture.segments import FIN, RST
 from .strace_words import addresses_of, first_descriptor
 
 # Nanoseconds that a moment may be off: logs may have microseconds only.
 UNIT = 1000
-CHOSEN, REMEDY = "connections chosen by time and order, because their calls have no addresses", ": use strace --decode-fds=socket"
+CHOSEN = "connections chosen by time and order, because their calls have no addresses"
+REMEDY = ": use strace --decode-fds=socket"
 
 
 class Claims:
-    """The connections that no call of a host has claimed yet, by the server's port and by client and server. `named` has the addresses of
-    connections that the log shows, each as local and remote end."""
+    """The connections that no call of a host has claimed yet, by the server's port and by client and server. `named`
+    has the addresses of connections that the log shows, each as local and remote end."""
 
     def __init__(self, connections, captures, notes):
         self.captures, self.notes = captures, notes
@@ -33,8 +34,8 @@ class Claims:
                     self.named.add(addresses)
 
     def open(self, endpoint):
-        """Claims the connection of an endpoint that has just been opened, as far as it is known at this moment: if the socket was bound, or
-        if the log has no addresses. Otherwise, a later call shows the addresses."""
+        """Claims the connection of an endpoint that has just been opened, as far as it is known at this moment: if the
+        socket was bound, or if the log has no addresses. Otherwise, a later call shows the addresses."""
         if any(endpoint.local[0]) and endpoint.local[1]:
             self.open_between(endpoint, endpoint.local, endpoint.remote)
         if not endpoint.connection and not self.named:
@@ -42,16 +43,21 @@ class Claims:
 
     def open_between(self, endpoint, local, remote):
         """Claims the first connection between these ends that the endpoint may have opened."""
-        found = (connection for connection in self.by_ends.get((local, remote), []) if self.may_be_opened_by(endpoint, connection))
+        found = (connection for connection in self.by_ends.get((local, remote), [])
+                 if self.may_be_opened_by(endpoint, connection))
         self.claim(self.unopened, next(found, None), "open", endpoint)
 
     def guess(self, endpoint):
-        """Claims the first connection to the endpoint's peer that the endpoint may have opened and whose addresses the log doesn't have."""
+        """Claims the first connection to the endpoint's peer that the endpoint may have opened and whose addresses the
+        log doesn't have."""
         found = (connection for connection in self.unopened.get(endpoint.remote[1], [])
-                 if (connection.client, connection.server) not in self.named and self.may_be_opened_by(endpoint, connection))
+                 if (connection.client, connection.server) not in self.named
+                 and self.may_be_opened_by(endpoint, connection))
         first = next(found, None)
         # In a log with addresses, only failed connects have none; each sent its SYN before it ended.
-        self.note_choice(endpoint, any(not self.named or endpoint.ended is None or self.begun(connection) <= endpoint.ended for connection in found))
+        self.note_choice(endpoint,
+                         any(not self.named or endpoint.ended is None or self.begun(connection) <= endpoint.ended
+                             for connection in found))
         self.claim(self.unopened, first, "open", endpoint)
 
     def may_be_opened_by(self, endpoint, connection):
@@ -68,8 +74,8 @@ class Claims:
         return min(packets[0].moment for packets in self.seen(connection))
 
     def child(self, endpoint, listener, event, remote):
-        """Claims the connection that an accept returned: the one with the addresses of the socket or the returned address, else the first
-        that was completed."""
+        """Claims the connection that an accept returned: the one with the addresses of the socket or the returned
+        address, else the first that was completed."""
         if (addresses := addresses_of(event.file)) and addresses.remote:
             found = next((connection for connection in self.by_ends.get((addresses.remote, addresses.local), [])
                           if "child" not in connection.claimed), None)
@@ -100,7 +106,8 @@ class Claims:
             connection.hosts[endpoint.own_end] = endpoint.host
 
     def learn(self, socket, addresses):
-        """Uses the addresses that strace printed for a socket: a port that wasn't bound explicitly, and the connection that was opened."""
+        """Uses the addresses that strace printed for a socket: a port that wasn't bound explicitly, and the connection
+        that was opened."""
         socket.addresses, endpoint = addresses, socket.endpoint
         if not addresses.remote:
             set_port(socket, addresses.local[1])
@@ -115,8 +122,8 @@ class Claims:
                 self.guess(endpoint)
 
     def left(self, endpoint, since):
-        """When an endpoint's host first sent a reset, or a FIN that no shutdown caused, since a moment, according to its captures; None if it
-        didn't."""
+        """When an endpoint's host first sent a reset, or a FIN that no shutdown caused, since a moment, according to
+        its captures; None if it didn't."""
         flags = RST if endpoint.shut else FIN | RST
         moments = [packet.moment for name in self.captures for packet in endpoint.connection.seen.get(name, ())
                    if packet.source == endpoint.own_end and packet.flags & flags and packet.moment >= since]

@@ -1,4 +1,5 @@
-"""Refuses recordings that lack calls: what the connections do without them would look as if the stack had done it alone."""
+"""Refuses recordings that lack calls: what the connections do without them would look as if the stack had done it
+alone."""
 from ..capture.packets import shown
 from ..problem import Problem
 from ..remedies import ALL_CALLS, ELSEWHERE
@@ -11,11 +12,13 @@ def refuse_missing_sends(connections, endpoints):
     """Refuses a log that lacks sends: the bytes would look as if the stack had invented them."""
     kept = set(connections)
     for endpoint in endpoints:
-        if endpoint.connection not in kept or any(action.verb == "send" and not action.answer for action in endpoint.actions):
+        if endpoint.connection not in kept or any(action.verb == "send" and not action.answer
+                                                  for action in endpoint.actions):
             continue
         found = endpoint.connection.shown_up_to(endpoint.own_end) - endpoint.sent
         if found > 0:
-            raise Problem(f"{endpoint.place}: {found} bytes that {shown(endpoint.own_end)} sent are in no call of the log",
+            sent = f"{found} bytes that {shown(endpoint.own_end)} sent"
+            raise Problem(f"{endpoint.place}: {sent} are in no call of the log",
                           f"{ALL_CALLS}; or accept the log with --keep-gaps", ELSEWHERE)
 
 
@@ -26,8 +29,9 @@ def refuse_missing_ends(connections, endpoints, notes):
         if missing := missing_call(connection, listeners):
             end, what = missing
             host = connection.hosts[end]
-            raise Problem(f"{next(connection.packets()).place}: {connection} has calls of host {1 - host} only: no call of host {host} {what} it; "
-                          f"likely, {likely(notes)}", f"{ALL_CALLS}, on both hosts", ELSEWHERE)
+            raise Problem(f"{next(connection.packets()).place}: {connection} has calls of host {1 - host} only: no "
+                          f"call of host {host} {what} it; likely, {likely(notes)}",
+                          f"{ALL_CALLS}, on both hosts", ELSEWHERE)
 
 
 def missing_call(connection, listeners):
@@ -35,10 +39,11 @@ def missing_call(connection, listeners):
     if "open" not in connection.claimed:
         return connection.client, "opened"
     # A server needs no calls to refuse a connection, and only a listener to complete the handshake.
-    if "child" not in connection.claimed and connection.answered() is not None and listeners.address(connection) is None:
-        return connection.server, "listened for"
-    if "child" not in connection.claimed and connection.sent_or_ended(connection.server):
-        return connection.server, "accepted"
+    if "child" not in connection.claimed:
+        if connection.answered() is not None and listeners.address(connection) is None:
+            return connection.server, "listened for"
+        if connection.sent_or_ended(connection.server):
+            return connection.server, "accepted"
     return None
 
 

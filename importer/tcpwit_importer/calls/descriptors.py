@@ -1,4 +1,5 @@
-"""Keeps track of which TCP socket each descriptor refers to: calls open, copy, pass on and close descriptors, and processes begin and end."""
+"""Keeps track of which TCP socket each descriptor refers to: calls open, copy, pass on and close descriptors, and
+processes begin and end."""
 from ..problem import Problem
 from .processes import PairedSocket, Processes, Socket
 from .strace_words import addresses_of, arguments, first_descriptor, unix_ends, whole_number
@@ -27,8 +28,8 @@ class Descriptors:
         return socket
 
     def find(self, event, word):
-        """The TCP socket that a word of a call names; None if it isn't a known TCP socket. If no call of the log gave the descriptor to the
-        process, what strace printed shows which socket it is."""
+        """The TCP socket that a word of a call names; None if it isn't a known TCP socket. If no call of the log gave
+        the descriptor to the process, what strace printed shows which socket it is."""
         number, file = whole_number(word), getattr(word, "file", "")
         if file and not self.processes.knows(event.process, number) and (socket := self.printed_as(file)):
             self.put(event, number, socket)
@@ -64,8 +65,8 @@ class Descriptors:
                 self.put(event, whole_number(number), socket, "SOCK_CLOEXEC" in event.text)
 
     def unix_ends(self, event):
-        """The Unix socket of a call's first argument, and its peer: their numbers, if strace printed them, or those of a socketpair. None for
-        one that isn't known."""
+        """The Unix socket of a call's first argument, and its peer: their numbers, if strace printed them, or those of
+        a socketpair. None for one that isn't known."""
         word = first_descriptor(event.text)
         own, peer = unix_ends(word.file)
         socket = None if own else self.processes.get(event.process, whole_number(word))
@@ -100,7 +101,8 @@ class Descriptors:
             for number in numbers:
                 self.processes.mark(event.process, number, True)
         else:
-            self.closing.close_at_once(event, filter(None, [self.processes.drop(event.process, number) for number in numbers]))
+            self.closing.close_at_once(event,
+                                       filter(None, [self.processes.drop(event.process, number) for number in numbers]))
 
     def clone(self, event):
         if event.result and event.result > 0:

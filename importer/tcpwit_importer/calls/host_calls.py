@@ -1,7 +1,8 @@
 """Converts the system calls of one host into the calls of a trace.
 
-`Descriptors` finds the socket of a call; `Passing` follows sockets to other processes. `Opening`, `Transfers` and `Closing` convert the
-calls on sockets and add them to the `HostTrace`. `Claims` finds the connections that they open and accept.
+`Descriptors` finds the socket of a call; `Passing` follows sockets to other processes. `Opening`, `Transfers` and
+`Closing` convert the calls on sockets and add them to the `HostTrace`. `Claims` finds the connections that they open
+and accept.
 """
 from ..problem import Problem
 from ..trace.endpoints import HostTrace
@@ -28,19 +29,25 @@ class HostCalls:
         transfers = Transfers(self.trace, descriptors, opening)
         # What handles a call whose first argument is a TCP socket, and what handles other calls.
         self.on_socket = {
-            "bind": opening.bind, "getsockname": opening.getsockname, "setsockopt": opening.setsockopt, "getsockopt": opening.getsockopt,
+            "bind": opening.bind, "getsockname": opening.getsockname,
+            "setsockopt": opening.setsockopt, "getsockopt": opening.getsockopt,
             "listen": opening.listen, "connect": opening.connect, "accept": opening.accept, "accept4": opening.accept,
-            "send": transfers.send, "sendto": transfers.send, "write": transfers.send, "writev": transfers.writev, "pwritev2": transfers.writev,
-            "sendmsg": transfers.sendmsg, "sendmmsg": transfers.sendmmsg, "sendfile": transfers.sendfile, "shutdown": closing.shutdown,
-            "recv": transfers.recv, "recvfrom": transfers.recv, "read": transfers.recv, "readv": transfers.readv, "preadv2": transfers.readv,
+            "send": transfers.send, "sendto": transfers.send, "write": transfers.send,
+            "writev": transfers.writev, "pwritev2": transfers.writev,
+            "sendmsg": transfers.sendmsg, "sendmmsg": transfers.sendmmsg, "sendfile": transfers.sendfile,
+            "shutdown": closing.shutdown, "recv": transfers.recv, "recvfrom": transfers.recv, "read": transfers.recv,
+            "readv": transfers.readv, "preadv2": transfers.readv,
             "recvmsg": transfers.recvmsg, "recvmmsg": transfers.recvmmsg}
         self.on_other = {
-            "socket": descriptors.socket, "socketpair": descriptors.socketpair, "dup": descriptors.dup, "dup2": descriptors.dup,
-            "dup3": descriptors.dup, "fcntl": descriptors.fcntl, "ioctl": descriptors.ioctl, "close": descriptors.close,
-            "close_range": descriptors.close_range, "sendmsg": passing.sendmsg, "recvmsg": passing.recvmsg, "pidfd_open": passing.pidfd_open,
-            "pidfd_getfd": passing.pidfd_getfd, "splice": transfers.splice, "execve": descriptors.execve, "execveat": descriptors.execve,
-            "clone": descriptors.clone, "clone3": descriptors.clone, "fork": descriptors.clone, "vfork": descriptors.clone,
-            "io_uring_setup": descriptors.io_uring_setup}
+            "socket": descriptors.socket, "socketpair": descriptors.socketpair,
+            "dup": descriptors.dup, "dup2": descriptors.dup, "dup3": descriptors.dup,
+            "fcntl": descriptors.fcntl, "ioctl": descriptors.ioctl,
+            "close": descriptors.close, "close_range": descriptors.close_range,
+            "sendmsg": passing.sendmsg, "recvmsg": passing.recvmsg,
+            "pidfd_open": passing.pidfd_open, "pidfd_getfd": passing.pidfd_getfd, "splice": transfers.splice,
+            "execve": descriptors.execve, "execveat": descriptors.execve,
+            "clone": descriptors.clone, "clone3": descriptors.clone, "fork": descriptors.clone,
+            "vfork": descriptors.clone, "io_uring_setup": descriptors.io_uring_setup}
 
     def run(self, events):
         """All endpoints, each with its calls."""
@@ -69,4 +76,5 @@ class HostCalls:
                 self.on_other[event.name](event)
         except (AttributeError, LookupError, TypeError, ValueError) as error:
             raise Problem(f"{event.place}: the arguments of {event.name} can't be read ({error})",
-                          "record again; if the line is complete, this is a bug in the importer: report it with the line") from error
+                          "record again; if the line is complete, this is a bug in the importer: report it with the "
+                          "line") from error

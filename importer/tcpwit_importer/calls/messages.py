@@ -1,4 +1,5 @@
-"""Descriptors that processes pass to each other: in messages (SCM_RIGHTS), or by taking them from another process (pidfd_getfd)."""
+"""Descriptors that processes pass to each other: in messages (SCM_RIGHTS), or by taking them from another process
+(pidfd_getfd)."""
 from typing import Any, NamedTuple
 
 from .strace_words import arguments, passed_descriptors, process_of, whole_number
@@ -8,8 +9,8 @@ GUESSED, OTHER = 2, 3
 
 
 class Message(NamedTuple):
-    """Sockets that were sent and not yet received, each None if it isn't TCP, with what strace printed about them. `sender` and `receiver` are
-    the two Unix sockets, None if unknown."""
+    """Sockets that were sent and not yet received, each None if it isn't TCP, with what strace printed about them.
+    `sender` and `receiver` are the two Unix sockets, None if unknown."""
     sender: Any
     receiver: Any
     files: list
@@ -42,8 +43,8 @@ class Passing:
                     socket.references -= 1
 
     def taken(self, event, sender, receiver, files):
-        """The message that was received, which is removed: the oldest between these Unix sockets, else the oldest with such sockets, else, if
-        neither is known, the oldest of all. None if its sending isn't in the log."""
+        """The message that was received, which is removed: the oldest between these Unix sockets, else the oldest with
+        such sockets, else, if neither is known, the oldest of all. None if its sending isn't in the log."""
         def rank(message):
             if (sender and message.sender == sender) or (receiver and message.receiver == receiver):
                 return 0
@@ -54,8 +55,9 @@ class Passing:
         if not found or rank(found) == OTHER:
             return None
         if rank(found) == GUESSED and len(self.messages) > 1:
-            self.notes.change("messages with descriptors, received in the order of sending because strace printed no sockets: use strace "
-                              "--decode-fds=socket", event.place)
+            self.notes.change("messages with descriptors, received in the order of sending because strace printed no "
+                              "sockets: use strace --decode-fds=socket",
+                              event.place)
         # Two messages may be equal.
         self.messages = [message for message in self.messages if message is not found]
         return found
@@ -79,7 +81,8 @@ class Passing:
 
 def received_or_sent(event):
     """The descriptors in a message that was sent or received."""
-    return passed_descriptors(event.text) if "SCM_RIGHTS" in event.text and event.result is not None and event.result >= 0 else []
+    passes = "SCM_RIGHTS" in event.text and event.result is not None and event.result >= 0
+    return passed_descriptors(event.text) if passes else []
 
 
 def files_of(words):

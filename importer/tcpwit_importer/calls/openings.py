@@ -4,8 +4,8 @@ from .claims import set_port
 from .processes import Socket
 from .strace_words import address_of, whole_number
 
-NOTHING_SENT = ("ENETUNREACH", "EADDRNOTAVAIL", "EACCES", "EPERM", "EAFNOSUPPORT", "EINVAL", "EADDRINUSE", "EAGAIN", "EISCONN", "ENETDOWN",
-                "EOPNOTSUPP")
+NOTHING_SENT = ("ENETUNREACH", "EADDRNOTAVAIL", "EACCES", "EPERM", "EAFNOSUPPORT", "EINVAL", "EADDRINUSE", "EAGAIN",
+                "EISCONN", "ENETDOWN", "EOPNOTSUPP")
 
 
 class Opening:
@@ -63,16 +63,18 @@ class Opening:
         if event.error in NOTHING_SENT:
             self.notes.leave_out("connects that failed before sending a segment", event.place)
             return False
-        endpoint = socket.endpoint = Endpoint("open", self.trace.connects, socket.bound, event.place, pending=True, remote=remote,
-                                              begun=event.begin, ended=event.end, former=socket.addresses)
+        endpoint = socket.endpoint = Endpoint("open", self.trace.connects, socket.bound, event.place, pending=True,
+                                              remote=remote, begun=event.begin, ended=event.end,
+                                              former=socket.addresses)
         self.claims.open(endpoint)
         self.trace.endpoints.append(endpoint)
         self.trace.add(event, endpoint, "open", (), ("ok", endpoint), end=event.begin)
         return True
 
     def fast_open(self, event, socket, remote):
-        """Adds the `open` of a send with MSG_FASTOPEN if its socket isn't connected, and returns whether the call sends no byte: it didn't wait, or
-        connecting failed. Without a cookie of the server, the kernel sends an ordinary SYN, and the bytes after the handshake."""
+        """Adds the `open` of a send with MSG_FASTOPEN if its socket isn't connected, and returns whether the call sends
+        no byte: it didn't wait, or connecting failed. Without a cookie of the server, the kernel sends an ordinary SYN,
+        and the bytes after the handshake."""
         if remote is None or (socket.endpoint and not socket.endpoint.gone):
             return False
         if self.opened(event, socket, remote) and event.error not in (None, "EINPROGRESS"):
@@ -125,10 +127,11 @@ class Opening:
             self.trace.add(event, endpoint, "accept", (), answer)
 
     def order_accepts(self, listener):
-        """Orders the beginnings of concurrent accepts by when their connections were completed: the queue returned the connections
-        in that order, so no accept had its effect before an earlier one began."""
+        """Orders the beginnings of concurrent accepts by when their connections were completed: the queue returned the
+        connections in that order, so no accept had its effect before an earlier one began."""
         places = [place for place, action in enumerate(listener.actions)
-                  if action.verb == "accept" and action.answer and action.answer[0] == "ok" and action.answer[1].connection]
+                  if action.verb == "accept" and action.answer and action.answer[0] == "ok"
+                  and action.answer[1].connection]
         places.sort(key=lambda place: self.claims.completed(listener.actions[place].answer[1].connection) or 0)
         begin, turn = 0, (0, 0)
         for place in places:

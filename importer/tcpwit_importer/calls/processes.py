@@ -1,11 +1,13 @@
-"""Processes and their descriptor tables: what refers to a socket, TCP or one of a socketpair, and when the last reference is dropped."""
+"""Processes and their descriptor tables: what refers to a socket, TCP or one of a socketpair, and when the last
+reference is dropped."""
 from dataclasses import dataclass
 from typing import Any
 
 
 @dataclass(eq=False)
 class Socket:
-    """A TCP socket in any state, to which descriptors of several processes may refer. `addresses` are those that strace printed last."""
+    """A TCP socket in any state, to which descriptors of several processes may refer. `addresses` are those that strace
+    printed last."""
     bound: tuple
     endpoint: Any = None
     aborts: bool = False
@@ -31,7 +33,8 @@ class Table:
 
 
 class Processes:
-    """All tables of a host. Methods return sockets whose last reference was dropped, so that the trace can close them."""
+    """All tables of a host. Methods return sockets whose last reference was dropped, so that the trace can close
+    them."""
 
     def __init__(self):
         self.tables = {}

@@ -1,8 +1,9 @@
 """Reads logs of strace: which process called what and when, and what the call returned.
 
-A call doesn't begin before its line's moment. strace reads the clock for a line before it decodes the call, and for the duration
-(-T) afterwards, so the beginning plus the duration may be earlier than the call's effect. A call has ended when the log shows that
-it was resumed, or else by the moment of the next line, since strace handled the call's end before that line.
+A call doesn't begin before its line's moment. strace reads the clock for a line before it decodes the call, and for the
+duration (-T) afterwards, so the beginning plus the duration may be earlier than the call's effect. A call has ended
+when the log shows that it was resumed, or else by the moment of the next line, since strace handled the call's end
+before that line.
 """
 import re
 from typing import NamedTuple
@@ -20,8 +21,8 @@ HOW = "strace -f --decode-fds=socket --absolute-timestamps=format:unix,precision
 
 
 class SystemCall(NamedTuple):
-    """A call of a process: its beginning and end in nanoseconds, or None if it didn't end; its result, or None if it had none; what strace
-    printed about the file of the descriptor that it returned."""
+    """A call of a process: its beginning and end in nanoseconds, or None if it didn't end; its result, or None if it
+    had none; what strace printed about the file of the descriptor that it returned."""
     process: int
     begin: int
     end: int | None
@@ -34,8 +35,8 @@ class SystemCall(NamedTuple):
 
     @property
     def when(self):
-        """When the call counts: a call that returns descriptors at its end, any other at its beginning. A message that passes descriptors
-        may be received before the log shows that its send ended, but not before the send began."""
+        """When the call counts: a call that returns descriptors at its end, any other at its beginning. A message that
+        passes descriptors may be received before the log shows that its send ended, but not before the send began."""
         gives = self.name in GIVING or "F_DUPFD" in self.text or (self.name == "recvmsg" and "SCM_RIGHTS" in self.text)
         return self.end if gives and self.end is not None else self.begin
 
@@ -78,7 +79,8 @@ def read_log(names):
 
 
 def _lines(name, number):
-    """The lines, with their moments. Without a column of processes, the process is the end of the file name, as with strace -ff."""
+    """The lines, with their moments. Without a column of processes, the process is the end of the file name, as with
+    strace -ff."""
     end = name.rsplit(".", 1)[-1]
     alone = int(end) if end.isdigit() else -1 - number
     with opened(name, "name a log that can be read", text=True) as file:
@@ -87,7 +89,8 @@ def _lines(name, number):
             if found:
                 process = int(found[1] or found[2] or alone)
                 moment = int(found[3]) * 10**9 + int(found[4].ljust(9, "0")[:9])
-                yield _Line(process, moment, found[5].rstrip("\n"), f"{name}, line {count}", 1 if len(found[4]) > 6 else 1000)
+                yield _Line(process, moment, found[5].rstrip("\n"), f"{name}, line {count}",
+                            1 if len(found[4]) > 6 else 1000)
             elif NO_UNIX_TIME.match(raw):
                 raise Problem(f"{name}, line {count}: no moment in seconds since 1970", f"record it with: {HOW}")
 
@@ -102,7 +105,8 @@ def _with_next(lines):
 
 
 def _events(lines):
-    """Calls and ends of processes. `open_calls` has the calls that have begun but not ended, `seen` each process's last moment."""
+    """Calls and ends of processes. `open_calls` has the calls that have begun but not ended, `seen` each process's last
+    moment."""
     open_calls, seen, events = {}, {}, []
     for line, following in _with_next(lines):
         after, text = (following or line).latest, line.text

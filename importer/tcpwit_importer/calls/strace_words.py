@@ -1,8 +1,9 @@
 """Parses the arguments of a system call as strace prints them.
 
-Strings become `Text`, structures dicts, arrays lists, `name(..)` a `Call`, and descriptors with a file `Descriptor`; anything else stays
-text. With --decode-fds or -yy, strace prints what the kernel knows about a descriptor's file: the addresses of a TCP socket, or its number
-if it has none; the numbers of a Unix socket and of its peer; the process of a pidfd.
+Strings become `Text`, structures dicts, arrays lists, `name(..)` a `Call`, and descriptors with a file `Descriptor`;
+anything else stays text. With --decode-fds or -yy, strace prints what the kernel knows about a descriptor's file: the
+addresses of a TCP socket, or its number if it has none; the numbers of a Unix socket and of its peer; the process of a
+pidfd.
 """
 import ast
 import functools
@@ -111,8 +112,10 @@ class _Reader:
         if letter and letter in "{[(":
             self.at += 1
             inner = self.items({"{": "}", "[": "]", "(": ")"}[letter])
-            return dict(item for item in inner if isinstance(item, tuple) and len(item) == 2 and isinstance(item[0], str)) \
-                if letter == "{" else inner
+            if letter != "{":
+                return inner
+            pairs = (item for item in inner if isinstance(item, tuple) and len(item) == 2)
+            return dict(item for item in pairs if isinstance(item[0], str))
         if descriptor := DESCRIPTOR.match(self.text, self.at):
             self.at = descriptor.end()
             return Descriptor(*descriptor.groups())
@@ -153,7 +156,11 @@ def address_of(value):
     if not isinstance(value, dict):
         return None
     port = next((value[key] for key in ("sin_port", "sin6_port") if key in value), None)
-    text = value["sin_addr"].words[0] if "sin_addr" in value else value["inet_pton"][1] if "inet_pton" in value else None
+    text = None
+    if "sin_addr" in value:
+        text = value["sin_addr"].words[0]
+    elif "inet_pton" in value:
+        text = value["inet_pton"][1]
     if not isinstance(text, Text) or not isinstance(port, Call):
         return None
     return _end(text.data.decode("ascii", "replace"), port.words[0])
@@ -177,7 +184,8 @@ def addresses_of(file):
     """The addresses of a TCP socket; None for other files, and for a socket without addresses."""
     found = TCP.fullmatch(file)
     try:
-        return found and Addresses(*(_end(found[place].strip("[]"), found[place + 1]) if found[place] else None for place in (1, 3)))
+        return found and Addresses(*(_end(found[place].strip("[]"), found[place + 1]) if found[place] else None
+                                     for place in (1, 3)))
     except ValueError:
         return None
 

@@ -8,7 +8,8 @@ class Transfers:
         self.trace, self.descriptors, self.opening, self.notes = trace, descriptors, opening, trace.notes
 
     def send(self, event, socket, words):
-        if not (len(words) > 4 and "MSG_FASTOPEN" in words[3] and self.opening.fast_open(event, socket, address_of(words[4]))):
+        if not (len(words) > 4 and "MSG_FASTOPEN" in words[3]
+                and self.opening.fast_open(event, socket, address_of(words[4]))):
             self.sent(event, socket, *buffer(words))
 
     def writev(self, event, socket, words):
@@ -16,7 +17,8 @@ class Transfers:
 
     def sendmsg(self, event, socket, words):
         if len(words) > 1 and isinstance(words[1], dict):
-            if not ("MSG_FASTOPEN" in words[-1] and self.opening.fast_open(event, socket, address_of(words[1].get("msg_name")))):
+            if not ("MSG_FASTOPEN" in words[-1]
+                    and self.opening.fast_open(event, socket, address_of(words[1].get("msg_name")))):
                 self.sent(event, socket, *gathered(words[1].get("msg_iov")))
 
     def sendmmsg(self, event, socket, words):
@@ -55,7 +57,8 @@ class Transfers:
             self.trace.add_failed(event, endpoint, "send", (data,))
 
     def sent_data(self, event, endpoint, known, asked):
-        """Adds sent bytes: in parts if they are more than a line may have or the log lacks some, all but the last at the beginning."""
+        """Adds sent bytes: in parts if they are more than a line may have or the log lacks some, all but the last at
+        the beginning."""
         if asked is not None and asked <= LONGEST and len(known) >= asked and event.result:
             data = Data(known, endpoint, endpoint.sent, asked, True)
             self.trace.add(event, endpoint, "send", (data,), ("ok", event.result))

@@ -1,7 +1,7 @@
 """Clocks of two hosts: how far one has to be shifted so that no segment is received before it was sent.
 
-Each segment in both captures bounds the difference of the clocks, because it can't be received before it was sent. Segments of one
-direction bound the difference from above, those of the other direction from below.
+Each segment in both captures bounds the difference of the clocks, because it can't be received before it was sent.
+Segments of one direction bound the difference from above, those of the other direction from below.
 """
 from typing import NamedTuple
 
@@ -9,7 +9,8 @@ from ..problem import Problem
 
 
 class Clock(NamedTuple):
-    """Converts host 1's moments to host 0's: by `shift` at the moment `start`, and by `rate` for each nanosecond since; `skew` remains."""
+    """Converts host 1's moments to host 0's: by `shift` at the moment `start`, and by `rate` for each nanosecond since;
+    `skew` remains."""
     shift: int
     rate: float
     start: int
@@ -60,7 +61,8 @@ def clock_of(above, below):
 
 
 def _rate(above, below, start):
-    """The rate that fits the bounds best: the room between them is concave in it. Clock rates differ by less than a thousandth."""
+    """The rate that fits the bounds best: the room between them is concave in it. Clock rates differ by less than a
+    thousandth."""
     def room(rate):
         return (min(bound - rate * (moment - start) for moment, bound in above)
                 - max(bound - rate * (moment - start) for moment, bound in below))
@@ -84,5 +86,6 @@ def said(clock):
 def refuse_distant(clock):
     """Refuses a skew above a second, which is too large to be drift."""
     if clock.skew > 10**9:
-        raise Problem(f"the clocks of the two captures differ by {clock.skew / 1e9:.1f} seconds more at one time than at another",
+        seconds = f"{clock.skew / 1e9:.1f} seconds"
+        raise Problem(f"the clocks of the two captures differ by {seconds} more at one time than at another",
                       "synchronize both clocks before the recording, and don't set them during it")

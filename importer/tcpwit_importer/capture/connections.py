@@ -44,12 +44,14 @@ class Connection:
             yield from packets
 
     def piece_size(self, segment):
-        """The most bytes that a segment with these options has on the wire: the smaller MSS option minus the length of its options."""
+        """The most bytes that a segment with these options has on the wire: the smaller MSS option minus the length of
+        its options."""
         sizes = [self.sizes.get(end) or USUAL_SIZE for end in (self.client, self.server)]
         return max(1, min(sizes) - (header_length(segment) - SHORTEST))
 
     def completed(self, captures=()):
-        """The moment of the client's first segment after its SYN in these captures, or in all; None if no capture has one."""
+        """The moment of the client's first segment after its SYN in these captures, or in all; None if no capture has
+        one."""
         own = [packet for name in captures for packet in self.seen.get(name, [])]
         moments = [packet.moment for packet in own or self.packets()
                    if packet.source == self.client and packet.flags & (SYN | RST | ACK) == ACK]
@@ -76,7 +78,8 @@ class Connection:
                 yield max(start, offset), piece
 
     def was_sent(self, end):
-        """The offset up to which an end certainly sent its bytes: the other end acknowledged them, or captures have later ones."""
+        """The offset up to which an end certainly sent its bytes: the other end acknowledged them, or captures have
+        later ones."""
         first = self.initial.get(end)
         if first is None:
             return 0
@@ -87,7 +90,8 @@ class Connection:
     def shown_up_to(self, end):
         """The offset up to which captures have an end's bytes without a gap."""
         first = self.initial.get(end)
-        return 0 if first is None else _without_gap((start, start + packet.size) for start, packet in self._with_bytes(end, first))
+        return 0 if first is None else _without_gap((start, start + packet.size)
+                                                    for start, packet in self._with_bytes(end, first))
 
     def spans(self, end):
         """All bytes of an end that captures have: the offset and the bytes of each span without a gap."""
@@ -119,7 +123,8 @@ class Connection:
                 yield offset, packet
 
     def _acknowledged(self, end, first, packets):
-        """The offset up to which these packets of the other end acknowledge an end's bytes and FIN. Resets don't count."""
+        """The offset up to which these packets of the other end acknowledge an end's bytes and FIN. Resets don't
+        count."""
         return max(((packet.acknowledgment - first - 1) % WRAP for packet in packets
                     if packet.source == self.other(end) and packet.flags & (ACK | RST) == ACK), default=0)
 
@@ -136,17 +141,21 @@ class Connection:
         return None
 
     def _answers(self, capture, end):
-        """What the other end sent in a capture, from its SYN on, if the capture has that: what it sent before belongs to an earlier connection."""
+        """What the other end sent in a capture, from its SYN on, if the capture has that: what it sent before belongs
+        to an earlier connection."""
         packets, other = self.seen[capture], self.other(end)
-        start = next((place for place, packet in enumerate(packets) if packet.source == other and packet.flags & SYN), 0)
+        start = next((place for place, packet in enumerate(packets)
+                      if packet.source == other and packet.flags & SYN), 0)
         return islice(packets, start, None)
 
     def shows(self, end, offset):
         """Whether a capture has the byte, or the FIN, at an offset of an end."""
-        return any(start <= offset < stop for name in self.seen for start, stop in self._sent(name, end, self.initial[end]))
+        return any(start <= offset < stop for name in self.seen
+                   for start, stop in self._sent(name, end, self.initial[end]))
 
     def _sent(self, capture, end, first):
-        """The offsets of the bytes and the FIN of an end's segments in a capture: where each segment begins and stops."""
+        """The offsets of the bytes and the FIN of an end's segments in a capture: where each segment begins and
+        stops."""
         for packet in self.seen[capture]:
             if packet.source == end and not packet.flags & RST:
                 offset = (packet.number + bool(packet.flags & SYN) - first - 1) % WRAP
@@ -206,7 +215,8 @@ def _ends(packet):
 def _is_new(connection, packet):
     """Whether a SYN begins another connection with the same ports; the second SYN of a simultaneous open doesn't."""
     known = connection.initial.get(packet.source)
-    return known != packet.number and not (known is None and packet.source == connection.server and len(connection.initial) == 1)
+    return known != packet.number and not (known is None and packet.source == connection.server
+                                           and len(connection.initial) == 1)
 
 
 def refuse_gaps(connections):
@@ -214,13 +224,16 @@ def refuse_gaps(connections):
     for connection in connections:
         for name in connection.seen:
             if connection.whole and (gap := connection.gap(name)):
-                raise Problem(_cause(connection, name, *gap), f"{BUFFER}; or accept it as it is with --keep-gaps", LARGER_BUFFER)
+                raise Problem(_cause(connection, name, *gap), f"{BUFFER}; or accept it as it is with --keep-gaps",
+                              LARGER_BUFFER)
 
 
 def _cause(connection, name, end, offset):
-    """Why a capture lacks an acknowledged byte. If the other capture lacks it, too, that may be the fault of the end that acknowledged it."""
+    """Why a capture lacks an acknowledged byte. If the other capture lacks it, too, that may be the fault of the end
+    that acknowledged it."""
     if connection.shows(end, offset):
-        return f"{name}: the capture lost packets of {connection}: byte {offset + 1} that {shown(end)} sent was acknowledged and is not in the capture"
+        return (f"{name}: the capture lost packets of {connection}: byte {offset + 1} that {shown(end)} sent was "
+                "acknowledged and is not in the capture")
     lost = "both captures" if len(connection.seen) == 2 else "the capture"
-    return (f"{name}: {shown(connection.other(end))} acknowledged byte {offset + 1} of {shown(end)}, which no capture has: "
-            f"it was never sent, or {lost} lost packets")
+    return (f"{name}: {shown(connection.other(end))} acknowledged byte {offset + 1} of {shown(end)}, which no capture "
+            f"has: it was never sent, or {lost} lost packets")

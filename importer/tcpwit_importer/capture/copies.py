@@ -1,5 +1,5 @@
-"""Removes copies of packets that a capture made itself: a mirror port shows a packet when it enters a switch and when it leaves it, and
-`-i any` shows it at a bridge and at the bridge's port."""
+"""Removes copies of packets that a capture made itself: a mirror port shows a packet when it enters a switch and when
+it leaves it, and `-i any` shows it at a bridge and at the bridge's port."""
 from collections import Counter
 
 # A copy comes at most this long after the packet, in nanoseconds.
@@ -21,9 +21,10 @@ class _Transmission:
 def without_copies(packets, notes):
     """A connection's packets of one host's captures, without copies.
 
-    A packet may be a copy if one of the millisecond before has the same ends, segment, identification and direction. It is one if that was captured
-    at another interface. At the same one, it may also be a duplicate by the network, or a second acknowledgment: it is a copy if both have an
-    identification other than 0, and at least nine of ten packets of its end were captured twice.
+    A packet may be a copy if one of the millisecond before has the same ends, segment, identification and direction. It
+    is one if that was captured at another interface. At the same one, it may also be a duplicate by the network, or a
+    second acknowledgment: it is a copy if both have an identification other than 0, and at least nine of ten packets of
+    its end were captured twice.
     """
     copies, doubtful, originals = _compared(packets)
     for source, found in doubtful.items():
@@ -35,7 +36,8 @@ def without_copies(packets, notes):
 
 
 def _compared(packets):
-    """The places in the list of certain copies; for each end, those of packets that may be copies, and how many others it sent."""
+    """The places in the list of certain copies; for each end, those of packets that may be copies, and how many others
+    it sent."""
     copies, doubtful, originals, recent, full = set(), {}, Counter(), {}, FEW
     for at, packet in enumerate(packets):
         if len(recent) > full:

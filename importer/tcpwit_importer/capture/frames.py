@@ -1,4 +1,5 @@
-"""The frames of a capture file: pcap and pcapng, of either byte order, read once from beginning to end or one by its offset."""
+"""The frames of a capture file: pcap and pcapng, of either byte order, read once from beginning to end or one by its
+offset."""
 import struct
 from bisect import bisect_right
 from typing import Any, NamedTuple
@@ -17,15 +18,16 @@ ORDERS = {b"\x4d\x3c\x2b\x1a": "<", b"\x1a\x2b\x3c\x4d": ">"}
 OPTIONS = {INTERFACE: 16, STATISTICS: 20}
 RESOLUTION, TIME_OFFSET, DIRECTION, LOST = 9, 14, 2, (5, 7)
 INBOUND, OUTBOUND = 1, 2
-# No program writes longer frames, or longer blocks of those that are read: a longer one shows a damaged file. Other blocks are skipped by pieces.
+# No program writes longer frames, or longer blocks of those that are read: a longer one shows a damaged file. Other
+# blocks are skipped by pieces.
 LONGEST_FRAME, LONGEST_BLOCK, PIECE = 1 << 20, 1 << 21, 1 << 16
 # What a `Layout` keeps has limits: pairs of addresses with fragments; sections and interfaces.
 MOST_FRAGMENTED, MOST_DESCRIBED = 10_000, 10_000
 
 
 class Frame(NamedTuple):
-    """A captured frame. `length` is what it had on the wire; a snap length may have cut `data`. `interface` and `sent` (whether the host sent the
-    frame) are None if the file doesn't show them. `offset` is where its record begins."""
+    """A captured frame. `length` is what it had on the wire; a snap length may have cut `data`. `interface` and `sent`
+    (whether the host sent the frame) are None if the file doesn't show them. `offset` is where its record begins."""
     moment: int
     link: int
     data: bytes
@@ -44,16 +46,17 @@ class Ended(Exception):
 
 
 class Section:
-    """What the records of a file, or of a section of a pcapng file, have in common. `links` has each interface's link type, units of a second, and
-    offset in nanoseconds. `nanoseconds` and `head` are only for pcap: those of a fraction, and the bytes of a packet's header."""
+    """What the records of a file, or of a section of a pcapng file, have in common. `links` has each interface's link
+    type, units of a second, and offset in nanoseconds. `nanoseconds` and `head` are only for pcap: those of a fraction,
+    and the bytes of a packet's header."""
 
     def __init__(self, order, links, nanoseconds=None, head=None):
         self.order, self.links, self.nanoseconds, self.head = order, links, nanoseconds, head
 
 
 class Layout:
-    """What reading a file showed: where its sections begin, to read frames again; how many frames it has; and between which addresses there were
-    fragments."""
+    """What reading a file showed: where its sections begin, to read frames again; how many frames it has; and between
+    which addresses there were fragments."""
 
     def __init__(self):
         self.starts, self.sections, self.frames, self.fragmented = [], [], 0, set()
@@ -121,7 +124,8 @@ def _exactly(file, length):
 
 def _known(link, name):
     if link not in LINKS:
-        raise Problem(f"{name}: the link type {link} is not supported", "capture Ethernet, Linux cooked (-i any), raw IP or loopback")
+        raise Problem(f"{name}: the link type {link} is not supported",
+                      "capture Ethernet, Linux cooked (-i any), raw IP or loopback")
     return link
 
 
@@ -143,7 +147,8 @@ def _pcap_frame(file, section, start, offset):
     seconds, fraction, captured, length = struct.unpack_from(section.order + "4I", start)
     if captured > LONGEST_FRAME:
         raise Damaged(f"a packet of {captured} bytes")
-    return Frame(seconds * 10**9 + fraction * section.nanoseconds, section.links[0][0], _exactly(file, captured), length, None, None, offset)
+    return Frame(seconds * 10**9 + fraction * section.nanoseconds, section.links[0][0], _exactly(file, captured),
+                 length, None, None, offset)
 
 
 def _pcapng(name, file, layout, magic):
@@ -212,12 +217,14 @@ def _skip(file, section, length, done):
 def _pcapng_frame(name, section, kind, block, offset):
     """The frame of a block; None if it has none."""
     if kind == SIMPLE_PACKET:
-        raise Problem(f"{name}: simple packet blocks, which have no moments", "record with tcpdump -w, or with Wireshark's defaults")
+        raise Problem(f"{name}: simple packet blocks, which have no moments",
+                      "record with tcpdump -w, or with Wireshark's defaults")
     if kind not in (PACKET, OLD_PACKET):
         return None
     if len(block) < 32:
         raise Damaged(f"a packet's block of {len(block)} bytes")
-    number, high, low, captured, length = struct.unpack_from(section.order + ("5I" if kind == PACKET else "H2x4I"), block, 8)
+    number, high, low, captured, length = struct.unpack_from(section.order + ("5I" if kind == PACKET else "H2x4I"),
+                                                             block, 8)
     if captured > len(block) - 32:
         raise Damaged(f"a packet of {captured} bytes in a block of {len(block)}")
     if number >= len(section.links):

@@ -1,7 +1,7 @@
 """Which packets of the captures form each connection.
 
-The captures are read once to find the connections, of which only the places of their packets are kept. So the memory for a connection's bytes
-is needed only while it's judged.
+The captures are read once to find the connections, of which only the places of their packets are kept. So the memory
+for a connection's bytes is needed only while it's judged.
 """
 import contextlib
 import gzip
@@ -24,9 +24,10 @@ SYNS = 4
 
 
 class Indexed(Connection):
-    """A connection without its packets. For each capture, `places` has their offsets and counts in the file, `syns` the moments of its first SYNs,
-    and `own` the ends whose packets the capture marked as sent, or to which it marked packets as received. `others` counts packets that are neither
-    SYN nor reset. `senders` has the ends that sent something, `ends` those that sent a FIN; it's None after a reset."""
+    """A connection without its packets. For each capture, `places` has their offsets and counts in the file, `syns` the
+    moments of its first SYNs, and `own` the ends whose packets the capture marked as sent, or to which it marked
+    packets as received. `others` counts packets that are neither SYN nor reset. `senders` has the ends that sent
+    something, `ends` those that sent a FIN; it's None after a reset."""
 
     def __init__(self, client, server, begun):
         super().__init__(client, server, begun)
@@ -83,7 +84,8 @@ class Indexed(Connection):
 
 
 class Capture:
-    """A capture, and what reading it showed: `last` is the moment of its last packet. `file` has its packets uncompressed."""
+    """A capture, and what reading it showed: `last` is the moment of its last packet. `file` has its packets
+    uncompressed."""
 
     def __init__(self, name, file):
         self.name, self.file, self.layout, self.last = name, file, Layout(), 0
@@ -98,18 +100,20 @@ class Capture:
 
 def indexed(captures, notes):
     """The connections of all captures, in the order in which they begin."""
-    connections = without_strays(connections_of({capture.name: capture.packets(notes) for capture in captures}, Indexed))
+    connections = without_strays(connections_of({capture.name: capture.packets(notes)
+                                                 for capture in captures}, Indexed))
     return with_both_parts(connections) if len(captures) == 2 else connections
 
 
 def without_strays(connections):
-    """A SYN with another number may come during a connection, such as an old or a forged one. If no SYN answers it, but other segments follow, these
-    belong to the connection that went on."""
+    """A SYN with another number may come during a connection, such as an old or a forged one. If no SYN answers it, but
+    other segments follow, these belong to the connection that went on."""
     kept, last = [], {}
     for connection in connections:
         pair = frozenset((connection.client, connection.server))
         before = last.get(pair)
-        if before and before.ends is not None and len(before.ends) < 2 and connection.whole and len(connection.initial) == 1 and connection.others:
+        goes_on = before and before.ends is not None and len(before.ends) < 2
+        if goes_on and connection.whole and len(connection.initial) == 1 and connection.others:
             before.continue_with(connection)
         else:
             kept.append(connection)
@@ -118,8 +122,9 @@ def without_strays(connections):
 
 
 def with_both_parts(connections):
-    """Joins the parts of connections that begin differently in two captures. In a simultaneous open, each capture shows its own host's SYN first. If
-    only one of them has a connection's beginning, it counts as one without its beginning."""
+    """Joins the parts of connections that begin differently in two captures. In a simultaneous open, each capture shows
+    its own host's SYN first. If only one of them has a connection's beginning, it counts as one without its
+    beginning."""
     alone = [each for each in connections if each.whole and len(each.places) == 1]
     halves = {frozenset((each.client, each.server)): each for each in alone}
     kept, opened_twice = [], {}
@@ -136,7 +141,8 @@ def with_both_parts(connections):
 
 @contextlib.contextmanager
 def plain(name):
-    """The name of a file with the same bytes that can be read in any order: of a pipe or a compressed file, it's a copy."""
+    """The name of a file with the same bytes that can be read in any order: of a pipe or a compressed file, it's a
+    copy."""
     with opened(name, READABLE) as file:
         if os.path.isfile(name) and not isinstance(file, gzip.GzipFile):
             copy = None
@@ -148,7 +154,8 @@ def plain(name):
                 copy.flush()
             except OSError as error:
                 copy.close()
-                raise Problem(f"{tempfile.gettempdir()}: {error.strerror}", "free some space there, or set TMPDIR") from error
+                raise Problem(f"{tempfile.gettempdir()}: {error.strerror}",
+                              "free some space there, or set TMPDIR") from error
     if copy is None:
         yield name
     else:

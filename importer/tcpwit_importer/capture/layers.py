@@ -35,9 +35,9 @@ class Fragment(LeftOut):
 
 
 def segment_in(link, frame, length):
-    """Where a frame that had this length has its segment: the addresses of its packet, where it begins in the frame, where it ends on the wire,
-    IPv4's identification (0 for IPv6), the number of the interface, and whether the frame is marked as sent by its host. The last two are None if
-    the link's header doesn't show them."""
+    """Where a frame that had this length has its segment: the addresses of its packet, where it begins in the frame,
+    where it ends on the wire, IPv4's identification (0 for IPv6), the number of the interface, and whether the frame is
+    marked as sent by its host. The last two are None if the link's header doesn't show them."""
     try:
         kind, at, interface, sent = _link(link, frame)
         if kind == IPV4:
@@ -45,7 +45,8 @@ def segment_in(link, frame, length):
         if kind == IPV6:
             return *_ipv6(frame, at, length), interface, sent
     except (struct.error, IndexError):
-        raise LeftOut("packets whose headers the capture cut" if len(frame) < length else "packets that end within their headers") from None
+        raise LeftOut("packets whose headers the capture cut" if len(frame) < length
+                      else "packets that end within their headers") from None
     raise LeftOut("packets that are neither IPv4 nor IPv6")
 
 

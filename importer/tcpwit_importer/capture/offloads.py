@@ -1,8 +1,8 @@
 """Large segments: cuts segments that offloads joined into those on the wire.
 
-With segmentation offload, a capture shows one segment of up to 64 kB for several on the wire; receive offload joins received
-segments. A sent segment is cut into pieces of the size that both hosts agreed on. A received segment equals a sent one, or joins
-several consecutive pieces.
+With segmentation offload, a capture shows one segment of up to 64 kB for several on the wire; receive offload joins
+received segments. A sent segment is cut into pieces of the size that both hosts agreed on. A received segment equals a
+sent one, or joins several consecutive pieces.
 """
 from typing import Any, NamedTuple
 
@@ -58,8 +58,8 @@ class Outgoing:
         return [sent.segment for sent in chain or []]
 
     def _chain(self, whole, first, data):
-        """Consecutive pieces from a sequence number on whose payloads form these bytes. The search isn't recursive, since a joined segment has
-        many pieces."""
+        """Consecutive pieces from a sequence number on whose payloads form these bytes. The search isn't recursive,
+        since a joined segment has many pieces."""
         stack = [(first, 0, None)]
         while stack:
             at, done, chain = stack.pop()
@@ -83,7 +83,8 @@ def _listed(chain):
 
 
 def _preferred(candidates):
-    """Candidates in the order of preference: those that have not arrived, oldest first, then the others, newest first."""
+    """Candidates in the order of preference: those that have not arrived, oldest first, then the others, newest
+    first."""
     return sorted(candidates, key=lambda sent: (bool(sent.arrived), sent.moment if not sent.arrived else -sent.moment))
 
 
@@ -92,15 +93,16 @@ def _best(candidates):
 
 
 def _alike(piece, whole, first):
-    """Whether a piece may be part of a joined segment: it has the same acknowledgment, options, and flags except FIN, PSH and CWR. The first piece
-    also has the same window."""
+    """Whether a piece may be part of a joined segment: it has the same acknowledgment, options, and flags except FIN,
+    PSH and CWR. The first piece also has the same window."""
     head = header_length(piece)
     return (piece[8:13] == whole[8:13] and (flags(piece) ^ flags(whole)) & ~MOVED & 0xFF == 0
             and piece[20:head] == whole[20:head] and (not first or piece[14:16] == whole[14:16]))
 
 
 class Flow:
-    """The segments of one connection as lines of a trace: sent segments are cut, and received ones are cut the same way."""
+    """The segments of one connection as lines of a trace: sent segments are cut, and received ones are cut the same
+    way."""
 
     def __init__(self, connection, notes, both):
         self.connection, self.notes, self.both = connection, notes, both
@@ -123,5 +125,6 @@ class Flow:
         if len(parts) > 1:
             self.notes.change("segments that an offload joined, cut into those that were sent", packet.place)
         elif not parts:
-            self.notes.change("segments that were received but that the other host's capture doesn't show as sent", packet.place)
+            self.notes.change("segments that were received but that the other host's capture doesn't show as sent",
+                              packet.place)
         return parts or [packet.segment]

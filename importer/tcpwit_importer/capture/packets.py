@@ -12,16 +12,19 @@ from .segments import ACK, SHORTEST, SYN, acknowledgment, flags, header_length, 
 
 
 class Packet:
-    """A captured segment: its moment in nanoseconds, its source and destination, and its bytes from the TCP header on. The checksum becomes 0,
-    since offloads leave it unfinished.
+    """A captured segment: its moment in nanoseconds, its source and destination, and its bytes from the TCP header on.
+    The checksum becomes 0, since offloads leave it unfinished.
 
-    `outgoing` states whether the capture marked it as sent by its host; None if the file doesn't show it. `missing` is how many bytes at the
-    segment's end were not captured: they are zeros in `segment`. `offset` is where its record begins in the file; None if the file can't be read
-    again. `identification` is that of IPv4, else 0; `interface` is the number of the interface, if the file shows it.
+    `outgoing` states whether the capture marked it as sent by its host; None if the file doesn't show it. `missing` is
+    how many bytes at the segment's end were not captured: they are zeros in `segment`. `offset` is where its record
+    begins in the file; None if the file can't be read again. `identification` is that of IPv4, else 0; `interface` is
+    the number of the interface, if the file shows it.
     """
-    __slots__ = ("moment", "source", "target", "segment", "outgoing", "capture", "count", "missing", "offset", "identification", "interface")
+    __slots__ = ("moment", "source", "target", "segment", "outgoing", "capture", "count", "missing", "offset",
+                 "identification", "interface")
 
-    def __init__(self, moment, source, target, segment, outgoing, capture="", count=0, missing=0, offset=None, identification=0, interface=None):
+    def __init__(self, moment, source, target, segment, outgoing, capture="", count=0, missing=0, offset=None,
+                 identification=0, interface=None):
         self.moment, self.source, self.target = moment, source, target
         self.segment, self.outgoing = segment[:16] + b"\0\0" + segment[18:] + bytes(missing), outgoing
         self.capture, self.count = capture, count
@@ -30,7 +33,8 @@ class Packet:
 
     def share(self, known):
         """Makes equal addresses and segments one object."""
-        self.source, self.target = known.setdefault(self.source, self.source), known.setdefault(self.target, self.target)
+        self.source = known.setdefault(self.source, self.source)
+        self.target = known.setdefault(self.target, self.target)
         self.segment = known.setdefault(self.segment, self.segment)
 
     @property
@@ -70,22 +74,26 @@ class Packet:
 
 
 def read_capture(name, notes, known, may_be_empty=False):
-    """The TCP packets of a capture, in the order of the file. Equal addresses and segments of the captures that share `known` are one object:
-    the capture of the other host has most segments, too. A segment that the capture cut is refused."""
+    """The TCP packets of a capture, in the order of the file. Equal addresses and segments of the captures that share
+    `known` are one object: the capture of the other host has most segments, too. A segment that the capture cut is
+    refused."""
     packets, layout = [], Layout()
     with opened(name, "name a capture that can be read") as file:
         for packet in packets_of(name, file, notes, layout, whole=True):
             packet.share(known)
             packets.append(packet)
     if layout.frames == 0 and not may_be_empty:
-        raise Problem(f"{name}: the capture is empty", "start the capture before the programs, at the interface that they use; "
-                      "if all segments were lost in transit, name that host's address with --zero or --one", NOTHING_SENT)
+        raise Problem(f"{name}: the capture is empty",
+                      "start the capture before the programs, at the interface that they use; if all segments were "
+                      "lost in transit, name that host's address with --zero or --one",
+                      NOTHING_SENT)
     return packets
 
 
 def packets_of(name, file, notes, layout=None, whole=False):
-    """The TCP packets of a capture, in the order of the file, which may be a pipe. None is kept. `layout` becomes what `packet_at` needs. If they
-    must be `whole`, a segment of which the capture lacks bytes is refused; else one whose header is complete is among the packets."""
+    """The TCP packets of a capture, in the order of the file, which may be a pipe. None is kept. `layout` becomes what
+    `packet_at` needs. If they must be `whole`, a segment of which the capture lacks bytes is refused; else one whose
+    header is complete is among the packets."""
     layout = Layout() if layout is None else layout
     again = not isinstance(file, gzip.GzipFile) and file.seekable()
     try:
@@ -101,9 +109,11 @@ def packets_of(name, file, notes, layout=None, whole=False):
             packet.offset = frame.offset if again else None
             yield packet
     except (Ended, EOFError) as error:
-        raise Problem(f"{name}: ends within packet {layout.frames + 1}", "stop tcpdump with SIGINT or SIGTERM and wait until it has ended") from error
+        raise Problem(f"{name}: ends within packet {layout.frames + 1}",
+                      "stop tcpdump with SIGINT or SIGTERM and wait until it has ended") from error
     except (Damaged, zlib.error, OSError) as error:
-        raise Problem(f"{name}: {_said(error)} after packet {layout.frames}", "copy the file again, or record again") from error
+        raise Problem(f"{name}: {_said(error)} after packet {layout.frames}",
+                      "copy the file again, or record again") from error
 
 
 def _said(error):
@@ -114,7 +124,8 @@ def _said(error):
 
 
 def packet_at(name, file, layout, offset, count=0):
-    """The packet of a file, read once by `packets_of` with this layout, whose record begins there. `count` is for its place."""
+    """The packet of a file, read once by `packets_of` with this layout, whose record begins there. `count` is for its
+    place."""
     try:
         frame = frame_at(name, file, layout, offset)
         packet = _packet(frame, name, count, False)
@@ -131,7 +142,8 @@ def _packet(frame, name, count, whole):
     segment, wanted = data[start:end], end - start
     captured = len(segment)
     if whole and captured < (least := max(wanted, SHORTEST)):
-        raise Problem(f"{name}, packet {count}: {captured} of its {least} bytes were captured", WHOLE_PACKETS, OFFLOADS_OFF)
+        raise Problem(f"{name}, packet {count}: {captured} of its {least} bytes were captured", WHOLE_PACKETS,
+                      OFFLOADS_OFF)
     head = header_length(segment) if captured > 12 else SHORTEST
     if head < SHORTEST or wanted < head:
         raise LeftOut("segments with a wrong data offset")
@@ -141,7 +153,8 @@ def _packet(frame, name, count, whole):
     outgoing = sent if own_sent is None else own_sent
     if own_interface is not None:
         interface = own_interface
-    return Packet(moment, (source, own_port), (target, other_port), segment, outgoing, name, count, wanted - captured, None, identification, interface)
+    return Packet(moment, (source, own_port), (target, other_port), segment, outgoing, name, count, wanted - captured,
+                  None, identification, interface)
 
 
 def shown(end):

@@ -31,18 +31,20 @@ def program(option):
     found = place or shutil.which(NAME) or kept()
     if found is None:
         raise Problem(f"{NAME} is not in PATH, and not built in this repository",
-                      f"install the package tcpwit, which contains tcpwit and {NAME} (packaging/README.md), or name {NAME} with --lab or {VARIABLE}; "
-                      "with --no-check, nothing is judged")
+                      f"install the package tcpwit, which contains tcpwit and {NAME} (packaging/README.md), or name "
+                      f"{NAME} with --lab or {VARIABLE}; with --no-check, nothing is judged")
     found = os.path.abspath(found)
     # Refuse a program without `judge` here rather than after a long recording. `judge` refuses an empty trace.
     if on_file([found, "judge"], os.devnull).returncode != FAULTY:
         raise Problem(f"{found} has no command judge",
-                      f"name {NAME} with --lab or {VARIABLE}, not tcpwit; if it is old, build it again from these sources (docs/start/linux.md)")
+                      f"name {NAME} with --lab or {VARIABLE}, not tcpwit; if it is old, build it again from these "
+                      "sources (docs/start/linux.md)")
     return found
 
 
 def kept():
-    """The program that a clone's ./tcpwit_lab runs, built if it is missing; None outside a clone or if it can't be built."""
+    """The program that a clone's ./tcpwit_lab runs, built if it is missing; None outside a clone or if it can't be
+    built."""
     keeper = os.path.join(TOP, "tools", "unproved.py")
     if not os.path.exists(keeper):
         return None
@@ -56,7 +58,8 @@ def case_of(trace):
 
 
 def judge_all(program, traces, options):
-    """Judges trace files at --congestion or stricter, with --slack, prints the lines of each and returns the highest status."""
+    """Judges trace files at --congestion or stricter, with --slack, prints the lines of each and returns the highest
+    status."""
     words = ["--least", options.congestion or FULL]
     if options.slack is not None:
         words += ["--slack", str(options.slack)]
@@ -82,9 +85,11 @@ def release_memory():
 
 
 def judge(program, trace, words):
-    """The lines of `judge` with these options, and its status: 0 if a level that counts has a yes, 1 if not. The case is saved."""
+    """The lines of `judge` with these options, and its status: 0 if a level that counts has a yes, 1 if not. The case
+    is saved."""
     if not os.path.isfile(trace):
-        raise Problem(f"{trace} isn't a file that can be read again", "name a file with --out, or skip judging with --no-check")
+        raise Problem(f"{trace} isn't a file that can be read again",
+                      "name a file with --out, or skip judging with --no-check")
     folder, name = os.path.split(case_of(trace))
     status = None
     try:
@@ -98,7 +103,8 @@ def judge(program, trace, words):
     lines = decoded(done.stdout).splitlines()
     if status not in (YES, NO):
         said = "; ".join(lines[:1] + decoded(done.stderr).splitlines()[-1:])
-        raise Problem(f"{trace}: {said or ended(status)}", REMEDIES.get(status, f"check whether this works: {program} judge < {trace}"))
+        raise Problem(f"{trace}: {said or ended(status)}",
+                      REMEDIES.get(status, f"check whether this works: {program} judge < {trace}"))
     return lines, status
 
 

@@ -1,7 +1,8 @@
 """Judges connections while they are captured: each one when it has ended.
 
-A connection has ended when both FINs were acknowledged, or at a reset. It's judged once it was silent for a while, since late segments belong to it,
-too. Its packets are kept until then. If they need too much memory, a connection is judged as far as it was captured.
+A connection has ended when both FINs were acknowledged, or at a reset. It's judged once it was silent for a while,
+since late segments belong to it, too. Its packets are kept until then. If they need too much memory, a connection is
+judged as far as it was captured.
 """
 import multiprocessing
 import queue
@@ -33,8 +34,8 @@ END = None
 
 
 class Live(Connection):
-    """A connection whose packets arrive. `last` is the moment of the last one, `bytes` what it needs of memory; `own` has the ends whose packets the
-    capture marked as sent."""
+    """A connection whose packets arrive. `last` is the moment of the last one, `bytes` what it needs of memory; `own`
+    has the ends whose packets the capture marked as sent."""
 
     def __init__(self, client, server, begun):
         super().__init__(client, server, begun)
@@ -72,7 +73,8 @@ class Live(Connection):
 
 
 class Stream:
-    """The connections of a capture that goes on. `judge` is called with each connection to be judged and the moment up to which it was watched."""
+    """The connections of a capture that goes on. `judge` is called with each connection to be judged and the moment up
+    to which it was watched."""
 
     def __init__(self, capture, judge, idle, memory):
         self.capture, self.judge, self.idle, self.memory = capture, judge, idle, memory
@@ -99,8 +101,8 @@ class Stream:
             self.need_less(connection)
 
     def need_less(self, latest):
-        """Judges the connection, except the latest, that was silent longest: if it hasn't ended, as far as it was captured. If there's none, one
-        of which packets are only counted is forgotten."""
+        """Judges the connection, except the latest, that was silent longest: if it hasn't ended, as far as it was
+        captured. If there's none, one of which packets are only counted is forgotten."""
         for pair, connection in islice(self.current.items(), COUNTED):
             if connection is not latest and connection.bytes > CONNECTION:
                 if connection.ended:

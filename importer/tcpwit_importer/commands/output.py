@@ -13,7 +13,8 @@ SOME = "{} with one host captured: the other one isn't judged there."
 
 
 class Output:
-    """Prints results in their order and counts them. `names` has the names of all connections, if they are known, to align the lines."""
+    """Prints results in their order and counts them. `names` has the names of all connections, if they are known, to
+    align the lines."""
 
     def __init__(self, options, names=()):
         self.options, self.width = options, max(map(len, names), default=0)
@@ -26,7 +27,8 @@ class Output:
         self.no += result.verdict == "no"
         self.half += result.hosts == 1
         self.status = max(self.status, result.status)
-        print(json.dumps(facts(result)) if self.options.json else plain(f"{result.name:<{self.width}}   {result.line}"), flush=True)
+        print(json.dumps(facts(result)) if self.options.json else plain(f"{result.name:<{self.width}}   {result.line}"),
+              flush=True)
 
     def finish(self):
         """Prints the summary, unless each line is an object, and returns the exit status."""
@@ -44,13 +46,15 @@ class Output:
 
 def facts(result):
     """The facts of a connection, for JSON."""
-    found = {"client": result.client, "server": result.server, "begun": result.begun / 10**9, "segments": result.segments}
+    found = {"client": result.client, "server": result.server, "begun": result.begun / 10**9,
+             "segments": result.segments}
     if result.is_part:
         found["part"] = True
     if not result.answer:
         return found | {"judged": False, "reason": result.reason, "status": result.status}
     answer = result.answer
-    found |= {"judged": True, "hosts": result.hosts, "level": answer["level"], "answer": result.verdict, "status": result.status}
+    found |= {"judged": True, "hosts": result.hosts, "level": answer["level"], "answer": result.verdict,
+              "status": result.status}
     if result.verdict == "yes":
         found |= {"lines": answer["lines"], "steps": answer["hidden"]}
     else:

@@ -34,7 +34,8 @@ def chosen_connections(options, notes, connections, endpoints, hosts, names):
     for connection in connections:
         place = f"{next(connection.packets()).place}: {connection}"
         if not assign_hosts(connection, listening, addresses):
-            kind = "with both ends in the log of one host" if connection.hosts else "that no call in the logs opened or listened for"
+            kind = ("with both ends in the log of one host" if connection.hosts
+                    else "that no call in the logs opened or listened for")
             notes.leave_out(f"connections {kind}", place)
         elif not wanted(options, connection):
             notes.leave_out("connections with other addresses", place)
@@ -49,7 +50,8 @@ def chosen_connections(options, notes, connections, endpoints, hosts, names):
             notes.leave_out("connections in the logs that no capture shows", endpoint.place)
     if not kept:
         raise Problem("no connection is in both the captures and the logs",
-                      "record both on the same host at the same time; no NAT may translate addresses between the captures",
+                      "record both on the same host at the same time; "
+                      "no NAT may translate addresses between the captures",
                       f"{ELSEWHERE}; if the program is both hosts, use --namespace")
     return kept
 
@@ -90,6 +92,8 @@ def refuse_begun(options, notes, connection, place):
 
 
 def in_both(connection, names, addresses):
-    """Whether both captures may show the connection: each one does, or its host is known to have an address of the connection."""
-    return all(name in connection.seen or any(end[0] in addresses[host] for end, owner in connection.hosts.items() if owner == host)
+    """Whether both captures may show the connection: each one does, or its host is known to have an address of the
+    connection."""
+    return all(name in connection.seen
+               or any(end[0] in addresses[host] for end, owner in connection.hosts.items() if owner == host)
                for host, name in names.items())

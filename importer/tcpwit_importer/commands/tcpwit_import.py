@@ -27,28 +27,36 @@ A capture is a file that tcpdump -w or Wireshark wrote at a host's interface. A 
   strace -f --decode-fds=socket --absolute-timestamps=format:unix,precision:ns -xx -s 1048576 -o FILE PROGRAM ..
 HOST is 0, 1 or both. Use both for a capture of the loopback interface, and for the log of a program that is both hosts.
 With files of host 0 only, the trace belongs to a half case.
-tcpwit-import prints the trace. With --out, it writes the trace there and judges it: it prints the lines of tcpwit_lab judge
-and saves the case next to the trace. Standard error lists what was left out and which settings were chosen.
+tcpwit-import prints the trace. With --out, it writes the trace there and judges it: it prints the lines of
+tcpwit_lab judge and saves the case next to the trace. Standard error lists what was left out and which settings were
+chosen.
 
-The status is 0 if the level of --congestion (default: full) or a stricter one has a yes, 1 if none has, 2 for an error. Without
---out, or with --no-check, it is 0 once the trace is written."""
+The status is 0 if the level of --congestion (default: full) or a stricter one has a yes, 1 if none has, 2 for an
+error. Without --out, or with --no-check, it is 0 once the trace is written."""
 
 
 def parser():
     """The command's options."""
     words = Parser(prog="tcpwit-import", description=DESCRIPTION, formatter_class=argparse.RawDescriptionHelpFormatter)
-    words.add_argument("--capture", nargs=2, action="append", metavar=("HOST", "FILE"), default=[], help="a capture of a host")
-    words.add_argument("--calls", nargs=2, action="append", metavar=("HOST", "FILE"), default=[], help="a log of a host's calls")
-    words.add_argument("--zero", action="append", metavar="ADDRESS", default=[], help="use only connections with this address of host 0")
-    words.add_argument("--one", action="append", metavar="ADDRESS", default=[], help="use only connections with this address of host 1")
+    words.add_argument("--capture", nargs=2, action="append", metavar=("HOST", "FILE"), default=[],
+                       help="a capture of a host")
+    words.add_argument("--calls", nargs=2, action="append", metavar=("HOST", "FILE"), default=[],
+                       help="a log of a host's calls")
+    words.add_argument("--zero", action="append", metavar="ADDRESS", default=[],
+                       help="use only connections with this address of host 0")
+    words.add_argument("--one", action="append", metavar="ADDRESS", default=[],
+                       help="use only connections with this address of host 1")
     words.add_argument("--each", choices=("pair", "connection"), default="pair",
                        help="write a trace for each pair of hosts, or for each connection (default: pair)")
-    words.add_argument("--out", type=named_file, metavar="PATH", help="write the trace to this file, or several traces to this folder, and judge them")
+    words.add_argument("--out", type=named_file, metavar="PATH",
+                       help="write the trace to this file, or several traces to this folder, and judge them")
     add_words_of_judging(words)
-    words.add_argument("--keep-gaps", action="store_true", help="accept captures that lost packets and logs that lack sends")
+    words.add_argument("--keep-gaps", action="store_true",
+                       help="accept captures that lost packets and logs that lack sends")
     words.add_argument("--skip-begun", action="store_true", help="leave out connections that began before the capture")
     words.add_argument("--end", type=moment, metavar="SECONDS",
-                       help="when the recording ended, in seconds since 1970 by host 0's clock (default: the last packet or call)")
+                       help="when the recording ended, in seconds since 1970 by host 0's clock (default: the last "
+                       "packet or call)")
     words.add_argument("--quiet", action="store_true", help="print only errors")
     group = words.add_argument_group("header values, to replace the detected ones")
     add_version_and_slack(group)
@@ -75,10 +83,12 @@ def files_by_host(pairs, option):
 
 
 def read_captures(options, files, notes):
-    """The packets of each host; several captures of a host are merged. A host with a known address may have received nothing."""
+    """The packets of each host; several captures of a host are merged. A host with a known address may have received
+    nothing."""
     found, known = {}, {}
     for host, names in files.items():
-        packets = [packet for name in names for packet in read_capture(name, notes, known, bool(addresses_of(options, host)))]
+        packets = [packet for name in names
+                   for packet in read_capture(name, notes, known, bool(addresses_of(options, host)))]
         if len(names) > 1:
             packets.sort(key=lambda packet: packet.moment)
         found[host] = packets
@@ -86,7 +96,8 @@ def read_captures(options, files, notes):
 
 
 def run(options, notes):
-    """Reads all files and returns the lines of each trace by its name. They are made when they are asked for; then the notes are complete."""
+    """Reads all files and returns the lines of each trace by its name. They are made when they are asked for; then the
+    notes are complete."""
     captures, logs = files_by_host(options.capture, "--capture"), files_by_host(options.calls, "--calls")
     if not captures:
         raise Problem("no capture is given", "give --capture HOST FILE, of a capture by tcpdump -w")
@@ -97,7 +108,8 @@ def run(options, notes):
     if 0 in logs and 1 not in logs:
         captures.pop(1, None)
     if None not in captures and set(captures) != set(logs):
-        raise Problem("a host has a log but no capture", "give --capture and --calls for the same hosts, or --capture both")
+        raise Problem("a host has a log but no capture",
+                      "give --capture and --calls for the same hosts, or --capture both")
     packets = read_captures(options, captures, notes)
     names = {host: ", ".join(files) for host, files in captures.items()}
     with Part("finding the connections"):
@@ -105,8 +117,8 @@ def run(options, notes):
         for connection in connections:
             connection.seen = {name: without_copies(found, notes) for name, found in connection.seen.items()}
     if not connections:
-        raise Problem(f"{', '.join(names.values())}: no TCP segment", "capture at the interface that the programs use, with the filter tcp or none",
-                      NOTHING_SENT)
+        raise Problem(f"{', '.join(names.values())}: no TCP segment",
+                      "capture at the interface that the programs use, with the filter tcp or none", NOTHING_SENT)
     endpoints = []
     last = {host: max((packet.moment for packet in of_host), default=0) for host, of_host in packets.items()}
     for host in sorted(logs, key=str):
@@ -116,7 +128,8 @@ def run(options, notes):
         with Part(f"converting the calls of {', '.join(logs[host])}"):
             endpoints += HostCalls(host, connections, own, notes).run(released(events))
     if not endpoints:
-        raise Problem(f"{', '.join(name for files in logs.values() for name in files)}: no TCP call", ALL_CALLS, ELSEWHERE)
+        raise Problem(f"{', '.join(name for files in logs.values() for name in files)}: no TCP call", ALL_CALLS,
+                      ELSEWHERE)
     hosts = 2 if len(logs) == 2 or None in logs else 1
     with Part("comparing the captures and the calls"):
         return make_traces(options, notes, names, connections, endpoints, hosts, last)
@@ -130,7 +143,8 @@ def released(events):
 
 
 def make_traces(options, notes, names, connections, endpoints, hosts, last):
-    """The lines of each trace by its name. `last` has the moment of each host's last packet or call, by its own clock."""
+    """The lines of each trace by its name. `last` has the moment of each host's last packet or call, by its own
+    clock."""
     connections = chosen_connections(options, notes, connections, endpoints, hosts, names)
     if hosts == 2:
         refuse_missing_ends(connections, endpoints, notes)
@@ -143,7 +157,8 @@ def make_traces(options, notes, names, connections, endpoints, hosts, last):
         refuse_distant(clock)
         if clock != SAME:
             notes.say(said(clock))
-    chosen = {name: getattr(options, name) for name in (*headers.LIMITS, *headers.WORDS, "slack") if getattr(options, name) is not None}
+    chosen = {name: getattr(options, name) for name in (*headers.LIMITS, *headers.WORDS, "slack")
+              if getattr(options, name) is not None}
     lines = headers.header(hosts, (clock.skew + 999) // 1000, chosen, options.version)
     notes.say(f"header: {', '.join(lines)} ({'two hosts' if hosts == 2 else 'one host'} recorded)")
     head = [line + "\n" for line in lines]
@@ -162,8 +177,8 @@ def say_established(case, notes, prefix):
         connection = others[0]
         why = ("its SYN-ACK was never acknowledged" if connection.answered() is not None
                else "its SYN was answered by a reset" if connection.was_reset() else "its SYN was never answered")
-        notes.say(f"{prefix}{len(case.connections) - len(others)} of {len(case.connections)} connections were established "
-                  f"(first that wasn't: {next(connection.packets()).place}: {connection}; {why})")
+        notes.say(f"{prefix}{len(case.connections) - len(others)} of {len(case.connections)} connections were "
+                  f"established (first that wasn't: {next(connection.packets()).place}: {connection}; {why})")
 
 
 def cases_of(options, connections, endpoints, hosts):
@@ -191,7 +206,8 @@ def refuse_others(folder, files):
     own = {os.path.basename(name) for trace in files for name in (trace, lab.case_of(trace))}
     others = sorted(name for name in os.listdir(folder) if name.endswith((".trace", ".case")) and name not in own)
     if others:
-        raise Problem(f"{folder} has {len(others)} traces and cases of another run, such as {others[0]}", "remove them, or name another folder with --out")
+        raise Problem(f"{folder} has {len(others)} traces and cases of another run, such as {others[0]}",
+                      "remove them, or name another folder with --out")
 
 
 def write(options, traces):
@@ -201,7 +217,8 @@ def write(options, traces):
         files = {name: os.path.join(options.out, file_name(name) + ".trace") for name in traces}
         refuse_others(options.out, files.values())
     elif len(traces) > 1:
-        raise Problem(f"{len(traces)} traces: {', '.join(traces)}", "write them to a folder with --out, or select one with --one ADDRESS")
+        raise Problem(f"{len(traces)} traces: {', '.join(traces)}",
+                      "write them to a folder with --out, or select one with --one ADDRESS")
     else:
         files = {name: options.out for name in traces if options.out}
     for name, lines in traces.items():

@@ -23,17 +23,18 @@ from .workers import results
 COMMAND, STANDARD_INPUT = "tcpwit-judge", "-"
 DESCRIPTION = """Judges the TCP connections of captures, without a log of the programs' calls.
 
-FILE is what tcpdump -w or Wireshark wrote: pcap or pcapng, also compressed with gzip. Give one capture, or two that were made at the same time,
-one at each host. With - as the only FILE, standard input is a capture that goes on, such as that of tcpdump -U -w -; each connection is judged
-once it has ended and was silent for --idle seconds, or at the end.
+FILE is what tcpdump -w or Wireshark wrote: pcap or pcapng, also compressed with gzip. Give one capture, or two that
+were made at the same time, one at each host. With - as the only FILE, standard input is a capture that goes on, such
+as that of tcpdump -U -w -; each connection is judged once it has ended and was silent for --idle seconds, or at the
+end.
 
-The calls of the programs are inferred from the segments. So neither their answers are judged, nor how soon a host sends what its program gave it
-(rule start-late).
+The calls of the programs are inferred from the segments. So neither their answers are judged, nor how soon a host
+sends what its program gave it (rule start-late).
 
 Each connection has a line: its level and the answer of tcpwit_lab judge, or why it isn't judged.
 
-The status is the highest of all connections: 0 if a level of at least --level has a yes, 1 if not, 2 for an error. It's also 2 if nothing could
-be judged."""
+The status is the highest of all connections: 0 if a level of at least --level has a yes, 1 if not, 2 for an error.
+It's also 2 if nothing could be judged."""
 HELP = {"msl": headers.HELP["msl"], "grain": headers.HELP["grain"], "minrto": headers.HELP["minrto"]}
 
 
@@ -42,33 +43,43 @@ def parser():
     words = Parser(prog=COMMAND, description=DESCRIPTION, formatter_class=argparse.RawDescriptionHelpFormatter)
     words.add_argument("files", nargs="+", type=named_file, metavar="FILE", help="a capture")
     words.add_argument("--host", type=which, metavar="HOST",
-                       help=f"whose capture it is, if you give only one: {CLIENT}, {SERVER}, an address, or {BOTH} for a capture that has each segment "
-                       "once for both hosts, such as one of lo (default: as the capture shows)")
-    words.add_argument("--between", action="store_true", help="the capture was made between the hosts, such as at a switch: it shows both, but neither "
+                       help=f"whose capture it is, if you give only one: {CLIENT}, {SERVER}, an address, or {BOTH} for "
+                       "a capture that has each segment once for both hosts, such as one of lo (default: as the "
+                       "capture shows)")
+    words.add_argument("--between", action="store_true",
+                       help="the capture was made between the hosts, such as at a switch: it shows both, but neither "
                        "duties nor exact times can be judged")
-    words.add_argument("--skew", type=number_within(*headers.LIMITS["skew"]), default=headers.VALUES["slack"], metavar="N",
-                       help="with --between: how many microseconds a segment needs at most between a host and the capture (default: 1000000)")
-    words.add_argument("--level", choices=headers.LEVELS, default=headers.FULL, help="the weakest level whose yes gives status 0 (default: full)")
+    words.add_argument("--skew", type=number_within(*headers.LIMITS["skew"]), default=headers.VALUES["slack"],
+                       metavar="N",
+                       help="with --between: how many microseconds a segment needs at most between a host and the "
+                       "capture (default: 1000000)")
+    words.add_argument("--level", choices=headers.LEVELS, default=headers.FULL,
+                       help="the weakest level whose yes gives status 0 (default: full)")
     words.add_argument("--slack", type=slack, metavar="N", help=headers.HELP["slack"])
     words.add_argument("--budget", type=number_within(0, 2**64 - 1), metavar="N",
                        help="how many steps the search spends on going back for one line (default: its own)")
-    words.add_argument("--report", type=named_file, metavar="DIR", help="keep the trace, the case, the picture and the explanation of each connection")
+    words.add_argument("--report", type=named_file, metavar="DIR",
+                       help="keep the trace, the case, the picture and the explanation of each connection")
     words.add_argument("--json", action="store_true", help="print a JSON object for each connection")
     words.add_argument("--jobs", type=number_within(1, 1024), default=os.cpu_count() or 1, metavar="N",
                        help="how many connections are judged at once (default: one for each processor)")
     words.add_argument("--idle", type=number_within(1, 86_400), metavar="SECONDS",
-                       help="with -: after how many seconds of silence a connection that has ended is judged (default: twice the msl)")
+                       help="with -: after how many seconds of silence a connection that has ended is judged (default: "
+                       "twice the msl)")
     words.add_argument("--memory", type=number_within(1, 10**6), default=256, metavar="MB",
-                       help="with -: how much memory the packets may need; if it's too little, the largest connection is judged as far as it was captured "
-                       "(default: 256)")
-    words.add_argument("--keep-gaps", action="store_true", help="judge connections of which a capture lost packets, or of which a host acknowledged a byte "
+                       help="with -: how much memory the packets may need; if it's too little, the largest connection "
+                       "is judged as far as it was captured (default: 256)")
+    words.add_argument("--keep-gaps", action="store_true",
+                       help="judge connections of which a capture lost packets, or of which a host acknowledged a byte "
                        "that no capture has")
     words.add_argument("--lab", type=named_file, metavar="PATH", help="the program tcpwit_lab, which judges traces")
     words.add_argument("--quiet", action="store_true", help="print only verdicts and errors")
     group = words.add_argument_group("header values, to replace the default ones")
     for name, text in HELP.items():
-        group.add_argument("--" + name, type=number_within(*headers.LIMITS[name]), metavar="N", help=f"{text} (default: {headers.VALUES[name]})")
-    group.add_argument("--initial", choices=headers.WORDS["initial"], help=f"{headers.HELP['initial']} (default: {headers.VALUES['initial']})")
+        group.add_argument("--" + name, type=number_within(*headers.LIMITS[name]), metavar="N",
+                           help=f"{text} (default: {headers.VALUES[name]})")
+    group.add_argument("--initial", choices=headers.WORDS["initial"],
+                       help=f"{headers.HELP['initial']} (default: {headers.VALUES['initial']})")
     return words
 
 
@@ -97,9 +108,11 @@ def refuse_words(options):
     if STANDARD_INPUT in options.files and len(options.files) == 2:
         raise Problem("standard input is given with a file", "give only -, or two files")
     if (options.host or options.between) and len(options.files) == 2:
-        raise Problem("--host or --between is given with two captures", "leave it out: the captures show whose they are")
+        raise Problem("--host or --between is given with two captures",
+                      "leave it out: the captures show whose they are")
     if options.between and (options.host or options.slack is not None):
-        raise Problem("--between is given with --host or --slack", "leave these out: such a capture shows both hosts, and none of their duties")
+        raise Problem("--between is given with --host or --slack",
+                      "leave these out: such a capture shows both hosts, and none of their duties")
 
 
 def judge(options):
@@ -172,8 +185,10 @@ def nothing_in(captures):
     """Why there's nothing to judge in captures."""
     names = ", ".join(capture.name for capture in captures)
     if not any(capture.layout.frames for capture in captures):
-        return Problem(f"{names}: the capture is empty", "start the capture before the programs, at the interface that they use")
-    return Problem(f"{names}: no TCP segment", "capture at the interface that the programs use, with the filter tcp or none", NOTHING_SENT)
+        return Problem(f"{names}: the capture is empty",
+                       "start the capture before the programs, at the interface that they use")
+    return Problem(f"{names}: no TCP segment",
+                   "capture at the interface that the programs use, with the filter tcp or none", NOTHING_SENT)
 
 
 def main(words=None):

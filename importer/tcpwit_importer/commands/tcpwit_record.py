@@ -22,23 +22,28 @@ DESCRIPTION = f"""Records a program's TCP, converts it into a trace, and judges 
 
   tcpwit-record -- curl -o page http://example.org/     only this host: a half case
   tcpwit-record --serve -- nginx -g 'daemon off;'       the same for a server, until you interrupt it
-  tcpwit-record --namespace -- ./run-my-tests           a network of its own, with a loopback: a whole case of a program that is both hosts
+  tcpwit-record --namespace -- ./run-my-tests           a network of its own, with a loopback: a whole case of a
+                                                        program that is both hosts
   tcpwit-record --pair 'python3 -m http.server 80' -- curl -o page http://{ADDRESSES[1]}/
-                                                        two hosts of its own: a whole case. The server has {ADDRESSES[1]}, the client {ADDRESSES[0]}
+                                                        two hosts of its own: a whole case. The server has
+                                                        {ADDRESSES[1]}, the client {ADDRESSES[0]}
   tcpwit-record --transfer 20000 --lose 3               a pair with a built-in client and server
 
-Capturing and network namespaces need root; the programs run as the user who called sudo. Nothing outside the namespaces is changed.
-tcpwit-record prints the lines of tcpwit_lab judge: how strictly congestion control can be judged with a yes. The programs' own
-output goes to standard error, unchanged. Captures, logs, trace, case and picture are saved in the folder --out, instead of those of
-an earlier recording; files of more than 50 MB are compressed. Ctrl-C ends the programs, and what was recorded is judged.
+Capturing and network namespaces need root; the programs run as the user who called sudo. Nothing outside the
+namespaces is changed. tcpwit-record prints the lines of tcpwit_lab judge: how strictly congestion control can be
+judged with a yes. The programs' own output goes to standard error, unchanged. Captures, logs, trace, case and picture
+are saved in the folder --out, instead of those of an earlier recording; files of more than 50 MB are compressed.
+Ctrl-C ends the programs, and what was recorded is judged.
 
-The status is 0 if the level of --congestion (default: full) or a stricter one has a yes, 1 if none has, 2 for an error."""
+The status is 0 if the level of --congestion (default: full) or a stricter one has a yes, 1 if none has, 2 for an
+error."""
 
 
 # Programs that the recorder runs, with their packages.
 PACKAGES = {"strace": "strace", "tcpdump": "tcpdump", "ip": "iproute2", "gzip": "gzip"}
 # Options with defaults, only for a pair, only for --transfer, and only for a program whose peer is elsewhere.
-OF_A_PAIR = {"kernel": headers.KERNEL, "wait": 10, "linger": 1, "delay": 2, "loss": 0, "lose": frozenset(), "double": 0, "reorder": 0, "seed": 1}
+OF_A_PAIR = {"kernel": headers.KERNEL, "wait": 10, "linger": 1, "delay": 2, "loss": 0, "lose": frozenset(), "double": 0,
+             "reorder": 0, "seed": 1}
 OF_A_TRANSFER = {"chunk": 60000, "echo": False}
 OF_ONE_HOST = {"interface": "any"}
 
@@ -69,32 +74,44 @@ def parser():
     words = Parser(prog=NAME, description=DESCRIPTION, formatter_class=argparse.RawDescriptionHelpFormatter,
                                     usage="tcpwit-record [options] -- PROGRAM WORDS ..")
     form = words.add_mutually_exclusive_group()
-    form.add_argument("--pair", metavar="SERVER", help="a server and its arguments, as one argument; PROGRAM is the client")
-    form.add_argument("--transfer", type=number_within(1, 10**8), metavar="BYTES", help="a built-in client that sends this many bytes, and a built-in server")
+    form.add_argument("--pair", metavar="SERVER",
+                      help="a server and its arguments, as one argument; PROGRAM is the client")
+    form.add_argument("--transfer", type=number_within(1, 10**8), metavar="BYTES",
+                      help="a built-in client that sends this many bytes, and a built-in server")
     form.add_argument("--namespace", action="store_true", help="PROGRAM is both hosts, on a loopback of its own")
-    words.add_argument("--serve", action="store_true", help="PROGRAM is a server: it runs until it is interrupted, or for --seconds")
+    words.add_argument("--serve", action="store_true",
+                       help="PROGRAM is a server: it runs until it is interrupted, or for --seconds")
     words.add_argument("--seconds", type=within(0.1, 86400), metavar="N", help="end the program after this time")
     words.add_argument("--interface", metavar="IF", help="the interface for capturing a half case (default: any)")
     words.add_argument("--buffer", type=number_within(1, 1024), default=64, metavar="MB",
                        help="memory for the packets that each capture hasn't written yet (default: 64)")
-    words.add_argument("--out", type=named_file, metavar="DIR", help="the folder for all files (default: a new one, tcpwit-TIME)")
+    words.add_argument("--out", type=named_file, metavar="DIR",
+                       help="the folder for all files (default: a new one, tcpwit-TIME)")
     add_words_of_judging(words)
     words.add_argument("--kernel", choices=("plain", "shipped"),
-                       help=f"a pair's kernel settings: without the additions of other RFCs (plain), or unchanged (shipped); default: {headers.KERNEL}")
+                       help="a pair's kernel settings: without the additions of other RFCs (plain), or unchanged "
+                       f"(shipped); default: {headers.KERNEL}")
     words.add_argument("--congestion", choices=headers.WORDS["congestion"], help=headers.HELP["congestion"])
     add_version_and_slack(words)
-    words.add_argument("--as", dest="user", metavar="USER", help="run the programs as this user (default: the user who called sudo)")
-    words.add_argument("--wait", type=within(0.1, 600), metavar="N", help="seconds within which a pair's server must listen (default: 10)")
-    words.add_argument("--linger", type=within(0, 600), metavar="N", help="seconds that a pair's server keeps running after the client (default: 1)")
+    words.add_argument("--as", dest="user", metavar="USER",
+                       help="run the programs as this user (default: the user who called sudo)")
+    words.add_argument("--wait", type=within(0.1, 600), metavar="N",
+                       help="seconds within which a pair's server must listen (default: 10)")
+    words.add_argument("--linger", type=within(0, 600), metavar="N",
+                       help="seconds that a pair's server keeps running after the client (default: 1)")
     way = words.add_argument_group("the wire between a pair")
-    way.add_argument("--delay", type=within(0, 10000), metavar="MS", help="delay of each frame, in milliseconds (default: 2)")
+    way.add_argument("--delay", type=within(0, 10000), metavar="MS",
+                     help="delay of each frame, in milliseconds (default: 2)")
     way.add_argument("--loss", type=within(0, 1), metavar="SHARE", help="share of segments to lose at random, 0 to 1")
-    way.add_argument("--lose", type=numbers, metavar="LIST", help="the client's data segments to lose, counted from 1, such as 3,7")
+    way.add_argument("--lose", type=numbers, metavar="LIST",
+                     help="the client's data segments to lose, counted from 1, such as 3,7")
     way.add_argument("--double", type=within(0, 1), metavar="SHARE", help="share of segments to deliver twice, 0 to 1")
-    way.add_argument("--reorder", type=within(0, 1), metavar="SHARE", help="share of segments to delay twice as long, 0 to 1")
+    way.add_argument("--reorder", type=within(0, 1), metavar="SHARE",
+                     help="share of segments to delay twice as long, 0 to 1")
     way.add_argument("--seed", type=number_within(0, 2**63), metavar="N", help="seed of the random choices")
     own = words.add_argument_group("--transfer")
-    own.add_argument("--chunk", type=number_within(1, 10**8), metavar="N", help="bytes to send at once (default: 60000)")
+    own.add_argument("--chunk", type=number_within(1, 10**8), metavar="N",
+                     help="bytes to send at once (default: 60000)")
     own.add_argument("--echo", action="store_true", default=None, help="the server sends the bytes back")
     words.add_argument("program", nargs="*", help=argparse.SUPPRESS)
     return words
@@ -114,7 +131,8 @@ def check_words(words, options):
     is_pair = options.pair is not None or options.transfer
     complete(words, options, OF_A_PAIR, is_pair, "for two hosts: give --pair or --transfer too")
     complete(words, options, OF_A_TRANSFER, options.transfer, "for --transfer")
-    complete(words, options, OF_ONE_HOST, not is_pair and not options.namespace, "for a program whose peer is elsewhere")
+    complete(words, options, OF_ONE_HOST, not is_pair and not options.namespace,
+             "for a program whose peer is elsewhere")
 
 
 def complete(words, options, defaults, are_used, cause):
@@ -127,7 +145,8 @@ def complete(words, options, defaults, are_used, cause):
 
 
 def header_words(options):
-    """The importer's arguments for the header. Refuses ones that don't fit the recorded hosts, before anything is recorded."""
+    """The importer's arguments for the header. Refuses ones that don't fit the recorded hosts, before anything is
+    recorded."""
     hosts = 2 if options.pair or options.transfer or options.namespace else 1
     chosen = {name: value for name in ("congestion", "slack") if (value := getattr(options, name)) is not None}
     headers.header(hosts, 0, chosen, options.version)
@@ -139,7 +158,8 @@ def header_words(options):
 def refuse_missing(options):
     """Names all packages and programs at once that the recording needs and that aren't installed."""
     has_namespaces = options.pair or options.transfer or options.namespace
-    missing = {name: package for name, package in PACKAGES.items() if shutil.which(name) is None and (has_namespaces or name != "ip")}
+    missing = {name: package for name, package in PACKAGES.items()
+               if shutil.which(name) is None and (has_namespaces or name != "ip")}
     commands = pair_words(options) if options.pair or options.transfer else [options.program]
     unknown = [name for name in dict.fromkeys(words[0] for words in commands) if shutil.which(name) is None]
     named = [f"{name}: {not_run(name)}" for name in unknown if "/" in name]
@@ -169,7 +189,8 @@ def program_that_judges(options):
         except Problem as problem:
             problems.append(problem)
     if problems:
-        raise Problem("; ".join(problem.cause for problem in problems), "; ".join(problem.remedy for problem in problems))
+        raise Problem("; ".join(problem.cause for problem in problems),
+                      "; ".join(problem.remedy for problem in problems))
     return program
 
 
@@ -183,7 +204,8 @@ def recorded(options, recording):
 
 
 def imported(folder, words):
-    """Imports the recording, and returns the files of its traces. The importer's data is dropped before they are judged."""
+    """Imports the recording, and returns the files of its traces. The importer's data is dropped before they are
+    judged."""
     notes = Notes()
     try:
         files = written(folder, tcpwit_import.run(tcpwit_import.parser().parse_args(words), notes))
@@ -206,7 +228,8 @@ def written(folder, traces):
 
 
 def judged(options, program, folder, words):
-    """Imports, judges and draws what was recorded, and returns the exit status. Says where the files are, also after an error."""
+    """Imports, judges and draws what was recorded, and returns the exit status. Says where the files are, also after an
+    error."""
     try:
         files = imported(folder, words)
         folder.compress(".pcap", ".log")
@@ -219,14 +242,16 @@ def judged(options, program, folder, words):
         say(NAME, "interrupted before everything was judged")
         raise
     finally:
-        say(NAME, f"all files are in {folder.name}{'; the large ones are compressed: zcat FILE' if folder.compressions else ''}")
+        compressed = "; the large ones are compressed: zcat FILE" if folder.compressions else ""
+        say(NAME, f"all files are in {folder.name}{compressed}")
         folder.finish()
 
 
 def record(options):
     """Records, imports and judges, and returns the exit status."""
     if os.geteuid() != 0:
-        raise Problem("captures and network namespaces need root", "sudo tcpwit-record ..: the program itself runs as you")
+        raise Problem("captures and network namespaces need root",
+                      "sudo tcpwit-record ..: the program itself runs as you")
     words = header_words(options)
     refuse_unknown_user(options)
     program = program_that_judges(options)

@@ -64,14 +64,16 @@ class Result:
         """Its verdict, or why it has none."""
         if not self.answer:
             return f"not judged: {self.reason}"
-        row = f"{self.answer['level']:<10}{self.verdict} " + " ".join(str(self.answer[name]) for name in NUMBERS[self.verdict])
+        numbers = " ".join(str(self.answer[name]) for name in NUMBERS[self.verdict])
+        row = f"{self.answer['level']:<10}{self.verdict} {numbers}"
         packet = f"({self.packet.place})" if self.packet else ""
         part = f"(its first {counted(self.segments, 'segment')})" if self.is_part else ""
         return "   ".join(filter(None, (row, self.answer.get("sentence"), packet, part)))
 
 
 class Judge:
-    """Judges connections with the same options. `captures` has the captures by their names, `roles` finds their hosts."""
+    """Judges connections with the same options. `captures` has the captures by their names, `roles` finds their
+    hosts."""
 
     def __init__(self, program, captures, roles, options, chosen):
         self.program, self.captures, self.roles, self.options, self.chosen = program, captures, roles, options, chosen
@@ -81,7 +83,8 @@ class Judge:
         self.clock = roles.clock()
 
     def result(self, number, indexed, moment=None):
-        """The result of a connection, which is the one with this number. `moment` is when its recording ended, if its capture goes on."""
+        """The result of a connection, which is the one with this number. `moment` is when its recording ended, if its
+        capture goes on."""
         found = Result(shown(indexed.client), shown(indexed.server), indexed.begun, indexed.count, notes=Notes())
         found.is_part = getattr(indexed, "is_part", False)
         try:
@@ -90,7 +93,8 @@ class Judge:
             if indexed.client == indexed.server:
                 raise Undecided("it connects a port with itself")
             if indexed.fragmented or self.is_fragmented(indexed):
-                raise Problem("the capture has fragments of IP packets with segments between its hosts", "record with a smaller MTU")
+                raise Problem("the capture has fragments of IP packets with segments between its hosts",
+                              "record with a smaller MTU")
             self.judge(number, indexed, found, moment)
         except Undecided as reason:
             found.reason = str(reason)
@@ -108,7 +112,8 @@ class Judge:
 
     def is_fragmented(self, indexed):
         """Whether segments between a connection's addresses came in fragments, which can't be judged."""
-        return any(frozenset((indexed.client[0], indexed.server[0])) in self.layouts[name].fragmented for name in indexed.places)
+        return any(frozenset((indexed.client[0], indexed.server[0])) in self.layouts[name].fragmented
+                   for name in indexed.places)
 
     def judge(self, number, indexed, found, moment):
         """Judges a connection that is captured from its beginning."""

@@ -1,7 +1,8 @@
 """Infers the calls of a host from its segments.
 
-A call that permits a segment ends before it and begins a little earlier, since a capture may show a segment later than its host built it. What a
-program received is what its host acknowledged, just before. So no verdict depends on the order of the calls.
+A call that permits a segment ends before it and begins a little earlier, since a capture may show a segment later than
+its host built it. What a program received is what its host acknowledged, just before. So no verdict depends on the
+order of the calls.
 """
 import heapq
 from itertools import islice
@@ -47,7 +48,8 @@ class Calls:
         self.arrived, self.wrong = Arrived(), set()
         self.listener = self.socket = self.listened = None
         self.sent = self.received = 0
-        # The place of the packet at hand, and that of the packet after which the next call may begin; the latter is -1 at first.
+        # The place of the packet at hand, and that of the packet after which the next call may begin; the latter is -1
+        # at first.
         self.now, self.free = 0, -1
         self.answered = self.is_open = self.shut = self.gone = self.at_end = False
 
@@ -66,7 +68,8 @@ class Calls:
         return "O" if packet.source == self.end else "I", self.host, id(packet), side
 
     def early(self, packet, since):
-        """Where a call begins that permits this packet, the one at hand: a little before it, but after the one at a place."""
+        """Where a call begins that permits this packet, the one at hand: a little before it, but after the one at a
+        place."""
         if since >= self.now:
             return self.at(packet, BEFORE)
         place, earliest = self.now, packet.moment - WIDTH
@@ -79,7 +82,8 @@ class Calls:
         return self.script.moment(self.host, earliest)
 
     def call(self, begin, end, verb, words=(), answer=("ok",)):
-        """A call on the connection's socket that sends or ends something. The next one doesn't begin before the packet at hand."""
+        """A call on the connection's socket that sends or ends something. The next one doesn't begin before the packet
+        at hand."""
         self.script.call(begin, end, "sends", verb, self.socket, words, answer)
         self.free = self.now
 
@@ -95,8 +99,9 @@ class Calls:
             self.listen(packet)
         if packet.flags & (ACK | RST) == ACK and self.own:
             self.see_acknowledgment(packet)
-        if self.peer and not packet.flags & RST and (packet.size or packet.flags & FIN) and (offset := self.peer.offset(packet)) >= 0:
-            self.arrived.add(offset, packet)
+        if self.peer and not packet.flags & RST and (packet.size or packet.flags & FIN):
+            if (offset := self.peer.offset(packet)) >= 0:
+                self.arrived.add(offset, packet)
 
     def see_acknowledgment(self, packet):
         """A segment acknowledges the SYN, or something that wasn't sent."""
@@ -114,7 +119,8 @@ class Calls:
             self.listener = None
         elif not self.listener and not refuses:
             self.listener, self.listened = self.endpoint("listener", packet), self.at(packet, BEFORE)
-            self.script.call(self.listened, self.listened, "listener", "listen", self.listener, (BACKLOG,), ("ok", self.listener))
+            self.script.call(self.listened, self.listened, "listener", "listen", self.listener, (BACKLOG,),
+                             ("ok", self.listener))
 
     def refuses(self, syn):
         """Whether the next segment that the host sends is a reset that answers the SYN at hand."""
@@ -144,8 +150,8 @@ class Calls:
             self.receive(packet, self.peer.acknowledged(packet))
 
     def send_bytes(self, packet, offset):
-        """The program sent the new bytes of a segment, and ended sending before a FIN. After that, an end has nothing to send: what comes then has no
-        call."""
+        """The program sent the new bytes of a segment, and ended sending before a FIN. After that, an end has nothing
+        to send: what comes then has no call."""
         if self.shut or not (packet.size or packet.flags & FIN):
             return
         end, before = offset + packet.size, self.at(packet, BEFORE)
@@ -162,11 +168,13 @@ class Calls:
             for start in range(self.sent, end, LONGEST):
                 length = min(LONGEST, end - start)
                 data = Data(b"", self.socket, start, length, True)
-                self.call(begin, self.at(packet, BEFORE) if start + length == end else begin, "send", (data,), ("ok", length))
+                self.call(begin, self.at(packet, BEFORE) if start + length == end else begin, "send", (data,),
+                          ("ok", length))
             self.sent = end
 
     def last_arrival(self):
-        """The place of the last packet that arrived, -1 if none did. What the program ended before it would be another state then."""
+        """The place of the last packet that arrived, -1 if none did. What the program ended before it would be another
+        state then."""
         place = self.now
         while place >= 0 and self.packets[place].source == self.end:
             place -= 1
@@ -181,7 +189,8 @@ class Calls:
                 data = Data(b"", self.socket, start, min(LONGEST, stop - start), False)
                 self.script.call(after, after, "receives", "recv", self.socket, (LONGEST,), ("data", data))
             self.received = stop
-        if not self.at_end and self.received == self.arrived.last and acknowledged == self.received + 1 and self.usable(after, packet):
+        has_all = self.received == self.arrived.last and acknowledged == self.received + 1
+        if not self.at_end and has_all and self.usable(after, packet):
             self.at_end = True
             self.script.call(after, after, "receives", "recv", self.socket, (LONGEST,), ("eof",))
 
@@ -194,7 +203,8 @@ class Calls:
         return self.socket is not None and not self.gone
 
     def reset(self, packet):
-        """A reset is sent. If it ends the connection, the program did that, unless it answers a wrong acknowledgment before the handshake's end."""
+        """A reset is sent. If it ends the connection, the program did that, unless it answers a wrong acknowledgment
+        before the handshake's end."""
         before = self.at(packet, BEFORE)
         if self.left or self.gone or (not self.is_open and packet.number in self.wrong):
             return

@@ -14,9 +14,9 @@ ROOM = 65535
 
 
 class Trace:
-    """A connection's trace. `captures` maps the recorded hosts to the names of their captures, or None to the one of both hosts; `last` has the
-    moment of each capture's last packet. `clock` counts if the connection alone doesn't show how the clocks differ. With `gives_up`, a host that
-    may have given up did."""
+    """A connection's trace. `captures` maps the recorded hosts to the names of their captures, or None to the one of
+    both hosts; `last` has the moment of each capture's last packet. `clock` counts if the connection alone doesn't show
+    how the clocks differ. With `gives_up`, a host that may have given up did."""
 
     def __init__(self, connection, captures, last, chosen, notes, clock=SAME, gives_up=False):
         put_in_order(connection, captures, notes)
@@ -26,7 +26,9 @@ class Trace:
             leave_out_unsent(connection, captures, last, clock)
         else:
             clock = SAME
-        streams = streams_of(connection, {end: captures_of(connection, captures, end) for end in (connection.client, connection.server)})
+        streams = streams_of(connection,
+                             {end: captures_of(connection, captures, end)
+                              for end in (connection.client, connection.server)})
         complete(connection, streams, notes)
         script = script_of(connection, captures, streams, last, notes)
         if gives_up:
@@ -79,7 +81,8 @@ def put_in_order(connection, captures, notes):
 
 
 def leave_out_unsent(connection, captures, last, clock):
-    """A capture may have ended before the other. What was received later, and what followed, is left out: it can't be explained."""
+    """A capture may have ended before the other. What was received later, and what followed, is left out: it can't be
+    explained."""
     for host, name in captures.items():
         sender = captures[1 - host]
         ended = clock.at(last[1]) if host == 0 else last[0]

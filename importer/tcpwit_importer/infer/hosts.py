@@ -7,8 +7,8 @@ from ..problem import Problem
 
 CLIENT, SERVER, BOTH = "client", "server", "both"
 BETWEEN = "between"
-NAME_IT = ("name it with --host ADDRESS, --host client or --host server; with --host both if the capture has each segment once for both hosts, "
-           "like that of lo; with --between if it was made between the hosts")
+NAME_IT = ("name it with --host ADDRESS, --host client or --host server; with --host both if the capture has each "
+           "segment once for both hosts, like that of lo; with --between if it was made between the hosts")
 # How many comparisons of moments a marked connection outweighs.
 MARKED = 1000
 
@@ -30,7 +30,8 @@ def of_both(connection, capture):
 
 
 class OneCapture:
-    """A capture of one host, or of both over loopback. `wanted` is the value of --host, or None; BETWEEN for a capture between the hosts."""
+    """A capture of one host, or of both over loopback. `wanted` is the value of --host, or None; BETWEEN for a capture
+    between the hosts."""
 
     def __init__(self, capture, wanted):
         self.capture, self.wanted = capture, wanted
@@ -99,8 +100,9 @@ class TwoCaptures:
         votes[self.captures.index(capture)] += weight
 
     def compare(self, connection):
-        """A segment is captured at its sender before it is at its receiver. So of two opposite segments, the time between them is longer at the
-        host that sends the first. What a capture marks as sent or received counts more."""
+        """A segment is captured at its sender before it is at its receiver. So of two opposite segments, the time
+        between them is longer at the host that sends the first. What a capture marks as sent or received counts
+        more."""
         for capture in self.captures:
             if len(own := connection.own.get(capture.name, ())) == 1:
                 self.vote(next(iter(own))[0], capture, MARKED)
@@ -120,7 +122,8 @@ class TwoCaptures:
         return None if one == two else int(one < two)
 
     def assign(self, connection):
-        """Gives each end its host, and returns the captures of the hosts: half a case if the other host isn't recorded."""
+        """Gives each end its host, and returns the captures of the hosts: half a case if the other host isn't
+        recorded."""
         place, *others = [place for place, capture in enumerate(self.captures) if capture.name in connection.places]
         if not others and is_loopback(connection):
             return of_both(connection, self.captures[place])
@@ -136,7 +139,8 @@ class TwoCaptures:
         return {host: capture.name for host, capture in enumerate(self.captures)}
 
     def half(self, connection, place, client, server):
-        """Only one capture has the connection, although both ends sent: its other host isn't the other capture's, or that wasn't running."""
+        """Only one capture has the connection, although both ends sent: its other host isn't the other capture's, or
+        that wasn't running."""
         own = connection.client if client == place else connection.server if server == place else None
         if own is None and {client, server} == {None, 1 - place}:
             own = connection.client if client is None else connection.server

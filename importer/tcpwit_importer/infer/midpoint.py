@@ -1,4 +1,5 @@
-"""A capture that was made between the hosts, such as at a switch, as two: what each host sent and received, a moment before or after."""
+"""A capture that was made between the hosts, such as at a switch, as two: what each host sent and received, a moment
+before or after."""
 import heapq
 from copy import copy
 
@@ -6,8 +7,9 @@ from ..capture.segments import ACK, FIN, RST, SYN, WRAP
 
 
 def split(connection, name, longest):
-    """Replaces a connection's capture by one for each host, and returns their names. A segment was sent before it was captured, and received after
-    that, by as much as the fastest answer of its host permits: at most by so many nanoseconds."""
+    """Replaces a connection's capture by one for each host, and returns their names. A segment was sent before it was
+    captured, and received after that, by as much as the fastest answer of its host permits: at most by so many
+    nanoseconds."""
     packets = entering(connection.seen.pop(name))
     names = {host: f"{name}, host {host}" for host in (0, 1)}
     for end, host in connection.hosts.items():
@@ -18,7 +20,8 @@ def split(connection, name, longest):
 
 
 def entering(packets):
-    """A router's capture of all interfaces has a segment twice: when it arrives, and when it's forwarded. The first one counts."""
+    """A router's capture of all interfaces has a segment twice: when it arrives, and when it's forwarded. The first one
+    counts."""
     arrived = [packet for packet in packets if packet.outgoing is False]
     return arrived or packets
 
@@ -31,7 +34,8 @@ def moved(packet, delay):
 
 
 def fastest_answer(packets, end):
-    """The shortest time between a segment to an end and one by which it newly acknowledges all of that; 0 if there's none."""
+    """The shortest time between a segment to an end and one by which it newly acknowledges all of that; 0 if there's
+    none."""
     first, reached, shortest = None, 0, None
     # A heap of the segments that aren't acknowledged yet: the end of each, and its moment.
     waiting = []

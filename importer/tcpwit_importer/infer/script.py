@@ -12,9 +12,9 @@ BEFORE, AFTER = 0, 1
 
 
 class Script:
-    """The calls of a connection's hosts. A place is a side of a segment's line, which has a letter, a host and a packet; or a host and a moment.
-    `ignored` has the packets, by their identities, that the server seems to have ignored: they have no line as received. `expiries` has the text
-    of an expiry at a place."""
+    """The calls of a connection's hosts. A place is a side of a segment's line, which has a letter, a host and a
+    packet; or a host and a moment. `ignored` has the packets, by their identities, that the server seems to have
+    ignored: they have no line as received. `expiries` has the text of an expiry at a place."""
 
     def __init__(self):
         self.ignored, self.expiries = set(), {}

@@ -1,4 +1,5 @@
-"""The bytes that an end of a connection sent, as captures have them, and segments of which a capture has only the beginning."""
+"""The bytes that an end of a connection sent, as captures have them, and segments of which a capture has only the
+beginning."""
 from bisect import bisect_left
 
 from ..capture.segments import FIN, RST, SYN, WRAP
@@ -7,8 +8,8 @@ from ..capture.segments import FIN, RST, SYN, WRAP
 class Stream:
     """The bytes of one end. If several segments have a byte, the first one counts.
 
-    `spans` has the parts that captures have: where each begins, and its bytes. `last` is the offset of the FIN, `conflict` that of the first
-    byte that two segments have differently; None if there is none.
+    `spans` has the parts that captures have: where each begins, and its bytes. `last` is the offset of the FIN,
+    `conflict` that of the first byte that two segments have differently; None if there is none.
     """
 
     def __init__(self, first):
@@ -55,7 +56,8 @@ class Stream:
             self._join(place)
 
     def _place(self, offset):
-        """The place of the first span that reaches an offset or is after it. Packets cut short leave many spans, so each search must be fast."""
+        """The place of the first span that reaches an offset or is after it. Packets cut short leave many spans, so
+        each search must be fast."""
         place = bisect_left(self.spans, (offset + 1,))
         return place - 1 if place and self._stop(place - 1) >= offset else place
 
@@ -74,14 +76,17 @@ class Stream:
 
     def _compare(self, offset, one, two):
         """Notes the first byte in which two parts at an offset differ."""
-        found = next((offset + place for place, (left, right) in enumerate(zip(one, two)) if left != right), None) if one != two[:len(one)] else None
+        if one == two[:len(one)]:
+            return
+        found = next((offset + place for place, (left, right) in enumerate(zip(one, two)) if left != right), None)
         if found is not None:
             self.conflict = found if self.conflict is None else min(found, self.conflict)
 
     def has(self, start, stop):
         """Whether some capture has all bytes of a part."""
         place = self._place(start)
-        return start >= stop or (place < len(self.spans) and self.spans[place][0] <= start and stop <= self._stop(place))
+        return start >= stop or (place < len(self.spans) and self.spans[place][0] <= start
+                                 and stop <= self._stop(place))
 
     def bytes_of(self, offset, length):
         """Bytes of the stream; zeros for those that no capture has."""

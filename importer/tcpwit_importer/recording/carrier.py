@@ -27,12 +27,14 @@ def raw_socket(name):
         end.setsockopt(socket.SOL_SOCKET, socket.SO_RCVBUF, 1 << 24)
         end.bind((name, ALL))
     except OSError as error:
-        raise Problem(f"a raw socket at {name}: {error.strerror}", "this needs root, and the capability NET_RAW in a container") from error
+        raise Problem(f"a raw socket at {name}: {error.strerror}",
+                      "this needs root, and the capability NET_RAW in a container") from error
     return end
 
 
 class Carrier:
-    """A thread that carries frames. It loses segments at random, or the listed data segments of the client, counted from 1."""
+    """A thread that carries frames. It loses segments at random, or the listed data segments of the client, counted
+    from 1."""
 
     def __init__(self, between, chances):
         self.chances, self.dice = chances, random.Random(chances.seed)

@@ -48,20 +48,26 @@ class Folder:
 
     def folders(self):
         """The folder itself and those of single traces."""
-        return [self.name, *(self.file(name) for name in sorted(os.listdir(self.name)) if is_of_trace(name) and os.path.isdir(self.file(name)))]
+        return [self.name,
+                *(self.file(name) for name in sorted(os.listdir(self.name))
+                  if is_of_trace(name) and os.path.isdir(self.file(name)))]
 
     def refuse_full_disk(self):
         """Fails if the disk is full: the programs that record don't report that, and leave incomplete files."""
         disk = os.statvfs(self.name)
         if disk.f_bfree * disk.f_frsize < FULL:
-            raise Problem(f"{self.name}: No space left on device, so the recording is incomplete", "free some space, or name another folder with --out")
+            raise Problem(f"{self.name}: No space left on device, so the recording is incomplete",
+                          "free some space, or name another folder with --out")
 
     def compress(self, *ends):
         """Starts to compress large files whose names end like this, while other work goes on."""
         for folder in self.folders():
-            for path in (os.path.join(folder, name) for name in sorted(os.listdir(folder)) if OWN.fullmatch(name) and name.endswith(ends)):
+            for path in (os.path.join(folder, name) for name in sorted(os.listdir(folder))
+                         if OWN.fullmatch(name) and name.endswith(ends)):
                 if os.path.isfile(path) and os.path.getsize(path) > LARGE:
-                    self.compressions.append((path, subprocess.Popen(["gzip", "-1", "-f", path], stdin=subprocess.DEVNULL, stderr=subprocess.PIPE)))
+                    self.compressions.append((path,
+                                              subprocess.Popen(["gzip", "-1", "-f", path], stdin=subprocess.DEVNULL,
+                                                               stderr=subprocess.PIPE)))
 
     def finish(self):
         """Waits until large files are compressed. One that can't be compressed stays as it is."""
@@ -73,7 +79,8 @@ class Folder:
 
 
 def is_of_trace(name):
-    """Whether a folder has the name of a trace: a peer's address, or `run`; if traces differ in more, with addresses and ports or numbers."""
+    """Whether a folder has the name of a trace: a peer's address, or `run`; if traces differ in more, with addresses
+    and ports or numbers."""
     first, *rest = name.split("-")
     return is_address(first if first != "run" or not rest else rest[0].rsplit("_", 1)[0]) \
         and all(part.isdigit() or is_address(part.rsplit("_", 1)[0]) for part in rest)

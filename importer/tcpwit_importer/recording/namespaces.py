@@ -16,10 +16,12 @@ OFFLOADS = (0x17, 0x1F, 0x24, 0x2C)
 ADDRESSES = ("10.9.0.1", "10.9.0.2")
 ADDRESSES_6 = ("fd09::1", "fd09::2")
 LINK_ADDRESSES = ("02:00:00:00:00:01", "02:00:00:00:00:02")
-# Only what RFC 9293, 6298 and 5681 describe: no recovery by SACK or RACK, no probes, no undo, immediate acknowledgments.
+# Only what RFC 9293, 6298 and 5681 describe: no recovery by SACK or RACK, no probes, no undo, immediate
+# acknowledgments.
 PLAIN = {
-    "tcp_sack": 0, "tcp_timestamps": 0, "tcp_ecn": 0, "tcp_congestion_control": "reno", "tcp_early_retrans": 0, "tcp_recovery": 0,
-    "tcp_frto": 0, "tcp_no_metrics_save": 1, "tcp_slow_start_after_idle": 0, "tcp_window_scaling": 1,
+    "tcp_sack": 0, "tcp_timestamps": 0, "tcp_ecn": 0, "tcp_congestion_control": "reno", "tcp_early_retrans": 0,
+    "tcp_recovery": 0, "tcp_frto": 0, "tcp_no_metrics_save": 1, "tcp_slow_start_after_idle": 0,
+    "tcp_window_scaling": 1,
 }
 LIBC = ctypes.CDLL(None, use_errno=True)
 
@@ -79,7 +81,8 @@ def run(*words, files=()):
     except FileNotFoundError as error:
         raise Problem(f"{words[0]} is not installed", "install it: apt-get install iproute2") from error
     if done.returncode:
-        raise Problem(f"{' '.join(words)}: {one_line(done.stderr) or done.returncode}", "check whether this kernel has veth interfaces (modprobe veth)")
+        raise Problem(f"{' '.join(words)}: {one_line(done.stderr) or done.returncode}",
+                      "check whether this kernel has veth interfaces (modprobe veth)")
 
 
 def setting(name, value):
@@ -115,7 +118,8 @@ def joined_pair(kernel, version):
     between, hosts = Namespace(), (Namespace(), Namespace())
     for number, host in enumerate(hosts):
         with between.inside():
-            run("ip", "link", "add", f"w{number}", "address", LINK_ADDRESSES[number], "type", "veth", "peer", "name", f"c{number}")
+            run("ip", "link", "add", f"w{number}", "address", LINK_ADDRESSES[number], "type", "veth", "peer", "name",
+                f"c{number}")
             run("ip", "link", "set", f"w{number}", "netns", f"/proc/self/fd/{host.file}", files=(host.file,))
             run("ip", "link", "set", f"c{number}", "up")
             if kernel == "plain":
@@ -133,13 +137,15 @@ def interface(number, kernel, version):
     run("ip", "link", "set", name, "up")
     # Neighbor discovery would delay the first segment, but not its retransmission.
     for addresses in (ADDRESSES, ADDRESSES_6):
-        run("ip", "neighbor", "replace", addresses[1 - number], "lladdr", LINK_ADDRESSES[1 - number], "dev", name, "nud", "permanent")
+        run("ip", "neighbor", "replace", addresses[1 - number], "lladdr", LINK_ADDRESSES[1 - number], "dev", name,
+            "nud", "permanent")
     if kernel != "plain":
         return
     for key, value in (PLAIN | ({"tcp_window_scaling": 0} if version == 1 else {})).items():
         setting(key, value)
     offloads_off(name)
-    # Acknowledge each segment at once: a delayed acknowledgment covers several, and the kernel's window then grows by several.
+    # Acknowledge each segment at once: a delayed acknowledgment covers several, and the kernel's window then grows by
+    # several.
     words = ["quickack", "1"] + (["initcwnd", "3"] if version == 1 else [])
     run("ip", "route", "change", "10.9.0.0/24", "dev", name, "src", ADDRESSES[number], *words)
     run("ip", "-6", "route", "replace", "fd09::/64", "dev", name, "proto", "kernel", "metric", "256", *words)

@@ -1,4 +1,5 @@
-"""Runs programs under strace, captures with tcpdump, and ends both in the right order: programs first, then captures."""
+"""Runs programs under strace, captures with tcpdump, and ends both in the right order: programs first, then
+captures."""
 import functools
 import os
 import re
@@ -10,13 +11,16 @@ import time
 from ..problem import Problem, one_line
 from ..remedies import LARGER_BUFFER
 
-CALLS = ("%network,read,write,readv,writev,?preadv2,?pwritev2,close,?close_range,dup,?dup2,dup3,fcntl,ioctl,sendfile,splice,"
-         "?pidfd_open,?pidfd_getfd,clone,?clone3,?fork,?vfork,execve,?execveat,exit,exit_group,?io_uring_setup")
-STRACE = ["strace", "-f", "--seccomp-bpf", "--absolute-timestamps=format:unix,precision:ns", "-xx", "-s", "1048576", "-e", "trace=" + CALLS]
+CALLS = ("%network,read,write,readv,writev,?preadv2,?pwritev2,close,?close_range,dup,?dup2,dup3,fcntl,ioctl,"
+         "sendfile,splice,?pidfd_open,?pidfd_getfd,clone,?clone3,?fork,?vfork,execve,?execveat,exit,exit_group,"
+         "?io_uring_setup")
+STRACE = ["strace", "-f", "--seccomp-bpf", "--absolute-timestamps=format:unix,precision:ns", "-xx", "-s", "1048576",
+          "-e", "trace=" + CALLS]
 # The option that makes strace print the addresses of sockets.
 ADDRESSES = "--decode-fds=socket"
-# All three buffer flags are needed: with fewer, packets are lost or are still buffered at the end. A packet has at most 64 kB, and a buffer has
-# room for four times as many packets of this size as of the default one, which needs 512 kB for each.
+# All three buffer flags are needed: with fewer, packets are lost or are still buffered at the end. A packet has at most
+# 64 kB, and a buffer has room for four times as many packets of this size as of the default one, which needs 512 kB for
+# each.
 TCPDUMP = ["tcpdump", "-n", "-s", "130000", "--immediate-mode", "-U", "--time-stamp-precision=nano"]
 # Seconds within which tcpdump has to start.
 START = 10
@@ -42,7 +46,8 @@ def started(words, install, **options):
 @functools.cache
 def strace():
     """The words that begin a command of strace. One that can't print addresses doesn't."""
-    has_addresses = subprocess.run([STRACE[0], ADDRESSES, "--version"], capture_output=True, check=False).returncode == 0
+    has_addresses = subprocess.run([STRACE[0], ADDRESSES, "--version"], capture_output=True,
+                                   check=False).returncode == 0
     return [*STRACE, ADDRESSES] if has_addresses else STRACE
 
 
@@ -55,8 +60,8 @@ class Capture:
         # tcpdump would switch to another user, who may not be allowed to write the file.
         own = ["-Z", "root"] if os.geteuid() == 0 else []
         words = [*TCPDUMP, "-B", str(buffer * 1024), *own, "-i", interface, "-w", file, "tcp"]
-        self.process = started(words, "tcpdump", stdin=subprocess.DEVNULL, stdout=subprocess.DEVNULL, stderr=self.errors,
-                               preexec_fn=namespace.enter if namespace else None)
+        self.process = started(words, "tcpdump", stdin=subprocess.DEVNULL, stdout=subprocess.DEVNULL,
+                               stderr=self.errors, preexec_fn=namespace.enter if namespace else None)
         until = time.monotonic() + START
         while b"listening on" not in self.said():
             if self.process.poll() is not None or time.monotonic() > until:
@@ -68,10 +73,12 @@ class Capture:
         """Why tcpdump doesn't capture, in its own words, without its usual first lines."""
         said = one_line(re.sub(rb".*(listening on|data link type) .*", b"", self.said())).removeprefix("tcpdump: ")
         signs = ((self.file, "name a writable folder with --out"), *REMEDIES)
-        return Problem(f"tcpdump printed: {said or 'nothing'}", next((remedy for sign, remedy in signs if sign in said), OTHER_REMEDY))
+        return Problem(f"tcpdump printed: {said or 'nothing'}",
+                       next((remedy for sign, remedy in signs if sign in said), OTHER_REMEDY))
 
     def said(self):
-        """What tcpdump has printed. tcpdump shares this file's offset; if it moved, tcpdump would overwrite its own output."""
+        """What tcpdump has printed. tcpdump shares this file's offset; if it moved, tcpdump would overwrite its own
+        output."""
         return os.pread(self.errors.fileno(), 1 << 20, 0)
 
     def wait(self):
@@ -98,7 +105,8 @@ class Traced:
         self.words, self.log, self.namespace = words, log, namespace
         as_user = ["-u", user] if user else []
         self.process = started([*strace(), *as_user, "-o", log, "--", *words], "strace", stdout=output,
-                               stdin=subprocess.DEVNULL if namespace else None, preexec_fn=namespace.enter if namespace else None)
+                               stdin=subprocess.DEVNULL if namespace else None,
+                               preexec_fn=namespace.enter if namespace else None)
 
     def wait_for_listener(self, seconds):
         """Waits until the program, which is alone in its namespace, listens for TCP."""
@@ -109,7 +117,8 @@ class Traced:
                 raise Problem(f"{self.words[0]} ended with status {self.process.returncode} before it listened for TCP",
                               f"see {self.log}, and try the program alone")
             if time.monotonic() > until:
-                raise Problem(f"{self.words[0]} did not listen for TCP within {seconds:g} seconds", f"see {self.log}; --wait allows more time")
+                raise Problem(f"{self.words[0]} did not listen for TCP within {seconds:g} seconds",
+                              f"see {self.log}; --wait allows more time")
             time.sleep(0.02)
 
     def listens(self):
@@ -134,22 +143,28 @@ class Traced:
         return True
 
     def failure(self):
-        """How the program, which has ended, failed, in words; None if it didn't. strace ends with the program's status."""
+        """How the program, which has ended, failed, in words; None if it didn't. strace ends with the program's
+        status."""
         status = self.process.returncode
         if status == 0:
             return None
-        return f"{self.words[0]} was ended by {signal.Signals(-status).name}" if status < 0 else f"{self.words[0]} ended with status {status}"
+        if status < 0:
+            return f"{self.words[0]} was ended by {signal.Signals(-status).name}"
+        return f"{self.words[0]} ended with status {status}"
 
     def refuse_failed_start(self):
         """Fails if strace couldn't start the program: there is then no log, or it begins with a failed execve."""
         log = self.logged()
         if not log:
-            raise Problem(f"{self.log}: no call of {self.words[0]} was logged", "the lines before this one have strace's reason")
+            raise Problem(f"{self.log}: no call of {self.words[0]} was logged",
+                          "the lines before this one have strace's reason")
         if failed := FAILED_START.match(log):
-            raise Problem(f"{self.words[0]}: {one_line(failed[1])}", "name a program that the recorded user may run, as in a shell")
+            raise Problem(f"{self.words[0]}: {one_line(failed[1])}",
+                          "name a program that the recorded user may run, as in a shell")
 
     def running(self):
-        """The program's processes and the daemons that it left: all processes in its namespace except the recorder's own."""
+        """The program's processes and the daemons that it left: all processes in its namespace except the recorder's
+        own."""
         in_namespace = self.namespace.processes() if self.namespace else []
         return set(descendants(self.process.pid)) | set(in_namespace) - set(children(os.getpid()))
 

@@ -47,7 +47,8 @@ class Recording:
         """Waits until a program ends, for --seconds, or until Ctrl-C, and reports a program that failed."""
         ended = False
         try:
-            with contextlib.nullcontext() if self.options.serve else Part("recording; Ctrl-C ends the programs", beside_programs=True):
+            with contextlib.nullcontext() if self.options.serve else Part("recording; Ctrl-C ends the programs",
+                                                                          beside_programs=True):
                 ended = program.wait(self.options.seconds)
         except KeyboardInterrupt:
             kept = "kept" if self.options.no_check else "judged"
@@ -62,7 +63,8 @@ class Recording:
             self.remarks.append(f"the kernel's congestion control is {name}")
 
     def end(self, seconds=0.0, carrier=None):
-        """Ends the programs, then the carrier, then the captures: a capture that ended earlier would lack segments that the other shows as received."""
+        """Ends the programs, then the carrier, then the captures: a capture that ended earlier would lack segments that
+        the other shows as received."""
         with Part("ending the programs", beside_programs=True):
             for program in self.programs:
                 program.stop(seconds)
@@ -95,7 +97,9 @@ class Recording:
         """Records client and server in two namespaces. Returns the importer's arguments."""
         options = self.options
         between, hosts = joined_pair(options.kernel, options.version)
-        carrier = Carrier(between, Chances(options.delay, options.loss, options.lose, options.double, options.reorder, options.seed))
+        carrier = Carrier(between,
+                          Chances(options.delay, options.loss, options.lose, options.double, options.reorder,
+                                  options.seed))
         try:
             with hosts[0].inside():
                 self.remark_on_kernel()
@@ -113,13 +117,16 @@ class Recording:
             carrier.stop()
         if carrier.fault:
             raise Problem(carrier.fault, "use --kernel plain")
-        return [word for number, option in enumerate(("--zero", "--one"))
-                for word in ("--capture", str(number), self.folder.file(f"host{number}.pcap"),
-                             "--calls", str(number), self.folder.file(f"host{number}.log"), option, ADDRESSES[number], option, ADDRESSES_6[number])
-                ] + self.end_words()
+        words = []
+        for number, option in enumerate(("--zero", "--one")):
+            words += ["--capture", str(number), self.folder.file(f"host{number}.pcap")]
+            words += ["--calls", str(number), self.folder.file(f"host{number}.log")]
+            words += [option, ADDRESSES[number], option, ADDRESSES_6[number]]
+        return words + self.end_words()
 
     def alone(self):
-        """Records one program: both hosts in a namespace, or one host with its peer elsewhere. Returns the importer's arguments."""
+        """Records one program: both hosts in a namespace, or one host with its peer elsewhere. Returns the importer's
+        arguments."""
         options = self.options
         namespace = Namespace() if options.namespace else None
         with namespace.inside() if namespace else contextlib.nullcontext():
@@ -131,7 +138,8 @@ class Recording:
         self.finish(program)
         self.end(0 if options.serve else min(options.linger, 0.1))
         host = "both" if options.namespace else "0"
-        return ["--capture", host, self.folder.file("run.pcap"), "--calls", host, self.folder.file("run.log"), *self.end_words()]
+        return ["--capture", host, self.folder.file("run.pcap"), "--calls", host, self.folder.file("run.log"),
+                *self.end_words()]
 
 
 def pair_words(options):
@@ -141,4 +149,5 @@ def pair_words(options):
     # Without the user's modules, Python starts faster and its log is shorter.
     talk = [sys.executable, "-I", "-S", os.path.join(os.path.dirname(os.path.realpath(__file__)), "talk.py")]
     echo = ["echo"] if options.echo else []
-    return talk + ["receive", "80", *echo], talk + ["send", ADDRESSES[1], "80", str(options.transfer), str(options.chunk)]
+    sending = ["send", ADDRESSES[1], "80", str(options.transfer), str(options.chunk)]
+    return talk + ["receive", "80", *echo], talk + sending

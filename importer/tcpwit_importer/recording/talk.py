@@ -1,5 +1,6 @@
 #!/usr/bin/python3
-"""A plain client and server for tcpwit-record --transfer: talk.py receive PORT [echo], talk.py send ADDRESS PORT BYTES CHUNK [echo]"""
+"""A plain client and server for tcpwit-record --transfer: talk.py receive PORT [echo], talk.py send ADDRESS PORT BYTES
+CHUNK [echo]"""
 import os
 import socket
 import sys

@@ -35,16 +35,17 @@ class Listeners:
         return connection.hosts[connection.server], connection.server[1]
 
     def address(self, connection):
-        """The address of the listener that accepts a connection: the one that did, else the server's own, that of its family, or that of all
-        families; None if none listens."""
-        fitting = [endpoint.local[0] for endpoint in self.of_port.get(self.port(connection), []) if endpoint.fits(connection.server[0])]
+        """The address of the listener that accepts a connection: the one that did, else the server's own, that of its
+        family, or that of all families; None if none listens."""
+        fitting = [endpoint.local[0] for endpoint in self.of_port.get(self.port(connection), [])
+                   if endpoint.fits(connection.server[0])]
         fitting.sort(key=lambda address: (not any(address), len(address) != len(connection.server[0])))
         return self.of_child.get(id(connection), fitting[0] if fitting else None)
 
 
 def cases_by_listener(name, connections, endpoints):
-    """A trace has only one listener for a port. So if the connections to a port have listeners with several addresses, or only some have one,
-    those of each listener get a case of their own."""
+    """A trace has only one listener for a port. So if the connections to a port have listeners with several addresses,
+    or only some have one, those of each listener get a case of their own."""
     found = Listeners(endpoints)
     addresses = {}
     for connection in connections:

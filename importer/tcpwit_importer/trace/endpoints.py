@@ -14,8 +14,8 @@ INTERRUPTED = ("EINTR", "ERESTARTSYS", "ERESTARTNOINTR", "ERESTARTNOHAND", "ERES
 
 
 class Data(NamedTuple):
-    """Bytes that an endpoint's call sends or receives: the first of them, which the log has, and the place of all in the stream of the end that
-    sent them."""
+    """Bytes that an endpoint's call sends or receives: the first of them, which the log has, and the place of all in
+    the stream of the end that sent them."""
     known: bytes
     endpoint: Any
     offset: int
@@ -30,8 +30,9 @@ class Data(NamedTuple):
 
 
 class Action(NamedTuple):
-    """A call of the trace. A word may be data or an endpoint, whose number is written. A call without an answer didn't end.
-    `order` is its place among the calls; `turn` is that of its beginning, which may be moved to just after another call's."""
+    """A call of the trace. A word may be data or an endpoint, whose number is written. A call without an answer didn't
+    end. `order` is its place among the calls; `turn` is that of its beginning, which may be moved to just after another
+    call's."""
     begin: int
     end: int | None
     thread: Any
@@ -45,7 +46,8 @@ class Action(NamedTuple):
 
 @dataclass(eq=False)
 class Endpoint:
-    """What a socket number of the trace refers to: a listener, or an end of a connection that was opened or accepted."""
+    """What a socket number of the trace refers to: a listener, or an end of a connection that was opened or
+    accepted."""
     role: str
     host: int
     local: tuple
@@ -72,7 +74,8 @@ class Endpoint:
     listener: Any = None
 
     def fits(self, address):
-        """Whether this listener accepts connections to an address: its own, all of its family, or with IPv6 also all of IPv4."""
+        """Whether this listener accepts connections to an address: its own, all of its family, or with IPv6 also all of
+        IPv4."""
         own = self.local[0]
         return own == address or (not any(own) and (len(own) == len(address) or (len(own) == 16 and not self.only_v6)))
 
@@ -93,7 +96,8 @@ class Endpoint:
 
 
 class HostTrace:
-    """The endpoints of one host, each with its calls. `host` is 0, 1, or None if the log has the calls of both hosts."""
+    """The endpoints of one host, each with its calls. `host` is 0, 1, or None if the log has the calls of both
+    hosts."""
 
     def __init__(self, host, notes):
         self.host, self.notes = host, notes
@@ -131,8 +135,10 @@ class HostTrace:
         if event.error == "EPIPE" and endpoint.shut:
             return ("closed",)
         if event.error == "EPIPE" or event.error in FAULTS:
-            # The system reports a fault once and EPIPE afterwards, or EPIPE at once after the peer's FIN. The model keeps reporting the fault.
+            # The system reports a fault once and EPIPE afterwards, or EPIPE at once after the peer's FIN. The model
+            # keeps reporting the fault.
             endpoint.fault = FAULTS.get(event.error) or endpoint.fault or "reset"
             return (endpoint.fault,)
-        self.notes.leave_out("interrupted calls" if event.error in INTERRUPTED else f"{event.name} answered by {event.error}", event.place)
+        self.notes.leave_out("interrupted calls" if event.error in INTERRUPTED
+                             else f"{event.name} answered by {event.error}", event.place)
         return None

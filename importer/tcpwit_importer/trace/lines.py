@@ -11,7 +11,8 @@ from .endpoints import Action, Data, Endpoint
 # Lines of segments have these threads; lines of calls have threads from FIRST_THREAD on.
 THREADS = {("O", 0): 1, ("I", 0): 2, ("O", 1): 3, ("I", 1): 4}
 FIRST_THREAD = 11
-# A call that changes nothing ends each trace, in a thread of its own: it shows how long the recording lasted, and so what a host didn't do.
+# A call that changes nothing ends each trace, in a thread of its own: it shows how long the recording lasted, and so
+# what a host didn't do.
 LAST_CALL = ("B status 0", "E badsocket")
 LONGEST_SEGMENT = 65515
 
@@ -24,7 +25,8 @@ class Line(NamedTuple):
 
 
 class CallLine(NamedTuple):
-    """A line of a call whose text isn't written yet: the beginning of the call or its end. `order` is its place among those of its moment."""
+    """A line of a call whose text isn't written yet: the beginning of the call or its end. `order` is its place among
+    those of its moment."""
     moment: int
     order: tuple
     action: Action
@@ -71,7 +73,8 @@ class Writer:
                     found += self.call(action)
         found.sort(key=lambda line: (line.moment, line.order))
         for line in found:
-            yield Line(line.moment, line.action.thread, self.begin_text(line.action) if line.begins else self.end_text(line.action))
+            yield Line(line.moment, line.action.thread,
+                       self.begin_text(line.action) if line.begins else self.end_text(line.action))
 
     def call(self, action):
         """The two lines of a call, or only its beginning. Calls of one moment keep their order."""
@@ -106,7 +109,8 @@ class Writer:
         if len(data.known) >= data.length:
             return data.known[:data.length]
         at, end = data.offset + len(data.known), data.offset + data.length
-        self.notes.change("calls whose bytes the log lacks, completed from the capture", f"byte {at + 1} of {shown(data.end)}")
+        self.notes.change("calls whose bytes the log lacks, completed from the capture",
+                          f"byte {at + 1} of {shown(data.end)}")
         found, holes, reached = bytearray(end - at), [], at
         for start, piece in [*connection.pieces(data.end, at, end - at), (end, b"")]:
             if start > reached:
@@ -118,18 +122,22 @@ class Writer:
         return data.known + bytes(found)
 
     def note_zeros(self, data, connection, holes):
-        """Handles bytes that no capture has. A call that sends on a connection that was reset may have some: they may never have been sent."""
+        """Handles bytes that no capture has. A call that sends on a connection that was reset may have some: they may
+        never have been sent."""
         place = "byte {} of " + shown(data.end)
         if not data.sends or not connection.was_reset():
             raise Problem(f"{place.format(holes[0][0] + 1)} is neither in the log nor in the capture",
-                          "record until the connection has ended, and with strace -s 1048576 -xx; no log has the bytes of sendfile and splice",
+                          "record until the connection has ended, and with strace -s 1048576 -xx; no log has the bytes "
+                          "of sendfile and splice",
                           "let the programs run until the connection has ended")
         sent = connection.was_sent(data.end)
         if holes[0][0] < sent:
-            self.notes.change("calls with bytes that were sent but lost by the capture, written as zeros", place.format(holes[0][0] + 1))
+            self.notes.change("calls with bytes that were sent but lost by the capture, written as zeros",
+                              place.format(holes[0][0] + 1))
         if sent < holes[-1][1]:
             first = max(sent, holes[-1][0]) + 1
-            self.notes.change("calls with bytes that a reset left unsent according to the captures, written as zeros", place.format(first))
+            self.notes.change("calls with bytes that a reset left unsent according to the captures, written as zeros",
+                              place.format(first))
 
     # Segments.
 
@@ -145,11 +153,13 @@ class Writer:
         letter, host, moment = line
         for piece in flow.went_out(packet) if letter == "O" else flow.came_in(packet):
             if len(piece) > LONGEST_SEGMENT:
-                raise Problem(f"{packet.place}: a segment of {len(piece)} bytes", OFFLOADS_OFF, f"use --kernel plain for a pair; else {OFFLOADS_OFF}")
+                raise Problem(f"{packet.place}: a segment of {len(piece)} bytes", OFFLOADS_OFF,
+                              f"use --kernel plain for a pair; else {OFFLOADS_OFF}")
             yield Line(moment, THREADS[letter, host], f"{letter} {host} {piece.hex()}")
 
     def ordered(self):
-        """Segments with letter, host and moment. Segments sent precede those that the other host received at the same moment."""
+        """Segments with letter, host and moment. Segments sent precede those that the other host received at the same
+        moment."""
         streams = [self.captured(host, name) for host, name in self.captures.items()]
         if len(streams) == 1:
             return streams[0]
@@ -157,8 +167,10 @@ class Writer:
 
     def captured(self, host, name):
         """The segments of one capture, in its order."""
-        packets = [(packet, connection) for connection in self.case.connections
-                   for packet in seen_once(connection.seen.get(name, []), {end for end, owner in connection.hosts.items() if owner == host})]
+        packets = []
+        for connection in self.case.connections:
+            own = {end for end, owner in connection.hosts.items() if owner == host}
+            packets += [(packet, connection) for packet in seen_once(connection.seen.get(name, []), own)]
         packets.sort(key=lambda pair: pair[0].moment)
         latest = 0
         for packet, connection in packets:
@@ -172,15 +184,17 @@ class Writer:
 
 
 def seen_once(packets, own):
-    """A capture of all interfaces has a packet once for each interface that it passes. A packet that the host sent counts once,
-    where it was marked as sent, if anywhere; a packet that it received counts where it was not marked."""
+    """A capture of all interfaces has a packet once for each interface that it passes. A packet that the host sent
+    counts once, where it was marked as sent, if anywhere; a packet that it received counts where it was not marked."""
     marked = {packet.source in own for packet in packets if packet.outgoing == (packet.source in own)}
     return [packet for packet in packets
-            if packet.outgoing is None or (packet.source in own) not in marked or packet.outgoing == (packet.source in own)]
+            if packet.outgoing is None or (packet.source in own) not in marked
+            or packet.outgoing == (packet.source in own)]
 
 
 def _interleaved(one, two):
-    """Merges two captures by their moments. At equal moments, a received segment waits until the other capture shows it as sent."""
+    """Merges two captures by their moments. At equal moments, a received segment waits until the other capture shows it
+    as sent."""
     sent = set()
     heads = [next(one, None), next(two, None)]
     sources = (one, two)
@@ -189,7 +203,8 @@ def _interleaved(one, two):
             moments = [head[0][2] for head in heads]
             side = 0 if moments[0] < moments[1] else 1
             if moments[0] == moments[1]:
-                side = next((side for side in (0, 1) if heads[side][0][0] == "O" or heads[side][2].segment[:16] in sent), 0)
+                side = next((side for side in (0, 1)
+                             if heads[side][0][0] == "O" or heads[side][2].segment[:16] in sent), 0)
         else:
             side = 0 if heads[0] else 1
         found = heads[side]
