@@ -20,8 +20,12 @@ of this host with a shift: version 1 ignores it, version 3 doesn't. In LEFT_OUT,
 case, nothing shows that, so the host would have to process it.
 """
 
+import os
 import pathlib
 import sys
+
+sys.path.insert(0, os.path.join(os.path.dirname(os.path.realpath(__file__)), "..", "importer"))
+from tcpwit_importer.capture.segments import SHIFT, SYN, flags, options, values  # noqa: E402
 
 # Cases without halves.
 LEFT_OUT = {"dropped-a-segment-of-an-older-connection"}
@@ -128,15 +132,8 @@ class Case:
 
 
 def tells_shift(segment):
-    """Whether a segment is a SYN with an option of kind 3 and length 3."""
-    if not segment[13] & 2:
-        return False
-    options = segment[20 : 4 * (segment[12] >> 4)]
-    while options and options[0] != 0:
-        if options[:2] == b"\x03\x03":
-            return True
-        options = options[1 if options[0] == 1 else options[1] :]
-    return False
+    """Whether a segment is a SYN with a window shift."""
+    return bool(flags(segment) & SYN and values(SHIFT, 1, options(segment)))
 
 
 def shows_shift(case, host):

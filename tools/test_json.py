@@ -3,6 +3,7 @@
 docs/reference/tcpwit_lab.schema.json permits, and say the same as the lines without `--json`."""
 import json
 import os
+import re
 import shlex
 import subprocess
 import sys
@@ -31,6 +32,16 @@ def run(words, text, **options):
 def content(path):
     with open(path, "rb") as file:
         return file.read()
+
+
+def traces(folder):
+    """The names of the traces in a folder of the data."""
+    return sorted(f"{folder}/{name}" for name in os.listdir(f"{DATA}/{folder}") if name.endswith(".trace"))
+
+
+def is_event(line):
+    """Whether a line of a trace isn't one of its header."""
+    return line[:1].isdigit()
 
 
 def line_of(found):
@@ -88,9 +99,8 @@ class Json(unittest.TestCase):
         self.assertEqual(seen, {"line", "lines", "at"})
 
     def test_traces(self):
-        names = sorted(name for name in os.listdir(f"{DATA}/kernel") if name.endswith(".trace"))
-        for name in names:
-            text = content(f"{DATA}/kernel/{name}")
+        for name in traces("kernel"):
+            text = content(f"{DATA}/{name}")
             for words in ([], ["--slack", "any"], ["--slack", "0", "--budget", "0"]):
                 with self.subTest(f"{name} {words}"):
                     self.judged(["judge", *words], text, words[:2] == ["--slack", "any"])
@@ -108,6 +118,33 @@ class Json(unittest.TestCase):
                 self.assertIn(f"Under {level['level']}, without duties: {line_of(level['without_duties'])}", found["said"])
         said = [line for line in found["said"] if line.startswith("Under ") and ", without" not in line]
         self.assertLessEqual(set(said), {f"Under {level['level']}: {level.get('sentence')}" for level in found["levels"]})
+
+    def test_the_refused_line_as_it_was_given(self):
+        seen = set()
+        for name in traces("judged") + traces("kernel"):
+            text = content(f"{DATA}/{name}")
+            with tempfile.TemporaryDirectory() as folder:
+                levels = self.object("judged", ["judge", "--case", "run.case"], text, cwd=folder).get("levels", [])
+                header = [line for line in content(f"{folder}/run.case").split(b"witness ")[0].splitlines() if not is_event(line)] if levels else []
+            for level in levels:
+                with self.subTest(f"{name} {level['level']}"):
+                    seen.add(self.refused_line(level, header, text.splitlines()))
+        self.assertEqual(seen, {"yes", "no line", "after an added line", "after no added line"})
+
+    def refused_line(self, level, header, given):
+        """Compares the refused line of a level with that of the case that `find` gives for this header in version 5. Returns where it is."""
+        line = re.match(r"line (\d+)", level.get("sentence", ""))
+        if line is None:
+            self.assertNotIn("input_line", level)
+            return "yes" if level["answer"] == "yes" else "no line"
+        header = [b"congestion " + level["level"].encode() if line.startswith(b"congestion ") else line for line in header]
+        events = [line for line in given if is_event(line)]
+        case = run(["find"], b"".join(line + b"\n" for line in header + events))[0].encode().split(b"witness ")[0].splitlines()
+        before = case[len(header):int(line[1])]
+        self.assertEqual(given[level["input_line"] - 1], before[-1])
+        added = len(before) - (level["input_line"] - (len(given) - len(events)))
+        self.assertEqual(added, sum(line not in events for line in before))
+        return "after an added line" if added else "after no added line"
 
     def test_a_case_that_is_written(self):
         text = content(f"{DATA}/kernel/lost-fin.trace")

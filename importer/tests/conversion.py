@@ -2,11 +2,12 @@
 import tempfile
 import unittest
 
-from tcpwit_import.calls import HostCalls
-from tcpwit_import.cases import Case, Writer
-from tcpwit_import.clocks import SAME
-from tcpwit_import.connections import connections_of
-from tcpwit_import.problem import Notes
+from tcpwit_importer.calls.host_calls import HostCalls
+from tcpwit_importer.capture.clocks import SAME
+from tcpwit_importer.capture.connections import connections_of
+from tcpwit_importer.problem import Notes
+from tcpwit_importer.trace.cases import Case
+from tcpwit_importer.trace.lines import Writer
 
 from .wire import ONE, SECOND, ZERO, Talk, address, events, packets
 
@@ -53,6 +54,7 @@ class Conversion(unittest.TestCase):
 
     def server(self, *lines, **options):
         """The calls after those that accept number 2 as descriptor 4."""
-        found = self.told([SOCKET, f"bind(3, {address(ONE)}, 16) = 0", "listen(3, 5) = 0", f"accept(3, {address(ZERO)}, [16]) = 4", *lines], host=1, **options)
+        found = self.told([SOCKET, f"bind(3, {address(ONE)}, 16) = 0", "listen(3, 5) = 0",
+                           f"accept(3, {address(ZERO)}, [16]) = 4", *lines], host=1, **options)
         self.assertEqual(found[:4], ["B listen 1 80 5", "E ok 1", "B accept 1", "E ok 2"])
         return found[4:]

@@ -4,12 +4,12 @@ import io
 import random
 import struct
 
-from tcpwit_import.captures import packet_at, packets_of
-from tcpwit_import.connections import connections_of
-from tcpwit_import.copies import without_copies
-from tcpwit_import.files import opened
-from tcpwit_import.frames import Layout
-from tcpwit_import.problem import Notes, Problem
+from tcpwit_importer.capture.connections import connections_of
+from tcpwit_importer.capture.copies import without_copies
+from tcpwit_importer.capture.frames import Layout
+from tcpwit_importer.capture.packets import packet_at, packets_of
+from tcpwit_importer.files import opened
+from tcpwit_importer.problem import Notes, Problem
 
 LENGTHS = (0, 1, 4, 11, 12, 19, 20, 28, 32, 0x7F, 0xFF, 0xFFFF, 0x10000, 0x7FFFFFFF, 0x80000000, 0xFFFFFFFC, 0xFFFFFFFF)
 
@@ -71,13 +71,16 @@ def damaged(data, dice):
 
 
 def read(name, whole):
-    """Reads a capture as the commands do: all packets, some again, the connections. Returns how many packets it has; None after a Problem."""
+    """Reads a capture as the commands do: all packets, some again, the connections. Returns how many packets it has;
+    None after a Problem."""
     notes, layout, packets = Notes(), Layout(), []
     try:
         with opened(name, "name a capture") as file:
             for packet in packets_of(name, file, notes, layout, whole):
                 packets.append(packet)
-                bytes((packet.size >= 0, packet.missing >= 0, packet.is_syn, packet.flags)), str(packet.place), packet.payload
+                bytes((packet.size >= 0, packet.missing >= 0, packet.is_syn, packet.flags))
+                str(packet.place)
+                bytes(packet.payload)
     except Problem as problem:
         problem = str(problem)
         if "\n  " not in problem or "Error" in problem:
@@ -97,8 +100,8 @@ def read(name, whole):
 
 
 def run(captures, seed, count, name, act=read):
-    """Reads this many damaged captures with `act`. Returns how many gave packets, and how many a Problem. An AssertionError names the capture that
-    failed."""
+    """Reads this many damaged captures with `act`. Returns how many gave packets, and how many a Problem. An
+    AssertionError names the capture that failed."""
     dice, good, bad = random.Random(seed), 0, 0
     for number in range(count):
         data = damaged(dice.choice(captures), dice)

@@ -2,11 +2,11 @@
 import unittest
 from unittest import mock
 
-from tcpwit_import.captures import shown
-from tcpwit_import.connections import connections_of
-from tcpwit_import.judge import inferring
-from tcpwit_import.judge.conversion import Trace
-from tcpwit_import.problem import Notes
+from tcpwit_importer import infer
+from tcpwit_importer.capture.connections import connections_of
+from tcpwit_importer.capture.packets import shown
+from tcpwit_importer.infer.conversion import Trace
+from tcpwit_importer.problem import Notes
 
 from .wire import packets
 
@@ -24,7 +24,7 @@ def calls_of(lines):
 class Inferring(unittest.TestCase):
     def setUp(self):
         # Calls then begin just before the segments that they permit.
-        self.enterContext(mock.patch.object(inferring, "WIDTH", 0))
+        self.enterContext(mock.patch.object(infer.calls, "WIDTH", 0))
 
     def trace(self, talk, captures=None, hosts=(0, 1), chosen=None):
         """The lines of a connection's trace. `hosts` are those of the client and the server."""

@@ -1,4 +1,5 @@
-"""Captures of all kinds for the tests: packets with options and extension headers, frames of each link, and files of each format."""
+"""Captures of all kinds for the tests: packets with options and extension headers, frames of each link, and files of
+each format."""
 import struct
 
 from .wire import SECOND, packed
@@ -98,7 +99,8 @@ def pcap_file(frames, link=ETHERNET, order="<", nano=True, modified=False):
     parts = [struct.pack(order + "IHHiIII", magic, 2, 4, 0, 0, 262144, link)]
     for moment, frame, *length in frames:
         fraction = moment % SECOND // (1 if nano and not modified else 1000)
-        parts += [struct.pack(order + "IIII", moment // SECOND, fraction, len(frame), *length or [len(frame)]), bytes(8 if modified else 0), frame]
+        parts += [struct.pack(order + "IIII", moment // SECOND, fraction, len(frame), *length or [len(frame)]),
+                  bytes(8 if modified else 0), frame]
     return b"".join(parts)
 
 
@@ -145,4 +147,5 @@ def simple(frame, order="<"):
 
 def statistics(lost, order="<"):
     """The statistics of an interface that lost this many packets."""
-    return block(5, struct.pack(order + "III", 0, 0, 0) + option(5, struct.pack(order + "Q", lost), order) + bytes(4), order)
+    return block(5, struct.pack(order + "III", 0, 0, 0) + option(5, struct.pack(order + "Q", lost), order) + bytes(4),
+                 order)

@@ -1,6 +1,9 @@
-"""A capture of each kind that the importer reads, by name: a small connection in frames of each link and files of each format."""
+"""A capture of each kind that the importer reads, by name: a small connection in frames of each link and files of each
+format."""
+from tcpwit_importer.capture.segments import ACK, FIN, PSH, SYN
+
 from . import links
-from .wire import ACK, FIN, ONE, PSH, SECOND, SIZE, SYN, ZERO, segment
+from .wire import ONE, SECOND, SIZE, ZERO, segment
 
 SIX = ("fd09::1", 4000), ("fd09::2", 80)
 MOMENT = 1_700_000_000 * SECOND + 123_456_789
@@ -10,7 +13,8 @@ def talk(ends=(ZERO, ONE), port=0):
     """The segments of a connection: who sends, and bytes."""
     client, server = (ends[0][0], ends[0][1] + port), ends[1]
     rows = [(0, 1000, 0, SYN, b"", SIZE), (1, 5000, 1001, SYN | ACK, b"", SIZE), (0, 1001, 5001, ACK, b"", b""),
-            (0, 1001, 5001, ACK | PSH, b"hello", b""), (1, 5001, 1006, ACK, b"", b""), (1, 5001, 1006, ACK | PSH, bytes(range(200)) * 5, b""),
+            (0, 1001, 5001, ACK | PSH, b"hello", b""), (1, 5001, 1006, ACK, b"", b""),
+            (1, 5001, 1006, ACK | PSH, bytes(range(200)) * 5, b""),
             (0, 1006, 6001, ACK | FIN, b"", b""), (1, 6001, 1007, ACK | FIN, b"", b""), (0, 1007, 6002, ACK, b"", b"")]
     for host, number, acknowledgment, flags, payload, options in rows:
         pair = (client, server) if host == 0 else (server, client)
@@ -36,11 +40,14 @@ LONG = b"\x94\x04\0\0" + b"\x07\x07\x04" + bytes(4) + b"\x01"
 PACKETS = {
     "IPv4 with options": lambda pair, body: links.v4(*pair, body, options=LONG),
     "IPv4 without a length": lambda pair, body: links.v4(*pair, body, total=0),
-    "IPv6 with hop-by-hop options": lambda pair, body: links.v6(*pair, body, [(links.HOP_BY_HOP, links.options_of_6())]),
-    "IPv6 with destination options": lambda pair, body: links.v6(*pair, body, [(links.DESTINATION, links.options_of_6(24))]),
+    "IPv6 with hop-by-hop options": lambda pair, body: links.v6(*pair, body, [
+        (links.HOP_BY_HOP, links.options_of_6())]),
+    "IPv6 with destination options": lambda pair, body: links.v6(*pair, body, [
+        (links.DESTINATION, links.options_of_6(24))]),
     "IPv6 with a routing header": lambda pair, body: links.v6(*pair, body, [(links.ROUTING, links.routing())]),
     "IPv6 with several headers": lambda pair, body: links.v6(*pair, body, [
-        (links.HOP_BY_HOP, links.options_of_6(16)), (links.DESTINATION, links.options_of_6()), (links.ROUTING, links.routing()),
+        (links.HOP_BY_HOP, links.options_of_6(16)), (links.DESTINATION, links.options_of_6()),
+        (links.ROUTING, links.routing()),
         (links.FRAGMENT, links.fragment_of_6()), (links.DESTINATION, links.options_of_6())]),
     "IPv6 in one fragment": lambda pair, body: links.v6(*pair, body, [(links.FRAGMENT, links.fragment_of_6())]),
 }
@@ -88,15 +95,17 @@ def together():
     """All of them in a pcapng file."""
     kinds = [*of_links(), *of_packets()]
     return links.section("<", [(link, 9) for _, link, _ in kinds]) + b"".join(
-        links.enhanced(number, moment, *frame) for number, (_, _, found) in enumerate(kinds) for moment, *frame in found)
+        links.enhanced(number, moment, *frame)
+        for number, (_, _, found) in enumerate(kinds) for moment, *frame in found)
 
 
 def fragments():
     """Two fragments of an IPv4 packet, and two of an IPv6 packet."""
     body = segment(ZERO, ONE, 1, 1, ACK, bytes(400))
     for at, more in ((0, 0x2000), (1, 0)):
-        yield MOMENT, links.ethernet(links.v4(ZERO, ONE, body[at * 208:][:208], identification=9, fragment=more | at * 26))
-        yield MOMENT, links.ethernet(links.v6(*SIX, body[at * 208:][:208], [(links.FRAGMENT, links.fragment_of_6(at * 208, not at))]))
+        part, of_6 = body[at * 208:][:208], [(links.FRAGMENT, links.fragment_of_6(at * 208, not at))]
+        yield MOMENT, links.ethernet(links.v4(ZERO, ONE, part, identification=9, fragment=more | at * 26))
+        yield MOMENT, links.ethernet(links.v6(*SIX, part, of_6))
 
 
 def of_files():
@@ -105,7 +114,8 @@ def of_files():
     for order in "<>":
         byte_order = "little" if order == "<" else "big"
         for nano in (True, False):
-            yield f"pcap, {byte_order}, {'nanoseconds' if nano else 'microseconds'}", links.pcap_file(whole, 1, order, nano)
+            unit = "nanoseconds" if nano else "microseconds"
+            yield f"pcap, {byte_order}, {unit}", links.pcap_file(whole, 1, order, nano)
         yield f"modified pcap, {byte_order}", links.pcap_file(whole, 1, order, modified=True)
         yield f"pcapng, {byte_order}", several_interfaces(order)
         yield f"obsolete pcapng, {byte_order}", links.section(order, [(1, 6)]) + b"".join(
@@ -116,10 +126,12 @@ def of_files():
 def several_interfaces(order):
     """A pcapng file with interfaces of several links and resolutions, blocks of other kinds, and directions."""
     parts = [links.section(order, [(1, 6), (101, 9)]), links.block(4, bytes(4), order)]
-    ethernet, raw, cooked = frames(with_link(links.ethernet)), frames(packet, port=1), frames(with_link(links.cooked_2), port=2)
+    ethernet, raw = frames(with_link(links.ethernet)), frames(packet, port=1)
+    cooked = frames(with_link(links.cooked_2), port=2)
     for at, ((moment, one), (_, two), (_, three)) in enumerate(zip(ethernet, raw, cooked)):
         sent = links.option(2, (2).to_bytes(4, "little" if order == "<" else "big"), order)
-        parts += [links.enhanced(0, moment // 1000, one, None, sent, order), links.enhanced(1, moment + 1, two, order=order)]
+        parts.append(links.enhanced(0, moment // 1000, one, None, sent, order))
+        parts.append(links.enhanced(1, moment + 1, two, order=order))
         if at == 2:
             parts.append(links.interface(276, links.option(9, b"\x94", order), order) + links.block(4, bytes(8), order))
         if at >= 2:
@@ -128,10 +140,11 @@ def several_interfaces(order):
 
 
 def of_ports():
-    """One capture in which ports are used again, a connection whose beginning is missing, and several at the same time."""
+    """One capture in which ports are used again, a connection whose beginning is missing, and several at the same
+    time."""
     first = frames(with_link(links.ethernet))
-    again = [(moment + SECOND, links.ethernet(packet(pair, body[:4] + bytes([9]) + body[5:]))) for moment, (pair, body) in
-             zip([moment for moment, _ in first], talk())]
+    again = [(moment + SECOND, links.ethernet(packet(pair, body[:4] + bytes([9]) + body[5:])))
+             for (moment, _), (pair, body) in zip(first, talk())]
     others = frames(with_link(links.ethernet), port=7) + frames(with_link(links.ethernet), SIX, 8)[4:]
     return links.pcap_file(sorted([*first, *again, *others], key=lambda frame: frame[0]))
 

@@ -8,9 +8,9 @@ import tempfile
 import time
 import unittest
 
-from tcpwit_import.recording.cli import PACKAGES
-from tcpwit_import.recording.namespaces import Namespace
-from tcpwit_import.recording.running import ADDRESSES, Traced, strace
+from tcpwit_importer.commands.tcpwit_record import PACKAGES
+from tcpwit_importer.recording.namespaces import Namespace
+from tcpwit_importer.recording.programs import ADDRESSES, Traced, strace
 
 TOP = os.path.dirname(os.path.dirname(os.path.realpath(__file__)))
 RECORD, JUDGE = os.path.join(TOP, "tcpwit-record"), os.path.join(TOP, "tcpwit-judge")
@@ -26,7 +26,8 @@ class AsRoot(unittest.TestCase):
 
     def record(self, *words):
         """Records without judging. Returns the status, and standard error as bytes."""
-        done = subprocess.run([RECORD, "--no-check", "--out", f"{self.folder}/out", *words], cwd=self.folder, capture_output=True, timeout=100, check=False)
+        done = subprocess.run([RECORD, "--no-check", "--out", f"{self.folder}/out", *words], cwd=self.folder,
+                              capture_output=True, timeout=100, check=False)
         self.assertEqual(done.stdout, b"")
         self.assertNotIn(b"Traceback", done.stderr)
         return done.returncode, done.stderr
@@ -41,7 +42,9 @@ class AsRoot(unittest.TestCase):
     def test_an_interface_that_does_not_exist(self):
         status, error = self.record("--interface", "none\x1b[2J", "--", "true")
         self.assertEqual(status, 2)
-        self.assertRegex(error, rb"^tcpwit-record: tcpdump printed: none\\x1b\[2J: No such device[^\n]*\n  tcpdump -D lists the interfaces[^\n]*\n$")
+        self.assertRegex(error,
+                         rb"^tcpwit-record: tcpdump printed: none\\x1b\[2J: No such device[^\n]*\n  tcpdump -D lists "
+                         rb"the interfaces[^\n]*\n$")
 
     def test_a_capture_that_cannot_be_written(self):
         os.makedirs(f"{self.folder}/out/run.pcap")
@@ -66,9 +69,12 @@ class AsRoot(unittest.TestCase):
     def test_calls_are_logged_with_addresses(self):
         if ADDRESSES not in strace():
             self.skipTest("strace can't print addresses")
-        client = self.script(b"client", f"#!{sys.executable}\nimport socket\nsocket.create_connection(('10.9.0.2', 80)).sendall(b'GET / HTTP/1.0\\n\\n')\n")
+        client = self.script(b"client",
+                             f"#!{sys.executable}\nimport socket\nsocket.create_connection(('10.9.0.2', "
+                             "80)).sendall(b'GET / HTTP/1.0\\n\\n')\n")
         self.assertEqual(self.record("--pair", SERVER, "--", client)[0], 0)
-        for name, ends in (("host0.log", rb"10\.9\.0\.1:\d+->10\.9\.0\.2:80"), ("host1.log", rb"10\.9\.0\.2:80->10\.9\.0\.1:\d+")):
+        for name, ends in (("host0.log", rb"10\.9\.0\.1:\d+->10\.9\.0\.2:80"),
+                           ("host1.log", rb"10\.9\.0\.2:80->10\.9\.0\.1:\d+")):
             with open(f"{self.folder}/out/{name}", "rb") as file:
                 self.assertRegex(file.read(), rb"TCP:\[" + ends + rb"\]>, ")
 
@@ -91,7 +97,8 @@ class AsRoot(unittest.TestCase):
 
     def test_ctrl_c_ends_a_pair(self):
         client = "import socket, time; end = socket.create_connection(('10.9.0.2', 80)); time.sleep(60)"
-        words = [RECORD, "--no-check", "--out", f"{self.folder}/out", "--pair", SERVER, "--", sys.executable, "-c", client]
+        words = [RECORD, "--no-check", "--out", f"{self.folder}/out", "--pair", SERVER, "--", sys.executable, "-c",
+                 client]
         # A shell may start the tests with Ctrl-C ignored.
         with subprocess.Popen(words, stdout=subprocess.PIPE, stderr=subprocess.PIPE,
                               preexec_fn=lambda: signal.signal(signal.SIGINT, signal.SIG_DFL)) as process:
@@ -102,7 +109,8 @@ class AsRoot(unittest.TestCase):
             out, error = process.communicate(timeout=60)
         self.assertEqual((process.returncode, out), (0, b""), error)
         self.assertIn(b"tcpwit-record: interrupted: the programs are ended, and what was recorded is kept", error)
-        self.assertTrue(error.endswith(b"tcpwit-record: all files are in " + os.fsencode(self.folder) + b"/out\n"), error)
+        self.assertTrue(error.endswith(b"tcpwit-record: all files are in " + os.fsencode(self.folder) + b"/out\n"),
+                        error)
         with open(f"{self.folder}/out/run.trace", encoding="ascii") as file:
             self.assertIn(" B open 0 ", file.read())
 
@@ -116,17 +124,20 @@ class AsRoot(unittest.TestCase):
 
     def test_a_full_disk(self):
         os.mkdir(f"{self.folder}/out")
-        if subprocess.run(["mount", "-t", "tmpfs", "-o", "size=4m", "none", f"{self.folder}/out"], capture_output=True, check=False).returncode:
+        if subprocess.run(["mount", "-t", "tmpfs", "-o", "size=4m", "none", f"{self.folder}/out"], capture_output=True,
+                          check=False).returncode:
             self.skipTest("can't mount a small file system")
         try:
             status, error = self.record("--transfer", "2000000")
         finally:
             subprocess.run(["umount", f"{self.folder}/out"], check=True)
         self.assertEqual(status, 2, error)
-        self.assertRegex(error, rb"No space left on device[^\n]*\n  free some space, or name another folder with --out\n$")
+        self.assertRegex(error,
+                         rb"No space left on device[^\n]*\n  free some space, or name another folder with --out\n$")
 
     def test_daemons_are_ended(self):
-        program = Traced(["sh", "-c", f"setsid sleep 77 & echo $! > {self.folder}/pid"], f"{self.folder}/log", Namespace())
+        program = Traced(["sh", "-c", f"setsid sleep 77 & echo $! > {self.folder}/pid"], f"{self.folder}/log",
+                         Namespace())
         until = time.monotonic() + 10
         while not (os.path.exists(f"{self.folder}/pid") and (daemon := self.daemon())) and time.monotonic() < until:
             time.sleep(0.05)

@@ -10,15 +10,16 @@ import tracemalloc
 import unittest
 from unittest import mock
 
-from tcpwit_import.captures import Packet, packet_at, packets_of, read_capture, shown
-from tcpwit_import.cases import seen_once
-from tcpwit_import.files import opened
-from tcpwit_import.frames import Layout
-from tcpwit_import.problem import Notes, Problem
+from tcpwit_importer.capture.frames import Layout
+from tcpwit_importer.capture.packets import Packet, packet_at, packets_of, read_capture, shown
+from tcpwit_importer.capture.segments import ACK
+from tcpwit_importer.files import opened
+from tcpwit_importer.problem import Notes, Problem
+from tcpwit_importer.trace.lines import seen_once
 
 from . import links, samples
 from .samples import MOMENT, SIX
-from .wire import ACK, ONE, ZERO, segment
+from .wire import ONE, ZERO, segment
 
 BODY = segment(ZERO, ONE, 1, 2, ACK, b"hello")
 PACKET, PACKET_6 = links.v4(ZERO, ONE, BODY), links.v6(*SIX, BODY)
@@ -91,25 +92,30 @@ class Captures(WithCapture):
                         self.assertEqual(getattr(again, field), getattr(packet, field))
 
     def test_a_file_that_changes_before_it_is_read_again(self):
-        for data in (links.pcap_file([(MOMENT, FRAME)]), links.section("<", [(1, 9)]) + links.enhanced(0, MOMENT, FRAME)):
+        for data in (links.pcap_file([(MOMENT, FRAME)]),
+                     links.section("<", [(1, 9)]) + links.enhanced(0, MOMENT, FRAME)):
             layout = Layout()
             packet, = self.packets(data, layout)
-            for changed in (data[:packet.offset], data[:packet.offset + 3], data[:-9], data[:packet.offset] + b"\xff" * 99,
-                            data[:packet.offset] + bytes(99), data[:packet.offset] + links.block(4, b"") * 9):
+            for changed in (data[:packet.offset], data[:packet.offset + 3], data[:-9],
+                            data[:packet.offset] + b"\xff" * 99, data[:packet.offset] + bytes(99),
+                            data[:packet.offset] + links.block(4, b"") * 9):
                 with self.assertRaises(Problem) as caught:
                     packet_at("c.pcap", io.BytesIO(changed), layout, packet.offset)
                 self.assertIn("c.pcap: changed while it was read", str(caught.exception))
 
     def test_directions_and_interfaces(self):
         for frame, link, outgoing, interface in (
-                (FRAME, 1, None, None), (links.cooked(PACKET, 4), 113, True, None), (links.cooked(PACKET, 0, 5), 113, False, None),
-                (links.cooked_2(PACKET_6, 0), 276, False, 2), (links.cooked_2(PACKET, 4, 9), 276, True, 9), (PACKET, 101, None, None)):
+            (FRAME, 1, None, None), (links.cooked(PACKET, 4), 113, True, None),
+            (links.cooked(PACKET, 0, 5), 113, False, None), (links.cooked_2(PACKET_6, 0), 276, False, 2),
+            (links.cooked_2(PACKET, 4, 9), 276, True, 9), (PACKET, 101, None, None)):
             with self.subTest(link=link, frame=frame[:20]):
                 found = self.one(frame, link)
                 self.assertEqual((found.outgoing, found.interface), (outgoing, interface))
         for order in "<>":
-            marks = [links.option(2, struct.pack(order + "I", flags), order) for flags in (1, 2, 0)] + [links.option(1, b"a comment", order), b""]
-            data = links.section(order, [(1, 9), (113, 9)]) + b"".join(links.enhanced(0, 1, FRAME, None, mark, order) for mark in marks)
+            marks = [links.option(2, struct.pack(order + "I", flags), order)
+                     for flags in (1, 2, 0)] + [links.option(1, b"a comment", order), b""]
+            data = links.section(order, [(1, 9), (113, 9)]) + b"".join(links.enhanced(0, 1, FRAME, None, mark, order)
+                                                                       for mark in marks)
             found = self.read(data + links.enhanced(1, 1, links.cooked(PACKET, 4), None, marks[0], order))
             self.assertEqual([packet.outgoing for packet in found], [False, True, None, None, None, True])
             self.assertEqual([packet.interface for packet in found], [0] * 5 + [1])
@@ -118,8 +124,8 @@ class Captures(WithCapture):
         self.assertEqual(self.one(FRAME).moment, MOMENT)
         self.assertEqual(self.one(FRAME, nano=False).moment, MOMENT // 1000 * 1000)
         late = links.option(9, b"\x09") + links.option(14, struct.pack("<q", -5))
-        found = self.read(links.section() + links.interface(1, late) + links.interface(1) + links.enhanced(0, MOMENT, FRAME)
-                          + links.enhanced(1, MOMENT // 1000, FRAME))
+        found = self.read(links.section() + links.interface(1, late) + links.interface(1)
+                          + links.enhanced(0, MOMENT, FRAME) + links.enhanced(1, MOMENT // 1000, FRAME))
         self.assertEqual([packet.moment for packet in found], [MOMENT - 5 * 10**9, MOMENT // 1000 * 1000])
 
     def test_addresses_and_identifications(self):
@@ -128,15 +134,18 @@ class Captures(WithCapture):
         self.assertEqual(self.one(links.ethernet(links.v4(ZERO, ONE, BODY, identification=77))).identification, 77)
 
     def test_what_is_left_out_is_counted(self):
-        frames = [FRAME, links.ethernet(links.v4(ZERO, ONE, BODY, protocol=17)), bytes(14), bytes(12) + b"\x08\x06" + bytes(28),
-                  links.ethernet(links.v4(ZERO, ONE, BODY, total=19)), links.ethernet(b"\x44" + PACKET[1:]), bytes(12) + b"\x08\0" + PACKET_6,
-                  FRAME[:30], links.ethernet(links.v4(ZERO, ONE, BODY[:12] + b"\x40" + BODY[13:])), links.ethernet(links.v4(ZERO, ONE, BODY[:19])),
+        frames = [FRAME, links.ethernet(links.v4(ZERO, ONE, BODY, protocol=17)), bytes(14),
+                  bytes(12) + b"\x08\x06" + bytes(28), links.ethernet(links.v4(ZERO, ONE, BODY, total=19)),
+                  links.ethernet(b"\x44" + PACKET[1:]), bytes(12) + b"\x08\0" + PACKET_6, FRAME[:30],
+                  links.ethernet(links.v4(ZERO, ONE, BODY[:12] + b"\x40" + BODY[13:])),
+                  links.ethernet(links.v4(ZERO, ONE, BODY[:19])),
                   links.ethernet(links.v4(ZERO, ONE, BODY[:12] + b"\x70" + BODY[13:])),
                   links.ethernet(links.v6(*SIX, BODY, [(0, b"\xff\1\4" + bytes(5))]))]
         self.assertEqual(len(self.packets(links.pcap_file([(MOMENT, frame) for frame in frames]))), 1)
         self.assertEqual(self.left_out(), {
-            "packets that are not TCP": 1, "packets that are neither IPv4 nor IPv6": 2, "packets with wrong lengths in their IP headers": 4,
-            "packets that end within their headers": 1, "segments with a wrong data offset": 3})
+            "packets that are not TCP": 1, "packets that are neither IPv4 nor IPv6": 2,
+            "packets with wrong lengths in their IP headers": 4, "packets that end within their headers": 1,
+            "segments with a wrong data offset": 3})
         self.assertTrue(any("c.pcap, packet 2" in line for line in self.notes.lines()))
 
     def test_fragments_name_their_addresses(self):
@@ -146,20 +155,22 @@ class Captures(WithCapture):
         ends = [self.one(links.ethernet(packet)) for packet in (PACKET, PACKET_6)]
         self.assertEqual(layout.fragmented, {frozenset((packet.source[0], packet.target[0])) for packet in ends})
         self.assertEqual(layout.frames, 5)
-        with mock.patch("tcpwit_import.frames.MOST_FRAGMENTED", 1):
+        with mock.patch("tcpwit_importer.capture.frames.MOST_FRAGMENTED", 1):
             self.refused(links.pcap_file(samples.fragments()), "fragments between more than 1 pairs")
 
     def test_segments_that_a_snap_length_cut(self):
         whole = [frame for _, frame in samples.frames(samples.with_link(links.ethernet))]
-        # Nine segments, two of which have four bytes of options; how many have complete headers, and how many of 1005 bytes are missing.
-        for length, count, missing in ((33, 0, 0), (34, 0, 0), (40, 0, 0), (53, 0, 0), (54, 7, 1005), (58, 9, 996 + 1), (96, 9, 958), (2000, 9, 0)):
+        # Nine segments, two of which have four bytes of options; how many have complete headers, and how many of 1005
+        # bytes are missing.
+        for length, count, missing in ((33, 0, 0), (34, 0, 0), (40, 0, 0), (53, 0, 0), (54, 7, 1005), (58, 9, 996 + 1),
+                                       (96, 9, 958), (2000, 9, 0)):
             with self.subTest(length):
                 self.notes = Notes()
                 data = links.pcap_file([(MOMENT, *links.cut(frame, length)) for frame in whole])
                 found = self.packets(data)
                 self.assertEqual((len(found), sum(packet.missing for packet in found)), (count, missing))
-                kind = "packets whose headers the capture cut" if length < 34 else "segments whose TCP headers the capture cut"
-                self.assertEqual(self.left_out(), {kind: 9 - count} if count < 9 else {})
+                kind = "packets whose headers" if length < 34 else "segments whose TCP headers"
+                self.assertEqual(self.left_out(), {f"{kind} the capture cut": 9 - count} if count < 9 else {})
                 for packet in found:
                     self.assertEqual(packet.payload[packet.size - packet.missing:], bytes(packet.missing))
                 if 34 <= length < 100:
@@ -171,7 +182,8 @@ class Captures(WithCapture):
         with opened(self.name, "") as file:
             self.assertEqual([packet.offset for packet in packets_of(self.name, file, self.notes)], [None] * 3)
         out, into = os.pipe()
-        writer = threading.Thread(target=lambda: [os.write(into, data[at:at + 7]) for at in range(0, len(data), 7)] and os.close(into))
+        writer = threading.Thread(target=lambda: [os.write(into, data[at:at + 7]) for at in range(0, len(data), 7)]
+                                  and os.close(into))
         writer.start()
         with os.fdopen(out, "rb") as file:
             self.assertEqual([packet.offset for packet in packets_of("-", file, self.notes)], [None] * 3)
@@ -204,7 +216,8 @@ class Refusals(WithCapture):
     def test_files_that_end_too_early(self):
         whole = links.pcap_file([(MOMENT, FRAME)])
         ng = links.section("<", [(1, 9)]) + links.enhanced(0, MOMENT, FRAME)
-        for data in (whole[:-3], whole[:30], whole[:10], whole[:4], gzip.compress(whole)[:-20], ng[:9], ng[:5], ng[:40]):
+        for data in (whole[:-3], whole[:30], whole[:10], whole[:4], gzip.compress(whole)[:-20], ng[:9], ng[:5],
+                     ng[:40]):
             self.refused(data, "ends within packet 1")
         self.refused(gzip.compress(whole)[:-1], "ends within packet 2")
         self.refused(ng + links.statistics(0)[:-20], "ends within packet 2")
@@ -242,11 +255,13 @@ class Refusals(WithCapture):
                 self.refused(data, words)
 
     def test_what_cannot_be_used(self):
-        self.refused(links.section("<", [(1, 6)]) + links.enhanced(0, 0, FRAME) + links.statistics(106), "lost 106 packets")
+        self.refused(links.section("<", [(1, 6)]) + links.enhanced(0, 0, FRAME) + links.statistics(106),
+                     "lost 106 packets")
         self.refused(links.section("<", [(147, 6)]), "link type 147")
         self.refused(links.pcap_file([], 147), "link type 147")
         self.refused(links.section("<", [(1, 6)]) + links.simple(FRAME), "simple packet blocks")
-        self.refused(links.section("<", [(1, 6)]) + links.enhanced(1, 0, FRAME), "an interface that the file doesn't describe")
+        self.refused(links.section("<", [(1, 6)]) + links.enhanced(1, 0, FRAME),
+                     "an interface that the file doesn't describe")
         self.refused(links.pcap_file([(MOMENT, FRAME[:-3])]), "22 of its 25 bytes were captured")
 
     def test_a_length_that_the_file_lacks_needs_no_memory(self):
@@ -269,7 +284,9 @@ class Refusals(WithCapture):
             self.refused(links.section("<") + data * 10_000, "more than 10000 sections and interfaces after packet 0")
 
     def test_reading_keeps_nothing(self):
-        self.write(links.pcap_file([(MOMENT, links.ethernet(links.v4(ZERO, ONE, segment(ZERO, ONE, number, 2, ACK, bytes(1400)))))
+        self.write(links.pcap_file([(MOMENT,
+                                     links.ethernet(links.v4(ZERO, ONE,
+                                                             segment(ZERO, ONE, number, 2, ACK, bytes(1400)))))
                                     for number in range(2000)]))
         tracemalloc.start()
         with opened(self.name, "") as file:

@@ -10,11 +10,12 @@ import time
 import unittest
 from unittest import mock
 
-from tcpwit_import.cli import main as importing
-from tcpwit_import.recording.cli import main as recording
-from tcpwit_import.recording.folder import FOLDER
+from tcpwit_importer.capture.segments import ACK, FIN, PSH, RST
+from tcpwit_importer.commands.tcpwit_import import main as importing
+from tcpwit_importer.commands.tcpwit_record import main as recording
+from tcpwit_importer.recording.folder import FOLDER
 
-from .wire import ACK, FIN, ONE, PSH, RST, SECOND, ZERO, Talk, address, ethernet, ip_packet, log, pcap, segment
+from .wire import ONE, SECOND, ZERO, Talk, address, ethernet, ip_packet, log, pcap, segment
 
 TOP = os.path.dirname(os.path.dirname(os.path.realpath(__file__)))
 AT = 100 * SECOND
@@ -99,8 +100,9 @@ class Command(WithFiles):
         status, out, error = run(*self.captures, *self.logs)
         self.assertEqual(status, 0, error)
         lines = out.splitlines()
-        self.assertEqual(lines[:10], ["trace 5", "skew 0", "msl 60000000", "grain 4000", "minrto 200000", "extra 1", "initial 6928", "hosts 2",
-                                      "congestion full", "slack 1000000"])
+        self.assertEqual(lines[:10],
+                         ["trace 5", "skew 0", "msl 60000000", "grain 4000", "minrto 200000", "extra 1", "initial 6928",
+                          "hosts 2", "congestion full", "slack 1000000"])
         moments = [int(line.split()[0]) for line in lines[10:]]
         self.assertEqual(moments, sorted(moments))
         self.assertEqual([line.split(" ", 2)[2][:14] for line in lines[10:]][:6],
@@ -116,24 +118,29 @@ class Command(WithFiles):
         for word in ("full", "recovery", "none"):
             status, out, error = run(*self.captures, *self.logs, "--congestion", word)
             lines = out.splitlines()
-            self.assertEqual((status, lines[0], lines[6:9]), (0, "trace 5", ["initial 6928", "hosts 2", f"congestion {word}"]), error)
+            self.assertEqual((status, lines[0], lines[6:9]),
+                             (0, "trace 5", ["initial 6928", "hosts 2", f"congestion {word}"]), error)
             self.assertEqual(lines[9:], run(*self.captures, *self.logs)[1].splitlines()[9:])
         _, out, _ = run(*self.captures[:3], *self.logs[:3], "--congestion", "none")
         self.assertEqual(out.splitlines()[7:9], ["hosts 1", "congestion none"])
         self.assertEqual(run(*self.captures, *self.logs, "--version", "4")[1].splitlines()[8], "congestion full")
-        self.refused([*self.captures, *self.logs, "--congestion", "none", "--version", "2"], "format version 2 has no line congestion")
+        self.refused([*self.captures, *self.logs, "--congestion", "none", "--version", "2"],
+                     "format version 2 has no line congestion")
 
     def test_how_late_a_duty_may_be(self):
         for slack in ("any", "0", "20000", str(10**18)):
             status, out, error = run(*self.captures, *self.logs, "--slack", slack)
             self.assertEqual((status, out.splitlines()[9]), (0, f"slack {slack}"), error)
-        self.assertEqual(run(*self.captures[:3], *self.logs[:3], "--slack", "any")[1].splitlines()[7:10], ["hosts 1", "congestion full", "slack any"])
-        self.refused([*self.captures, *self.logs, "--slack", "any", "--version", "4"], "format version 4 has no line slack")
+        self.assertEqual(run(*self.captures[:3], *self.logs[:3], "--slack", "any")[1].splitlines()[7:10],
+                         ["hosts 1", "congestion full", "slack any"])
+        self.refused([*self.captures, *self.logs, "--slack", "any", "--version", "4"],
+                     "format version 4 has no line slack")
         for wrong in ("", "-1", "1.5", "Any", str(10**18 + 1)):
             self.assertEqual(run(*self.captures, *self.logs, "--slack=" + wrong)[0], 2)
 
     def ending(self, *words):
-        """The last call of a trace: how many microseconds it comes after the line before it, whether its thread is the last, and its words."""
+        """The last call of a trace: how many microseconds it comes after the line before it, whether its thread is the
+        last, and its words."""
         status, out, error = run(*words)
         self.assertEqual(status, 0, error)
         rows = [line.split(" ", 2) for line in out.splitlines()[10:]]
@@ -144,7 +151,8 @@ class Command(WithFiles):
 
     def test_a_call_that_changes_nothing_ends_the_trace(self):
         call = (True, "B status 0", "E badsocket")
-        # The last segment is received 18 ms after the first one was sent, and the connection's last call ends before it.
+        # The last segment is received 18 ms after the first one was sent, and the connection's last call ends before
+        # it.
         self.assertEqual(self.ending(*self.captures, *self.logs), (0, *call))
         later = [*CLIENT, (99, AT + 5 * SECOND, "close(99) = -1 EBADF (Bad file descriptor)")]
         self.assertEqual(self.ending(*self.captures, *self.write_logs(later, SERVER)), (5 * 10**6 - 18_000, *call))
@@ -152,7 +160,8 @@ class Command(WithFiles):
         later = [*SERVER, (99, AT + 6 * SECOND, "recvfrom(9, <unfinished ...>")]
         self.assertEqual(self.ending(*self.captures, *self.write_logs(CLIENT, later)), (6 * 10**6 - 18_000, *call))
         for version in ("1", "2", "4"):
-            self.assertEqual(run(*self.captures, *self.write_logs(CLIENT, SERVER), "--version", version)[1].splitlines()[-1].split(" ", 2)[2], "E badsocket")
+            _, out, _ = run(*self.captures, *self.write_logs(CLIENT, SERVER), "--version", version)
+            self.assertEqual(out.splitlines()[-1].split(" ", 2)[2], "E badsocket")
 
     def test_a_packet_of_another_connection_shows_that_the_recording_went_on(self):
         other = Talk(zero=("10.9.0.1", 5000), one=("10.9.0.2", 90), at=AT + 7 * SECOND)
@@ -224,11 +233,14 @@ class Command(WithFiles):
         for host in (0, 1):
             two[0].frames[host] += two[1].frames[host]
         server = SERVER[:4] + [(8, AT - SECOND + 4000, f"accept(3, {address(('10.9.0.1', 4001))}, [16]) = 5"),
-                               (8, AT + 10**7, "sendfile(4, 9, [0] => [3], 3) = 3"), (8, AT + 10**7 + 1000, "sendfile(5, 9, [0] => [3], 3) = 3")]
+                               (8, AT + 10**7, "sendfile(4, 9, [0] => [3], 3) = 3"),
+                               (8, AT + 10**7 + 1000, "sendfile(5, 9, [0] => [3], 3) = 3")]
         client = CLIENT[:2] + [(9, moment, text) for _, moment, text in CLIENT[:2]]
-        status, out, error = run(*two[0].write(self.folder), *self.write_logs(sorted(client, key=lambda line: line[1]), server))
+        status, out, error = run(*two[0].write(self.folder),
+                                 *self.write_logs(sorted(client, key=lambda line: line[1]), server))
         self.assertEqual(status, 0, error)
-        self.assertEqual([line.split()[-1] for line in out.splitlines() if " B send " in line], [b"abc".hex(), b"xyz".hex()])
+        self.assertEqual([line.split()[-1] for line in out.splitlines() if " B send " in line],
+                         [b"abc".hex(), b"xyz".hex()])
 
     def test_other_connections_are_left_out(self):
         other = Talk(zero=("10.9.0.1", 5000), one=("10.9.0.9", 22), at=AT)
@@ -237,7 +249,8 @@ class Command(WithFiles):
             whole.frames[host] += other.frames[host]
         status, _, error = run(*whole.write(self.folder), *self.logs)
         self.assertEqual(status, 0)
-        self.assertRegex(error, r"left out: 1 connections that no call .*first: .*packet \d+: 10.9.0.1:5000 -> 10.9.0.9:22")
+        self.assertRegex(error,
+                         r"left out: 1 connections that no call .*first: .*packet \d+: 10.9.0.1:5000 -> 10.9.0.9:22")
 
     def test_errors_of_files(self):
         empty = f"{self.folder}/empty"
@@ -265,11 +278,13 @@ class Command(WithFiles):
         for name in ("c0.pcap", "s0.log"):
             with open(f"{self.folder}/{name}", "rb") as file, gzip.open(f"{self.folder}/{name}.gz", "wb") as compressed:
                 compressed.write(file.read())
-        words = [word + ".gz" if word.endswith(("c0.pcap", "s0.log")) else word for word in (*self.captures, *self.logs)]
+        words = [word + ".gz" if word.endswith(("c0.pcap", "s0.log")) else word
+                 for word in (*self.captures, *self.logs)]
         self.assertEqual(run(*words)[:2], (0, out))
         with open(f"{self.folder}/c0.pcap.gz", "rb") as file:
             whole = file.read()
-        for number, damaged, cause in ((0, whole[:-9], "c0.pcap.gz: ends within packet"), (1, whole[:20] + b"x" * 30 + whole[50:], "c0.pcap.gz: "),
+        for number, damaged, cause in ((0, whole[:-9], "c0.pcap.gz: ends within packet"),
+                                       (1, whole[:20] + b"x" * 30 + whole[50:], "c0.pcap.gz: "),
                                        (2, whole[:2] + b"xx" + whole[4:], "c0.pcap.gz: Unknown compression method")):
             with self.subTest(number), open(f"{self.folder}/c0.pcap.gz", "wb") as file:
                 file.write(damaged)
@@ -285,7 +300,8 @@ class Command(WithFiles):
         client = [(*line[:2], "sendfile(3, 9, [0] => [5], 5) = 5") if "write" in line[2] else line for line in CLIENT]
         words = [*cut.write(self.folder), *self.write_logs(client, SERVER[:4])]
         self.refused(words, "byte 1 of 10.9.0.1:4000 is neither in the log nor in the capture")
-        self.refused([*words, "--no-check", "--out", f"{self.folder}/run.trace"], "is neither in the log nor in the capture")
+        self.refused([*words, "--no-check", "--out", f"{self.folder}/run.trace"],
+                     "is neither in the log nor in the capture")
         self.assertFalse(os.path.exists(f"{self.folder}/run.trace"))
 
     def test_files_of_another_run(self):
@@ -313,7 +329,8 @@ class Command(WithFiles):
         status, out, error = run(*words, "--zero", ZERO[0], "--one", ONE[0])
         self.assertEqual(status, 0, error)
         self.assertEqual([line.split(" ", 2)[2][:9] for line in out.splitlines()[10:]],
-                         ["B listen ", "E ok 2", "B open 0 ", "E ok 1", "B await 1", "O 0 0fa00", "E timeout", "B close 1", "E ok", "B status ", "E badsock"])
+                         ["B listen ", "E ok 2", "B open 0 ", "E ok 1", "B await 1", "O 0 0fa00", "E timeout",
+                          "B close 1", "E ok", "B status ", "E badsock"])
         self.assertIn("0 of 1 connections were established", error)
         self.assertIn("its SYN was never answered)\n", error)
         self.refused([*words, "--one", "host"], "host isn't an address")
@@ -341,7 +358,8 @@ class Command(WithFiles):
         self.refused(words, "5 bytes that 10.9.0.1:4000 sent are in no call")
         self.assertEqual(run(*words, "--keep-gaps")[0], 0)
         # A call that didn't end may have sent any bytes.
-        begun = [(7, AT + 6 * 10**6, 'write(3, "hello", 5 <unfinished ...>') if "write" in line[2] else line for line in CLIENT if "close" not in line[2]]
+        begun = [(7, AT + 6 * 10**6, 'write(3, "hello", 5 <unfinished ...>') if "write" in line[2] else line
+                 for line in CLIENT if "close" not in line[2]]
         self.assertEqual(run(*self.captures, *self.write_logs(begun, SERVER))[0], 0)
 
     def test_calls_of_one_end_only(self):
@@ -349,12 +367,15 @@ class Command(WithFiles):
         begun = "10.9.0.1:4000 -> 10.9.0.2:80 has calls of host {} only: no call of host {} {} it; likely, {}"
         elsewhere = "strace didn't follow the process that did, or the kernel did it alone"
         self.refused([*self.captures, *self.write_logs(nothing, SERVER)], begun.format(1, 0, "opened", elsewhere))
-        self.refused([*self.captures, *self.write_logs(CLIENT, nothing), "--keep-gaps"], begun.format(0, 1, "listened for", elsewhere))
+        self.refused([*self.captures, *self.write_logs(CLIENT, nothing), "--keep-gaps"],
+                     begun.format(0, 1, "listened for", elsewhere))
         before = f"its socket was opened before the log began (see {self.folder}/s1.log, line 1)"
         self.refused([*self.captures, *self.write_logs(CLIENT, SERVER[3:])], begun.format(0, 1, "listened for", before))
         unknown = [CLIENT[0], (7, AT, "recvmsg(3, {msg_iov=[]}, 0) = 0")]
         self.refused([*self.captures, *self.write_logs(unknown, SERVER)],
-                     begun.format(1, 0, "opened", f"recvmsg did, in a way that the importer doesn't know (see {self.folder}/s0.log, line 2)"))
+                     begun.format(1, 0, "opened",
+                                  f"recvmsg did, in a way that the importer doesn't know (see {self.folder}/s0.log, "
+                                  "line 2)"))
         # Only a call sends a FIN, so one must have accepted the connection.
         self.refused([*self.captures, *self.write_logs(CLIENT, SERVER[:3])], begun.format(0, 1, "accepted", elsewhere))
 
@@ -369,8 +390,9 @@ class Command(WithFiles):
 
     def test_connections_that_were_not_established(self):
         words = [*refusal().write(self.folder), *self.write_logs(REFUSED, SERVER[:1])]
-        self.assertIn("tcpwit-import: 0 of 1 connections were established (first that wasn't: "
-                      f"{self.folder}/c0.pcap, packet 1: 10.9.0.1:4000 -> 10.9.0.2:80; its SYN was answered by a reset)\n", run(*words)[2])
+        self.assertIn(f"tcpwit-import: 0 of 1 connections were established (first that wasn't: {self.folder}/c0.pcap, "
+                      "packet 1: 10.9.0.1:4000 -> 10.9.0.2:80; its SYN was answered by a reset)\n",
+                      run(*words)[2])
         self.assertNotIn("were established", run(*words, "--quiet")[2])
         half = talk()
         half.frames = {0: half.frames[0][:2], 1: []}
@@ -387,36 +409,40 @@ class Command(WithFiles):
         self.refused([*words, "--skip-begun"], "no connection is in both")
 
     def test_nothing_in_common(self):
-        self.refused([*Talk(zero=("10.9.0.7", 1), one=("10.9.0.8", 2)).write(self.folder), *self.logs], "no connection is in both")
+        self.refused([*Talk(zero=("10.9.0.7", 1), one=("10.9.0.8", 2)).write(self.folder), *self.logs],
+                     "no connection is in both")
         logs = self.write_logs([(7, AT, "socket(AF_UNIX, SOCK_STREAM, 0) = 3")], SERVER[:1])
         self.refused([*talk().write(self.folder), *logs], "no TCP call")
 
     def test_words(self):
-        for words in (["--skew", "-1"], ["--skew", "x"], ["--version", "9"], ["--msl", "0"], ["--initial", "1"], ["--nothing"], ["--capture", "0"],
-                      ["--congestion", "5681"], ["--congestion", "9438"], ["--limit", "2"], ["--unit", "bytes"]):
+        for words in (["--skew", "-1"], ["--skew", "x"], ["--version", "9"], ["--msl", "0"], ["--initial", "1"],
+                      ["--nothing"], ["--capture", "0"], ["--congestion", "5681"], ["--congestion", "9438"],
+                      ["--limit", "2"], ["--unit", "bytes"]):
             status, out, error = run(*words)
             self.assertEqual((status, out), (2, ""))
             self.assertNotIn("Traceback", error)
         self.assertEqual(run("--help")[0], 0)
 
     def test_words_of_the_recorder(self):
-        for words in ([], ["--transfer", "-5"], ["--transfer", "5", "--lose", "x"], ["--transfer", "5", "--loss", "2"], ["--pair", "", "--", "a"],
-                      ["--transfer", "5", "--", "a"], ["--serve", "--namespace", "--", "a"], ["--transfer", "5", "--delay", "nan"],
-                      ["--pair", "'", "--", "a"], ["--transfer", "5", "--congestion", "cubic"], ["--transfer", "5", "--limit", "2"]):
+        for words in ([], ["--transfer", "-5"], ["--transfer", "5", "--lose", "x"], ["--transfer", "5", "--loss", "2"],
+                      ["--pair", "", "--", "a"], ["--transfer", "5", "--", "a"], ["--serve", "--namespace", "--", "a"],
+                      ["--transfer", "5", "--delay", "nan"], ["--pair", "'", "--", "a"],
+                      ["--transfer", "5", "--congestion", "cubic"], ["--transfer", "5", "--limit", "2"]):
             status, out, error = run(*words, command=recording)
             self.assertEqual((status, out), (2, ""), words)
             self.assertNotIn("Traceback", error)
         self.assertEqual(run("--help", command=recording)[0], 0)
 
     def test_options_that_only_a_pair_has(self):
-        for given in (["--loss", "0.1"], ["--delay", "2"], ["--kernel", "plain"], ["--lose", "3"], ["--double", "0"], ["--reorder", "1"], ["--seed", "1"],
-                      ["--wait", "9"], ["--linger", "1"]):
+        for given in (["--loss", "0.1"], ["--delay", "2"], ["--kernel", "plain"], ["--lose", "3"], ["--double", "0"],
+                      ["--reorder", "1"], ["--seed", "1"], ["--wait", "9"], ["--linger", "1"]):
             for form in (["--namespace"], ["--serve"], []):
                 status, out, error = run(*form, *given, "--", "a", command=recording)
                 self.assertEqual((status, out), (2, ""), given)
                 self.assertIn(f"{given[0]} is for two hosts: give --pair or --transfer too", error)
         with mock.patch("os.geteuid", return_value=1000):
-            self.refused(["--transfer", "5", "--loss", "0.1", "--kernel", "shipped", "--chunk", "2", "--echo"], "need root", recording)
+            self.refused(["--transfer", "5", "--loss", "0.1", "--kernel", "shipped", "--chunk", "2", "--echo"],
+                         "need root", recording)
             self.refused(["--interface", "lo", "--", "a"], "need root", recording)
 
     def test_options_that_other_forms_have(self):
@@ -424,7 +450,8 @@ class Command(WithFiles):
             for form in (["--pair", "b"], ["--namespace"], []):
                 self.assertIn(f"{given[0]} is for --transfer\n", run(*form, *given, "--", "a", command=recording)[2])
         for form in (["--transfer", "5"], ["--pair", "b", "--", "a"], ["--namespace", "--", "a"]):
-            self.assertIn("--interface is for a program whose peer is elsewhere\n", run("--interface", "lo", *form, command=recording)[2])
+            self.assertIn("--interface is for a program whose peer is elsewhere\n",
+                          run("--interface", "lo", *form, command=recording)[2])
 
     def test_git_ignores_the_folders_of_recordings(self):
         with open(os.path.join(os.path.dirname(TOP), ".gitignore"), encoding="ascii") as file:
@@ -437,31 +464,42 @@ class Command(WithFiles):
         with mock.patch("os.geteuid", return_value=0):
             self.refused(["--lab", "/nowhere", "--transfer", "5"], "/nowhere: No such file or directory", recording)
             self.refused(["--as", "n\x1bo", "--transfer", "5"], r"--as n\x1bo: no such user", recording)
-            self.refused(["--congestion", "none", "--version", "2", "--transfer", "5"], "format version 2 has no line congestion", recording)
-            self.refused(["--slack", "any", "--version", "4", "--transfer", "5"], "format version 4 has no line slack", recording)
+            self.refused(["--congestion", "none", "--version", "2", "--transfer", "5"],
+                         "format version 2 has no line congestion", recording)
+            self.refused(["--slack", "any", "--version", "4", "--transfer", "5"],
+                         "format version 4 has no line slack", recording)
             self.refused(["--version", "3", "--transfer", "5"], "format version 3 is for one recorded host", recording)
 
     def test_all_that_is_missing_is_named_at_once(self):
         install = "install them: apt-get install strace tcpdump iproute2 gzip"
         with mock.patch("os.geteuid", return_value=0), mock.patch.dict(os.environ, {"PATH": self.folder}):
-            self.refused(["--no-check", "--transfer", "5"], "not installed: strace, tcpdump, ip, gzip\n  " + install + "\n", recording)
-            self.refused(["--no-check", "--pair", "a b", "--", "c", "d"], "gzip, a, c\n  " + install + "; install a, c, or name", recording)
+            self.refused(["--no-check", "--transfer", "5"],
+                         "not installed: strace, tcpdump, ip, gzip\n  " + install + "\n", recording)
+            self.refused(["--no-check", "--pair", "a b", "--", "c", "d"],
+                         "gzip, a, c\n  " + install + "; install a, c, or name", recording)
             self.refused(["--no-check", "--", "c", "d"], "not installed: strace, tcpdump, gzip, c\n", recording)
-            with mock.patch("tcpwit_import.judging.TOP", self.folder), mock.patch.dict(os.environ):
+            with mock.patch("tcpwit_importer.commands.lab.TOP", self.folder), mock.patch.dict(os.environ):
                 os.environ.pop("TCPWIT_LAB", None)
-                cause = "not installed: strace, tcpdump, gzip, c; tcpwit_lab is not in PATH, and not built in this repository\n"
+                cause = "not installed: strace, tcpdump, gzip, c; tcpwit_lab is not in PATH, and not built in this " \
+                    "repository\n"
                 self.refused(["--", "c"], cause, recording)
-                self.refused(["--", "c"], "or name the program as you would in a shell; install the package tcpwit, which contains tcpwit and tcpwit_lab", recording)
+                self.refused(["--", "c"],
+                             "or name the program as you would in a shell; install the package tcpwit, which contains "
+                             "tcpwit and tcpwit_lab",
+                             recording)
         self.assertEqual([name for name in os.listdir(self.folder) if name.startswith("tcpwit-")], [])
 
     def test_programs_that_cannot_be_run(self):
         os.mkdir(f"{self.folder}/folder")
         names = [f"{self.folder}/{name}" for name in ("folder", "s0.log", "none\x1b[2J")]
-        causes = [f"{names[0]}: Is a directory", f"{names[1]}: Permission denied", rf"{self.folder}/none\x1b[2J: No such file or directory"]
-        with mock.patch("os.geteuid", return_value=0), mock.patch("tcpwit_import.recording.cli.PACKAGES", {}):
+        causes = [f"{names[0]}: Is a directory", f"{names[1]}: Permission denied",
+                  rf"{self.folder}/none\x1b[2J: No such file or directory"]
+        with mock.patch("os.geteuid", return_value=0), \
+                mock.patch("tcpwit_importer.commands.tcpwit_record.PACKAGES", {}):
             for name, cause in zip(names, causes):
                 self.refused(["--no-check", "--", name], f"tcpwit-record: {cause}\n", recording)
-            self.refused(["--no-check", "--pair", names[0], "--", names[1]], f"tcpwit-record: {causes[0]}; {causes[1]}\n", recording)
+            self.refused(["--no-check", "--pair", names[0], "--", names[1]],
+                         f"tcpwit-record: {causes[0]}; {causes[1]}\n", recording)
 
     def test_what_is_quoted_is_escaped(self):
         bad, shown = "\x1b[2J\x9b\udcff", r"\x1b[2J\x9b\xff"
@@ -488,17 +526,21 @@ class Command(WithFiles):
 
     def test_a_call_that_cannot_be_read(self):
         damaged = [(process, moment, text.replace(ONE[0], "10.9\x1b")) for process, moment, text in CLIENT]
-        self.refused([*self.captures, *self.write_logs(damaged, SERVER)], r"s0.log, line 2: the arguments of connect can't be read ('10.9\x1b' does not")
+        self.refused([*self.captures, *self.write_logs(damaged, SERVER)],
+                     r"s0.log, line 2: the arguments of connect can't be read ('10.9\x1b' does not")
 
     def test_the_programs_themselves(self):
-        done = subprocess.run([os.path.join(TOP, "tcpwit-import")], capture_output=True, text=True, timeout=100, check=False)
+        done = subprocess.run([os.path.join(TOP, "tcpwit-import")], capture_output=True, text=True, timeout=100,
+                              check=False)
         self.assertEqual((done.returncode, done.stdout), (2, ""))
         self.assertIn("no capture is given", done.stderr)
 
     def test_outputs_that_take_nothing(self):
         words = [os.path.join(TOP, "tcpwit-import"), "--quiet", *self.captures, *self.logs]
-        for output, cause in ((">&-", "standard output is closed"), ("> /dev/full", "standard output: No space left on device")):
-            done = subprocess.run(["sh", "-c", f'exec "$@" {output}', "sh", *words], stderr=subprocess.PIPE, text=True, timeout=100, check=False)
+        for output, cause in ((">&-", "standard output is closed"),
+                              ("> /dev/full", "standard output: No space left on device")):
+            done = subprocess.run(["sh", "-c", f'exec "$@" {output}', "sh", *words], stderr=subprocess.PIPE, text=True,
+                                  timeout=100, check=False)
             self.assertEqual(done.returncode, 2, output)
             self.assertRegex(done.stderr, rf"^tcpwit-import: {cause}\n  .+\n$")
         # The reader of the pipe is gone: nothing must be printed.

@@ -14,7 +14,8 @@ class Damaged(test_judge.WithCaptures):
         """Judges a capture, which may come by standard input. Returns None after an error."""
         words = ["-"] if whole else [name]
         with open(name, "rb") as file, mock.patch("sys.stdin", io.TextIOWrapper(io.BytesIO(file.read()))):
-            status, out, error = test_judge.run(*words, *self.options, "--host", "both" if name.endswith("2.pcap") else "client")
+            status, out, error = test_judge.run(*words, *self.options, "--host",
+                                                "both" if name.endswith("2.pcap") else "client")
         self.assertIn(status, (0, 1, 2))
         self.assertNotIn("this is a bug", error + out)
         self.assertNotIn("Traceback", error)

@@ -7,9 +7,9 @@ import tempfile
 import unittest
 from unittest import mock
 
-from tcpwit_import.problem import Problem
-from tcpwit_import.recording import folder as folders
-from tcpwit_import.recording.folder import Folder
+from tcpwit_importer.problem import Problem
+from tcpwit_importer.recording import folder as folders
+from tcpwit_importer.recording.folder import Folder
 
 
 class Files(unittest.TestCase):
@@ -28,14 +28,18 @@ class Files(unittest.TestCase):
 
     def names(self):
         """All files and empty folders."""
-        found = [os.path.relpath(os.path.join(place, name), self.name) for place, _, names in os.walk(self.name) for name in names]
-        return sorted(found + [os.path.relpath(place, self.name) for place, within, names in os.walk(self.name) if not within + names])
+        found = [os.path.relpath(os.path.join(place, name), self.name) for place, _, names in os.walk(self.name)
+                 for name in names]
+        return sorted(found
+                      + [os.path.relpath(place, self.name) for place, within, names in os.walk(self.name)
+                         if not within + names])
 
     def test_files_of_an_earlier_recording_are_removed(self):
-        kept = ["notes.case", "old/run.case", "run.case.old", "192.0.2.1/page", "run-2/run.case", "run-old/run.case", "2026-11-27/run.case"]
+        kept = ["notes.case", "old/run.case", "run.case.old", "192.0.2.1/page", "run-2/run.case", "run-old/run.case",
+                "2026-11-27/run.case"]
         self.write(*kept, "run.case", "run.svg", "run.trace.gz", "host0.pcap", "host1.log.gz", "run.pcap", "run.log",
-                   "192.0.2.1/run.trace", "192.0.2.2/run.case", "2001_db8__1/run.svg", "run-192.0.2.2_80/run.case", "run-2001_db8__1_80-3/run.trace.gz",
-                   "192.0.2.1-192.0.2.2_80/run.svg")
+                   "192.0.2.1/run.trace", "192.0.2.2/run.case", "2001_db8__1/run.svg", "run-192.0.2.2_80/run.case",
+                   "run-2001_db8__1_80-3/run.trace.gz", "192.0.2.1-192.0.2.2_80/run.svg")
         Folder(self.name)
         self.assertEqual(self.names(), sorted(kept))
 
@@ -53,7 +57,8 @@ class Files(unittest.TestCase):
             folder.compress(".log")
             folder.compress(".case")
             folder.finish()
-        self.assertEqual(self.names(), ["192.0.2.1/run.case.gz", "host0.log.gz", "host1.log", "page.log", "run.case.gz", "run.trace"])
+        self.assertEqual(self.names(),
+                         ["192.0.2.1/run.case.gz", "host0.log.gz", "host1.log", "page.log", "run.case.gz", "run.trace"])
         with gzip.open(f"{self.name}/host0.log.gz") as file:
             self.assertEqual(file.read(), b"0123456789" * 100)
 
@@ -72,9 +77,10 @@ class Files(unittest.TestCase):
         folder = Folder(self.name)
         folder.refuse_full_disk()
         # The blocks that only root may use are free, too.
+        full = "out: No space left on device, so the recording is incomplete\n  free some space"
         for blocks in (0, 15):
             with mock.patch("os.statvfs", return_value=mock.Mock(f_bfree=blocks, f_bavail=0, f_frsize=4096)), \
-                    self.assertRaisesRegex(Problem, "out: No space left on device, so the recording is incomplete\n  free some space"):
+                    self.assertRaisesRegex(Problem, full):
                 folder.refuse_full_disk()
         with mock.patch("os.statvfs", return_value=mock.Mock(f_bfree=16, f_bavail=0, f_frsize=4096)):
             folder.refuse_full_disk()

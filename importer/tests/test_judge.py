@@ -1,4 +1,5 @@
-"""Tests the command tcpwit-judge. A script with chosen answers replaces tcpwit_lab, unless TCPWIT_LAB names the program."""
+"""Tests the command tcpwit-judge. A script with chosen answers replaces tcpwit_lab, unless TCPWIT_LAB names the
+program."""
 import contextlib
 import gzip
 import io
@@ -10,24 +11,36 @@ import unittest
 from ipaddress import ip_address
 from unittest import mock
 
-from tcpwit_import.judge.cli import main
+from tcpwit_importer.capture.segments import ACK, FIN, RST, SYN
+from tcpwit_importer.commands.tcpwit_judge import main
 
-from .wire import ACK, FIN, RST, SECOND, SYN, Talk, ethernet, ip_packet, pcap, segment
+from .wire import SECOND, Talk, ethernet, ip_packet, pcap, segment
 
-# Answers `judge` by what the test chose, saves the trace, and writes a case and a picture if requested.
+# Answers `judge` by what the test chose, saves the trace, and makes a case and a picture if requested.
 SCRIPT = """#!/bin/sh
 [ "$*" = judge ] && exit 2
 echo "$@" >> {folder}/words
 if [ "$1" = draw ]; then echo '<svg/>'; exit 0; fi
 if [ "$1" = explain ]; then echo 'explained'; exit 1; fi
 cat > {folder}/given
-for word; do [ "$before" = --case ] && cat {folder}/case > "$word"; before=$word; done
+for word; do [ "$before" = --case ] && echo 'a case' > "$word"; before=$word; done
 cat {folder}/answer
 exit {status}
 """
-YES = "full      yes 57 88\nThe run follows RFC 9293.\n"
-NO = "full      no 9 8 state\nrecovery  no 9 8 state\nnone      no 7 8 ack-late\nUnder none: line 8: it is late.\n"
-INFERRED = "Calls were inferred: their answers aren't judged.\nNor is how soon a host sends what its program gave it (rule start-late).\n"
+YES = {"levels": [{"level": "full", "answer": "yes", "lines": 57, "hidden": 88}],
+       "said": ["full      yes 57 88", "The run follows RFC 9293."]}
+
+
+def no(rule="ack-late", **input_line):
+    """An answer whose last level is a no, by this rule and perhaps with the line of the trace that it refuses."""
+    verdict = {"answer": "no", "witness_line": 7, "trace_line": 8, **input_line, "rule": rule}
+    levels = [{"level": level, **verdict, "sentence": f"line 8: {level} is late."} for level in ("full", "none")]
+    return {"levels": levels, "said": [f"none      no 7 8 {rule}", "Under none: line 8: none is late."]}
+
+
+NO = no()
+INFERRED = "Calls were inferred: their answers aren't judged.\n" \
+    "Nor is how soon a host sends what its program gave it (rule start-late).\n"
 
 
 def run(*words):
@@ -43,7 +56,8 @@ def run(*words):
 
 def cooked(frames, own):
     """The frames of a capture of all interfaces, which marks those of a host as sent."""
-    return [(moment, struct.pack("!HHHQ", 4 if own in frame[26:30] else 0, 1, 6, 0) + frame[12:14] + frame[14:]) for moment, frame in frames]
+    return [(moment, struct.pack("!HHHQ", 4 if own in frame[26:30] else 0, 1, 6, 0) + frame[12:14] + frame[14:])
+            for moment, frame in frames]
 
 
 class WithCaptures(unittest.TestCase):
@@ -55,12 +69,10 @@ class WithCaptures(unittest.TestCase):
         self.talk.send(0, FIN | ACK)
         self.talk.send(1)
 
-    def lab(self, answer=YES, status=0, case="a case\n"):
-        """Writes a program with this answer and this case. Returns the options that name it."""
-        with open(f"{self.folder}/case", "w", encoding="ascii") as file:
-            file.write(case)
+    def lab(self, answer=YES, status=0):
+        """Writes a program with this answer, an object or a line. Returns the options that name it."""
         with open(f"{self.folder}/answer", "w", encoding="ascii") as file:
-            file.write(answer)
+            file.write(answer if isinstance(answer, str) else json.dumps(answer))
         with open(f"{self.folder}/lab", "w", encoding="ascii") as file:
             file.write(SCRIPT.format(folder=self.folder, status=status))
         os.chmod(f"{self.folder}/lab", 0o755)
@@ -90,29 +102,30 @@ class Lines(WithCaptures):
     def test_a_yes(self):
         status, out, error = run(*self.files(), *self.lab())
         self.assertEqual((status, error), (0, ""))
-        self.assertEqual(out, f"10.9.0.1:4000 -> 10.9.0.2:80   full      yes 57 88\n1 connection: 1 yes, 0 no. {INFERRED}")
-        self.assertRegex(self.text("words"), r"^judge --least full --case /dev/fd/\d+\n$")
+        self.assertEqual(out,
+                         f"10.9.0.1:4000 -> 10.9.0.2:80   full      yes 57 88\n1 connection: 1 yes, 0 no. {INFERRED}")
+        self.assertEqual(self.text("words"), "judge --json --least full --case /dev/null\n")
         self.assertIn("hosts 2\n", self.text("given"))
 
     def test_a_no(self):
         status, out, _ = run(*self.files(), *self.lab(NO, 1))
         self.assertEqual(status, 1)
-        self.assertEqual(out.splitlines()[0], "10.9.0.1:4000 -> 10.9.0.2:80   none      no 7 8 ack-late   line 8: it is late.")
+        self.assertEqual(out.splitlines()[0],
+                         "10.9.0.1:4000 -> 10.9.0.2:80   none      no 7 8 ack-late   line 8: none is late.")
         self.assertIn("1 connection: 0 yes, 1 no. ", out)
 
     def test_the_packet_of_a_no(self):
-        for line, place in ((13, "   (FOLDER/c0.pcap, packet 1)"), (12, ""), (10, ""), (999, "")):
-            _, out, _ = run(*self.files(), *self.lab(NO.replace("line 8:", f"line {line}:"), 1))
-            self.assertEqual(out.splitlines()[0].replace(self.folder, "FOLDER").split("ack-late")[1], f"   line {line}: it is late." + place)
-        # The case has two more lines before that of the packet.
-        lab = self.lab(NO.replace("line 8:", "line 15:"), 1, "x\n5 94 T 0 1 2 rto\n6 11 B status 0\n7 94 T 0 1 2 rto\n" + "x\n" * 20 + "7 94 T 0 1 2 rto\n")
+        for line, place in ((13, "   (FOLDER/c0.pcap, packet 1)"), (12, ""), (10, ""), (999, ""), (None, "")):
+            _, out, _ = run(*self.files(), *self.lab(no(**{} if line is None else {"input_line": line}), 1))
+            self.assertEqual(out.splitlines()[0].replace(self.folder, "FOLDER").split("ack-late")[1],
+                             "   line 8: none is late." + place)
         for words in ([], ["--report", f"{self.folder}/kept"]):
-            _, out, _ = run(*self.files(), *lab, "--json", *words)
+            _, out, _ = run(*self.files(), *self.lab(no(input_line=13), 1), "--json", *words)
             self.assertEqual((os.path.basename(json.loads(out)["capture"]), json.loads(out)["packet"]), ("c0.pcap", 1))
 
     def test_options_of_judge(self):
         run(*self.files(), *self.lab(), "--level", "none", "--slack", "any", "--budget", "7")
-        self.assertIn("judge --least none --slack any --budget 7 --case ", self.text("words"))
+        self.assertIn("judge --json --least none --slack any --budget 7 --case ", self.text("words"))
         self.assertIn("\nslack any\n", self.text("given"))
         run(*self.files(), *self.lab(), "--minrto", "1000000", "--initial", "5681", "--grain", "1", "--msl", "2")
         self.assertIn("\nmsl 2\ngrain 1\nminrto 1000000\nextra 65535\ninitial 5681\n", self.text("given"))
@@ -154,13 +167,15 @@ class Lines(WithCaptures):
         self.talk.frames[0] = self.talk.frames[0][1:]
         status, out, _ = run(*self.files(hosts=(0,)), *self.lab(), "--host", "client")
         self.assertEqual(status, 2)
-        self.assertEqual(out.splitlines()[0], "10.9.0.1:4000 -> 10.9.0.2:80   not judged: it began before the capture (6 segments)")
+        self.assertEqual(out.splitlines()[0],
+                         "10.9.0.1:4000 -> 10.9.0.2:80   not judged: it began before the capture (6 segments)")
         self.assertIn("1 connection: 0 yes, 0 no, 1 not judged. ", out)
 
     def test_a_beginning_that_one_capture_lacks(self):
         self.talk.frames[1] = self.talk.frames[1][2:]
         _, out, _ = run(*self.files(), *self.lab())
-        self.assertEqual(out.splitlines()[0], "10.9.0.1:4000 -> 10.9.0.2:80   not judged: it began before the capture (12 segments)")
+        self.assertEqual(out.splitlines()[0],
+                         "10.9.0.1:4000 -> 10.9.0.2:80   not judged: it began before the capture (12 segments)")
         self.assertEqual(len(out.splitlines()), 3)
 
     def test_a_lost_packet(self):
@@ -175,23 +190,28 @@ class Lines(WithCaptures):
         self.talk = Talk()
         self.talk.next[0] += 1000
         self.talk.send(1)
-        said = ("c0.pcap: 10.9.0.2:80 acknowledged byte 1 of 10.9.0.1:4000, which no capture has: it was never sent, or {} lost packets "
-                "(--keep-gaps judges it as it is)")
-        for words, lost in ((self.files(), "both captures"), ([*self.files(hosts=(0,)), "--host", "client"], "the capture")):
+        said = ("c0.pcap: 10.9.0.2:80 acknowledged byte 1 of 10.9.0.1:4000, which no capture has: it was never sent, "
+                "or {} lost packets (--keep-gaps judges it as it is)")
+        for words, lost in ((self.files(), "both captures"),
+                            ([*self.files(hosts=(0,)), "--host", "client"], "the capture")):
             self.assertIn(said.format(lost), run(*words, *self.lab())[1])
             self.assertEqual(run(*words, *self.lab(), "--keep-gaps")[0], 0)
 
     def test_an_answer_of_an_earlier_connection(self):
         self.talk = Talk()
         frames = self.talk.frames[0]
-        frames.insert(1, (frames[0][0] + 1000, ethernet(ip_packet(("10.9.0.2", 80), ("10.9.0.1", 4000), segment(("10.9.0.2", 80), ("10.9.0.1", 4000), 1, 99999, ACK)))))
+        frames.insert(1,
+                      (frames[0][0] + 1000,
+                       ethernet(ip_packet(("10.9.0.2", 80), ("10.9.0.1", 4000),
+                                          segment(("10.9.0.2", 80), ("10.9.0.1", 4000), 1, 99999, ACK)))))
         self.assertEqual(run(*self.files(hosts=(0,)), *self.lab(), "--host", "client")[0], 0)
 
     def test_json(self):
         _, out, _ = run(*self.files(), *self.lab(NO, 1), "--json")
         self.assertEqual(json.loads(out), {
-            "client": "10.9.0.1:4000", "server": "10.9.0.2:80", "begun": 100.0, "segments": 14, "judged": True, "hosts": 2, "level": "none", "answer": "no",
-            "status": 1, "witness_line": 7, "trace_line": 8, "rule": "ack-late", "sentence": "line 8: it is late.", "said": NO.splitlines()})
+            "client": "10.9.0.1:4000", "server": "10.9.0.2:80", "begun": 100.0, "segments": 14, "judged": True,
+            "hosts": 2, "level": "none", "answer": "no", "status": 1, "witness_line": 7, "trace_line": 8,
+            "rule": "ack-late", "sentence": "line 8: none is late.", "said": NO["said"]})
         _, out, _ = run(*self.files(), *self.lab(), "--json")
         self.assertEqual((json.loads(out)["lines"], json.loads(out)["steps"]), (57, 88))
 
@@ -201,24 +221,29 @@ class Lines(WithCaptures):
         names = [os.path.basename(name) for name in json.loads(out)["files"]]
         self.assertEqual(names, [f"1-10.9.0.1_4000-10.9.0.2_80.{end}" for end in ("trace", "case", "svg", "txt")])
         self.assertEqual(sorted(os.listdir(report)), sorted(names))
-        self.assertEqual(self.text("kept/" + names[3]), YES + "\nexplained\n")
-        self.assertEqual(self.fails(*self.files(), *self.lab(), "--report", report), f"tcpwit-judge: {report} isn't empty")
+        self.assertEqual(self.text("kept/" + names[3]), "\n".join(YES["said"]) + "\n\nexplained\n")
+        self.assertEqual(self.fails(*self.files(), *self.lab(), "--report", report),
+                         f"tcpwit-judge: {report} isn't empty")
 
     def test_rules_that_inferred_calls_leave_out(self):
         # `judge` prints what its level judges; rule 48, start-late, needs the real calls.
-        said = "full      yes 57 88\nNo duty was late{} (rules {}).\n"
-        for time, rules, judged in (("", "40 to 52", "40 to 47 and 49 to 52"), (" by more than 1 second", "40 to 50 and 52", "40 to 47, 49, 50 and 52"),
+        said = "No duty was late{} (rules {})."
+        for time, rules, judged in (("", "40 to 52", "40 to 47 and 49 to 52"),
+                                    (" by more than 1 second", "40 to 50 and 52", "40 to 47, 49, 50 and 52"),
                                     ("", "40 to 49 and 52", "40 to 47, 49 and 52")):
             report = f"{self.folder}/{rules}"
-            _, out, _ = run(*self.files(), *self.lab(said.format(time, rules)), "--report", report, "--json")
+            _, out, _ = run(*self.files(), *self.lab(YES | {"said": [said.format(time, rules)]}), "--report", report,
+                            "--json")
             found = json.loads(out)
-            self.assertEqual(found["said"], said.format(time, judged).splitlines())
-            self.assertEqual(self.text(os.path.relpath(found["files"][3], self.folder)), said.format(time, judged) + "\nexplained\n")
+            self.assertEqual(found["said"], [said.format(time, judged)])
+            self.assertEqual(self.text(os.path.relpath(found["files"][3], self.folder)),
+                             said.format(time, judged) + "\n\nexplained\n")
 
     def test_a_fault_of_the_lab(self):
-        status, out, _ = run(*self.files(), *self.lab("bad trace 3 number\n", 2))
-        self.assertEqual(status, 2)
-        self.assertIn("not judged: bad trace 3 number", out)
+        for answer in ("bad usage\n", {"status": 2, "answer": "too many steps", "said": ["too many steps"]}):
+            status, out, _ = run(*self.files(), *self.lab(answer, 2))
+            self.assertEqual(status, 2)
+            self.assertIn("not judged: " + (answer.strip() if isinstance(answer, str) else answer["answer"]), out)
 
 
 class Hosts(WithCaptures):
@@ -270,7 +295,9 @@ class Hosts(WithCaptures):
     def test_clocks_that_differ(self):
         self.talk.frames[1] = [(moment + 300 * 10**9, frame) for moment, frame in self.talk.frames[1]]
         for files, sign in ((self.files(), ""), (self.files()[::-1], "-")):
-            self.assertRegex(run(*files, *self.lab())[2], rf"clocks: host 1 is {sign}(300000|299999)\d+\.\d+ us ahead of host 0 \(host 0 is that of .*/c")
+            self.assertRegex(run(*files, *self.lab())[2],
+                             rf"clocks: host 1 is {sign}(300000|299999)\d+\.\d+ us ahead of host 0 \(host 0 is that of "
+                             r".*/c")
             self.hosts(files=files)
             moments = [int(line.split()[0]) for line in self.text("given").splitlines()[10:]]
             self.assertLess(moments[-1], 2 * 10**6)
@@ -289,7 +316,8 @@ class Hosts(WithCaptures):
             both.frames[host] += self.talk.frames[host]
             for names in (self.files(both), self.files(both)[::-1]):
                 self.assertEqual(self.hosts(files=names), ("hosts 1", first), role)
-                self.assertIn("1 connection with one host captured: the other one isn't judged there.\n", run(*names, *self.lab())[1])
+                self.assertIn("1 connection with one host captured: the other one isn't judged there.\n",
+                              run(*names, *self.lab())[1])
 
     def test_a_simultaneous_open(self):
         self.talk.frames = {host: frames[:1] for host, frames in self.talk.frames.items()}
@@ -319,7 +347,8 @@ class Faults(WithCaptures):
         for data, message in ((b"", "neither pcap nor pcapng"), (b"nonsense", "neither pcap nor pcapng")):
             with open(f"{self.folder}/bad", "wb") as file:
                 file.write(data)
-            self.assertEqual(self.fails(f"{self.folder}/bad", *self.lab()), f"tcpwit-judge: {self.folder}/bad: {message}")
+            self.assertEqual(self.fails(f"{self.folder}/bad", *self.lab()),
+                             f"tcpwit-judge: {self.folder}/bad: {message}")
         self.assertIn("No such file", self.fails(f"{self.folder}/missing", *self.lab()))
 
     def test_a_capture_that_was_cut(self):
@@ -338,7 +367,8 @@ class Faults(WithCaptures):
         names = self.files()
         self.assertIn("3 captures are given", self.fails(*names, names[0] + "x", *self.lab()))
         self.assertIn("is given twice", self.fails(names[0], names[0], *self.lab()))
-        self.assertIn("--host or --between is given with two captures", self.fails(*names, "--host", "client", *self.lab()))
+        self.assertIn("--host or --between is given with two captures",
+                      self.fails(*names, "--host", "client", *self.lab()))
 
     def test_compressed_captures(self):
         for name in self.files():
@@ -350,25 +380,27 @@ class Faults(WithCaptures):
         for number in range(4):
             self.talk.send(0, payload=b"again")
             self.talk.next[0] -= 5
-        late = NO.replace("ack-late", "expiry-late")
+        late = no("expiry-late")
         run(*self.files(hosts=(0,)), *self.lab(late, 1), "--host", "client")
         # With that, it isn't a yes either, so the first verdict is found again.
-        self.assertEqual(self.text("words").count("judge --least"), 3)
+        self.assertEqual(self.text("words").count("judge --json"), 3)
         self.assertNotIn("giveup", self.text("given"))
         for answer in (NO, YES):
             os.remove(f"{self.folder}/words")
             run(*self.files(hosts=(0,)), *self.lab(answer, 1), "--host", "client")
-            self.assertEqual(self.text("words").count("judge --least"), 1)
+            self.assertEqual(self.text("words").count("judge --json"), 1)
 
     def test_a_bug_concerns_one_connection(self):
-        with mock.patch("tcpwit_import.judge.one.Trace", side_effect=ValueError("x")):
+        with mock.patch("tcpwit_importer.commands.verdicts.Trace", side_effect=ValueError("x")):
             status, out, _ = run(*self.files(), *self.lab())
         self.assertEqual(status, 2)
-        self.assertRegex(out, r"not judged: ValueError: x \(mock.py, line \d+\); this is a bug: report it with the capture\n")
+        bug = r"not judged: ValueError: x \(mock.py, line \d+\); this is a bug: report it with the capture\n"
+        self.assertRegex(out, bug)
 
     def test_a_lack_of_memory_or_space(self):
-        for error, said in ((MemoryError(), "memory ran out: judge fewer connections at once"), (OSError(28, "No space left on device", "x"), "x: No space left on device")):
-            with mock.patch("tcpwit_import.judge.one.Trace", side_effect=error):
+        for error, said in ((MemoryError(), "memory ran out: judge fewer connections at once"),
+                            (OSError(28, "No space left on device", "x"), "x: No space left on device")):
+            with mock.patch("tcpwit_importer.commands.verdicts.Trace", side_effect=error):
                 status, out, _ = run(*self.files(), *self.lab())
             self.assertEqual(status, 2)
             self.assertIn("not judged: " + said, out)
@@ -378,15 +410,17 @@ class Faults(WithCaptures):
         second = Talk(zero=("10.9.0.1", 4001), at=99 * 10**9)
         for host in (0, 1):
             second.frames[host] += self.talk.frames[host]
-        with mock.patch("tcpwit_import.judge.one.Judge.result", lambda *_: os.kill(os.getpid(), 9)):
-            self.assertIn("a process that judges connections was ended", self.fails(*self.files(second), *self.lab()[:2], "--jobs", "2"))
+        with mock.patch("tcpwit_importer.commands.verdicts.Judge.result", lambda *_: os.kill(os.getpid(), 9)):
+            self.assertIn("a process that judges connections was ended",
+                          self.fails(*self.files(second), *self.lab()[:2], "--jobs", "2"))
 
 
 @unittest.skipUnless(os.environ.get("TCPWIT_LAB"), "TCPWIT_LAB names no program")
 class Verdicts(WithCaptures):
     def judged(self, talk, *words, hosts=(0, 1)):
-        """The lines of a run with tcpwit_lab. On a busy machine, no part of the work is shown as one that takes long."""
-        with mock.patch("tcpwit_import.progress.PATIENCE", 600):
+        """The lines of a run with tcpwit_lab. On a busy machine, no part of the work is shown as one that takes
+        long."""
+        with mock.patch("tcpwit_importer.progress.PATIENCE", 600):
             _, out, error = run(*self.files(talk, hosts), *words)
         self.assertNotIn("tcpwit-judge: ", error)
         return out.splitlines()

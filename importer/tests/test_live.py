@@ -8,11 +8,12 @@ import unittest
 from types import SimpleNamespace
 from unittest import mock
 
-from tcpwit_import.captures import Packet
-from tcpwit_import.judge.live import CONNECTION, Stream
+from tcpwit_importer.capture.packets import Packet
+from tcpwit_importer.capture.segments import ACK, FIN, RST, SYN
+from tcpwit_importer.commands.live import CONNECTION, Stream
 
 from . import test_judge
-from .wire import ACK, FIN, ONE, RST, SECOND, SYN, ZERO, Talk, packets, segment
+from .wire import ONE, SECOND, ZERO, Talk, packets, segment
 
 IDLE = 5 * SECOND
 
@@ -20,7 +21,8 @@ IDLE = 5 * SECOND
 class Streams(unittest.TestCase):
     def setUp(self):
         self.judged = []
-        self.stream = Stream(SimpleNamespace(name="in"), lambda connection, moment: self.judged.append((connection, moment)), IDLE, 10**6)
+        self.stream = Stream(SimpleNamespace(name="in"),
+                             lambda connection, moment: self.judged.append((connection, moment)), IDLE, 10**6)
 
     def feed(self, talk):
         """Adds the packets of a connection, as host 0 sees them."""
@@ -95,7 +97,8 @@ class Streams(unittest.TestCase):
         clients = [("10.9.0.1", port) for port in (1, 2, 3, 4, 5)]
         for number in range(1000):
             for client in clients:
-                self.stream.add(self.packet(ACK if number else SYN, number, 1000 * number, bytes(1000) if number else b"", source=client))
+                self.stream.add(self.packet(ACK if number else SYN, number, 1000 * number,
+                                            bytes(1000) if number else b"", source=client))
                 self.assertLess(self.stream.bytes, 10**6 + 2000)
         self.stream.finish()
         self.assertEqual(sorted(connection.client[1] for connection, _ in self.judged), [1, 2, 3, 4, 5])
@@ -137,7 +140,8 @@ class Command(test_judge.WithCaptures):
         self.assertIn("standard input: ends within packet 7", error)
 
     def test_bad_input(self):
-        for data, message in ((b"", "neither pcap nor pcapng"), (b"nonsense", "neither pcap nor pcapng"), (self.data()[:24], "the capture is empty")):
+        for data, message in ((b"", "neither pcap nor pcapng"), (b"nonsense", "neither pcap nor pcapng"),
+                              (self.data()[:24], "the capture is empty")):
             status, out, error = self.piped(data)
             self.assertEqual((status, out), (2, ""))
             self.assertIn(message, error)
@@ -157,7 +161,8 @@ class Command(test_judge.WithCaptures):
         lab = self.lab()
         self.addCleanup(os.close, writer)
         program = os.path.join(os.path.dirname(os.path.dirname(os.path.realpath(__file__))), "tcpwit-judge")
-        process = subprocess.Popen([program, "-", *lab, "--host", "client", "--idle", "1"], stdin=reader, stdout=subprocess.PIPE)
+        process = subprocess.Popen([program, "-", *lab, "--host", "client", "--idle", "1"], stdin=reader,
+                                   stdout=subprocess.PIPE)
         os.close(reader)
         os.write(writer, data)
         begun = time.monotonic()

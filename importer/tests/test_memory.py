@@ -2,15 +2,18 @@
 import tracemalloc
 import unittest
 
+from tcpwit_importer.capture.segments import ACK, FIN
+
 from . import test_command
 from .test_command import AT, CLIENT, SERVER, run
-from .wire import ACK, FIN, Talk
+from .wire import Talk
 
 COUNT, SIZE = 300, 1400
 
 
 def large(folder):
-    """A connection that carries COUNT segments, with its logs. Returns the importer's arguments for the captures, and both logs."""
+    """A connection that carries COUNT segments, with its logs. Returns the importer's arguments for the captures, and
+    both logs."""
     talk = Talk(at=AT)
     talk.at = AT + 7 * 10**6
     client, server = CLIENT[:2], SERVER[:4]
@@ -28,7 +31,8 @@ def large(folder):
 class Memory(test_command.WithFiles):
     def test_bytes_of_memory_for_each_byte_transferred(self):
         captures, client, server = large(self.folder)
-        words = [*captures, *self.write_logs(client, server), "--no-check", "--quiet", "--out", f"{self.folder}/run.trace"]
+        words = [*captures, *self.write_logs(client, server), "--no-check", "--quiet", "--out",
+                 f"{self.folder}/run.trace"]
         del client, server
         tracemalloc.start()
         try:

@@ -2,7 +2,7 @@
 import unittest
 from unittest import mock
 
-from tcpwit_import.recording import namespaces
+from tcpwit_importer.recording import namespaces
 
 
 class Namespaces(unittest.TestCase):
@@ -12,7 +12,8 @@ class Namespaces(unittest.TestCase):
                     mock.patch.object(namespaces, "offloads_off"), mock.patch.object(namespaces, "run") as run:
                 namespaces.joined_pair(kernel, None)
             commands = [" ".join(call.args) for call in run.call_args_list]
-            for number, (address, link) in enumerate((("10.9.0.2", "02:00:00:00:00:02"), ("10.9.0.1", "02:00:00:00:00:01"))):
+            neighbors = ("10.9.0.2", "02:00:00:00:00:02"), ("10.9.0.1", "02:00:00:00:00:01")
+            for number, (address, link) in enumerate(neighbors):
                 for other in (address, address.replace("10.9.0.", "fd09::")):
                     self.assertIn(f"ip neighbor replace {other} lladdr {link} dev w{number} nud permanent", commands)
                 self.assertIn(f"ip link add w{1 - number} address {link} type veth peer name c{1 - number}", commands)

@@ -6,8 +6,8 @@ import time
 import unittest
 from unittest import mock
 
-from tcpwit_import import progress
-from tcpwit_import.progress import Part
+from tcpwit_importer import progress
+from tcpwit_importer.progress import Part
 
 
 class Terminal(io.StringIO):
@@ -20,7 +20,8 @@ class Terminal(io.StringIO):
 @mock.patch.object(Part, "command", "tcpwit-record")
 class Parts(unittest.TestCase):
     def shown(self, output, *words, seconds=0.2, least=0, **options):
-        """What a part of this length prints. If it has printed fewer states then, it goes on, for half a minute at most."""
+        """What a part of this length prints. If it has printed fewer states then, it goes on, for half a minute at
+        most."""
         with contextlib.redirect_stderr(output), Part(*words, **options):
             time.sleep(seconds)
             latest = time.monotonic() + 30
@@ -36,7 +37,8 @@ class Parts(unittest.TestCase):
         self.assertEqual((lines[0], lines[1], lines[-1]), ("", "tcpwit-record: judging run.trace: 0 s", ""))
         done = iter(range(0, 1000, 10))
         lines = self.shown(Terminal(), "reading host0.log", 80, lambda: next(done), least=10).split("\r\033[K")
-        self.assertEqual(lines[1:3], ["tcpwit-record: reading host0.log: 0 %", "tcpwit-record: reading host0.log: 12 %"])
+        self.assertEqual(lines[1:3],
+                         ["tcpwit-record: reading host0.log: 0 %", "tcpwit-record: reading host0.log: 12 %"])
         self.assertEqual(lines[10], "tcpwit-record: reading host0.log: 100 %")
 
     def test_a_line_fits_into_the_terminal(self):

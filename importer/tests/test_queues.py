@@ -2,8 +2,10 @@
 import os
 import unittest
 
+from tcpwit_importer.capture.segments import ACK, SYN
+
 from . import inferred, test_judge
-from .wire import ACK, SECOND, SYN, Talk
+from .wire import SECOND, Talk
 
 
 class Ignored(inferred.Inferring):

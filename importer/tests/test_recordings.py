@@ -1,7 +1,8 @@
 """Tests recordings of unmodified programs: data/recordings.tar.xz has captures and logs, expected.txt the results.
 
-A line of expected.txt has the name, the number of lines of the trace, and the strictest level with a yes: full, recovery or
-none. The level is compared if TCPWIT_LAB names the program that judges; it is also compared with that of each connection without its calls.
+A line of expected.txt has the name, the number of lines of the trace, and the strictest level with a yes: full,
+recovery or none. The level is compared if TCPWIT_LAB names the program that judges; it is also compared with that of
+each connection without its calls.
 """
 import json
 import os
@@ -10,8 +11,8 @@ import tarfile
 import tempfile
 import unittest
 
-from tcpwit_import.header import LEVELS
-from tcpwit_import.judge.cli import main as judging
+from tcpwit_importer.commands.tcpwit_judge import main as judge
+from tcpwit_importer.trace.header import LEVELS
 
 from .test_command import run
 
@@ -22,7 +23,8 @@ def files_of(folder):
     """The importer's arguments for a recording."""
     names = set(os.listdir(folder))
     if "host0.pcap" in names:
-        return [word for host in "01" for word in ("--capture", host, f"{folder}/host{host}.pcap", "--calls", host, f"{folder}/host{host}.log")]
+        return [word for host in "01" for option, kind in (("--capture", "pcap"), ("--calls", "log"))
+                for word in (option, host, f"{folder}/host{host}.{kind}")]
     host = "0" if os.path.basename(folder).startswith("half") else "both"
     return ["--capture", host, f"{folder}/run.pcap", "--calls", host, f"{folder}/run.log"]
 
@@ -54,7 +56,8 @@ class Recordings(unittest.TestCase):
         for name, _, level in self.expected:
             for options in ([], ["--congestion", level]):
                 with self.subTest(name, options=options):
-                    status, out, error = run(*files_of(os.path.join(self.folder.name, name)), *options, "--out", f"{self.folder.name}/{name}.trace")
+                    status, out, error = run(*files_of(os.path.join(self.folder.name, name)), *options, "--out",
+                                             f"{self.folder.name}/{name}.trace")
                     rows = [line.split() for line in out.splitlines()]
                     strictest = next((row[0] for row in rows if row[1:2] == ["yes"]), "-")
                     # A better witness may be found, for a stricter level.
@@ -67,7 +70,8 @@ class Recordings(unittest.TestCase):
             folder = os.path.join(self.folder.name, name)
             files = sorted(f"{folder}/{file}" for file in os.listdir(folder) if file.endswith(".pcap"))
             with self.subTest(name):
-                _, out, error = run(*files, *(["--host", "client"] if name.startswith("half") else []), "--json", command=judging)
+                _, out, error = run(*files, *(["--host", "client"] if name.startswith("half") else []), "--json",
+                                    command=judge)
                 found = [json.loads(line) for line in out.splitlines()]
                 self.assertTrue(found, error)
                 for connection in found:
@@ -75,7 +79,8 @@ class Recordings(unittest.TestCase):
                     self.assertIn(connection["level"], LEVELS[:LEVELS.index(level) + 1], out)
 
     def is_sound(self, text):
-        """Checks that moments don't fall, a thread's calls alternate with their ends, numbers are assigned once, and received segments were sent before."""
+        """Checks that moments don't fall, a thread's calls alternate with their ends, numbers are assigned once, and
+        received segments were sent before."""
         half = "hosts 1" in text
         moment, open_calls, given, out = 0, set(), set(), {"0": set(), "1": set()}
         for line in text.splitlines()[10:]:

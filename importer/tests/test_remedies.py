@@ -5,18 +5,22 @@ import os
 import re
 import unittest
 
-from tcpwit_import import remedies
-from tcpwit_import.cli import parser as of_importer
-from tcpwit_import.judge.cli import parser as of_judge
-from tcpwit_import.recording.cli import parser as of_recorder
+from tcpwit_importer import remedies
+from tcpwit_importer.commands.tcpwit_import import parser as of_importer
+from tcpwit_importer.commands.tcpwit_judge import parser as of_judge
+from tcpwit_importer.commands.tcpwit_record import parser as of_recorder
 
 PACKAGE = os.path.dirname(os.path.realpath(remedies.__file__))
 OPTION = re.compile(r"(?<![\w-])--[a-z][a-z-]+")
 # Options of strace and tcpdump.
 OTHERS = {"--absolute-timestamps", "--decode-fds", "--immediate-mode"}
 # Only the importer fails like this: the recorder gives it the files itself.
-ONLY_IMPORTER = ("an address", "no such host", "is combined with", "no capture is given", "no log of calls", "has a log but no capture", "traces: ",
-                 "of another run", "isn't a file that can be read again")
+ONLY_IMPORTER = ("an address", "no such host", "is combined with", "no capture is given", "no log of calls",
+                 "has a log but no capture", "traces: ", "of another run", "isn't a file that can be read again")
+# The modules that only tcpwit-judge and tcpwit-record use.
+OF_JUDGE = ("infer/", "capture/index", "commands/live", "commands/output", "commands/tcpwit_judge", "commands/verdicts",
+            "commands/workers")
+OF_RECORDER = ("recording/", "commands/tcpwit_record")
 
 
 def text_of(node, names):
@@ -32,7 +36,7 @@ def text_of(node, names):
 
 class Remedies(unittest.TestCase):
     def problems(self):
-        """Cause, remedy and the recorder's remedy of each error, and the folder of its module."""
+        """Cause, remedy and the recorder's remedy of each error, and its module."""
         for path in glob.glob(f"{PACKAGE}/**/*.py", recursive=True):
             with open(path, encoding="utf-8") as file:
                 tree = ast.parse(file.read())
@@ -40,16 +44,17 @@ class Remedies(unittest.TestCase):
                                       if isinstance(each, ast.Assign) and isinstance(each.targets[0], ast.Name)}
             for call in ast.walk(tree):
                 if isinstance(call, ast.Call) and getattr(call.func, "id", "") == "Problem":
-                    yield [text_of(each, names) for each in call.args], os.path.basename(os.path.dirname(path))
+                    yield [text_of(each, names) for each in call.args], os.path.relpath(path, PACKAGE)
 
     def test_options_exist(self):
-        options = {command: {name for action in parser()._actions for name in action.option_strings} | OTHERS  # noqa: SLF001
+        options = {command: OTHERS.union(*(action.option_strings for action in parser()._actions))  # noqa: SLF001
                    for command, parser in (("importer", of_importer), ("recorder", of_recorder), ("judge", of_judge))}
         count = 0
-        for (cause, remedy, *recorded), folder in self.problems():
-            commands = {"recorder": (recorded or [remedy])[0]} if not any(sign in cause for sign in ONLY_IMPORTER) else {}
-            commands |= {} if folder == "recording" else {"importer": remedy}
-            commands = {"judge": remedy} if folder == "judge" else commands
+        for (cause, remedy, *recorded), module in self.problems():
+            commands = {"recorder": (recorded or [remedy])[0]} if not any(sign in cause
+                                                                          for sign in ONLY_IMPORTER) else {}
+            commands |= {} if module.startswith(OF_RECORDER) else {"importer": remedy}
+            commands = {"judge": remedy} if module.startswith(OF_JUDGE) else commands
             for command, text in commands.items():
                 count += 1
                 self.assertEqual(set(OPTION.findall(text)) - options[command], set(), f"{command}: {cause}: {text}")

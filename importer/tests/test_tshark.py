@@ -6,11 +6,11 @@ import tarfile
 import tempfile
 import unittest
 
-from tcpwit_import.captures import packets_of
-from tcpwit_import.connections import connections_of
-from tcpwit_import.files import opened
-from tcpwit_import.frames import Layout, frames_of
-from tcpwit_import.problem import Notes
+from tcpwit_importer.capture.connections import connections_of
+from tcpwit_importer.capture.frames import Layout, frames_of
+from tcpwit_importer.capture.packets import packets_of
+from tcpwit_importer.files import opened
+from tcpwit_importer.problem import Notes
 
 from . import links, samples
 from .test_recordings import DATA
@@ -18,12 +18,14 @@ from .test_recordings import DATA
 FIELDS = ("frame.number", "tcp.stream", "tcp.len", "tcp.seq_raw", "frame.time_epoch")
 # Fragments aren't put together; neither are segments whose headers were cut shown as whole.
 OPTIONS = ("-o", "ip.defragment:FALSE", "-o", "ipv6.defragment:FALSE", "-o", "tcp.desegment_tcp_streams:FALSE")
-WHOLE = "tcp && tcp.len && !(ip.flags.mf == 1 || ip.frag_offset > 0 || ipv6.fraghdr.more == 1 || ipv6.fraghdr.offset > 0)"
+FRAGMENTS = "ip.flags.mf == 1 || ip.frag_offset > 0 || ipv6.fraghdr.more == 1 || ipv6.fraghdr.offset > 0"
+WHOLE = f"tcp && tcp.len && !({FRAGMENTS})"
 
 
 def of_tshark(name):
     """A row for each segment that tshark finds: number, stream, payload length, sequence number, and moment."""
-    words = ["tshark", "-n", "-r", name, *OPTIONS, "-Y", WHOLE, "-T", "fields", *[word for field in FIELDS for word in ("-e", field)]]
+    words = ["tshark", "-n", "-r", name, *OPTIONS, "-Y", WHOLE, "-T", "fields",
+             *[word for field in FIELDS for word in ("-e", field)]]
     out = subprocess.run(words, check=True, stdout=subprocess.PIPE, stderr=subprocess.DEVNULL, text=True).stdout
     return [(int(number), int(stream), int(size), int(sequence), nanoseconds(moment))
             for number, stream, size, sequence, moment in map(str.split, out.splitlines())]
@@ -39,9 +41,11 @@ def of_importer(name):
     """The same rows from the importer. A connection has the number that tshark would give it."""
     with opened(name, "") as file:
         packets = list(packets_of(name, file, Notes()))
-    streams = {packet.count: connection for connection in connections_of({name: packets}) for packet in connection.packets()}
+    streams = {packet.count: connection for connection in connections_of({name: packets})
+               for packet in connection.packets()}
     order = {}
-    return [(packet.count, order.setdefault(id(streams[packet.count]), len(order)), packet.size, packet.number, packet.moment) for packet in packets]
+    return [(packet.count, order.setdefault(id(streams[packet.count]), len(order)), packet.size, packet.number,
+             packet.moment) for packet in packets]
 
 
 @unittest.skipUnless(shutil.which("tshark"), "tshark isn't installed")
@@ -52,7 +56,8 @@ class Tshark(unittest.TestCase):
         self.assertEqual(of_importer(name), expected)
 
     def test_captures_of_all_kinds(self):
-        for kind, data in [("together", samples.together()), *samples.of_files(), ("ports used again", samples.of_ports())]:
+        for kind, data in [("together", samples.together()), *samples.of_files(),
+                           ("ports used again", samples.of_ports())]:
             with self.subTest(kind), tempfile.NamedTemporaryFile() as file:
                 file.write(data)
                 file.flush()
@@ -64,7 +69,8 @@ class Tshark(unittest.TestCase):
                 archive.extractall(folder, [member for member in archive if member.name.endswith(".pcap")])
             together = os.path.join(folder, "together.pcapng")
             with open(together, "wb") as file:
-                for name in sorted(os.path.join(place, name) for place, _, names in os.walk(folder) for name in names if name.endswith(".pcap")):
+                for name in sorted(os.path.join(place, name) for place, _, names in os.walk(folder) for name in names
+                                   if name.endswith(".pcap")):
                     file.write(as_section(name))
             self.compare(together)
 
@@ -73,7 +79,8 @@ def as_section(name):
     """A pcap file as a section of a pcapng file."""
     with open(name, "rb") as file:
         frames = list(frames_of(name, file, Layout()))
-    return links.section("<", [(frames[0].link, 9)]) + b"".join(links.enhanced(0, frame.moment, frame.data, frame.length) for frame in frames)
+    blocks = [links.enhanced(0, frame.moment, frame.data, frame.length) for frame in frames]
+    return links.section("<", [(frames[0].link, 9)]) + b"".join(blocks)
 
 
 if __name__ == "__main__":

@@ -3,12 +3,12 @@ import io
 import socket
 import struct
 
-from tcpwit_import.captures import packets_of
-from tcpwit_import.problem import Notes
-from tcpwit_import.strace_log import read_log
+from tcpwit_importer.calls.strace_log import read_log
+from tcpwit_importer.capture.packets import packets_of
+from tcpwit_importer.capture.segments import ACK, FIN, SYN
+from tcpwit_importer.problem import Notes
 
 ZERO, ONE = ("10.9.0.1", 4000), ("10.9.0.2", 80)
-ACK, PSH, SYN, FIN, RST = 16, 8, 2, 1, 4
 SECOND = 10**9
 
 
@@ -20,7 +20,8 @@ def packed(address):
 def segment(source, target, number, acknowledgment, flags, payload=b"", options=b"", window=1000, checksum=7):
     """The bytes of a TCP segment."""
     offset = (20 + len(options)) // 4 << 4
-    return struct.pack("!HHIIBBHHH", source[1], target[1], number % 2**32, acknowledgment % 2**32, offset, flags, window, checksum, 0) + options + payload
+    return struct.pack("!HHIIBBHHH", source[1], target[1], number % 2**32, acknowledgment % 2**32, offset, flags,
+                       window, checksum, 0) + options + payload
 
 
 def ip_packet(source, target, bytes_of_segment):
@@ -28,7 +29,8 @@ def ip_packet(source, target, bytes_of_segment):
     if ":" in source[0]:
         head = struct.pack("!IHBB", 6 << 28, len(bytes_of_segment), 6, 64) + packed(source[0]) + packed(target[0])
         return head + bytes_of_segment
-    head = struct.pack("!BBHHHBBH", 0x45, 0, 20 + len(bytes_of_segment), 1, 0, 64, 6, 0) + packed(source[0]) + packed(target[0])
+    head = struct.pack("!BBHHHBBH", 0x45, 0, 20 + len(bytes_of_segment), 1, 0, 64, 6,
+                       0) + packed(source[0]) + packed(target[0])
     return head + bytes_of_segment
 
 
@@ -105,7 +107,8 @@ def events(folder, lines):
 def address(end, family="AF_INET"):
     """A socket address as strace prints it."""
     if family == "AF_INET6":
-        return f'{{sa_family=AF_INET6, sin6_port=htons({end[1]}), sin6_flowinfo=htonl(0), inet_pton(AF_INET6, "{end[0]}", &sin6_addr), sin6_scope_id=0}}'
+        return f"{{sa_family=AF_INET6, sin6_port=htons({end[1]}), sin6_flowinfo=htonl(0), " \
+            f'inet_pton(AF_INET6, "{end[0]}", &sin6_addr), sin6_scope_id=0}}'
     return f'{{sa_family=AF_INET, sin_port=htons({end[1]}), sin_addr=inet_addr("{end[0]}")}}'
 
 

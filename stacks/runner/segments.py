@@ -1,7 +1,12 @@
 """Segments as bytes: the parts that the wire and a scripted peer read and write (docs/reference/formats.md, section 10)."""
+import os
+import sys
 from dataclasses import dataclass
 
-FIN, SYN, RST, PSH, ACK, URG = 1, 2, 4, 8, 16, 32
+sys.path.append(os.path.join(os.path.dirname(os.path.realpath(__file__)), "..", "..", "importer"))
+from tcpwit_importer.capture import segments as headers  # noqa: E402
+from tcpwit_importer.capture.segments import ACK, FIN, PSH, RST, SYN, URG  # noqa: E402
+
 LETTERS = {"F": FIN, "S": SYN, "R": RST, "P": PSH, "A": ACK, "U": URG}
 
 
@@ -35,24 +40,14 @@ class Segment:
 
     def shift(self):
         """The window shift of a SYN, or None."""
-        at, found = 0, None
-        while at < len(self.options) and self.options[at]:
-            if self.options[at] == 1:
-                at += 1
-                continue
-            if at + 1 >= len(self.options) or self.options[at + 1] < 2:
-                break
-            if self.options[at:at + 2] == b"\x03\x03" and at + 2 < len(self.options):
-                found = min(self.options[at + 2], 14)
-            at += self.options[at + 1]
-        return found
+        found = headers.values(headers.SHIFT, 1, self.options)
+        return min(found[-1][0], 14) if found else None
 
 
 def read(raw):
     """The segment with these bytes."""
-    offset = (raw[12] >> 4) * 4
-    word = lambda at, count: int.from_bytes(raw[at:at + count], "big")
-    return Segment(word(0, 2), word(2, 2), word(4, 4), word(8, 4), raw[13] & 63, word(14, 2), raw[20:offset], raw[offset:])
+    numbers = headers.number(raw), headers.acknowledgment(raw), headers.flags(raw) & 63, headers.window(raw)
+    return Segment(*headers.ports(raw), *numbers, headers.options(raw), headers.payload(raw))
 
 
 def write(segment):

@@ -7,26 +7,22 @@ Each run has a random number of rounds (1 to 1000), K (0 or 2 to 50) and version
 or 1, or with one that doesn't match the trace, or if `check` doesn't answer yes to its output.
 """
 import argparse
+import os
 import random
 import subprocess
 import sys
 import time
 from collections import Counter
 
+sys.path.insert(0, os.path.join(os.path.dirname(os.path.realpath(__file__)), "..", "..", "importer"))
+from tcpwit_importer.capture import segments  # noqa: E402
+
 
 def segment_of(words):
     """Host, ports, sequence number, flags, window and payload length of an O line."""
     data = bytes.fromhex(words[4])
-    offset = (data[12] >> 4) * 4
-    return (
-        int(words[3]),
-        int.from_bytes(data[0:2], "big"),
-        int.from_bytes(data[2:4], "big"),
-        int.from_bytes(data[4:8], "big"),
-        data[13],
-        int.from_bytes(data[14:16], "big"),
-        len(data) - offset,
-    )
+    window, length = segments.window(data), segments.size(data)
+    return int(words[3]), *segments.ports(data), segments.number(data), segments.flags(data), window, length
 
 
 def features_of(text):

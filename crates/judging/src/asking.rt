@@ -1,7 +1,7 @@
 //! The levels, one after the other until one has a yes.
 
 use crate::connections::Connections;
-use crate::levels::Level;
+use crate::levels::{Answer, Level};
 use crate::rewriting::{Slack, header_of};
 use crate::sentences::{answer, lines_kept};
 use crate::trying::{Facts, JudgeFault, Question, Tried, try_level};
@@ -21,9 +21,9 @@ pub struct Judgement<'t> {
     pub level: Option<Judged>,
     /// The levels that were tried, the strictest first.
     pub levels: Vec<Level>,
-    /// The last of them, and the verdict at it.
+    /// The last of them, and the answer at it.
     pub last: Judged,
-    pub verdict: Verdict,
+    pub answer: Answer,
     /// How late a host may be with its duties, in microseconds. None: they weren't judged.
     pub slack: Option<u64>,
     /// Whether only host 0 was recorded.
@@ -103,7 +103,7 @@ fn concluded<'t>(
     add_level(alloc, question, &mut levels, judged, facts)?;
     let text = answer(alloc, question, levels.as_slice(), &tried)?;
     let kept = lines_kept(alloc, facts.lines)?;
-    let level = match facts.verdict {
+    let level = match facts.answer.verdict {
         Verdict::Yes { .. } => Some(judged),
         Verdict::No { .. } => None,
     };
@@ -114,7 +114,7 @@ fn concluded<'t>(
         level,
         levels,
         last: judged,
-        verdict: facts.verdict,
+        answer: facts.answer,
         slack: question.slack,
         is_half: question.header.version.is_half(),
         connections: facts.connections,

@@ -6,15 +6,24 @@ use replayed::Refused;
 use std::alloc::Global;
 use verdict::{Rule, Verdict};
 
+/// A verdict, and which line of the trace it refuses.
+#[derive(Clone, Copy)]
+pub struct Answer {
+    pub verdict: Verdict,
+    /// The number of the refused line in the trace as it was given, without added lines. None: the verdict is yes, or
+    /// it refuses an added line or what comes after the last one.
+    pub input_line: Option<u64>,
+}
+
 /// A level that was tried, once its case isn't needed any more.
 #[derive(Clone, Copy)]
 pub struct Level {
     pub judged: Judged,
-    pub verdict: Verdict,
+    pub answer: Answer,
     /// What the verdict refuses. None: it is yes.
     pub refused: Option<Refused>,
-    /// The verdict at this level if duties aren't judged. None: that wasn't tried.
-    pub without_duties: Option<Verdict>,
+    /// The answer at this level if duties aren't judged. None: that wasn't tried.
+    pub without_duties: Option<Answer>,
 }
 
 impl Level {
@@ -33,13 +42,13 @@ impl Level {
         };
         let without_duties = if is_asked {
             let tried = try_level(alloc, question.without_duties(), judged)?;
-            Some(tried.facts.verdict)
+            Some(tried.facts.answer)
         } else {
             None
         };
         Ok(Level {
             judged,
-            verdict: facts.verdict,
+            answer: facts.answer,
             refused: facts.refused,
             without_duties,
         })
@@ -48,7 +57,10 @@ impl Level {
 
 /// Whether one of these levels is known to have a yes if duties aren't judged.
 pub(crate) fn is_yes_without_duties(levels: &[Level]) -> bool {
-    levels.iter().any(|level| matches!(level.without_duties, Some(Verdict::Yes { .. })))
+    levels.iter().any(|level| match level.without_duties {
+        Some(answer) => matches!(answer.verdict, Verdict::Yes { .. }),
+        None => false,
+    })
 }
 
 // Whether a rule is one that version 5 adds, and that `slack any` leaves out.

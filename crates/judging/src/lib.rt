@@ -10,6 +10,7 @@
 //!
 //! - `judge`, `Judgement`: the answer for a trace, the level with a yes, and the case of the last level
 //! - `Level`, `level_name`, `sentence`: a level that was tried, its name, and what it refused
+//! - `Answer`: a verdict, and which line of the trace it refuses
 //! - `Connections`: how many the case has
 //! - `Slack`: how late a host may be with its duties
 //!
@@ -32,7 +33,7 @@ mod trying;
 
 pub use asking::{Judgement, judge};
 pub use connections::Connections;
-pub use levels::Level;
+pub use levels::{Answer, Level};
 pub use rewriting::{GREATEST_SLACK, Slack};
 pub use sentences::{level_name, sentence};
 pub use trying::JudgeFault;

@@ -1,7 +1,7 @@
 //! What a yes says, and what a no refuses, in a sentence.
 
 use crate::connections::Connections;
-use crate::levels::{Level, is_yes_without_duties};
+use crate::levels::{Answer, Level, is_yes_without_duties};
 use crate::trying::{Question, Tried};
 use case_forms::{Judged, OutOfMemory};
 use itoa::Buffer;
@@ -30,7 +30,7 @@ pub(crate) fn answer(
 ) -> Result<String, OutOfMemory> {
     let mut out = String::new(alloc);
     for level in levels {
-        let (name, verdict) = (level_name(level.judged), level.verdict);
+        let (name, verdict) = (level_name(level.judged), level.answer.verdict);
         writeln!(out, "{name:<10}{verdict}")?;
     }
     say_meaning(&mut out, question, levels, last)?;
@@ -50,7 +50,7 @@ fn say_meaning(
     levels: &[Level],
     last: &Tried,
 ) -> Result<(), OutOfMemory> {
-    match last.facts.verdict {
+    match last.facts.answer.verdict {
         Verdict::Yes { .. } => {
             out.push_str(meaning(last.level))?;
             say_slack(out, question.slack, last.level)?;
@@ -96,7 +96,7 @@ fn say_under(out: &mut String, level: Judged, sentence: &str) -> Result<(), OutO
 // Writes the verdicts without duties.
 fn say_without_duties(out: &mut String, levels: &[Level]) -> Result<(), OutOfMemory> {
     for level in levels {
-        if let Some(verdict) = level.without_duties {
+        if let Some(Answer { verdict, .. }) = level.without_duties {
             let name = level_name(level.judged);
             writeln!(out, "Under {name}, without duties: {verdict}")?;
         }

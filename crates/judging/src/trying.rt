@@ -1,6 +1,7 @@
 //! A trace at one level.
 
 use crate::connections::{Connections, Explained, connections_of};
+use crate::levels::Answer;
 use crate::rewriting::{events_of, header_text, judged_by};
 use case_forms::{Header, Judged, OutOfMemory};
 use checker::{CaseFault, check_streams};
@@ -90,7 +91,7 @@ pub(crate) struct Tried<'t> {
 /// What is known of a case that was found.
 #[derive(Clone, Copy)]
 pub(crate) struct Facts {
-    pub verdict: Verdict,
+    pub answer: Answer,
     /// What the verdict refuses. None: it is yes.
     pub refused: Option<Refused>,
     pub lines: CaseLines,
@@ -104,12 +105,13 @@ pub(crate) fn try_level<'t>(
     level: Judged,
 ) -> Result<Tried<'t>, JudgeFault> {
     let Question { text, budget, .. } = question;
-    let events = events_of(text, question.header.first_event_line());
+    let first = question.header.first_event_line();
+    let events = events_of(text, first);
     let header = judged_by(question.header, level, question.slack);
     let (found, connections) = search(alloc, text, &header, budget)?;
     let ending = found.ending;
     let case = case_of(alloc, &header, events, found)?;
-    let facts = judged(alloc, &header, &case, events, connections)?;
+    let facts = judged(alloc, &header, &case, events, first, connections)?;
     Ok(Tried {
         level,
         case,
@@ -151,11 +153,13 @@ fn case_of<'t>(
 }
 
 // The verdict on a case that was found for a trace with these event lines, what it refuses, and what the case has.
+// `first` is the number of the first event line in the trace as it was given.
 fn judged(
     alloc: Global,
     header: &Header,
     case: &CaseText<'_>,
     events: &[u8],
+    first: u64,
     connections: Connections,
 ) -> Result<Facts, JudgeFault> {
     let (trace, witness) = (Counted::new(case.trace()), Counted::new(case.witness()));
@@ -163,10 +167,27 @@ fn judged(
     let verdict = verdict?;
     let (events_left, witness) = (Counted::new(case.events()), Counted::new(case.witness()));
     let refused = refused_by(alloc, header, events_left, witness, verdict)?;
+    let lines = case_lines(events, case).ok_or(JudgeFault::Altered)?;
+    let place = match refused {
+        Some(refused) => place_of(header, case, lines, refused.line),
+        None => None,
+    };
+    let input_line = place.map(|place| first.saturating_add(place));
     Ok(Facts {
-        verdict,
+        answer: Answer {
+            verdict,
+            input_line,
+        },
         refused,
-        lines: case_lines(events, case).ok_or(JudgeFault::Altered)?,
+        lines,
         connections,
     })
+}
+
+// The place among the trace's event lines of the line of this number in a case with this header. None: the line was
+// added, or the case has no such event line.
+fn place_of(header: &Header, case: &CaseText<'_>, lines: CaseLines, line: u64) -> Option<u64> {
+    let place = line.checked_sub(header.first_event_line())?;
+    let place = case.place_in_trace(usize::try_from(place).ok()?)? as u64;
+    (place < lines.kept).then_some(place)
 }

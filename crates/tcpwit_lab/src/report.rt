@@ -2,7 +2,7 @@
 
 use case_forms::OutOfMemory;
 use checker::CaseFault;
-use judging::{Connections, Judgement, Level, level_name, sentence};
+use judging::{Answer, Connections, Judgement, Level, level_name, sentence};
 use line_fields::TextFault;
 use remarks::Remarked;
 use serde::Serialize;
@@ -25,7 +25,7 @@ pub(crate) struct Report<'r> {
 #[derive(Drop, Serialize)]
 pub(crate) struct JudgedReport<'r> {
     status: u8,
-    /// The last level that was tried, and the verdict at it.
+    /// The last level that was tried, and the answer at it.
     level: &'static str,
     #[serde(flatten)]
     outcome: Outcome,
@@ -66,6 +66,9 @@ pub(crate) struct Outcome {
     witness_line: Option<u64>,
     #[serde(skip_serializing_if = "Option::is_none")]
     trace_line: Option<u64>,
+    /// `judge`: the refused line of the trace as it was given. None: it was added, or comes after the last one.
+    #[serde(skip_serializing_if = "Option::is_none")]
+    input_line: Option<u64>,
     #[serde(skip_serializing_if = "Option::is_none")]
     rule: Option<&'static str>,
     #[serde(skip_serializing_if = "Option::is_none")]
@@ -119,6 +122,7 @@ impl Outcome {
             hidden: None,
             witness_line: None,
             trace_line: None,
+            input_line: None,
             rule: None,
             fault: None,
         }
@@ -142,6 +146,14 @@ impl Outcome {
                 rule: Some(rule.name()),
                 ..Outcome::bare("no")
             },
+        }
+    }
+
+    /// An answer of `judge`.
+    fn judged(answer: Answer) -> Outcome {
+        Outcome {
+            input_line: answer.input_line,
+            ..Outcome::of(answer.verdict)
         }
     }
 
@@ -201,7 +213,7 @@ impl<'r> JudgedReport<'r> {
         Ok(JudgedReport {
             status,
             level: level_name(judgement.last),
-            outcome: Outcome::of(judgement.verdict),
+            outcome: Outcome::judged(judgement.answer),
             hosts: if judgement.is_half { 1 } else { 2 },
             slack: judgement.slack,
             connections: judgement.level.map(|_| connections),
@@ -247,9 +259,9 @@ impl LevelMembers {
         };
         Ok(LevelMembers {
             level: level_name(level.judged),
-            outcome: Outcome::of(level.verdict),
+            outcome: Outcome::judged(level.answer),
             sentence,
-            without_duties: level.without_duties.map(Outcome::of),
+            without_duties: level.without_duties.map(Outcome::judged),
         })
     }
 }

@@ -90,6 +90,12 @@ impl<'t> CaseText<'t> {
         self.cuts.get(added).copied().unwrap_or(self.events.len())
     }
 
+    /// The place among the trace's event lines of a line whose place among the case's event lines is given. None: the
+    /// line was added.
+    pub fn place_in_trace(&self, place: usize) -> Option<usize> {
+        self.added.place_in_trace(place)
+    }
+
     /// A reader of the text of the trace.
     pub fn trace(&self) -> Pieces<'_> {
         Pieces::new(self, 0, self.trace_pieces())

@@ -1,1 +1,0 @@
-"""Converts captures and logs of system calls into traces for tcpwit."""

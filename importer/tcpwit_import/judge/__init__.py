@@ -1,1 +1,0 @@
-"""The command tcpwit-judge: judges the connections of captures without a log of their calls."""

@@ -1,0 +1,1 @@
+"""Calls in the logs that strace wrote."""

@@ -1,0 +1,1 @@
+"""Captures: their packets, the connections that these form, and how clocks differ."""

@@ -1,0 +1,59 @@
+"""Removes copies of packets that a capture made itself: a mirror port shows a packet when it enters a switch and when
+it leaves it, and `-i any` shows it at a bridge and at the bridge's port."""
+from collections import Counter
+
+# A copy comes at most this long after the packet, in nanoseconds.
+SOON = 10**6
+# A network duplicates some packets, a capture all: of ten packets of an end, so many have a copy.
+OF_TEN = 9
+# How many packets are remembered, at least, before older ones are forgotten.
+FEW = 1000
+
+
+class _Transmission:
+    """A packet that was sent once: when it was captured, and at which interfaces."""
+    __slots__ = ("moment", "interfaces")
+
+    def __init__(self, moment, interface):
+        self.moment, self.interfaces = moment, {interface}
+
+
+def without_copies(packets, notes):
+    """A connection's packets of one host's captures, without copies.
+
+    A packet may be a copy if one of the millisecond before has the same ends, segment, identification and direction. It
+    is one if that was captured at another interface. At the same one, it may also be a duplicate by the network, or a
+    second acknowledgment: it is a copy if both have an identification other than 0, and at least nine of ten packets of
+    its end were captured twice.
+    """
+    copies, doubtful, originals = _compared(packets)
+    for source, found in doubtful.items():
+        if len(found) * 10 >= originals[source] * OF_TEN:
+            copies |= found
+    for at in sorted(copies):
+        notes.leave_out("copies of packets that a capture made itself", packets[at].place)
+    return [packet for at, packet in enumerate(packets) if at not in copies] if copies else packets
+
+
+def _compared(packets):
+    """The places in the list of certain copies; for each end, those of packets that may be copies, and how many others
+    it sent."""
+    copies, doubtful, originals, recent, full = set(), {}, Counter(), {}, FEW
+    for at, packet in enumerate(packets):
+        if len(recent) > full:
+            recent = {key: found for key, found in recent.items() if abs(packet.moment - found[-1].moment) <= SOON}
+            full = 2 * len(recent) + FEW
+        key = (packet.source, packet.identification, packet.outgoing, packet.segment)
+        interface = (packet.capture, packet.interface)
+        before = [each for each in recent.get(key, ()) if abs(packet.moment - each.moment) <= SOON]
+        elsewhere = next((each for each in before if interface not in each.interfaces), None)
+        if elsewhere:
+            elsewhere.interfaces.add(interface)
+            copies.add(at)
+            continue
+        recent[key] = [*before, _Transmission(packet.moment, interface)]
+        if before and packet.identification:
+            doubtful.setdefault(packet.source, set()).add(at)
+        else:
+            originals[packet.source] += 1
+    return copies, doubtful, originals

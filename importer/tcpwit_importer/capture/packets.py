@@ -1,0 +1,163 @@
+"""Reads the TCP packets of captures: all of a file, one after the other, or one by its offset."""
+import gzip
+import zlib
+from ipaddress import ip_address
+
+from ..files import opened
+from ..problem import Problem
+from ..remedies import NOTHING_SENT, OFFLOADS_OFF, WHOLE_PACKETS
+from .frames import Damaged, Ended, Layout, frame_at, frames_of
+from .layers import Fragment, LeftOut, segment_in
+from .segments import ACK, SHORTEST, SYN, acknowledgment, flags, header_length, number, payload, ports, size
+
+
+class Packet:
+    """A captured segment: its moment in nanoseconds, its source and destination, and its bytes from the TCP header on.
+    The checksum becomes 0, since offloads leave it unfinished.
+
+    `outgoing` states whether the capture marked it as sent by its host; None if the file doesn't show it. `missing` is
+    how many bytes at the segment's end were not captured: they are zeros in `segment`. `offset` is where its record
+    begins in the file; None if the file can't be read again. `identification` is that of IPv4, else 0; `interface` is
+    the number of the interface, if the file shows it.
+    """
+    __slots__ = ("moment", "source", "target", "segment", "outgoing", "capture", "count", "missing", "offset",
+                 "identification", "interface")
+
+    def __init__(self, moment, source, target, segment, outgoing, capture="", count=0, missing=0, offset=None,
+                 identification=0, interface=None):
+        self.moment, self.source, self.target = moment, source, target
+        self.segment, self.outgoing = segment[:16] + b"\0\0" + segment[18:] + bytes(missing), outgoing
+        self.capture, self.count = capture, count
+        self.missing, self.offset = missing, offset
+        self.identification, self.interface = identification, interface
+
+    def share(self, known):
+        """Makes equal addresses and segments one object."""
+        self.source = known.setdefault(self.source, self.source)
+        self.target = known.setdefault(self.target, self.target)
+        self.segment = known.setdefault(self.segment, self.segment)
+
+    @property
+    def place(self):
+        """Where it was captured."""
+        return f"{self.capture}, packet {self.count}"
+
+    @property
+    def flags(self):
+        """The flags from CWR down to FIN."""
+        return flags(self.segment)
+
+    @property
+    def number(self):
+        """The sequence number."""
+        return number(self.segment)
+
+    @property
+    def acknowledgment(self):
+        """The acknowledgment number."""
+        return acknowledgment(self.segment)
+
+    @property
+    def payload(self):
+        """The bytes after the TCP header."""
+        return payload(self.segment)
+
+    @property
+    def size(self):
+        """How many bytes follow the TCP header."""
+        return size(self.segment)
+
+    @property
+    def is_syn(self):
+        """Whether SYN is set, and ACK isn't."""
+        return flags(self.segment) & (SYN | ACK) == SYN
+
+
+def read_capture(name, notes, known, may_be_empty=False):
+    """The TCP packets of a capture, in the order of the file. Equal addresses and segments of the captures that share
+    `known` are one object: the capture of the other host has most segments, too. A segment that the capture cut is
+    refused."""
+    packets, layout = [], Layout()
+    with opened(name, "name a capture that can be read") as file:
+        for packet in packets_of(name, file, notes, layout, whole=True):
+            packet.share(known)
+            packets.append(packet)
+    if layout.frames == 0 and not may_be_empty:
+        raise Problem(f"{name}: the capture is empty",
+                      "start the capture before the programs, at the interface that they use; if all segments were "
+                      "lost in transit, name that host's address with --zero or --one",
+                      NOTHING_SENT)
+    return packets
+
+
+def packets_of(name, file, notes, layout=None, whole=False):
+    """The TCP packets of a capture, in the order of the file, which may be a pipe. None is kept. `layout` becomes what
+    `packet_at` needs. If they must be `whole`, a segment of which the capture lacks bytes is refused; else one whose
+    header is complete is among the packets."""
+    layout = Layout() if layout is None else layout
+    again = not isinstance(file, gzip.GzipFile) and file.seekable()
+    try:
+        for frame in frames_of(name, file, layout):
+            layout.frames += 1
+            try:
+                packet = _packet(frame, name, layout.frames, whole)
+            except LeftOut as reason:
+                if isinstance(reason, Fragment):
+                    layout.add_fragment(name, *reason.ends)
+                notes.leave_out(str(reason), f"{name}, packet {layout.frames}")
+                continue
+            packet.offset = frame.offset if again else None
+            yield packet
+    except (Ended, EOFError) as error:
+        raise Problem(f"{name}: ends within packet {layout.frames + 1}",
+                      "stop tcpdump with SIGINT or SIGTERM and wait until it has ended") from error
+    except (Damaged, zlib.error, OSError) as error:
+        raise Problem(f"{name}: {_said(error)} after packet {layout.frames}",
+                      "copy the file again, or record again") from error
+
+
+def _said(error):
+    """An error in words; an error of the system has its text without a number."""
+    if isinstance(error, zlib.error):
+        return "compressed data that is damaged"
+    return getattr(error, "strerror", None) or error
+
+
+def packet_at(name, file, layout, offset, count=0):
+    """The packet of a file, read once by `packets_of` with this layout, whose record begins there. `count` is for its
+    place."""
+    try:
+        frame = frame_at(name, file, layout, offset)
+        packet = _packet(frame, name, count, False)
+    except (Damaged, Ended, LeftOut, OSError) as error:
+        raise Problem(f"{name}: changed while it was read", "read it when it is complete") from error
+    packet.offset = offset
+    return packet
+
+
+def _packet(frame, name, count, whole):
+    """The packet of a frame; its offset isn't set."""
+    moment, link, data, length, interface, sent, _ = frame
+    source, target, start, end, identification, own_interface, own_sent = segment_in(link, data, max(length, len(data)))
+    segment, wanted = data[start:end], end - start
+    captured = len(segment)
+    if whole and captured < (least := max(wanted, SHORTEST)):
+        raise Problem(f"{name}, packet {count}: {captured} of its {least} bytes were captured", WHOLE_PACKETS,
+                      OFFLOADS_OFF)
+    head = header_length(segment) if captured > 12 else SHORTEST
+    if head < SHORTEST or wanted < head:
+        raise LeftOut("segments with a wrong data offset")
+    if captured < head:
+        raise LeftOut("segments whose TCP headers the capture cut")
+    own_port, other_port = ports(segment)
+    outgoing = sent if own_sent is None else own_sent
+    if own_interface is not None:
+        interface = own_interface
+    return Packet(moment, (source, own_port), (target, other_port), segment, outgoing, name, count, wanted - captured,
+                  None, identification, interface)
+
+
+def shown(end):
+    """An address and a port, as they are printed."""
+    address = ip_address(end[0])
+    return f"[{address}]:{end[1]}" if address.version == 6 else f"{address}:{end[1]}"

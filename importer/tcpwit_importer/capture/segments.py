@@ -1,0 +1,76 @@
+"""The bytes of TCP segments: the fields of the header, its options, and what follows it (RFC 9293, 3.1 and 3.2).
+
+Other programs of the repository import this module, too; it needs nothing else of the package.
+"""
+import struct
+
+FIN, SYN, RST, PSH, ACK, URG, CWR = 1, 2, 4, 8, 16, 32, 128
+# Sequence numbers are below this.
+WRAP = 1 << 32
+# The bytes of a header without options.
+SHORTEST = 20
+# Kinds of options: the end of all, padding, the maximum segment size, and the window shift.
+END, PADDING, SIZE, SHIFT = range(4)
+
+_PORTS = struct.Struct("!HH").unpack_from
+
+
+def ports(segment):
+    """The source port and the destination port."""
+    return _PORTS(segment)
+
+
+def number(segment):
+    """The sequence number."""
+    return int.from_bytes(segment[4:8], "big")
+
+
+def acknowledgment(segment):
+    """The acknowledgment number."""
+    return int.from_bytes(segment[8:12], "big")
+
+
+def header_length(segment):
+    """How many bytes the header has, with its options."""
+    return (segment[12] >> 4) * 4
+
+
+def flags(segment):
+    """The flags from CWR down to FIN."""
+    return segment[13]
+
+
+def window(segment):
+    """The window, without a shift."""
+    return int.from_bytes(segment[14:16], "big")
+
+
+def options(segment):
+    """The bytes of all options."""
+    return segment[SHORTEST:header_length(segment)]
+
+
+def payload(segment):
+    """The bytes after the header."""
+    return segment[header_length(segment):]
+
+
+def size(segment):
+    """How many bytes follow the header."""
+    return len(segment) - header_length(segment)
+
+
+def values(kind, length, given):
+    """The values of this kind and length among these options, in their order."""
+    return [value for found, value in listed(given) if found == kind and len(value) == length]
+
+
+def listed(rest):
+    """The kind and the value of each of these options, without padding, up to the first that doesn't end among them."""
+    while rest and rest[0] != END:
+        length = 1 if rest[0] == PADDING else rest[1] if len(rest) > 1 else 0
+        if length > len(rest) or (length < 2 and rest[0] != PADDING):
+            return
+        if rest[0] != PADDING:
+            yield rest[0], rest[2:length]
+        rest = rest[length:]

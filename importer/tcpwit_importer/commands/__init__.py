@@ -1,0 +1,1 @@
+"""The commands tcpwit-import, tcpwit-judge and tcpwit-record."""

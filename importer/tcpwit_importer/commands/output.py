@@ -1,0 +1,63 @@
+"""What the command prints: a line for each connection, and a summary."""
+import json
+
+from ..problem import plain
+from .verdicts import counted
+
+INFERRED = ("Calls were inferred: their answers aren't judged.",
+            "Nor is how soon a host sends what its program gave it (rule start-late).")
+BETWEEN = ("The capture was made between the hosts: no duty is judged, moments are estimates, and a no may also",
+           "come from segments that were lost or reordered on the way to the capture or from it.")
+HALF = "Only one host was captured: the other one isn't judged."
+SOME = "{} with one host captured: the other one isn't judged there."
+
+
+class Output:
+    """Prints results in their order and counts them. `names` has the names of all connections, if they are known, to
+    align the lines."""
+
+    def __init__(self, options, names=()):
+        self.options, self.width = options, max(map(len, names), default=0)
+        self.count = self.yes = self.no = self.half = self.status = 0
+
+    def add(self, result):
+        """Prints a connection's result."""
+        self.count += 1
+        self.yes += result.verdict == "yes"
+        self.no += result.verdict == "no"
+        self.half += result.hosts == 1
+        self.status = max(self.status, result.status)
+        print(json.dumps(facts(result)) if self.options.json else plain(f"{result.name:<{self.width}}   {result.line}"),
+              flush=True)
+
+    def finish(self):
+        """Prints the summary, unless each line is an object, and returns the exit status."""
+        if not self.options.json:
+            others = self.count - self.yes - self.no
+            counts = f"{self.yes} yes, {self.no} no" + (f", {others} not judged" if others else "")
+            print(f"{counted(self.count, 'connection')}: {counts}. {INFERRED[0]}")
+            print(INFERRED[1])
+            if self.options.between:
+                print("\n".join(BETWEEN))
+            if self.half:
+                print(HALF if self.half == self.yes + self.no else SOME.format(counted(self.half, "connection")))
+        return self.status if self.yes + self.no else 2
+
+
+def facts(result):
+    """The facts of a connection, for JSON."""
+    found = {"client": result.client, "server": result.server, "begun": result.begun / 10**9,
+             "segments": result.segments}
+    if result.is_part:
+        found["part"] = True
+    if not result.answer:
+        return found | {"judged": False, "reason": result.reason, "status": result.status}
+    answer = result.answer
+    found |= {"judged": True, "hosts": result.hosts, "level": answer["level"], "answer": result.verdict,
+              "status": result.status}
+    if result.verdict == "yes":
+        found |= {"lines": answer["lines"], "steps": answer["hidden"]}
+    else:
+        found |= {name: answer[name] for name in ("witness_line", "trace_line", "rule", "sentence")}
+        found |= {"capture": result.packet.capture, "packet": result.packet.count} if result.packet else {}
+    return found | {"said": result.said} | ({"files": result.files} if result.files else {})

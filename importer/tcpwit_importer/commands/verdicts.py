@@ -1,0 +1,232 @@
+"""Judges one connection: reads its packets, infers its calls, and runs `tcpwit_lab judge` on the trace."""
+import json
+import os
+import subprocess
+from dataclasses import dataclass, field
+from typing import Any
+
+from ..capture.connections import refuse_gaps
+from ..capture.packets import shown
+from ..files import write_file
+from ..infer.conversion import Trace
+from ..infer.hosts import Undecided
+from ..infer.midpoint import split
+from ..infer.silence import LATE
+from ..problem import Notes, Problem, decoded, place_of
+from ..remedies import LESS_AT_ONCE
+from . import lab
+
+# What the line of a verdict has after its first word.
+NUMBERS = {"yes": ("lines", "hidden"), "no": ("witness_line", "trace_line", "rule")}
+# The rules by which `judge` says that no duty was late, each time with those that judge inferred calls: all but 48,
+# start-late.
+RULES = {"(rules 40 to 52)": "(rules 40 to 47 and 49 to 52)",
+         "(rules 40 to 50 and 52)": "(rules 40 to 47, 49, 50 and 52)",
+         "(rules 40 to 49 and 52)": "(rules 40 to 47, 49 and 52)"}
+
+
+@dataclass
+class Result:
+    """What was found out about a connection: `answer` has the members of `judge --json` for the last level tried; if
+    it's empty, `reason` says why the connection wasn't judged."""
+    client: str
+    server: str
+    begun: int
+    segments: int
+    answer: dict = field(default_factory=dict)
+    reason: str = ""
+    hosts: int = 0
+    status: int = 0
+    said: list = field(default_factory=list)
+    files: list = field(default_factory=list)
+    notes: Any = None
+    # Whether only its beginning was judged, and the packet that the sentence is about.
+    is_part: bool = False
+    packet: Any = None
+
+    @property
+    def name(self):
+        """The connection in the output."""
+        return f"{self.client} -> {self.server}"
+
+    @property
+    def verdict(self):
+        """`yes` or `no`, or None without an answer."""
+        return self.answer.get("answer")
+
+    @property
+    def rule(self):
+        """The rule of a no."""
+        return self.answer.get("rule")
+
+    @property
+    def line(self):
+        """Its verdict, or why it has none."""
+        if not self.answer:
+            return f"not judged: {self.reason}"
+        numbers = " ".join(str(self.answer[name]) for name in NUMBERS[self.verdict])
+        row = f"{self.answer['level']:<10}{self.verdict} {numbers}"
+        packet = f"({self.packet.place})" if self.packet else ""
+        part = f"(its first {counted(self.segments, 'segment')})" if self.is_part else ""
+        return "   ".join(filter(None, (row, self.answer.get("sentence"), packet, part)))
+
+
+class Judge:
+    """Judges connections with the same options. `captures` has the captures by their names, `roles` finds their
+    hosts."""
+
+    def __init__(self, program, captures, roles, options, chosen):
+        self.program, self.captures, self.roles, self.options, self.chosen = program, captures, roles, options, chosen
+        self.files = {name: capture.file for name, capture in captures.items()}
+        self.layouts = {name: capture.layout for name, capture in captures.items()}
+        self.last = {name: capture.last for name, capture in captures.items()}
+        self.clock = roles.clock()
+
+    def result(self, number, indexed, moment=None):
+        """The result of a connection, which is the one with this number. `moment` is when its recording ended, if its
+        capture goes on."""
+        found = Result(shown(indexed.client), shown(indexed.server), indexed.begun, indexed.count, notes=Notes())
+        found.is_part = getattr(indexed, "is_part", False)
+        try:
+            if not indexed.whole:
+                raise Undecided(f"it began before the capture ({counted(indexed.count, 'segment')})")
+            if indexed.client == indexed.server:
+                raise Undecided("it connects a port with itself")
+            if indexed.fragmented or self.is_fragmented(indexed):
+                raise Problem("the capture has fragments of IP packets with segments between its hosts",
+                              "record with a smaller MTU")
+            self.judge(number, indexed, found, moment)
+        except Undecided as reason:
+            found.reason = str(reason)
+        except Problem as problem:
+            found.reason, found.status = problem.cause, 2
+        except MemoryError:
+            found.reason, found.status = f"memory ran out: {LESS_AT_ONCE}", 2
+        except OSError as error:
+            found.reason, found.status = ": ".join(filter(None, (error.filename, error.strerror or str(error)))), 2
+        except Exception as error:
+            # The other connections are judged all the same.
+            cause = f"{type(error).__name__}: {error} ({place_of(error)})"
+            found.reason, found.status = f"{cause}; this is a bug: report it with the capture", 2
+        return found
+
+    def is_fragmented(self, indexed):
+        """Whether segments between a connection's addresses came in fragments, which can't be judged."""
+        return any(frozenset((indexed.client[0], indexed.server[0])) in self.layouts[name].fragmented
+                   for name in indexed.places)
+
+    def judge(self, number, indexed, found, moment):
+        """Judges a connection that is captured from its beginning."""
+        captures = self.roles.assign(indexed)
+        last = {host: moment or self.last[name] for host, name in captures.items()}
+        connection = indexed.read(self.files, self.layouts)
+        connection.hosts = indexed.hosts
+        self.refuse_lost(connection)
+        if self.options.between:
+            captures, last = split(connection, captures[None], self.options.skew * 1000), {0: last[None], 1: last[None]}
+        found.hosts = 1 if list(captures) == [0] else 2
+        given = connection, captures, last, self.chosen
+        self.verdict(number, Trace(*given, found.notes, self.clock), found)
+        if found.rule in LATE and (other := Trace(*given, Notes(), self.clock, True)).may_differ:
+            self.verdict(number, other, found)
+            if found.rule:
+                # It makes no difference.
+                self.verdict(number, Trace(*given, Notes(), self.clock), found)
+
+    def verdict(self, number, trace, found):
+        """Judges a trace."""
+        if self.options.report:
+            self.report(os.path.join(self.options.report, file_name(number, found)), trace.lines(), found)
+        else:
+            self.run(trace.lines(), found)
+        line = found.answer.get("input_line")
+        found.packet = None if line is None else trace.packet(line)
+
+    def refuse_lost(self, connection):
+        """Refuses a connection of which a capture lost packets, unless the user accepts that."""
+        try:
+            if not self.options.keep_gaps:
+                refuse_gaps([connection])
+        except Problem as problem:
+            raise Problem(f"{problem.cause} (--keep-gaps judges it as it is)", problem.remedy) from problem
+
+    def words(self):
+        """The options of `judge`."""
+        options = self.options
+        words = ["judge", "--json", "--least", options.level]
+        words += ["--slack", str(options.slack)] if options.slack is not None else []
+        return words + (["--budget", str(options.budget)] if options.budget is not None else [])
+
+    def run(self, lines, found):
+        """Judges a trace that isn't kept."""
+        # With a file for the case, `judge` also says which lines of the trace it has.
+        words = [self.program, *self.words(), "--case", os.devnull]
+        try:
+            process = subprocess.Popen(words, stdin=subprocess.PIPE, stdout=subprocess.PIPE, stderr=subprocess.PIPE)
+        except OSError as error:
+            raise Problem(f"{self.program}: {error.strerror}", lab.NAME_IT) from error
+        with process:
+            try:
+                process.stdin.writelines(map(str.encode, lines))
+            except BrokenPipeError:
+                # It has ended: its output says why.
+                pass
+            except BaseException:
+                process.kill()
+                raise
+            out, error = process.communicate()
+        read(found, out, error, process.returncode)
+
+    def report(self, trace, lines, found):
+        """Judges a trace that is kept, with its case, its picture and the explanation."""
+        write_file(trace, map(str.encode, lines))
+        case = lab.case_of(trace)
+        words = [self.program, *self.words(), "--case", "./" + os.path.basename(case)]
+        done = lab.on_file(words, trace, os.path.dirname(trace) or ".")
+        found.files = [trace]
+        read(found, done.stdout, done.stderr, done.returncode)
+        lab.draw(self.program, trace)
+        explained = lab.on_file([self.program, "explain"], case)
+        write_file(text_of(trace), [*(f"{line}\n".encode() for line in found.said), b"\n", explained.stdout])
+        kept = case, trace.removesuffix(".trace") + ".svg", text_of(trace)
+        found.files += [name for name in kept if os.path.exists(name)]
+
+
+def read(found, out, error, status):
+    """Reads the object that `judge` printed into a result."""
+    if status not in (lab.YES, lab.NO):
+        said = "; ".join(said_in(out)[:1] + decoded(error).splitlines()[-1:])
+        raise Problem(said or lab.ended(status), "")
+    judged = json.loads(out)
+    found.answer, found.status = judged["levels"][-1], status
+    found.said = [inferred(line) for line in judged["said"]]
+
+
+def said_in(out):
+    """The lines in an object that `judge` printed, or those that it printed instead, such as `bad usage`."""
+    try:
+        return json.loads(out)["said"]
+    except ValueError:
+        return decoded(out).splitlines()
+
+
+def inferred(line):
+    """What `judge` printed, with the rules that judge inferred calls."""
+    for rules, judged in RULES.items():
+        line = line.replace(rules, judged)
+    return line
+
+
+def text_of(trace):
+    """The file of a trace's explanation."""
+    return trace.removesuffix(".trace") + ".txt"
+
+
+def file_name(number, found):
+    """The file of a connection's trace."""
+    return f"{number}-{found.client}-{found.server}.trace".replace(":", "_").replace("[", "").replace("]", "")
+
+
+def counted(count, what):
+    """A count with its noun."""
+    return f"{count} {what}" if count == 1 else f"{count} {what}s"

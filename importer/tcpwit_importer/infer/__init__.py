@@ -1,0 +1,1 @@
+"""Calls that no log has, inferred from the segments of a connection."""

@@ -1,0 +1,1 @@
+"""Traces: their headers, lines, endpoints and calls."""
