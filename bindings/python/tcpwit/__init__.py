@@ -18,8 +18,9 @@ import re
 from typing import Union
 
 from . import library
-from .answers import Answer, Fault, Judgement, Level, No, Rule, TextError, TraceError, WitnessError, Yes
+from .answers import Answer, Fault, Judgement, Level, No, TextError, TraceError, WitnessError, Yes
 from .library import ANY_SLACK, LIBRARY, USUAL_BUDGET, USUAL_SLACK
+from .rules import Rule
 from .trace import Trace
 
 __all__ = ["ANY_SLACK", "Answer", "Fault", "Judgement", "Level", "No", "Rule", "TextError", "Trace", "TraceError", "USUAL_BUDGET", "USUAL_SLACK",
