@@ -12,7 +12,7 @@ import unittest
 TOP = os.path.dirname(os.path.dirname(os.path.abspath(__file__)))
 NO_PROGRAM = 127
 # The files of a repository that the scripts need.
-FOLDERS = ("importer/tcpwit_import", "stacks/runner")
+FOLDERS = ("importer/tcpwit_import", "stacks/tcpwit_stacks")
 FILES = ("tcpwit", "tcpwit_lab", "tools/unproved.py", "importer/tcpwit-import", "stacks/run", "stacks/scenarios/data-bulk.scenario")
 # A program that answers `judge` without input as tcpwit_lab does, and prints its name for everything else.
 PROGRAM = """#!/bin/sh
@@ -102,7 +102,7 @@ class Clone(unittest.TestCase):
         if name == "importer":
             code = "import sys; sys.path.insert(0, 'importer'); from tcpwit_import import judging; print(judging.lab(None))"
         else:
-            code = "import sys; sys.path.insert(0, 'stacks/runner'); import programs; " \
+            code = "import sys; sys.path.insert(0, 'stacks'); from tcpwit_stacks import programs; " \
                    "print(programs.program('tcpwit', None), programs.program('tcpwit_lab', None))"
         status, out, error = self.run_in_clone(sys.executable, "-W", "ignore", "-c", code)
         self.assertEqual(status, 0, error)

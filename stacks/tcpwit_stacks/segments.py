@@ -1,4 +1,4 @@
-"""Segments as bytes: the parts that the wire and a scripted peer read and write (docs/reference/formats.md, section 10)."""
+"""Segments as bytes: what the wire and a scripted peer read and write (docs/reference/formats.md, section 10)."""
 from dataclasses import dataclass
 
 FIN, SYN, RST, PSH, ACK, URG = 1, 2, 4, 8, 16, 32
@@ -52,7 +52,8 @@ def read(raw):
     """The segment with these bytes."""
     offset = (raw[12] >> 4) * 4
     word = lambda at, count: int.from_bytes(raw[at:at + count], "big")
-    return Segment(word(0, 2), word(2, 2), word(4, 4), word(8, 4), raw[13] & 63, word(14, 2), raw[20:offset], raw[offset:])
+    return Segment(word(0, 2), word(2, 2), word(4, 4), word(8, 4), raw[13] & 63, word(14, 2), raw[20:offset],
+                   raw[offset:])
 
 
 def write(segment):
@@ -65,5 +66,6 @@ def write(segment):
 
 
 def stream(at, count, host):
-    """Bytes at .. at + count - 1, from 0, of a host's stream on a connection. Neighboring bytes differ, and so do the hosts."""
+    """Bytes at .. at + count - 1, from 0, of a host's stream on a connection. Neighboring bytes differ, and so do the
+    hosts."""
     return bytes((3 * n + n // 251 + 101 * host) % 256 for n in range(at, at + count))
