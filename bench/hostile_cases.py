@@ -3,17 +3,17 @@
 
     python3 bench/hostile_cases.py KIND SIZE
 
-Each kind has a large number of one thing that a check must remember or search for: pieces out of order, waiting copies, threads,
-timeouts and so on (the functions marked `kind` below). From size 3 on, each case is valid, so the checker does all its steps and
-the verdict is `yes`. The only exception is the kind with lines that are never placed: it ends with `no 0 8 unplaced`, after the
-last step. `verdict_of` returns the expected line.
+Each kind has a large number of one thing that a check must remember or search for: pieces out of order, waiting copies,
+threads, timeouts and so on (the functions marked `kind` below). From size 3 on, each case is valid, so the checker does
+all its steps and the verdict is `yes`. The only exception is the kind with lines that are never placed: it ends with
+`no 0 8 unplaced`, after the last step. `verdict_of` returns the expected line.
 
-`find_kind` marks the kinds for `tcpwit_lab find`, which reads such a case up to the line `witness 2`. The case that `find` prints must
-have the same verdict.
+`find_kind` marks the kinds for `tcpwit_lab find`, which reads such a case up to the line `witness 2`. The case that
+`find` prints must have the same verdict.
 
-The texts have format version 2: both hosts send a shift of 14 and an MSS of 65495, so that a million bytes may be outstanding. The kinds
-whose names begin with `watched` have format version 5, with a slack: duties are judged, also at the end. The slack is so long that none
-is late.
+The texts have format version 2: both hosts send a shift of 14 and an MSS of 65495, so that a million bytes may be
+outstanding. The kinds whose names begin with `watched` have format version 5, with a slack: duties are judged, also at
+the end. The slack is so long that none is late.
 """
 
 import random
@@ -81,7 +81,8 @@ class Connection:
 
 
 class Case:
-    """The event lines and steps so far, the moment of the last one, and the numbers of segments made and sockets assigned."""
+    """The event lines and steps so far, the moment of the last one, and the numbers of segments made and sockets
+    assigned."""
 
     def __init__(self, skew=0, header=HEADER):
         self.header = [f"skew {skew}" if line.startswith("skew") else line for line in header]
@@ -176,7 +177,8 @@ def handshake(case, connection, listener):
 
 
 def connected(case, connection, room=0):
-    """Opens a connection whose congestion window is at least `room`. Returns both sockets and the number of bytes sent."""
+    """Opens a connection whose congestion window is at least `room`. Returns both sockets and the number of bytes
+    sent."""
     listener = case.given(CALLERS[1], f"listen 1 {connection.ports[1]} 4")
     opener = handshake(case, connection, listener)
     child = case.given(CALLERS[1], f"accept {listener}")
@@ -397,7 +399,8 @@ def groups_for(count):
 
 
 def half_a_call(case, is_open):
-    """Adds a line that ends the open call of a thread, or begins one if none is open. Returns whether one is open now."""
+    """Adds a line that ends the open call of a thread, or begins one if none is open. Returns whether one is open
+    now."""
     if is_open:
         case.event(1, "E badsocket")
     else:
@@ -408,7 +411,8 @@ def half_a_call(case, is_open):
 
 @kind(50_000, 100_000, 200_000)
 def copies_on_lines_that_collide(count):
-    """Fills the lines in between with calls, so that copies are only on lines whose numbers collide under the toolchain's hasher (its seed is fixed)."""
+    """Fills the lines in between with calls, so that copies are only on lines whose numbers collide under the
+    toolchain's hasher (its seed is fixed)."""
     case, connection = Case(), Connection()
     connected(case, connection)
     text = connection.text(0, 1, "A", 1)
@@ -690,7 +694,8 @@ def colliding_payload(header, size):
 
 @find_kind(10_000, 20_000, 40_000)
 def segments_whose_digests_collide(count):
-    """All data segments of a connection have the same FxHash digest. Each is received and acknowledged before the next is sent."""
+    """All data segments of a connection have the same FxHash digest. Each is received and acknowledged before the next
+    is sent."""
     case, connection = Case(), Connection()
     opener, child, _ = connected(case, connection)
     for position in range(1, 1 + 60 * count, 60):
@@ -706,8 +711,8 @@ def segments_whose_digests_collide(count):
 def segments_with_equal_long_prefixes(count):
     """Only the last eight of the 1,480 bytes of these segments differ.
 
-    Within a connection, the sequence numbers would differ too, and they are among the first bytes. So each segment is the first of a new
-    connection with the same ports and initial sequence numbers, and the connection is then aborted.
+    Within a connection, the sequence numbers would differ too, and they are among the first bytes. So each segment is
+    the first of a new connection with the same ports and initial sequence numbers, and the connection is then aborted.
     """
     case, connection = Case(), Connection()
     listener = case.given(CALLERS[1], "listen 1 80 65535")
@@ -763,7 +768,8 @@ def connections_whose_ports_collide(count):
 
 
 def resets_on_crowded_lines(count, first):
-    """Host 1 answers this many copies of a SYN with resets. They are sent only on lines whose numbers, counted from `first`, collide in a table."""
+    """Host 1 answers this many copies of a SYN with resets. They are sent only on lines whose numbers, counted from
+    `first`, collide in a table."""
     case, connection = Case(), Connection(firsts=(1000, 0))
     case.given(CALLERS[0], "open 0 4000 80")
     syn = connection.text(0, 0, "S", None)

@@ -3,16 +3,17 @@
 
     sweep.py PROGRAM CASES [--jobs N]
 
-PROGRAM is the built `tcpwit`, CASES the folder of the case files with its `expected.txt`. The script builds `fail.c`, next to it,
-with `cc`, and loads it with LD_PRELOAD. Each command runs with unlimited reads and writes, and with pieces of 7 bytes or 1, which
-need many of them. Then the Nth read, and the Nth write, fails, is interrupted, moves one byte or moves none. This is done for every
-N up to the last, for the Nth alone and together with all later ones.
+PROGRAM is the built `tcpwit`, CASES the folder of the case files with its `expected.txt`. The script builds `fail.c`,
+next to it, with `cc`, and loads it with LD_PRELOAD. Each command runs with unlimited reads and writes, and with pieces
+of 7 bytes or 1, which need many of them. Then the Nth read, and the Nth write, fails, is interrupted, moves one byte or
+moves none. This is done for every N up to the last, for the Nth alone and together with all later ones.
 
-A failed read must result in `bad device` and status 5; in `many`, answers to the first cases may come before. A write that fails or
-moves nothing must result in status 5, with the output before it and no write after it. A read that moves nothing is the end of its text, so the answer must be that for the text so far.
-After an interruption, the answer must be the right one or that for a failure; after one byte, it must be the right one. `devices`
-tries failing inputs and outputs of the system, without the library. Anything else, a signal, or output on standard error is wrong
-and is printed. The last line has the counts; the exit status is 1 if any run was wrong.
+A failed read must result in `bad device` and status 5; in `many`, answers to the first cases may come before. A write
+that fails or moves nothing must result in status 5, with the output before it and no write after it. A read that moves
+nothing is the end of its text, so the answer must be that for the text so far. After an interruption, the answer must
+be the right one or that for a failure; after one byte, it must be the right one. `devices` tries failing inputs and
+outputs of the system, without the library. Anything else, a signal, or output on standard error is wrong and is
+printed. The last line has the counts; the exit status is 1 if any run was wrong.
 
 `check` of one text may read no further than the first fault of the trace. So a later read that would fail isn't met.
 """
@@ -40,7 +41,8 @@ class Run:
     def __init__(self, program, library, command, environment):
         words, text = command
         with tempfile.NamedTemporaryFile() as counts:
-            surroundings = {"PATH": os.environ.get("PATH", ""), "LD_PRELOAD": library, "FAIL_COUNT": counts.name, **environment}
+            surroundings = {"PATH": os.environ.get("PATH", ""), "LD_PRELOAD": library, "FAIL_COUNT": counts.name,
+                            **environment}
             try:
                 done = subprocess.run([program, *words], input=text, capture_output=True, env=surroundings, timeout=60)
             except subprocess.TimeoutExpired:
@@ -48,7 +50,8 @@ class Run:
                 return
             self.answer, self.error = (done.stdout, done.returncode), done.stderr
             found = [int(number) for number in counts.read().split()]
-        self.reads, self.writes, self.writes_behind, self.file, self.read_before, *self.read_of = found or [0, 0, 0, -1, 0, 0, 0]
+        found = found or [0, 0, 0, -1, 0, 0, 0]
+        self.reads, self.writes, self.writes_behind, self.file, self.read_before, *self.read_of = found
 
 
 def cut_answer(program, library, command, run, is_from):
@@ -95,7 +98,8 @@ def is_right(program, library, command, plain, environment):
         elif how == "nothing":
             allowed = [cut_answer(program, library, command, run, "FAIL_FROM" in environment)]
         elif how != "short":
-            allowed += [(start + BAD_DEVICE[0], BAD_DEVICE[1]) for start in (starts(plain.answer[0]) if "many" in command[0] else [b""])]
+            allowed += [(start + BAD_DEVICE[0], BAD_DEVICE[1])
+                        for start in (starts(plain.answer[0]) if "many" in command[0] else [b""])]
     elif int(environment["FAIL_WRITE"]) > plain.writes:
         allowed = [plain.answer]
     elif how != "short":
@@ -107,7 +111,8 @@ def is_right(program, library, command, plain, environment):
 
 
 def most_reads(command, line, piece):
-    """How many reads of pieces of so many bytes `check` may need for its standard input: up to the end of the line that has a fault."""
+    """How many reads of pieces of so many bytes `check` may need for its standard input: up to the end of the line that
+    has a fault."""
     words, text = command
     rows, answer = text.splitlines(keepends=True), line.split()
     is_cut = answer[:2] == ["bad", "trace"] and int(answer[2]) <= len(rows)
@@ -143,7 +148,8 @@ def swept(program, library, name, command, line, pool):
             for environment, (is_fine, run) in zip(asked, answers)
             if not is_fine
         ]
-        print(f"{name}: pieces of {piece or 'any'} bytes, {plain.reads} reads, {plain.writes} writes, {len(asked)} runs, {len(failed)} wrong", flush=True)
+        print(f"{name}: pieces of {piece or 'any'} bytes, {plain.reads} reads, {plain.writes} writes, {len(asked)} "
+              f"runs, {len(failed)} wrong", flush=True)
         runs, wrong = runs + len(asked) + 1, wrong + failed
     return runs, wrong
 
@@ -158,7 +164,8 @@ def main():
     words = argparse.ArgumentParser(description=__doc__.splitlines()[0])
     words.add_argument("program", metavar="PROGRAM", help="the program tcpwit")
     words.add_argument("cases", metavar="CASES", help="the folder of the case files, crates/test_cases/data")
-    words.add_argument("--jobs", metavar="N", type=int, default=os.cpu_count(), help="how many runs at once (default: one for each processor)")
+    words.add_argument("--jobs", metavar="N", type=int, default=os.cpu_count(),
+                       help="how many runs at once (default: one for each processor)")
     words = words.parse_args()
     program = os.path.abspath(words.program)
     runs, wrong = 0, []
@@ -166,7 +173,8 @@ def main():
         library = built_library(folder)
         for name, (command, line) in commands(words.cases, folder).items():
             if line is None:
-                # recordings differ from run to run, so `record` is only tried with failing inputs and outputs of the system
+                # recordings differ from run to run, so `record` is only tried with failing inputs and outputs of the
+                # system
                 continue
             done, failed = swept(program, library, name, command, line, pool)
             runs, wrong = runs + done, wrong + failed

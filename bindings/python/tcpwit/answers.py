@@ -55,8 +55,8 @@ class Yes:
 class No:
     """The witness doesn't explain the trace. It is false.
 
-    `witness_line` is the line of the first step that breaks a rule, or 0 if something is left at the end; `trace_line` is the line of
-    the trace that the step names, or 0.
+    `witness_line` is the line of the first step that breaks a rule, or 0 if something is left at the end; `trace_line`
+    is the line of the trace that the step names, or 0.
 
     >>> bool(No(witness_line=34, trace_line=0, rule=Rule.QUEUE_FULL))
     False
@@ -77,7 +77,8 @@ Answer = Union[Yes, No]
 
 
 class TextError(ValueError):
-    """A text can't be read. `line` counts from 1 in its own text; `start` and `stop` count bytes of that line from 0."""
+    """A text can't be read. `line` counts from 1 in its own text; `start` and `stop` count bytes of that line from
+    0."""
 
     text = "text"
 
@@ -103,7 +104,8 @@ class WitnessError(TextError):
 
 @dataclass(frozen=True)
 class Judgement:
-    """How a trace was judged. It is true if `least` or a stricter level has a yes, and prints as `tcpwit_lab judge` prints it."""
+    """How a trace was judged. It is true if `least` or a stricter level has a yes, and prints as `tcpwit_lab judge`
+    prints it."""
 
     level: Level | None
     """The strictest level with a yes; None if none has one."""
