@@ -176,6 +176,13 @@ def handshake(case, connection, listener):
     return opener
 
 
+def send_syn(case, connection):
+    """Opens a socket at host 0 and sends its SYN. Returns the SYN's text and the number of its line."""
+    case.given(CALLERS[0], f"open 0 {connection.ports[0]} {connection.ports[1]}")
+    text = connection.text(0, 0, "S", None)
+    return text, case.goes(0, text, case.make(connection, 0, 0, 0, "S"))
+
+
 def connected(case, connection, room=0):
     """Opens a connection whose congestion window is at least `room`. Returns both sockets and the number of bytes
     sent."""
@@ -447,9 +454,7 @@ def made_under_numbers_that_collide(count):
 def children_on_places_that_collide(count):
     """Each listener is closed before the next one opens. It has a child only if its place collides in a hash table."""
     case, connection = Case(), Connection()
-    case.given(CALLERS[0], f"open 0 {connection.ports[0]} {connection.ports[1]}")
-    text = connection.text(0, 0, "S", None)
-    out = case.goes(0, text, case.make(connection, 0, 0, 0, "S"))
+    text, out = send_syn(case, connection)
     groups = groups_for(count)
     place = children = 0
     while children < count:
@@ -517,16 +522,21 @@ def threads_in_a_call(count):
     return case
 
 
+def ask_and_end(case, thread, sockets, state, end):
+    """Asks for the state of each socket, from the last to the first, and ends them in any order."""
+    for socket in reversed(sockets):
+        case.call(thread, f"status {socket}", state)
+    random.Random(1).shuffle(sockets)
+    for socket in sockets:
+        case.call(thread, f"{end} {socket}", "ok")
+
+
 @kind(30_000, 60_000, 120_000)
 def listeners(count):
     case = Case()
     places = [(index % 2, 1 + index // 2) for index in range(count)]
     sockets = [case.given(1, f"listen {host} {port} 1") for host, port in places]
-    for socket in reversed(sockets):
-        case.call(1, f"status {socket}", "state LISTEN")
-    random.Random(1).shuffle(sockets)
-    for socket in sockets:
-        case.call(1, f"close {socket}", "ok")
+    ask_and_end(case, 1, sockets, "state LISTEN", "close")
     return case
 
 
@@ -543,11 +553,7 @@ def listeners_on_one_port(count):
 def sockets_of_many_ports(count):
     case = Case()
     sockets = [case.given(2, f"open 0 {port} 80") for port in range(1, 1 + count)]
-    for socket in reversed(sockets):
-        case.call(2, f"status {socket}", "state SYN-SENT")
-    random.Random(1).shuffle(sockets)
-    for socket in sockets:
-        case.call(2, f"abort {socket}", "ok")
+    ask_and_end(case, 2, sockets, "state SYN-SENT", "abort")
     return case
 
 
@@ -578,9 +584,7 @@ def connections_of_one_pair_of_ports(count):
 @kind(75_000, 150_000, 300_000)
 def timeouts_of_a_syn(count):
     case, connection = Case(), Connection()
-    case.given(2, "open 0 4000 80")
-    text = connection.text(0, 0, "S", None)
-    case.goes(0, text, case.make(connection, 0, 0, 0, "S"))
+    text, _ = send_syn(case, connection)
     for _ in range(count):
         case.moment += LAST_TIMEOUT
         case.expire(connection, 0, "rto", f" 536 {4294967295}")
@@ -626,9 +630,7 @@ def windows_closed_and_opened(count):
 @kind(50_000, 100_000, 200_000)
 def resets_that_answer(count):
     case, connection = Case(), Connection()
-    case.given(2, "open 0 4000 80")
-    text = connection.text(0, 0, "S", None)
-    out = case.goes(0, text, case.make(connection, 0, 0, 0, "S"))
+    text, out = send_syn(case, connection)
     copies = [case.comes(1, text, out) for _ in range(count)]
     first = case.made + 1
     for line in reversed(copies):
@@ -771,9 +773,7 @@ def resets_on_crowded_lines(count, first):
     """Host 1 answers this many copies of a SYN with resets. They are sent only on lines whose numbers, counted from
     `first`, collide in a table."""
     case, connection = Case(), Connection(firsts=(1000, 0))
-    case.given(CALLERS[0], "open 0 4000 80")
-    syn = connection.text(0, 0, "S", None)
-    out = case.goes(0, syn, case.make(connection, 0, 0, 0, "S"))
+    syn, out = send_syn(case, connection)
     made = [case.refuse(1, case.comes(1, syn, out)) for _ in range(count)]
     reset = connection.text(1, 0, "AR", 1, window=0)
     groups = groups_for(count)

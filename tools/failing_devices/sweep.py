@@ -17,8 +17,6 @@ printed. The last line has the counts; the exit status is 1 if any run was wrong
 
 `check` of one text may read no further than the first fault of the trace. So a later read that would fail isn't met.
 """
-import argparse
-import concurrent.futures
 import contextlib
 import os
 import subprocess
@@ -28,7 +26,7 @@ import tempfile
 HERE = os.path.dirname(os.path.abspath(__file__))
 sys.path.insert(0, os.path.dirname(HERE))
 
-from commands import commands
+import sweeps
 from devices import tried_devices
 
 BAD_DEVICE = (b"bad device\n", 5)
@@ -130,60 +128,39 @@ def failures(plain, piece):
                     yield {place: str(n), "FAIL_HOW": how, "FAIL_PIECE": piece, "FAIL_FROM": "1"}
 
 
-def swept(program, library, name, command, line, pool):
-    """The number of runs of one command, and the wrong ones, as texts."""
-    runs, wrong = 0, []
+def sweep_command(sweep, name, command, line):
+    """Runs one command, whose expected answer is `line`, with each failure."""
     for piece in ("", "7", "1"):
-        plain = Run(program, library, command, {"FAIL_PIECE": piece})
+        plain = Run(sweep.program, sweep.library, command, {"FAIL_PIECE": piece})
         if plain.answer is None or plain.error or plain.answer[0].decode() != line + "\n":
-            return runs + 1, [*wrong, f"{name}: without failures {plain.answer} {plain.error}"]
+            sweep.add(1, [f"{name}: without failures {plain.answer} {plain.error}"])
+            return
         if piece and command[0] == ["check"] and plain.reads > most_reads(command, line, piece):
-            wrong.append(f"{name}: {plain.reads} reads of {piece} bytes, which are more than it needs")
+            sweep.add(0, [f"{name}: {plain.reads} reads of {piece} bytes, which are more than it needs"])
         if piece == "1" and plain.reads > 200:
             continue
         asked = list(failures(plain, piece))
-        answers = pool.map(lambda environment: is_right(program, library, command, plain, environment), asked)
-        failed = [
-            f"{name} {environment}: {run.answer} {run.error} {run.__dict__}"
-            for environment, (is_fine, run) in zip(asked, answers)
-            if not is_fine
-        ]
+        found = sweep.pool.map(lambda each: is_right(sweep.program, sweep.library, command, plain, each), asked)
+        failed = [f"{name} {environment}: {run.answer} {run.error} {run.__dict__}"
+                  for environment, (is_fine, run) in zip(asked, found) if not is_fine]
         print(f"{name}: pieces of {piece or 'any'} bytes, {plain.reads} reads, {plain.writes} writes, {len(asked)} "
               f"runs, {len(failed)} wrong", flush=True)
-        runs, wrong = runs + len(asked) + 1, wrong + failed
-    return runs, wrong
+        sweep.add(len(asked) + 1, failed)
 
 
 def built_library(folder):
-    library = os.path.join(folder, "fail.so")
-    subprocess.run(["cc", "-O2", "-Wall", "-shared", "-fPIC", "-o", library, os.path.join(HERE, "fail.c")], check=True)
-    return library
+    """The library that makes reads and writes fail, built in this folder."""
+    return sweeps.built_library(os.path.join(HERE, "fail.c"), folder)
 
 
 def main():
-    words = argparse.ArgumentParser(description=__doc__.splitlines()[0])
-    words.add_argument("program", metavar="PROGRAM", help="the program tcpwit")
-    words.add_argument("cases", metavar="CASES", help="the folder of the case files, crates/test_cases/data")
-    words.add_argument("--jobs", metavar="N", type=int, default=os.cpu_count(),
-                       help="how many runs at once (default: one for each processor)")
-    words = words.parse_args()
-    program = os.path.abspath(words.program)
-    runs, wrong = 0, []
-    with tempfile.TemporaryDirectory() as folder, concurrent.futures.ThreadPoolExecutor(words.jobs) as pool:
-        library = built_library(folder)
-        for name, (command, line) in commands(words.cases, folder).items():
-            if line is None:
-                # recordings differ from run to run, so `record` is only tried with failing inputs and outputs of the
-                # system
-                continue
-            done, failed = swept(program, library, name, command, line, pool)
-            runs, wrong = runs + done, wrong + failed
-        done, failed = tried_devices(program, words.cases, folder)
-        runs, wrong = runs + done, wrong + failed
-    for text in wrong:
-        print(text)
-    print(f"{runs} runs, {len(wrong)} wrong")
-    sys.exit(1 if wrong else 0)
+    words = sweeps.parser(__doc__).parse_args()
+    with sweeps.started(words, built_library) as (sweep, commands):
+        for name, (command, line) in commands.items():
+            # Recordings differ from run to run, so `record` is only tried with devices of the system that fail.
+            if line is not None:
+                sweep_command(sweep, name, command, line)
+        sweep.add(*tried_devices(sweep.program, words.cases, sweep.folder))
 
 
 if __name__ == "__main__":

@@ -32,19 +32,25 @@ def changed_number(text, random_):
     return (b"-%d" % -value) if value < 0 else b"%d" % value
 
 
+def rearrange(items, place, kind, random_):
+    """Deletes an item (kind 0), adds a copy of one (1), or swaps two."""
+    if kind == 0:
+        del items[place]
+    elif kind == 1:
+        items.insert(place, random_.choice(items))
+    else:
+        other = random_.randrange(len(items))
+        items[place], items[other] = items[other], items[place]
+
+
 def changed_field(line, random_):
     fields = line.split(b" ")
     place = random_.randrange(len(fields))
     kind = random_.randrange(6)
     if kind <= 2:
         fields[place] = changed_number(fields[place], random_)
-    elif kind == 3:
-        del fields[place]
-    elif kind == 4:
-        fields.insert(place, random_.choice(fields))
     else:
-        other = random_.randrange(len(fields))
-        fields[place], fields[other] = fields[other], fields[place]
+        rearrange(fields, place, kind - 3, random_)
     return b" ".join(fields)
 
 
@@ -66,13 +72,8 @@ def changed_lines(lines, random_):
     kind = random_.randrange(8)
     if kind <= 4:
         lines[place] = changed_field(lines[place], random_)
-    elif kind == 5:
-        del lines[place]
-    elif kind == 6:
-        lines.insert(place, random_.choice(lines))
     else:
-        other = random_.randrange(len(lines))
-        lines[place], lines[other] = lines[other], lines[place]
+        rearrange(lines, place, kind - 5, random_)
     return lines
 
 
