@@ -1,7 +1,6 @@
 """Tests of the command stacks/run: what it selects, prints and writes, how it ends, and that it leaves no process."""
 import contextlib
 import io
-import json
 import os
 import re
 import signal
