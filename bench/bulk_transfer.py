@@ -3,14 +3,14 @@
 
     python3 bench/bulk_transfer.py [ROUNDS [BYTES]]
 
-Host 1 listens and host 0 connects. In each round, host 0 sends 64 to 100 bytes in one segment, and the segment arrives; host 1
-receives and acknowledges them, and the acknowledgment arrives. A round has 8 event lines and 14 steps. The sequence numbers of
-host 0 wrap in the first or second round, those of host 1 after its SYN. The congestion window grows with every acknowledgment,
-each round trip is measured, and nothing is lost.
+Host 1 listens and host 0 connects. In each round, host 0 sends 64 to 100 bytes in one segment, and the segment arrives;
+host 1 receives and acknowledges them, and the acknowledgment arrives. A round has 8 event lines and 14 steps. The
+sequence numbers of host 0 wrap in the first or second round, those of host 1 after its SYN. The congestion window grows
+with every acknowledgment, each round trip is measured, and nothing is lost.
 
 ROUNDS is the number of rounds (default: 160,000, a case of 1,280,012 event lines, 2,240,021 steps and 232 million
-bytes). The verdict on N rounds is `yes A B` with A = 12 + 8 N and B = 9 + 6 N. BYTES, at most 1460, is the number of bytes in
-a round, instead of 64 to 100; both SYNs then carry an MSS of 1460.
+bytes). The verdict on N rounds is `yes A B` with A = 12 + 8 N and B = 9 + 6 N. BYTES, at most 1460, is the number of
+bytes in a round, instead of 64 to 100; both SYNs then carry an MSS of 1460.
 """
 
 import random

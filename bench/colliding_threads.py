@@ -3,9 +3,9 @@
 
     python3 bench/colliding_threads.py [THREADS]
 
-Each thread begins and ends a `status` call. The toolchain's hash function has a fixed seed. It maps the chosen numbers to one 32nd
-of the slots of a table of that size. A check that keeps threads in such a table searches a large part of it for each thread, and
-takes four times as long for twice as many threads.
+Each thread begins and ends a `status` call. The toolchain's hash function has a fixed seed. It maps the chosen numbers
+to one 32nd of the slots of a table of that size. A check that keeps threads in such a table searches a large part of it
+for each thread, and takes four times as long for twice as many threads.
 
 THREADS is their number (default: 147,000). The verdict on N threads is `yes A B` with A = 2 N and B = N.
 """

@@ -3,10 +3,11 @@
 
     python3 bench/compare.py OURS [OTHER] [--runs N] [--only WORD]
 
-OURS and OTHER are programs that support `check` and `many --workers 1` on standard input. Their runs alternate. The result of N
-runs (default: 5) is the least processor time, including system time, and the peak memory. A case that can grow is run at one size
-and at twice that size; OURS may take at most 2.3 times as long for the second. Each single case is also timed for OURS as two
-files. If OURS takes longer, or answers differ, the last lines report it, and the status is 1.
+OURS and OTHER are programs that support `check` and `many --workers 1` on standard input. Their runs alternate. The
+result of N runs (default: 5) is the least processor time, including system time, and the peak memory. A case that can
+grow is run at one size and at twice that size; OURS may take at most 2.3 times as long for the second. Each single case
+is also timed for OURS as two files. If OURS takes longer, or answers differ, the last lines report it, and the status
+is 1.
 """
 
 import argparse
@@ -99,8 +100,10 @@ def row(name, costs, by_files):
 
 def main():
     parser = argparse.ArgumentParser(description=__doc__.splitlines()[0])
-    parser.add_argument("programs", metavar="PROGRAM", nargs="+", help="the checker, and optionally another one to compare it with")
-    parser.add_argument("--runs", metavar="N", type=int, default=5, help="how many times each case runs; the least time counts (default: 5)")
+    parser.add_argument("programs", metavar="PROGRAM", nargs="+",
+                        help="the checker, and optionally another one to compare it with")
+    parser.add_argument("--runs", metavar="N", type=int, default=5,
+                        help="how many times each case runs; the least time counts (default: 5)")
     parser.add_argument("--only", metavar="WORD", default="", help="run only the cases with this word in their name")
     given = parser.parse_args()
     programs = [os.path.abspath(program) for program in given.programs[:2]]

@@ -3,17 +3,17 @@
 
     python3 bench/hostile_cases.py KIND SIZE
 
-Each kind has a large number of one thing that a check must remember or search for: pieces out of order, waiting copies, threads,
-timeouts and so on (the functions marked `kind` below). From size 3 on, each case is valid, so the checker does all its steps and
-the verdict is `yes`. The only exception is the kind with lines that are never placed: it ends with `no 0 8 unplaced`, after the
-last step. `verdict_of` returns the expected line.
+Each kind has a large number of one thing that a check must remember or search for: pieces out of order, waiting copies,
+threads, timeouts and so on (the functions marked `kind` below). From size 3 on, each case is valid, so the checker does
+all its steps and the verdict is `yes`. The only exception is the kind with lines that are never placed: it ends with
+`no 0 8 unplaced`, after the last step. `verdict_of` returns the expected line.
 
-`find_kind` marks the kinds for `tcpwit_lab find`, which reads such a case up to the line `witness 2`. The case that `find` prints must
-have the same verdict.
+`find_kind` marks the kinds for `tcpwit_lab find`, which reads such a case up to the line `witness 2`. The case that
+`find` prints must have the same verdict.
 
-The texts have format version 2: both hosts send a shift of 14 and an MSS of 65495, so that a million bytes may be outstanding. The kinds
-whose names begin with `watched` have format version 5, with a slack: duties are judged, also at the end. The slack is so long that none
-is late.
+The texts have format version 2: both hosts send a shift of 14 and an MSS of 65495, so that a million bytes may be
+outstanding. The kinds whose names begin with `watched` have format version 5, with a slack: duties are judged, also at
+the end. The slack is so long that none is late.
 """
 
 import random
@@ -81,7 +81,8 @@ class Connection:
 
 
 class Case:
-    """The event lines and steps so far, the moment of the last one, and the numbers of segments made and sockets assigned."""
+    """The event lines and steps so far, the moment of the last one, and the numbers of segments made and sockets
+    assigned."""
 
     def __init__(self, skew=0, header=HEADER):
         self.header = [f"skew {skew}" if line.startswith("skew") else line for line in header]
@@ -175,8 +176,16 @@ def handshake(case, connection, listener):
     return opener
 
 
+def send_syn(case, connection):
+    """Opens a socket at host 0 and sends its SYN. Returns the SYN's text and the number of its line."""
+    case.given(CALLERS[0], f"open 0 {connection.ports[0]} {connection.ports[1]}")
+    text = connection.text(0, 0, "S", None)
+    return text, case.goes(0, text, case.make(connection, 0, 0, 0, "S"))
+
+
 def connected(case, connection, room=0):
-    """Opens a connection whose congestion window is at least `room`. Returns both sockets and the number of bytes sent."""
+    """Opens a connection whose congestion window is at least `room`. Returns both sockets and the number of bytes
+    sent."""
     listener = case.given(CALLERS[1], f"listen 1 {connection.ports[1]} 4")
     opener = handshake(case, connection, listener)
     child = case.given(CALLERS[1], f"accept {listener}")
@@ -397,7 +406,8 @@ def groups_for(count):
 
 
 def half_a_call(case, is_open):
-    """Adds a line that ends the open call of a thread, or begins one if none is open. Returns whether one is open now."""
+    """Adds a line that ends the open call of a thread, or begins one if none is open. Returns whether one is open
+    now."""
     if is_open:
         case.event(1, "E badsocket")
     else:
@@ -408,7 +418,8 @@ def half_a_call(case, is_open):
 
 @kind(50_000, 100_000, 200_000)
 def copies_on_lines_that_collide(count):
-    """Fills the lines in between with calls, so that copies are only on lines whose numbers collide under the toolchain's hasher (its seed is fixed)."""
+    """Fills the lines in between with calls, so that copies are only on lines whose numbers collide under the
+    toolchain's hasher (its seed is fixed)."""
     case, connection = Case(), Connection()
     connected(case, connection)
     text = connection.text(0, 1, "A", 1)
@@ -443,9 +454,7 @@ def made_under_numbers_that_collide(count):
 def children_on_places_that_collide(count):
     """Each listener is closed before the next one opens. It has a child only if its place collides in a hash table."""
     case, connection = Case(), Connection()
-    case.given(CALLERS[0], f"open 0 {connection.ports[0]} {connection.ports[1]}")
-    text = connection.text(0, 0, "S", None)
-    out = case.goes(0, text, case.make(connection, 0, 0, 0, "S"))
+    text, out = send_syn(case, connection)
     groups = groups_for(count)
     place = children = 0
     while children < count:
@@ -513,16 +522,21 @@ def threads_in_a_call(count):
     return case
 
 
+def ask_and_end(case, thread, sockets, state, end):
+    """Asks for the state of each socket, from the last to the first, and ends them in any order."""
+    for socket in reversed(sockets):
+        case.call(thread, f"status {socket}", state)
+    random.Random(1).shuffle(sockets)
+    for socket in sockets:
+        case.call(thread, f"{end} {socket}", "ok")
+
+
 @kind(30_000, 60_000, 120_000)
 def listeners(count):
     case = Case()
     places = [(index % 2, 1 + index // 2) for index in range(count)]
     sockets = [case.given(1, f"listen {host} {port} 1") for host, port in places]
-    for socket in reversed(sockets):
-        case.call(1, f"status {socket}", "state LISTEN")
-    random.Random(1).shuffle(sockets)
-    for socket in sockets:
-        case.call(1, f"close {socket}", "ok")
+    ask_and_end(case, 1, sockets, "state LISTEN", "close")
     return case
 
 
@@ -539,11 +553,7 @@ def listeners_on_one_port(count):
 def sockets_of_many_ports(count):
     case = Case()
     sockets = [case.given(2, f"open 0 {port} 80") for port in range(1, 1 + count)]
-    for socket in reversed(sockets):
-        case.call(2, f"status {socket}", "state SYN-SENT")
-    random.Random(1).shuffle(sockets)
-    for socket in sockets:
-        case.call(2, f"abort {socket}", "ok")
+    ask_and_end(case, 2, sockets, "state SYN-SENT", "abort")
     return case
 
 
@@ -574,9 +584,7 @@ def connections_of_one_pair_of_ports(count):
 @kind(75_000, 150_000, 300_000)
 def timeouts_of_a_syn(count):
     case, connection = Case(), Connection()
-    case.given(2, "open 0 4000 80")
-    text = connection.text(0, 0, "S", None)
-    case.goes(0, text, case.make(connection, 0, 0, 0, "S"))
+    text, _ = send_syn(case, connection)
     for _ in range(count):
         case.moment += LAST_TIMEOUT
         case.expire(connection, 0, "rto", f" 536 {4294967295}")
@@ -622,9 +630,7 @@ def windows_closed_and_opened(count):
 @kind(50_000, 100_000, 200_000)
 def resets_that_answer(count):
     case, connection = Case(), Connection()
-    case.given(2, "open 0 4000 80")
-    text = connection.text(0, 0, "S", None)
-    out = case.goes(0, text, case.make(connection, 0, 0, 0, "S"))
+    text, out = send_syn(case, connection)
     copies = [case.comes(1, text, out) for _ in range(count)]
     first = case.made + 1
     for line in reversed(copies):
@@ -690,7 +696,8 @@ def colliding_payload(header, size):
 
 @find_kind(10_000, 20_000, 40_000)
 def segments_whose_digests_collide(count):
-    """All data segments of a connection have the same FxHash digest. Each is received and acknowledged before the next is sent."""
+    """All data segments of a connection have the same FxHash digest. Each is received and acknowledged before the next
+    is sent."""
     case, connection = Case(), Connection()
     opener, child, _ = connected(case, connection)
     for position in range(1, 1 + 60 * count, 60):
@@ -706,8 +713,8 @@ def segments_whose_digests_collide(count):
 def segments_with_equal_long_prefixes(count):
     """Only the last eight of the 1,480 bytes of these segments differ.
 
-    Within a connection, the sequence numbers would differ too, and they are among the first bytes. So each segment is the first of a new
-    connection with the same ports and initial sequence numbers, and the connection is then aborted.
+    Within a connection, the sequence numbers would differ too, and they are among the first bytes. So each segment is
+    the first of a new connection with the same ports and initial sequence numbers, and the connection is then aborted.
     """
     case, connection = Case(), Connection()
     listener = case.given(CALLERS[1], "listen 1 80 65535")
@@ -763,11 +770,10 @@ def connections_whose_ports_collide(count):
 
 
 def resets_on_crowded_lines(count, first):
-    """Host 1 answers this many copies of a SYN with resets. They are sent only on lines whose numbers, counted from `first`, collide in a table."""
+    """Host 1 answers this many copies of a SYN with resets. They are sent only on lines whose numbers, counted from
+    `first`, collide in a table."""
     case, connection = Case(), Connection(firsts=(1000, 0))
-    case.given(CALLERS[0], "open 0 4000 80")
-    syn = connection.text(0, 0, "S", None)
-    out = case.goes(0, syn, case.make(connection, 0, 0, 0, "S"))
+    syn, out = send_syn(case, connection)
     made = [case.refuse(1, case.comes(1, syn, out)) for _ in range(count)]
     reset = connection.text(1, 0, "AR", 1, window=0)
     groups = groups_for(count)

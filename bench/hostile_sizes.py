@@ -3,12 +3,13 @@
 
     python3 bench/hostile_sizes.py PROGRAM [--lab PROGRAM] [--runs N] [--only WORD]
 
-The result of N runs (default: 3) is the least processor time, including system time, and the peak memory. Both are printed for
-`check` and for the same case as two files, with the largest ratio between one size and the previous one. If a ratio of time or
-memory is above 2.3, or a verdict is wrong, the last lines report it, and the status is 1.
+The result of N runs (default: 3) is the least processor time, including system time, and the peak memory. Both are
+printed for `check` and for the same case as two files, with the largest ratio between one size and the previous one. If
+a ratio of time or memory is above 2.3, or a verdict is wrong, the last lines report it, and the status is 1.
 
-With --lab, which names `tcpwit_lab`, the kinds for `find` follow. Their rows begin with `find`, and show its cost on the trace of
-the kind. PROGRAM then checks the case that was found, which isn't timed. Without --lab, these kinds are left out.
+With --lab, which names `tcpwit_lab`, the kinds for `find` follow. Their rows begin with `find`, and show its cost on
+the trace of the kind. PROGRAM then checks the case that was found, which isn't timed. Without --lab, these kinds are
+left out.
 """
 
 import argparse
@@ -115,7 +116,8 @@ def main():
     parser = argparse.ArgumentParser(description=__doc__.splitlines()[0])
     parser.add_argument("program", metavar="PROGRAM", help="the program tcpwit")
     parser.add_argument("--lab", metavar="PROGRAM", help="the program tcpwit_lab; adds the kinds for find")
-    parser.add_argument("--runs", metavar="N", type=int, default=3, help="how many times each case runs; the least time counts (default: 3)")
+    parser.add_argument("--runs", metavar="N", type=int, default=3,
+                        help="how many times each case runs; the least time counts (default: 3)")
     parser.add_argument("--only", metavar="WORD", default="", help="run only the kinds with this word in their name")
     given = parser.parse_args()
     told = []

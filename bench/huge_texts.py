@@ -3,8 +3,8 @@
 
     python3 bench/huge_texts.py PROGRAM [--only WORD]
 
-Each text is given to `check` or `many`, and as two files. If an answer is wrong, the last lines report it, and the status is 1.
-The largest text takes 200 megabytes on disk.
+Each text is given to `check` or `many`, and as two files. If an answer is wrong, the last lines report it, and the
+status is 1. The largest text takes 200 megabytes on disk.
 """
 
 import argparse
@@ -24,20 +24,19 @@ EMPTY_LINES = 20_000_000
 PIECE = 1_000_000
 
 # A name; what is repeated and how often, with the text before and after it, in the trace or the witness; the answer.
-TRACES = [
-    ("10,000,000 lines", HEADER, LINE, MOST_LINES - 6, b"", "bad witness 1 0 0 header"),
-    ("10,000,001 lines", HEADER, LINE, MOST_LINES - 5, b"", "bad trace 10000001 0 15 too-many-lines"),
-    ("a line of 200,000,000 letters", HEADER, b"a", LONG, b"\n", "bad trace 7 0 200000000 line-too-long"),
-    ("the same without LF", HEADER, b"a", LONG, b"", "bad trace 7 0 200000000 line-too-long"),
-    ("a field of 139,990 digits in each of 1,000 lines", HEADER, b"9" * 139_990 + b" 1 B\n", 1_000, b"", "bad trace 7 0 139990 number"),
-    ("20,000,000 empty lines", b"", b"\n", EMPTY_LINES, b"", "bad trace 1 0 0 header"),
-    ("20,000,000 empty lines after the header", HEADER, b"\n", EMPTY_LINES, b"", "bad trace 7 0 0 field"),
-    ("200,000,000 NULs", b"", b"\0", LONG, b"", "bad trace 1 0 200000000 line-too-long"),
-    ("200,000,000 CRs", b"", b"\r", LONG, b"", "bad trace 1 0 200000000 line-too-long"),
-    ("200,000,000 CRs before an LF", HEADER, b"\r", LONG, b"\n", "bad trace 7 0 199999999 line-too-long"),
-    ("100,000,000 spaces", HEADER, b" ", LONG // 2, b"\n", "bad trace 7 0 100000000 line-too-long"),
-    ("1,400 lines of 140,000 spaces", HEADER, b" " * 140_000 + b"\n", 1_400, b"", "bad trace 7 0 0 field"),
-]
+TRACES = [("10,000,000 lines", HEADER, LINE, MOST_LINES - 6, b"", "bad witness 1 0 0 header"),
+          ("10,000,001 lines", HEADER, LINE, MOST_LINES - 5, b"", "bad trace 10000001 0 15 too-many-lines"),
+          ("a line of 200,000,000 letters", HEADER, b"a", LONG, b"\n", "bad trace 7 0 200000000 line-too-long"),
+          ("the same without LF", HEADER, b"a", LONG, b"", "bad trace 7 0 200000000 line-too-long"),
+          ("a field of 139,990 digits in each of 1,000 lines", HEADER, b"9" * 139_990 + b" 1 B\n", 1_000, b"",
+           "bad trace 7 0 139990 number"),
+          ("20,000,000 empty lines", b"", b"\n", EMPTY_LINES, b"", "bad trace 1 0 0 header"),
+          ("20,000,000 empty lines after the header", HEADER, b"\n", EMPTY_LINES, b"", "bad trace 7 0 0 field"),
+          ("200,000,000 NULs", b"", b"\0", LONG, b"", "bad trace 1 0 200000000 line-too-long"),
+          ("200,000,000 CRs", b"", b"\r", LONG, b"", "bad trace 1 0 200000000 line-too-long"),
+          ("200,000,000 CRs before an LF", HEADER, b"\r", LONG, b"\n", "bad trace 7 0 199999999 line-too-long"),
+          ("100,000,000 spaces", HEADER, b" ", LONG // 2, b"\n", "bad trace 7 0 100000000 line-too-long"),
+          ("1,400 lines of 140,000 spaces", HEADER, b" " * 140_000 + b"\n", 1_400, b"", "bad trace 7 0 0 field")]
 WITNESSES = [
     ("10,000,001 lines of a witness", WITNESS, STEP, MOST_LINES, b"", "bad witness 10000001 0 16 too-many-lines"),
     ("10,000,000 lines of a witness", WITNESS, STEP, MOST_LINES - 1, b"", "no 2 0 no-call"),
@@ -85,7 +84,8 @@ def main():
             write(path, *parts)
             files = [program, "check", "--trace", path if is_trace else other, "--witness", other if is_trace else path]
             write(other, WITNESS if is_trace else HEADER, b"\n", 0, b"")
-            wrong += ran(name, "two files", files, os.devnull, wanted if wanted != "bad witness 1 0 0 header" else "no 0 7 unplaced")
+            wrong += ran(name, "two files", files, os.devnull,
+                         wanted if wanted != "bad witness 1 0 0 header" else "no 0 7 unplaced")
             if not is_trace:
                 write(path, HEADER + parts[0], *parts[1:])
             wrong += ran(name, "check", [program, "check"], path, wanted)

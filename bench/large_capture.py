@@ -3,9 +3,10 @@
 
     python3 bench/large_capture.py LAB [MEGABYTES [CONNECTIONS [PROCESSORS]]]
 
-The capture is of a server that answers each of CONNECTIONS (default: 10,000) connections with the same number of bytes; the file has MEGABYTES
-(default: 1,000). Fifty connections run at the same time. Two of the client's acknowledgments are never missing, and no segment is lost, so that
-each connection has a yes. tcpwit-judge runs on PROCESSORS (default: 2). The capture is written to the folder of temporary files.
+The capture is of a server that answers each of CONNECTIONS (default: 10,000) connections with the same number of bytes;
+the file has MEGABYTES (default: 1,000). Fifty connections run at the same time. Two of the client's acknowledgments are
+never missing, and no segment is lost, so that each connection has a yes. tcpwit-judge runs on PROCESSORS (default: 2).
+The capture is written to the folder of temporary files.
 """
 import os
 import struct
@@ -26,8 +27,11 @@ def frame(client, number, acknowledgment, flags, payload=b"", options=b"", from_
     """An Ethernet frame with a segment between the server and a client, which is an address and a port."""
     ports = (80, client[1]) if from_server else (client[1], 80)
     addresses = SERVER + client[0] if from_server else client[0] + SERVER
-    segment = struct.pack("!HHIIBBHHH", *ports, number, acknowledgment, (20 + len(options)) // 4 << 4, flags, 65535, 0, 0) + options + payload
-    return bytes(12) + b"\x08\x00" + struct.pack("!BBHHHBBH", 0x45, 0, 20 + len(segment), 1, 0, 64, 6, 0) + addresses + segment
+    offset = (20 + len(options)) // 4 << 4
+    header = struct.pack("!HHIIBBHHH", *ports, number, acknowledgment, offset, flags, 65535, 0, 0)
+    segment = header + options + payload
+    ip = struct.pack("!BBHHHBBH", 0x45, 0, 20 + len(segment), 1, 0, 64, 6, 0)
+    return bytes(12) + b"\x08\x00" + ip + addresses + segment
 
 
 def connection(number, size):
@@ -103,11 +107,13 @@ def main():
     """Runs the benchmark."""
     if not 2 <= len(sys.argv) <= 5:
         sys.exit(__doc__)
-    megabytes, connections, processors = (int(word) for word in sys.argv[2:] + ["1000", "10000", "2"][len(sys.argv) - 2:])
+    words = sys.argv[2:] + ["1000", "10000", "2"][len(sys.argv) - 2:]
+    megabytes, connections, processors = map(int, words)
     with tempfile.TemporaryDirectory() as folder:
         name = f"{folder}/large.pcap"
         write(name, megabytes, connections)
-        words = [COMMAND, name, "--host", "server", "--lab", os.path.abspath(sys.argv[1]), "--jobs", str(processors), "--quiet"]
+        words = [COMMAND, name, "--host", "server", "--lab", os.path.abspath(sys.argv[1]), "--jobs", str(processors),
+                 "--quiet"]
         begun = time.monotonic()
         with open(f"{folder}/out", "w+", encoding="utf-8") as out:
             process = subprocess.Popen(words, stdout=out, preexec_fn=lambda: os.sched_setaffinity(0, range(processors)))

@@ -3,9 +3,9 @@
 
     python3 bench/long_trace.py [LINES]
 
-LINES is the number of event lines (default: 1,000,000, a text of 31.8 million bytes). The last line lacks its LF, so the trace is
-read to its end and then refused; with N lines, the answer is `bad trace A 0 14 cut` with A = N + 6. No step is checked, so this
-times only the reading.
+LINES is the number of event lines (default: 1,000,000, a text of 31.8 million bytes). The last line lacks its LF, so
+the trace is read to its end and then refused; with N lines, the answer is `bad trace A 0 14 cut` with A = N + 6. No
+step is checked, so this times only the reading.
 """
 
 import sys

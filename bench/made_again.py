@@ -3,10 +3,10 @@
 
     python3 bench/made_again.py [BYTES]
 
-It begins with rounds of `bulk_transfer.py` with full segments, until the congestion window is large enough for all those bytes.
-Then host 0 sends them, one per segment. None is acknowledged, so the retransmission timer expires, and each segment is
-retransmitted, from the last one to the first. A step that examines all outstanding bytes would take time proportional to their
-number.
+It begins with rounds of `bulk_transfer.py` with full segments, until the congestion window is large enough for all
+those bytes. Then host 0 sends them, one per segment. None is acknowledged, so the retransmission timer expires, and
+each segment is retransmitted, from the last one to the first. A step that examines all outstanding bytes would take
+time proportional to their number.
 
 BYTES is their number (default: 64,000; at most 65,535, because no window is scaled). The verdict on N bytes after R
 rounds is `yes A B` with A = 15 + 8 R and B = 10 + 6 R + 2 N, where R is the least number with 2144 + 536 R >= N.

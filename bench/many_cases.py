@@ -3,9 +3,9 @@
 
     python3 bench/many_cases.py [CASES [ROUNDS [THREADS]]]
 
-CASES is their number (default: 400). In a case, THREADS threads (default: 10) each begin a `status` call, all calls have their
-effect, and all end; this is repeated ROUNDS times (default: 150, a trace of 3,000 event lines). Each step has its line's moment.
-With R rounds and T threads, each case has the verdict `yes A B` with A = 2 R T and B = R T.
+CASES is their number (default: 400). In a case, THREADS threads (default: 10) each begin a `status` call, all calls
+have their effect, and all end; this is repeated ROUNDS times (default: 150, a trace of 3,000 event lines). Each step
+has its line's moment. With R rounds and T threads, each case has the verdict `yes A B` with A = 2 R T and B = R T.
 """
 
 import sys
@@ -47,7 +47,8 @@ def main():
         return
     given = [int(word) for word in sys.argv[1:]]
     cases, *sizes = given + [CASES, ROUNDS, THREADS][len(given):]
-    case = "".join(line + "\n" for lines in (HEADER, event_lines(*sizes), ["witness 1"], steps(*sizes)) for line in lines)
+    case = "".join(line + "\n" for lines in (HEADER, event_lines(*sizes), ["witness 1"], steps(*sizes))
+                   for line in lines)
     for _ in range(cases):
         sys.stdout.write(case + "end\n")
 

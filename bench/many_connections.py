@@ -3,10 +3,11 @@
 
     python3 bench/many_connections.py [COUNT ..]
 
-Copies the repository's last commit into a folder of its own, adds the program below as a crate, and runs it with `rt try`. That
-proves nothing and is slow, so only the ratios are meaningful. One host opens COUNT connections, each with a SYN that is never
-answered. After one turn that examines each connection, it measures 1,000 turns in which nothing is due: a call, a pump and a check
-of the timers."""
+Copies the repository's last commit into a folder of its own, adds the program below as a crate, and runs it with `rt
+try`. That proves nothing and is slow, so only the ratios are meaningful. One host opens COUNT connections, each with a
+SYN that is never answered. After one turn that examines each connection, it measures 1,000 turns in which nothing is
+due: a call, a pump and a check of the timers.
+"""
 import pathlib
 import subprocess
 import sys
@@ -106,7 +107,8 @@ fn main(rt: HostRuntime) -> std::io::Result<()> {
         let start = Instant::now(&rt)?;
         let turned = turn(&mut core, TURNS).unwrap_or(0);
         let turning = start.elapsed(&rt)?.as_micros();
-        println!(rt; "{count} connections: {opened} done, opened in {opening} us; {looked} and {turned} done, TURNS idle turns in {turning} us")?;
+        println!(rt; "{count} connections: {opened} done, opened in {opening} us; \\
+            {looked} and {turned} done, TURNS idle turns in {turning} us")?;
         drop(core);
     }
     Ok(())
@@ -129,7 +131,8 @@ def main():
             file.write(below.replace("stack_core:", "many_connections: stack_core") + "\n")
         crate = pathlib.Path(folder, "crates", "many_connections")
         (crate / "src").mkdir(parents=True)
-        program = PROGRAM.lstrip().replace("SIZES", ", ".join(count + "u16" for count in counts)).replace("TURNS", TURNS)
+        sizes = ", ".join(count + "u16" for count in counts)
+        program = PROGRAM.lstrip().replace("SIZES", sizes).replace("TURNS", TURNS)
         (crate / "src" / "main.rt").write_text(program)
         subprocess.run(["rt", "try"], cwd=crate, check=True)
 

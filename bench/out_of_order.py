@@ -3,15 +3,15 @@
 
     python3 bench/out_of_order.py [PIECES [BYTES [FLIGHTS]]]
 
-It begins with rounds of `bulk_transfer.py` with full segments, until the congestion window is large enough for a flight. In each
-flight, host 0 sends bytes in pieces of equal size, in order. They arrive in random order, so there are many gaps at once. Host 1
-keeps each piece. Once all have arrived, it receives the bytes and acknowledges them. A step that examines all gaps would take time
-proportional to the number of pieces.
+It begins with rounds of `bulk_transfer.py` with full segments, until the congestion window is large enough for a
+flight. In each flight, host 0 sends bytes in pieces of equal size, in order. They arrive in random order, so there are
+many gaps at once. Host 1 keeps each piece. Once all have arrived, it receives the bytes and acknowledges them. A step
+that examines all gaps would take time proportional to the number of pieces.
 
-PIECES is the number of pieces in a flight (default: 64,000), BYTES that of bytes in a piece (default: 1), and FLIGHTS that of flights
-(default: 2). A flight has at most 65,535 bytes, because no window is scaled. The verdict on F flights of N pieces after R rounds is
-`yes A B` with A = 12 + 8 R + F (6 + 2 N) and B = 9 + 6 R + F (4 + 2 N), where R is the least number for which 2144 + 536 R is at
-least the bytes of a flight.
+PIECES is the number of pieces in a flight (default: 64,000), BYTES that of bytes in a piece (default: 1), and FLIGHTS
+that of flights (default: 2). A flight has at most 65,535 bytes, because no window is scaled. The verdict on F flights
+of N pieces after R rounds is `yes A B` with A = 12 + 8 R + F (6 + 2 N) and B = 9 + 6 R + F (4 + 2 N), where R is the
+least number for which 2144 + 536 R is at least the bytes of a flight.
 """
 
 import random

@@ -1,10 +1,10 @@
 #!/usr/bin/env python3
 """Writes a case in which 20,000 calls are open at once, with its witness, to standard output.
 
-Each of five rounds has 40,000 event lines: every thread begins a `status` call, and when all have begun, every call ends.
-The steps do the same: all calls begin, have their effect, and end. Each step has the moment at which its half of the round is
-complete, so the lines of 20,000 threads wait at once. In every second round, the steps go from the last line to the first. The
-verdict is `yes 200000 100000`.
+Each of five rounds has 40,000 event lines: every thread begins a `status` call, and when all have begun, every call
+ends. The steps do the same: all calls begin, have their effect, and end. Each step has the moment at which its half of
+the round is complete, so the lines of 20,000 threads wait at once. In every second round, the steps go from the last
+line to the first. The verdict is `yes 200000 100000`.
 """
 
 import sys

@@ -3,8 +3,8 @@
 
     python3 bench/recording.py PROGRAM [ROUNDS [K]]
 
-PROGRAM is `tcpwit`. Its command `record` runs five times, with ROUNDS as `--rounds` (default: 1000) and K as `--lose` (default: 0); the
-fastest run is printed.
+PROGRAM is `tcpwit`. Its command `record` runs five times, with ROUNDS as `--rounds` (default: 1000) and K as `--lose`
+(default: 0); the fastest run is printed.
 """
 import subprocess
 import sys

@@ -3,11 +3,12 @@
 
     python3 bench/stand_in.py OUT [--crate NAME] [--inline REGEX].. [--apart REGEX]..
 
-The program that `rt try` builds is unsuitable for measuring: it is full of run-time checks that the proved program doesn't have. This
-script uses the module that `rt try` passes to its compiler and removes those checks. It marks the functions that the sources mark
-`#[inline(always)]` and those that match a REGEX (--inline: always inline them; --apart: never), and optimizes the module like a proved
-program. The result needs 1 to 5 percent fewer instructions than the proved program. Use it only to count them: if a proof is missing,
-its answers can be wrong. It takes two minutes. It depends on the folder layout of the November 2026 toolchain.
+The program that `rt try` builds is unsuitable for measuring: it is full of run-time checks that the proved program
+doesn't have. This script uses the module that `rt try` passes to its compiler and removes those checks. It marks the
+functions that the sources mark `#[inline(always)]` and those that match a REGEX (--inline: always inline them; --apart:
+never), and optimizes the module like a proved program. The result needs 1 to 5 percent fewer instructions than the
+proved program. Use it only to count them: if a proof is missing, its answers can be wrong. It takes two minutes. It
+depends on the folder layout of the November 2026 toolchain.
 """
 import argparse
 import glob
@@ -22,10 +23,12 @@ sys.path.insert(0, os.path.join(os.path.dirname(os.path.dirname(os.path.abspath(
 
 from unproved import TOP, kit, module_of
 
-FLAGS = """--target=x86_64-unknown-linux-gnu -march=x86-64 -mllvm -no-trap-after-noreturn -ffunction-sections -fdata-sections
- -mllvm -trap-unreachable -mllvm -no-x86-call-frame-opt -mllvm -disable-machine-licm -mllvm -disable-postra-machine-licm
- -mllvm -sink-common-insts=false --no-default-config -no-canonical-prefixes -fintegrated-cc1 -c -x ir -fPIE -O3 -Xclang -fmerge-functions
- -mllvm -mergefunc-use-aliases""".split()
+FLAGS = """--target=x86_64-unknown-linux-gnu -march=x86-64 -mllvm -no-trap-after-noreturn -ffunction-sections
+ -fdata-sections -mllvm -trap-unreachable -mllvm -no-x86-call-frame-opt -mllvm -disable-machine-licm
+ -mllvm -disable-postra-machine-licm -mllvm -sink-common-insts=false --no-default-config -no-canonical-prefixes
+ -fintegrated-cc1 -c -x ir -fPIE -O3 -Xclang -fmerge-functions -mllvm -mergefunc-use-aliases""".split()
+# The calls of run-time checks.
+CHECK = re.compile(r'  call void @(llvm\.(trap\(\)|memset\.p0\.i64\(ptr %\S+, i8 -86,)|"rattle-llvm-checks::)')
 LIKE_PROVED = '"probe-stack"="inline-asm" "stack-probe-size"="3072" "target-cpu"="x86-64-v2"'
 
 
@@ -49,10 +52,11 @@ def without_tests(lines, inline, apart):
     for line in lines:
         if flag := re.match(r"  (%\S+) = load volatile i8, ptr @static\.\d+, align 1", line):
             line = f"  {flag[1]} = add i8 0, 0\n"
-        elif re.match(r"  call void @llvm\.(trap\(\)|memset\.p0\.i64\(ptr %\S+, i8 -86,)", line) or re.match(r'  call void @"rattle-llvm-checks::', line):
+        elif CHECK.match(line):
             continue
         elif line.startswith("attributes #"):
-            line = line.replace(" sanitize_address", "").replace('"frame-pointer"="all"', "").replace('"target-cpu"="x86-64" }', '"target-cpu"="x86-64-v2" }')
+            line = line.replace(" sanitize_address", "").replace('"frame-pointer"="all"', "")
+            line = line.replace('"target-cpu"="x86-64" }', '"target-cpu"="x86-64-v2" }')
             line = re.sub(r"\{ +\}", "{ nounwind }", line)
         elif line.startswith("define "):
             name = re.search(r'@("[^"]*"|[^\s(]+)\(', line)[1].strip('"')
@@ -60,28 +64,33 @@ def without_tests(lines, inline, apart):
                 if any(pattern.search(name) for pattern in patterns):
                     line = re.sub(r"\) #\d+ \{$", f") #{mark} {{", line)
         yield line
-    yield f"\nattributes #9001 = {{ alwaysinline nounwind {LIKE_PROVED} }}\nattributes #9002 = {{ noinline nounwind {LIKE_PROVED} }}\n"
+    yield (f"\nattributes #9001 = {{ alwaysinline nounwind {LIKE_PROVED} }}\n"
+           f"attributes #9002 = {{ noinline nounwind {LIKE_PROVED} }}\n")
 
 
 def main():
     words = argparse.ArgumentParser(description=__doc__.splitlines()[0])
     words.add_argument("out", metavar="OUT", help="the file of the built program")
     words.add_argument("--crate", metavar="NAME", default="tcpwit", help="the crate of the program (default: tcpwit)")
-    words.add_argument("--inline", metavar="REGEX", action="append", type=re.compile, default=[], help="always inline the functions that match; may be repeated")
-    words.add_argument("--apart", metavar="REGEX", action="append", type=re.compile, default=[], help="never inline the functions that match; may be repeated")
+    words.add_argument("--inline", metavar="REGEX", action="append", type=re.compile, default=[],
+                       help="always inline the functions that match; may be repeated")
+    words.add_argument("--apart", metavar="REGEX", action="append", type=re.compile, default=[],
+                       help="never inline the functions that match; may be repeated")
     words = words.parse_args()
     whole = kit()
     clang = f"{whole}/toolchain/bin/clang"
     with tempfile.TemporaryDirectory() as folder:
         kept = module_of(words.crate, folder)
         text = f"{folder}/kept.ll"
-        subprocess.run([clang, "-x", "ir", kept, "-S", "-emit-llvm", "-Xclang", "-disable-llvm-passes", "-o", text], check=True)
+        subprocess.run([clang, "-x", "ir", kept, "-S", "-emit-llvm", "-Xclang", "-disable-llvm-passes", "-o", text],
+                       check=True)
         inline = words.inline + list(marked(glob.glob(f"{TOP}/crates/*/src/**/*.rt", recursive=True)))
         with open(text) as lines, open(f"{folder}/plain.ll", "w") as plain:
             plain.writelines(without_tests(lines, inline, words.apart))
         subprocess.run([clang, *FLAGS, f"{folder}/plain.ll", "-o", f"{folder}/plain.o"], check=True)
         libraries = [f"{whole}/c/libos_c.a", f"{whole}/c/liblibc_c.a", "-lm", "-lpthread", "-ldl"]
-        subprocess.run(["cc", "-pie", "-Wl,--gc-sections", "-o", words.out, f"{folder}/plain.o", *libraries], check=True)
+        subprocess.run(["cc", "-pie", "-Wl,--gc-sections", "-o", words.out, f"{folder}/plain.o", *libraries],
+                       check=True)
 
 
 if __name__ == "__main__":

@@ -3,14 +3,15 @@
 
     python3 bench/whole.py OLD NEW [--start START] [--runs N] [--only WORD]
 
-OLD, NEW and START are programs: all proved, or all built by `stand_in.py`. START is an early one: compared with it, small losses
-don't add up. Each row is a kind of case and a way to pass it. The script counts the instructions of one run on a small case, by
-valgrind's tool callgrind. Then it runs the programs alternately on a larger one, N times (default: 5), and prints the medians of
-processor time, including system time, and of peak memory. A dash means that an old program refuses these words as `bad usage`. If
-the programs print different answers, or end with different statuses, the last lines report it, and the status is 1.
+OLD, NEW and START are programs: all proved, or all built by `stand_in.py`. START is an early one: compared with it,
+small losses don't add up. Each row is a kind of case and a way to pass it. The script counts the instructions of one
+run on a small case, by valgrind's tool callgrind. Then it runs the programs alternately on a larger one, N times
+(default: 5), and prints the medians of processor time, including system time, and of peak memory. A dash means that an
+old program refuses these words as `bad usage`. If the programs print different answers, or end with different statuses,
+the last lines report it, and the status is 1.
 
-A busy machine doesn't change the instructions. The Debian packages `valgrind` and `time` are needed: `time` starts the programs,
-since the peak memory of a child of Python is at least Python's.
+A busy machine doesn't change the instructions. The Debian packages `valgrind` and `time` are needed: `time` starts the
+programs, since the peak memory of a child of Python is at least Python's.
 """
 
 import argparse
@@ -32,8 +33,8 @@ CHECK = ["check"]
 FILES = ["check", "--trace", "--witness"]
 MANY = ["many", "--workers", "1"]
 
-# The rows: a name, the script that writes the cases, its arguments for the small case and for the larger one, and the program's
-# arguments.
+# The rows: a name, the script that writes the cases, its arguments for the small case and for the larger one, and the
+# program's arguments.
 ROWS = [
     ("bulk", "bulk_transfer.py", (["5000"], ["20000"]), CHECK),
     ("large", "bulk_transfer.py", (["5000", "1000"], ["5000", "1000"]), CHECK),
@@ -112,7 +113,8 @@ def measured(programs, script, sizes, words, runs):
 def agree(results):
     """Whether all programs printed the same, and ended in the same way."""
     found = [result for result in results if result]
-    return len({result.counted for result in found}) < 2 and len({answer for result in found for answer in result.answers}) < 2
+    counted, answers = {result.counted for result in found}, {answer for result in found for answer in result.answers}
+    return len(counted) < 2 and len(answers) < 2
 
 
 def ratio(new, other, value):
@@ -149,7 +151,8 @@ def words_given():
     words.add_argument("old", metavar="OLD", help="the program before a change")
     words.add_argument("new", metavar="NEW", help="the program after it")
     words.add_argument("--start", metavar="START", help="an early program, which NEW is compared with, too")
-    words.add_argument("--runs", metavar="N", type=int, default=5, help="how many times each case is run to measure time and memory (default: 5)")
+    words.add_argument("--runs", metavar="N", type=int, default=5,
+                       help="how many times each case is run to measure time and memory (default: 5)")
     words.add_argument("--only", metavar="WORD", default="", help="run only the cases with this word in their name")
     words = words.parse_args()
     if words.runs < 1:

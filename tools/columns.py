@@ -1,12 +1,14 @@
 #!/usr/bin/env python3
-"""Checks line widths: 120 columns in src and specs, 160 in proofs, 100 in the prose of pages.
+"""Checks line widths: 120 columns in src and specs and in Python, 160 in proofs, 100 in the prose of pages.
 
-    tools/columns.py            lists the files with more long lines than `tools/columns.txt` allows; the status is 1 if there are any
+    tools/columns.py            lists the files with more long lines than `tools/columns.txt` allows; the status is 1 if
+                                there are any
     tools/columns.py --write    lowers the counts in that file to the current ones, but raises none
-    tools/columns.py --anew     rewrites that file, for example after files were renamed; the sum of all counts may not rise
+    tools/columns.py --anew     rewrites that file, for example after files were renamed; the sum of all counts may not
+                                rise
 
-A column is a character. The prose of a page excludes tables and blocks of commands or output. A line with a single word may be
-wider. `tools/columns.txt` has a line for each file with long lines: their count and the file's name.
+A column is a character. The prose of a page excludes tables and blocks of commands or output. A line with a single word
+may be wider. `tools/columns.txt` has a line for each file with long lines: their count and the file's name.
 """
 import argparse
 import glob
@@ -16,7 +18,8 @@ import sys
 TOP = os.path.dirname(os.path.dirname(os.path.abspath(__file__)))
 BASELINE = os.path.join(TOP, "tools", "columns.txt")
 # The maximum width of lines, by files.
-WIDTHS = (("crates/*/src/**/*.rt", 120), ("crates/*/specs/**/*.antt", 120), ("crates/*/proofs/**/*.antt", 160), ("**/*.md", 100))
+WIDTHS = (("crates/*/src/**/*.rt", 120), ("crates/*/specs/**/*.antt", 120), ("crates/*/proofs/**/*.antt", 160),
+          ("**/*.py", 120), ("**/*.md", 100))
 # The beginnings of lines in a page that aren't prose: tables, and blocks of commands, output or texts.
 NO_PROSE = ("|", "    ")
 
@@ -65,8 +68,10 @@ def refused(found, limits):
 
 def main():
     words = argparse.ArgumentParser(description=__doc__.splitlines()[0])
-    words.add_argument("--write", action="store_true", help="lower the counts in tools/columns.txt to the current ones, but raise none")
-    words.add_argument("--anew", action="store_true", help="rewrite tools/columns.txt; the sum of all counts may not rise")
+    words.add_argument("--write", action="store_true",
+                       help="lower the counts in tools/columns.txt to the current ones, but raise none")
+    words.add_argument("--anew", action="store_true",
+                       help="rewrite tools/columns.txt; the sum of all counts may not rise")
     words = words.parse_args()
     found, limits = long_lines(), allowed()
     counts = {path: len(numbers) for path, numbers in found.items()}

@@ -11,12 +11,14 @@ def commands(cases, folder):
             return file.read()
 
     names = ["examples/handshake_and_five_bytes", "examples/two_threads", "worked-second-child-with-extra-1",
-             "worked-five-thousand-bytes-past-the-congestion-window", "text-a-fault-of-the-trace-before-one-of-the-witness"]
+             "worked-five-thousand-bytes-past-the-congestion-window",
+             "text-a-fault-of-the-trace-before-one-of-the-witness"]
     found = {}
     for name in names:
         found["check " + name] = (["check"], text(name)), expected[name]
     # A fault that comes long before the end.
-    found["check a fault in line 7"] = (["check"], text(names[0]).replace(b" listen ", b" listne ") * 20), "bad trace 7 7 13 field"
+    faulty = text(names[0]).replace(b" listen ", b" listne ") * 20
+    found["check a fault in line 7"] = (["check"], faulty), "bad trace 7 7 13 field"
     for name in names[:2]:
         trace, witness = text(name).split(b"witness ", 1)
         paths = os.path.join(folder, "trace"), os.path.join(folder, "witness")
@@ -30,7 +32,8 @@ def commands(cases, folder):
     for workers in ("1", "2", "8"):
         found["many " + workers] = (["many", "--workers", workers], joined), lines
     hex_text = "00500fa000000064ffffffff6012ffff00000000020403e8"
-    found["segment"] = (["segment", hex_text], b""), "src 80 dst 4000 seq 100 ack 4294967295 flags AS wnd 65535 mss 1000 len 0 first 101"
+    shown = "src 80 dst 4000 seq 100 ack 4294967295 flags AS wnd 65535 mss 1000 len 0 first 101"
+    found["segment"] = (["segment", hex_text], b""), shown
     found["segment of no hex"] = (["segment", "x"], b""), "bad segment hex"
     found["usage"] = (["chck"], b""), "bad usage"
     for rounds, lose in (("2", "3"), ("3", "0")):

@@ -1,12 +1,12 @@
 #!/usr/bin/python3
 """Checks the pages of this repository.
 
-    tools/docs.py            checks that each file, link, section and identifier in them exists, and that each command works and prints
-                             what the page shows
+    tools/docs.py            checks that each file, link, section and identifier in them exists, and that each command
+                             works and prints what the page shows
     tools/docs.py --names    checks only the names; this needs no program
 
-The commands run in a copy of the repository; docs_commands.py lists those that aren't run, with the reason. Prints a line for each
-fault, with its page and line. The status is 1 if there is one.
+The commands run in a copy of the repository; docs_commands.py lists those that aren't run, with the reason. Prints a
+line for each fault, with its page and line. The status is 1 if there is one.
 """
 import argparse
 import glob
@@ -29,9 +29,11 @@ SOURCE = re.compile(r"\.(md|py|c|h|go|rs|sbatch|scenario)$")
 SECTION = re.compile(r'(?:(?:\]\(([^)\s]+\.md)\)|`([\w./]+\.md)`),? )?(?:\bsection (\d+)|(?<=, )"([^"\n]+)")')
 # A name of code in backticks: it has an underscore, `::` or a capital inside.
 IDENTIFIER = re.compile(r"`(\w+(?:::\w+)*)(?:\(\))?`")
-# Names in pages that aren't in this repository: code of lwIP and gVisor, and functions that performance.md measured but no longer exist.
-FOREIGN = frozenset("tcp_in.c tcp_out.c tcp.c opt.h tcp_process tcp_receive tcp_abandon rcv.go endpoint.go header/tcp.go protocol.go connect.go "
-                    "segment_queue.go snd.go handleRcvdSegment maybeSendSegment count_below count_in_turn place_searched".split())
+# Names in pages that aren't in this repository: code of lwIP and gVisor, and functions that performance.md measured but
+# no longer exist.
+FOREIGN = frozenset("tcp_in.c tcp_out.c tcp.c opt.h tcp_process tcp_receive tcp_abandon rcv.go endpoint.go "
+                    "header/tcp.go protocol.go connect.go segment_queue.go snd.go handleRcvdSegment "
+                    "maybeSendSegment count_below count_in_turn place_searched".split())
 # Where names of code are looked up: everything except pages.
 CODE = re.compile(r"\.(rt|antt|txt|py|c|h|go|rs|scenario|edit|sbatch)$|/[\w-]+$")
 # What the examples fetch from their own server, which serves the folder where the command is run.
@@ -84,9 +86,10 @@ class Tree:
         self.top = top
         paths = [(folder, name) for folder, _, names in os.walk(top) if "/." not in folder[len(top):] for name in names]
         self.names = {name for _, name in paths}
-        self.words = {word for folder, name in paths if CODE.search(f"{folder}/{name}") and not BUILT.search(folder[len(top):])
-                      for word in words_of(f"{folder}/{name}")}
-        self.words |= {word for folder, name in paths for word in re.findall(r"\w+", f"{os.path.basename(folder)} {name}")}
+        self.words = {word for folder, name in paths if CODE.search(f"{folder}/{name}")
+                      and not BUILT.search(folder[len(top):]) for word in words_of(f"{folder}/{name}")}
+        self.words |= {word for folder, name in paths
+                       for word in re.findall(r"\w+", f"{os.path.basename(folder)} {name}")}
 
     def places(self, page, name):
         """The paths that a name in a page may mean."""
@@ -110,7 +113,7 @@ class Tree:
             name, _, anchor = found[1].partition("#")
             if re.match(r"\w+:", name):
                 continue
-            place = os.path.join(os.path.dirname(os.path.join(self.top, page)), name) if name else os.path.join(self.top, page)
+            place = os.path.join(self.top, os.path.dirname(page), name) if name else os.path.join(self.top, page)
             if not os.path.exists(place):
                 yield found.start(), f"the link {found[1]} leads nowhere"
             elif anchor and anchor not in map(slug, headings(text_of(place))):
@@ -159,12 +162,14 @@ class Tree:
 
 def main():
     words = argparse.ArgumentParser(description=__doc__, formatter_class=argparse.RawDescriptionHelpFormatter)
-    words.add_argument("--names", action="store_true", help="check the names of files, links and sections, but run no command")
+    words.add_argument("--names", action="store_true",
+                       help="check the names of files, links and sections, but run no command")
     given = words.parse_args()
     tree = Tree()
     pages = pages_of(TOP)
     faults = [fault for page in pages for fault in tree.faults(page)]
-    print("\n".join(faults or [f"{len(pages)} pages: each file, link, section and identifier that they name exists"]), flush=True)
+    print("\n".join(faults or [f"{len(pages)} pages: each file, link, section and identifier that they name exists"]),
+          flush=True)
     if given.names:
         return 1 if faults else 0
     failed, count = docs_commands.faults({page: text_of(os.path.join(TOP, page)) for page in pages})

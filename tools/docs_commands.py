@@ -1,4 +1,5 @@
-"""Runs the commands in pages in a copy of the repository, and compares their output and the pictures that they draw with the pages."""
+"""Runs the commands in pages in a copy of the repository, and compares their output and the pictures that they draw
+with the pages."""
 import os
 import re
 import shutil
@@ -43,10 +44,13 @@ LEFT_OUT = {
     "python3 tools/soak/": "takes minutes",
 }
 # The beginnings of texts that are neither commands nor the output of the command before them.
-SHOWN = ("//! Judges a case.", "#include <", "import tcpwit", "use tcpwit", "package judge", "[dev-dependencies]", "require tcpwit")
+SHOWN = ("//! Judges a case.", "#include <", "import tcpwit", "use tcpwit", "package judge", "[dev-dependencies]",
+         "require tcpwit")
 # Statuses other than 0, of commands whose page shows no output. On a busy machine, `record` can end with 1.
 STATUSES = {"tcpwit record ": 1, "strace -f -o calls": 5}
-COMMAND = re.compile(r"(\./|sudo |cc |cp |pip |TCPWIT_LIB_DIR=|CGO_|importer/|stacks/|packaging/|bindings/|bench/|tools/|python3 |\(cd |\{ |(tcpwit|tcpwit_lab|tcpdump|strace|for|parallel|read|mkfifo|cat|sed|grep) )")
+COMMAND = re.compile(r"(\./|sudo |cc |cp |pip |TCPWIT_LIB_DIR=|CGO_|importer/|stacks/|packaging/|bindings/|bench/"
+                     r"|tools/|python3 |\(cd |\{ "
+                     r"|(tcpwit|tcpwit_lab|tcpdump|strace|for|parallel|read|mkfifo|cat|sed|grep) )")
 # A command in a sentence or a table. One with `..` is incomplete, and one with N has a number to be chosen.
 INLINE = re.compile(r"(?<!`)`((?:\./)?tcpwit(?:_lab)? [^`\s]+ (?:(?!\.\.|\bN\b)[^`\n])+)`")
 BLOCK = re.compile(r"^(?:    .*\n)+", re.M)
@@ -91,7 +95,8 @@ def commands_of(text):
             last = Commands(match.start(), command_lines(match[0]))
             last.end = match.end()
             found.append(last)
-        elif last and last.output is None and (not text[last.end:match.start()].strip() or VERDICT.match(body) and not body.startswith(SHOWN)):
+        elif last and last.output is None and (not text[last.end:match.start()].strip() or VERDICT.match(body)
+                                               and not body.startswith(SHOWN)):
             last.output = body.splitlines()
         elif not body.startswith(SHOWN):
             strangers.append(match.start())
@@ -113,12 +118,14 @@ def unexpected(failed):
 
 
 class Copy:
-    """A copy of the repository with built programs, and a folder for each page with the files that its commands read."""
+    """A copy of the repository with built programs, and a folder for each page with the files that its commands
+    read."""
 
     def __init__(self, folder, top=TOP):
         self.folder = folder
         self.top = f"{folder}/copy"
-        shutil.copytree(top, self.top, symlinks=True, ignore=shutil.ignore_patterns(".git", ".built", "out", "__pycache__"))
+        shutil.copytree(top, self.top, symlinks=True,
+                        ignore=shutil.ignore_patterns(".git", ".built", "out", "__pycache__"))
         for path in (f"{self.top}/.built", f"{folder}/bin"):
             os.mkdir(path)
         for name in ("tcpwit", "tcpwit_lab"):
@@ -161,11 +168,12 @@ class Copy:
 
     def run(self, script, folder):
         """A script's output, and the commands in it that failed."""
-        environment = {"PATH": f"{self.folder}/bin:/usr/bin:/bin", "LC_ALL": "C", "PYTHONDONTWRITEBYTECODE": "1", "HOME": self.folder}
+        environment = {"PATH": f"{self.folder}/bin:/usr/bin:/bin", "LC_ALL": "C", "PYTHONDONTWRITEBYTECODE": "1",
+                       "HOME": self.folder}
         with tempfile.TemporaryFile("w+") as printed, tempfile.TemporaryFile("w+") as failed:
-            shell = subprocess.Popen(["bash", "-c", f"exec 9>&{failed.fileno()}\n{TRAP}{script}\nwait"], cwd=folder, env=environment,
-                                     stdin=subprocess.DEVNULL, stdout=printed, stderr=subprocess.STDOUT, pass_fds=[failed.fileno()],
-                                     start_new_session=True)
+            shell = subprocess.Popen(["bash", "-c", f"exec 9>&{failed.fileno()}\n{TRAP}{script}\nwait"], cwd=folder,
+                                     env=environment, stdin=subprocess.DEVNULL, stdout=printed,
+                                     stderr=subprocess.STDOUT, pass_fds=[failed.fileno()], start_new_session=True)
             try:
                 shell.wait(LIMIT)
                 late = ""
@@ -192,7 +200,8 @@ def faults_of(commands, copy, folder):
 
 
 def picture_faults(page, text, top, at):
-    """The faults of a page's pictures, each with its place. A command of the page has to draw each one into a file of the same name."""
+    """The faults of a page's pictures, each with its place. A command of the page has to draw each one into a file of
+    the same name."""
     for match in PICTURE.finditer(text):
         name = os.path.basename(match[1])
         drawn = f"{at}/{name}"
@@ -201,11 +210,13 @@ def picture_faults(page, text, top, at):
             continue
         with open(drawn, "rb") as new, open(os.path.join(top, os.path.dirname(page), match[1]), "rb") as old:
             if new.read() != old.read():
-                yield match.start(), f"{match[1]} isn't what the page's command draws: run that command, and keep its file"
+                yield match.start(), (f"{match[1]} isn't what the page's command draws: run that command, "
+                                      "and keep its file")
 
 
 def faults(pages, top=TOP):
-    """The faults of all pages' commands, each with its page and line, and how many commands were run. `pages` maps names to texts."""
+    """The faults of all pages' commands, each with its page and line, and how many commands were run. `pages` maps
+    names to texts."""
     found, used, count = [], set(), 0
     with tempfile.TemporaryDirectory() as folder:
         copy = Copy(folder, top)
@@ -213,10 +224,12 @@ def faults(pages, top=TOP):
             at = copy.page(page, text)
             blocks, strangers = commands_of(text)
             line = lambda place: f"{page}:{text.count(chr(10), 0, place) + 1}"
-            found += [f"{line(place)}: neither a command nor what one prints: see COMMAND and SHOWN" for place in strangers]
+            found += [f"{line(place)}: neither a command nor what one prints: see COMMAND and SHOWN"
+                      for place in strangers]
             for commands in blocks:
                 used.update(commands.left_out())
                 count += bool(commands.script())
                 found += [f"{line(commands.place)}: {fault}" for fault in faults_of(commands, copy, at)]
             found += [f"{line(place)}: {fault}" for place, fault in picture_faults(page, text, top, at)]
-    return found + [f"LEFT_OUT: no page has a command that begins with {start!r}" for start in LEFT_OUT if start not in used], count
+    return found + [f"LEFT_OUT: no page has a command that begins with {start!r}" for start in LEFT_OUT
+                    if start not in used], count

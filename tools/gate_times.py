@@ -1,12 +1,13 @@
 #!/usr/bin/env python3
-"""Runs a command (default: rt ci) and prints its cost by crate: processor seconds for the proofs, the tests and the edits (mutants).
+"""Runs a command (default: rt ci) and prints its cost by crate: processor seconds for the proofs, the tests and the
+edits (mutants).
 
     python3 tools/gate_times.py [--out FILE] [COMMAND ..]
 
-Four times a second, it reads the time that each process below the command has used. The process's --crate-name shows its crate. A
-process that works on a copy in a folder rt-edit-.. belongs to the edits; one with --test belongs to the tests. The last quarter of a
-second of each process is missed. The first edit of a crate proves the whole crate again, and each further one only what it changes;
-the last column shows the longest of the further ones.
+Four times a second, it reads the time that each process below the command has used. The process's --crate-name shows
+its crate. A process that works on a copy in a folder rt-edit-.. belongs to the edits; one with --test belongs to the
+tests. The last quarter of a second of each process is missed. The first edit of a crate proves the whole crate again,
+and each further one only what it changes; the last column shows the longest of the further ones.
 """
 
 import os

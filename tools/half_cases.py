@@ -3,9 +3,10 @@
 
     python3 tools/half_cases.py crates/test_cases/data FOLDER
 
-Each case of the first folder with a yes in its expected.txt is a recording of both hosts. Its half for a host has only that
-host's lines, as if the other one had not been recorded, and that host's steps of the witness. Moments stay the same; lines and
-made segments are renumbered, and the host becomes host 0. Each half gets a yes, with the counts in the new expected.txt:
+Each case of the first folder with a yes in its expected.txt is a recording of both hosts. Its half for a host has only
+that host's lines, as if the other one had not been recorded, and that host's steps of the witness. Moments stay the
+same; lines and made segments are renumbered, and the host becomes host 0. Each half gets a yes, with the counts in the
+new expected.txt:
 
     FOLDER/half-H-of-NAME.case   the half of host H
     FOLDER/expected.txt          a line for each: its name, a tab, and the line that must be printed
@@ -14,10 +15,10 @@ made segments are renumbered, and the host becomes host 0. Each half gets a yes,
 
 To check this, run: tcpwit many --workers 4 < FOLDER/many.txt | diff - FOLDER/wanted.txt
 
-A line belongs to the host that it names; a call on a socket number belongs to the host that returned this number. A call on a
-number that was never returned is in both halves. A half is left out if its host has no line, or if a case of version 1 shows a SYN
-of this host with a shift: version 1 ignores it, version 3 doesn't. In LEFT_OUT, a host drops what an older connection sent; in a half
-case, nothing shows that, so the host would have to process it.
+A line belongs to the host that it names; a call on a socket number belongs to the host that returned this number. A
+call on a number that was never returned is in both halves. A half is left out if its host has no line, or if a case of
+version 1 shows a SYN of this host with a shift: version 1 ignores it, version 3 doesn't. In LEFT_OUT, a host drops what
+an older connection sent; in a half case, nothing shows that, so the host would have to process it.
 """
 
 import os

@@ -3,33 +3,33 @@
 
     python3 tools/lab_cases.py TCPWIT TCPWIT_LAB CASES
 
-CASES is crates/test_cases/data. Checks that each picture is XML, is within its frame, and has one red mark if the verdict is no and
-none otherwise; and that bad arguments get `bad usage`. Looks for a witness of the trace of each case with a yes. The status is 1 if
-a picture or an answer is wrong; a witness that isn't found is only counted.
+CASES is crates/test_cases/data. Checks that each picture is XML, is within its frame, and has one red mark if the
+verdict is no and none otherwise; and that bad arguments get `bad usage`. Looks for a witness of the trace of each case
+with a yes. The status is 1 if a picture or an answer is wrong; a witness that isn't found is only counted.
 """
 import pathlib
 import subprocess
 import sys
 import xml.etree.ElementTree as ElementTree
 
-USAGE = [
-    [], ["Draw"], ["draw", "--from"], ["draw", "--from", "0"], ["draw", "--from", "+9"], ["draw", "--from", "09"],
-    ["draw", "--from", "9", "--from", "9"], ["draw", "--to", "9", "--to", "9"], ["draw", "--from", "9", "--to"],
-    ["draw", "--from", "9", "--to", "8"], ["draw", "--to", "8", "--from", "9"], ["draw", "--from", "99999999999999999999"],
-    ["draw", "9"], ["draw", "--from", "9", "--to", "9", "--to", "9"], ["find", "x"], ["show", "--from", "9"], ["explain", ""],
-    ["remark", "x"], ["remark", ""],
-    ["judge", "none"], ["judge", "--least"], ["judge", "--least", "None"], ["judge", "--least", "none", "--least", "none"],
-    ["judge", "--case"], ["judge", "--case", ""], ["judge", "--case", "-x"], ["judge", "--case", "x", "--case", "x"],
-    ["draw", "--from="], ["draw", "--from=0"], ["draw", "--from=9", "--to=8"], ["draw", "--from=9", "--from", "9"], ["judge", "--least="],
-    ["judge", "--case="], ["judge", "--slack"], ["judge", "--slack="], ["judge", "--slack", "Any"], ["judge", "--slack", "any", "--slack", "0"],
-    ["explain", "--simulated=yes"], ["explain", "--simulated", "--simulated"], ["explain", "--json", "--json"], ["explain", "--json", "x"],
-    ["judge", "--json="], ["judge", "--json=yes"], ["judge", "--json", "yes"], ["judge", "--case", "--json"], ["remark", "--json", "--json"],
-    ["remark", "--simulated"], ["judge", "--simulated"], ["find", "--json"], ["show", "--json"], ["draw", "--json"],
-]
-RANGES = [
-    (["--from", "9"], 9, None), (["--to", "12"], None, 12), (["--from", "9", "--to", "12"], 9, 12),
-    (["--to", "12", "--from", "9"], 9, 12), (["--from=9"], 9, None), (["--to=12", "--from", "9"], 9, 12), (["--from=9", "--to=12"], 9, 12),
-]
+USAGE = [[], ["Draw"], ["draw", "--from"], ["draw", "--from", "0"], ["draw", "--from", "+9"], ["draw", "--from", "09"],
+         ["draw", "--from", "9", "--from", "9"], ["draw", "--to", "9", "--to", "9"], ["draw", "--from", "9", "--to"],
+         ["draw", "--from", "9", "--to", "8"], ["draw", "--to", "8", "--from", "9"],
+         ["draw", "--from", "99999999999999999999"], ["draw", "9"], ["draw", "--from", "9", "--to", "9", "--to", "9"],
+         ["find", "x"], ["show", "--from", "9"], ["explain", ""], ["remark", "x"], ["remark", ""], ["judge", "none"],
+         ["judge", "--least"], ["judge", "--least", "None"], ["judge", "--least", "none", "--least", "none"],
+         ["judge", "--case"], ["judge", "--case", ""], ["judge", "--case", "-x"],
+         ["judge", "--case", "x", "--case", "x"], ["draw", "--from="], ["draw", "--from=0"],
+         ["draw", "--from=9", "--to=8"], ["draw", "--from=9", "--from", "9"], ["judge", "--least="],
+         ["judge", "--case="], ["judge", "--slack"], ["judge", "--slack="], ["judge", "--slack", "Any"],
+         ["judge", "--slack", "any", "--slack", "0"], ["explain", "--simulated=yes"],
+         ["explain", "--simulated", "--simulated"], ["explain", "--json", "--json"], ["explain", "--json", "x"],
+         ["judge", "--json="], ["judge", "--json=yes"], ["judge", "--json", "yes"], ["judge", "--case", "--json"],
+         ["remark", "--json", "--json"], ["remark", "--simulated"], ["judge", "--simulated"], ["find", "--json"],
+         ["show", "--json"], ["draw", "--json"]]
+RANGES = [(["--from", "9"], 9, None), (["--to", "12"], None, 12), (["--from", "9", "--to", "12"], 9, 12),
+          (["--to", "12", "--from", "9"], 9, 12), (["--from=9"], 9, None), (["--to=12", "--from", "9"], 9, 12),
+          (["--from=9", "--to=12"], 9, 12)]
 
 
 def run(program, words, text):
@@ -97,7 +97,8 @@ def main():
             if not verdict.startswith("yes "):
                 missed.append(f"{name}: {verdict}")
     print("\n".join(missed + wrong))
-    print(f"{pictures} pictures; of {yes} cases answered yes {yes - len(missed)} are found again; {len(wrong)} wrong answers")
+    print(f"{pictures} pictures; of {yes} cases answered yes {yes - len(missed)} are found again; "
+          f"{len(wrong)} wrong answers")
     sys.exit(1 if wrong else 0)
 
 

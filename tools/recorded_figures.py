@@ -1,10 +1,12 @@
 #!/usr/bin/env python3
-"""Shows how strictly recordings of this machine's kernel can be judged with a yes, by kernel settings, size and loss. Run as root.
+"""Shows how strictly recordings of this machine's kernel can be judged with a yes, by kernel settings, size and loss.
+Run as root.
 
     sudo python3 tools/recorded_figures.py --lab PATH --runs 6
 
-Each run is a transfer between two network namespaces, recorded by importer/tcpwit-record and judged by `tcpwit_lab judge`. It counts for
-the strictest level with a yes, or for "no" if no level has one; standard error then shows what was refused.
+Each run is a transfer between two network namespaces, recorded by importer/tcpwit-record and judged by `tcpwit_lab
+judge`. It counts for the strictest level with a yes, or for "no" if no level has one; standard error then shows what
+was refused.
 """
 import argparse
 import collections
@@ -38,17 +40,21 @@ def main():
     words = argparse.ArgumentParser(description=__doc__.splitlines()[0])
     words.add_argument("--lab", metavar="PATH", required=True, help="the program tcpwit_lab")
     words.add_argument("--runs", metavar="N", type=int, default=6, help="runs of each kind (default: 6)")
-    words.add_argument("--kernels", nargs="+", choices=("plain", "shipped"), default=["plain", "shipped"], help="the kernel settings (default: both)")
+    words.add_argument("--kernels", nargs="+", choices=("plain", "shipped"), default=["plain", "shipped"],
+                       help="the kernel settings (default: both)")
     words.add_argument("--sizes", metavar="BYTES", type=int, nargs="+", default=[20_000, 200_000, 2_000_000],
                        help="the sizes of the transfers (default: 20000 200000 2000000)")
-    words.add_argument("--losses", metavar="SHARE", type=float, nargs="+", default=[0, 0.02], help="the shares of lost segments (default: 0 0.02)")
-    words.add_argument("--chunk", metavar="BYTES", type=int, default=60_000, help="the most bytes of one call of send (default: 60000)")
+    words.add_argument("--losses", metavar="SHARE", type=float, nargs="+", default=[0, 0.02],
+                       help="the shares of lost segments (default: 0 0.02)")
+    words.add_argument("--chunk", metavar="BYTES", type=int, default=60_000,
+                       help="the most bytes of one call of send (default: 60000)")
     options = words.parse_args()
     outcomes = (*LEVELS, "no", "error")
     print("| kernel | bytes | segments lost | " + " | ".join(outcomes) + " |\n|" + "---|" * (3 + len(outcomes)))
     for kernel, size, loss in itertools.product(options.kernels, options.sizes, options.losses):
         found = collections.Counter(strictest(options, kernel, size, loss, seed) for seed in range(1, options.runs + 1))
-        print(f"| {kernel} | {size:,} | {loss:.0%} | " + " | ".join(str(found[outcome] or "") for outcome in outcomes) + " |", flush=True)
+        print(f"| {kernel} | {size:,} | {loss:.0%} | " + " | ".join(str(found[outcome] or "") for outcome in outcomes)
+              + " |", flush=True)
 
 
 if __name__ == "__main__":

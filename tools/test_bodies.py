@@ -1,6 +1,6 @@
 #!/usr/bin/python3
-"""Tests tools/wrong_bodies without the prover: each edit can be applied, its clause exists, each promise has an edit, and proving.md
-lists the edits."""
+"""Tests tools/wrong_bodies without the prover: each edit can be applied, its clause exists, each promise has an edit,
+and proving.md lists the edits."""
 import os
 import re
 import sys
@@ -11,14 +11,16 @@ sys.path.insert(0, f"{TOP}/tools/wrong_bodies")
 import run
 
 # What a check prints for bodies that clauses refuse, and for bodies that only an index or a missing name refuses.
-BY_CLAUSES = """\
-note: src/word.rt:27:1: it is not proved that what the function ensures holds when it returns (`returns-then-clause-reads`)
-note: src/word.rt:27:1: it is not proved that what the function ensures holds when it returns (`returns-else-clause-reads`)
-note: src/word.rt:27:1: it is not proved that what the function ensures holds when it returns (`returns-else`); the facts
+NOT_PROVED = "note: src/word.rt:27:1: it is not proved that what the function ensures holds when it returns"
+BY_CLAUSES = f"""\
+{NOT_PROVED} (`returns-then-clause-reads`)
+{NOT_PROVED} (`returns-else-clause-reads`)
+{NOT_PROVED} (`returns-else`); the facts
 fn seqno::word::read_near: not proved
 """
 BY_ANSWER = "./proofs/word/read_near/Answers.antt:6:52: error: `returns-clause-found`: the two types differ\n"
-BY_SEARCH = "fn seqno::word::read_near: expected answers; `search` did not prove `returns-clause-reads`, `returns-clause-only`; it calls `x`\n"
+BY_SEARCH = ("fn seqno::word::read_near: expected answers; `search` did not prove `returns-clause-reads`, "
+             "`returns-clause-only`; it calls `x`\n")
 BY_NAME = "./proofs/word/read_near/Answers.antt:6:52: error: `returns-clause-found`: record `In` has no field `named`\n"
 BY_INDEX = """\
 note: src/word.rt:27:1: it is not proved that the index is in bounds (`index-in-bounds`)

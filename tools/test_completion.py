@@ -40,14 +40,15 @@ class Completion(unittest.TestCase):
     def completed(self, *words):
         """The completions of the last of these words."""
         command = os.path.join(TOP, COMMANDS.get(words[0], words[0]))
-        done = subprocess.run(["bash", "--norc", "-c", SCRIPT, "bash", f"{TOP}/packaging/completion/tcpwit", command, *words], cwd=self.folder,
-                              capture_output=True, text=True, check=True)
+        shell = ["bash", "--norc", "-c", SCRIPT, "bash", f"{TOP}/packaging/completion/tcpwit", command, *words]
+        done = subprocess.run(shell, cwd=self.folder, capture_output=True, text=True, check=True)
         self.assertEqual(done.stderr, "")
         return done.stdout.split()
 
     def test_first_words(self):
         self.assertEqual(self.completed("tcpwit", ""), ["check", "many", "segment", "record", *GENERAL])
-        self.assertEqual(self.completed("tcpwit_lab", ""), ["find", "explain", "show", "draw", "judge", "remark", *GENERAL])
+        self.assertEqual(self.completed("tcpwit_lab", ""),
+                         ["find", "explain", "show", "draw", "judge", "remark", *GENERAL])
         for name in ("tcpwit", "tcpwit_lab"):
             self.assertEqual(self.completed(name, "--"), ["--help", "--version"])
             self.assertEqual(self.completed(name, "he"), ["help"])
@@ -73,7 +74,8 @@ class Completion(unittest.TestCase):
         self.assertEqual(self.completed("tcpwit_lab", "explain", "--simulated", "--j"), ["--json"])
         self.assertEqual(self.completed("tcpwit_lab", "draw", ""), ["--from", "--to", "--help"])
         self.assertEqual(self.completed("tcpwit_lab", "draw", "--from", "1", ""), ["--from", "--to"])
-        self.assertEqual(self.completed("tcpwit_lab", "judge", ""), ["--least", "--slack", "--budget", "--case", "--json", "--help"])
+        self.assertEqual(self.completed("tcpwit_lab", "judge", ""),
+                         ["--least", "--slack", "--budget", "--case", "--json", "--help"])
         self.assertEqual(self.completed("tcpwit_lab", "judge", "--budget", ""), [])
         self.assertEqual(self.completed("tcpwit_lab", "judge", "--budget", "0", "--b"), ["--budget"])
 
@@ -81,8 +83,8 @@ class Completion(unittest.TestCase):
         self.assertEqual(self.completed("tcpwit_lab", "judge", "--least", ""), LEVELS)
         self.assertEqual(self.completed("tcpwit_lab", "judge", "--slack", ""), ["any"])
         self.assertEqual(self.completed("tcpwit", "record", "--format", ""), ["1", "2"])
-        for words in (["tcpwit", "many", "--workers"], ["tcpwit", "record", "--rounds"], ["tcpwit", "record", "--lose"], ["tcpwit_lab", "draw", "--from"],
-                      ["tcpwit_lab", "draw", "--to"]):
+        for words in (["tcpwit", "many", "--workers"], ["tcpwit", "record", "--rounds"], ["tcpwit", "record", "--lose"],
+                      ["tcpwit_lab", "draw", "--from"], ["tcpwit_lab", "draw", "--to"]):
             self.assertEqual(self.completed(*words, ""), [])
 
     def test_the_manual_has_the_same_words(self):
@@ -94,7 +96,8 @@ class Completion(unittest.TestCase):
                     self.assertRegex(page, rf"(?<![\w-]){found}(?![\w-])")
 
     def test_files(self):
-        for words in (["tcpwit", "check", "--trace"], ["tcpwit", "check", "--trace", "F", "--witness"], ["tcpwit_lab", "judge", "--case"]):
+        for words in (["tcpwit", "check", "--trace"], ["tcpwit", "check", "--trace", "F", "--witness"],
+                      ["tcpwit_lab", "judge", "--case"]):
             self.assertEqual(sorted(self.completed(*words, "")), ["one.case", "two.trace"])
             self.assertEqual(self.completed(*words, "o"), ["one.case"])
 
@@ -106,7 +109,8 @@ class Completion(unittest.TestCase):
 
     def test_values_of_the_scripts(self):
         self.assertEqual(self.completed("tcpwit-record", "--kernel", ""), ["plain", "shipped"])
-        for words in (["tcpwit-record", "--congestion"], ["tcpwit-import", "--congestion"], ["tcpwit-stacks", "lwip", "--least"]):
+        for words in (["tcpwit-record", "--congestion"], ["tcpwit-import", "--congestion"],
+                      ["tcpwit-stacks", "lwip", "--least"]):
             self.assertEqual(self.completed(*words, ""), LEVELS)
             self.assertEqual(self.completed(*words, "r"), ["recovery"])
         self.assertEqual(self.completed("tcpwit-import", "--each", ""), ["pair", "connection"])

@@ -20,7 +20,8 @@ echo "$@"
 exit $1
 """
 # The files that the commands read.
-READ = ("examples/handshake.case", "crates/test_cases/data/kernel/lost-fin.trace", "importer/tests/data/recordings.tar.xz")
+READ = ("examples/handshake.case", "crates/test_cases/data/kernel/lost-fin.trace",
+        "importer/tests/data/recordings.tar.xz")
 
 
 class Pages(unittest.TestCase):
@@ -46,8 +47,9 @@ class Pages(unittest.TestCase):
     def test_what_exists(self):
         self.assertEqual(self.faults("""# Here
 
-[rules](docs/RULES.md), `RULES.md`, section 1, and section 1 again; [there](docs/RULES.md#1-what-a-rule-is), [here](#here); `tools/one.py`, `tools/`,
-`one.py`, `run.case`, `OUT/stack`, `.go`, `/usr/bin/tcpwit`, `crates/tcpwit/out/tcpwit`; `RULES.md`, "Which word"; <https://example.org/>; RFC 5681, 3.1
+[rules](docs/RULES.md), `RULES.md`, section 1, and section 1 again; [there](docs/RULES.md#1-what-a-rule-is),
+[here](#here); `tools/one.py`, `tools/`, `one.py`, `run.case`, `OUT/stack`, `.go`, `/usr/bin/tcpwit`,
+`crates/tcpwit/out/tcpwit`; `RULES.md`, "Which word"; <https://example.org/>; RFC 5681, 3.1
 """), [])
         self.assertEqual(self.faults("`../tools/one.py`, [rules](RULES.md)", "docs/MORE.md"), [])
 
@@ -61,30 +63,36 @@ class Pages(unittest.TestCase):
 
     def test_identifiers(self):
         self.write("crates/one/src/lib.rt", "pub fn check_case() {}\nstruct TextFault;\nmod one;\n")
-        self.assertEqual(self.faults("`check_case`, `check_case()`, `one::check_case`, `TextFault`, `tcp_in.c`, `tcp_process`, `word`, `RCV.NXT`"), [])
+        self.assertEqual(self.faults("`check_case`, `check_case()`, `one::check_case`, `TextFault`, `tcp_in.c`, "
+                                     "`tcp_process`, `word`, `RCV.NXT`"), [])
         for name, missing in (("check_cases", "check_cases"), ("one::check", "check"), ("TextFaults", "TextFaults")):
             self.assertEqual(self.faults(f"`{name}`"), [f"README.md:1: no code has the name {missing}"])
 
     def test_pages(self):
-        for page in ("README.md", "CHANGELOG.md", "docs/start/one.md", "tools/README.md", "tools/soak/README.md", "stacks/LANGUAGE.md", "crates/one/out/README.md"):
+        for page in ("README.md", "CHANGELOG.md", "docs/start/one.md", "tools/README.md", "tools/soak/README.md",
+                     "stacks/LANGUAGE.md", "crates/one/out/README.md"):
             self.write(page, "")
-        self.assertEqual(docs.pages_of(self.top), ["README.md", "docs/RULES.md", "docs/start/one.md", "stacks/LANGUAGE.md", "tools/README.md",
-                                                   "tools/soak/README.md"])
+        self.assertEqual(docs.pages_of(self.top),
+                         ["README.md", "docs/RULES.md", "docs/start/one.md", "stacks/LANGUAGE.md", "tools/README.md",
+                          "tools/soak/README.md"])
 
     def test_sections(self):
         self.assertEqual(self.faults("`RULES.md`,\nsection 2"), ["README.md:1: RULES.md has no section 2"])
         self.assertEqual(self.faults("[r](docs/RULES.md), section 3"), ["README.md:1: docs/RULES.md has no section 3"])
         self.assertEqual(self.faults("`RULES.md`, section 1, or section 4"), ["README.md:1: RULES.md has no section 4"])
         self.assertEqual(self.faults("## 1 One\n\nsection 2, not 1"), ["README.md:3: README.md has no section 2"])
-        self.assertEqual(self.faults('`RULES.md`, "What no rule is"'), ["README.md:1: RULES.md has no section What no rule is"])
+        self.assertEqual(self.faults('`RULES.md`, "What no rule is"'),
+                         ["README.md:1: RULES.md has no section What no rule is"])
 
     def test_the_page_that_an_example_fetches(self):
-        self.assertEqual(self.faults("curl http://10.9.0.2/page"), ["README.md:1: the server of the example has no page page"])
+        self.assertEqual(self.faults("curl http://10.9.0.2/page"),
+                         ["README.md:1: the server of the example has no page page"])
         self.assertEqual(self.faults("curl http://10.9.0.2/, http://10.9.0.2/README.md"), [])
 
 
 # Lines of `judge` about the recording, the case and the slack, which don't say what a level means.
-OTHER = re.compile(r"Only host 0 |The search added |The case has |No connection |No duty was late|\d+ of \d+ connections ")
+OTHER = re.compile(r"Only host 0 |The search added |The case has |No connection |No duty was late|\d+ of \d+ "
+                   r"connections ")
 
 
 class Yes(unittest.TestCase):
@@ -115,7 +123,8 @@ class Yes(unittest.TestCase):
         self.assertEqual({word for word, _ in answers}, {"full", "recovery", "none"})
         for word, lines in answers:
             self.assertLessEqual(max(map(len, lines)), 100)
-            self.assertEqual(f"`{word}`: " + " ".join(line for line in lines if not OTHER.match(line)), box[f"`{word}`:"])
+            self.assertEqual(f"`{word}`: " + " ".join(line for line in lines if not OTHER.match(line)),
+                             box[f"`{word}`:"])
 
 
 class Commands(unittest.TestCase):
@@ -128,7 +137,8 @@ class Commands(unittest.TestCase):
             shutil.copy(f"{docs.TOP}/{name}", f"{self.top}/{name}")
         with open(f"{folder.name}/program", "w", encoding="ascii") as file:
             file.write(PROGRAM)
-        for target, value in (("kept", lambda name: f"{folder.name}/program"), ("LEFT_OUT", {"sudo ": "root"}), ("SHOWN", ("a text",))):
+        for target, value in (("kept", lambda name: f"{folder.name}/program"), ("LEFT_OUT", {"sudo ": "root"}),
+                              ("SHOWN", ("a text",))):
             patch = mock.patch.object(docs_commands, target, value)
             patch.start()
             self.addCleanup(patch.stop)
@@ -138,10 +148,13 @@ class Commands(unittest.TestCase):
         return docs_commands.faults({"README.md": "\n".join([*lines, "", "and", "", "    sudo true", ""])}, self.top)
 
     def test_what_works(self):
-        self.assertEqual(self.faults("a", "", "    tcpwit 0 a        says a", "    tcpwit 0 \\", "      b", "", "    0 a", "    0 b", "", "b `tcpwit 0 c`"), ([], 2))
+        self.assertEqual(self.faults("a", "", "    tcpwit 0 a        says a", "    tcpwit 0 \\", "      b", "",
+                                     "    0 a", "    0 b", "", "b `tcpwit 0 c`"), ([], 2))
         self.assertEqual(self.faults("    tcpwit 1 a", "", "    1 a"), ([], 1))
-        self.assertEqual(self.faults("    cat CASE DIR/run.trace c0.pcap F > DIR/new", "", "a", "", "    a text", "", "`tcpwit 1 ..`, `tcpwit check`"), ([], 1))
-        self.assertEqual(self.faults("    tcpwit 0 yes", "    tcpwit 0 b; tcpwit 0 c", "", "    0 yes", "    ..", "    0 c"), ([], 1))
+        self.assertEqual(self.faults("    cat CASE DIR/run.trace c0.pcap F > DIR/new", "", "a", "", "    a text", "",
+                                     "`tcpwit 1 ..`, `tcpwit check`"), ([], 1))
+        self.assertEqual(self.faults("    tcpwit 0 yes", "    tcpwit 0 b; tcpwit 0 c", "", "    0 yes", "    ..",
+                                     "    0 c"), ([], 1))
         self.assertEqual(self.faults("    sudo true", "    tcpwit 0 a", "", "    not compared"), ([], 1))
 
     def test_other_lines(self):
@@ -151,7 +164,8 @@ class Commands(unittest.TestCase):
         self.assertEqual(self.faults("", "    tcpwit 0 a", "", "    0 a", "    0 b"), (wanted, 1))
 
     def test_a_command_that_fails(self):
-        self.assertEqual(self.faults("    tcpwit 0 a", "    tcpwit 1 b", "    tcpwit 0 c")[0][0], "README.md:1: `tcpwit 1 b` ended with status 1")
+        self.assertEqual(self.faults("    tcpwit 0 a", "    tcpwit 1 b", "    tcpwit 0 c")[0][0],
+                         "README.md:1: `tcpwit 1 b` ended with status 1")
         self.assertEqual(self.faults("a `tcpwit 3 b`")[0][0], "README.md:1: `tcpwit 3 b` ended with status 3")
         self.assertIn("ended with status 1", self.faults("    cat no-such-file")[0][0])
 
@@ -165,13 +179,15 @@ class Commands(unittest.TestCase):
         for name, content in (("same", "0 <svg/>\n"), ("other", "<svg/>\n"), ("lost", "<svg/>\n")):
             with open(f"{self.top}/docs/{name}.svg", "w", encoding="utf-8") as file:
                 file.write(content)
-        lines = ["    tcpwit 0 '<svg/>' > same.svg; tcpwit 0 '<svg/>' > other.svg", "", *(f"![it](docs/{name}.svg)" for name in ("same", "other", "lost"))]
+        lines = ["    tcpwit 0 '<svg/>' > same.svg; tcpwit 0 '<svg/>' > other.svg", "",
+                 *(f"![it](docs/{name}.svg)" for name in ("same", "other", "lost"))]
         self.assertEqual(self.faults(*lines)[0], [
             "README.md:4: docs/other.svg isn't what the page's command draws: run that command, and keep its file",
             "README.md:5: no command of this page writes lost.svg"])
 
     def test_what_the_tables_do_not_have(self):
-        self.assertEqual(self.faults("    apt-get update")[0], ["README.md:1: neither a command nor what one prints: see COMMAND and SHOWN"])
+        self.assertEqual(self.faults("    apt-get update")[0],
+                         ["README.md:1: neither a command nor what one prints: see COMMAND and SHOWN"])
         with mock.patch.object(docs_commands, "LEFT_OUT", {"sudo ": "root", "man ": "a package"}):
             self.assertEqual(self.faults("a")[0], ["LEFT_OUT: no page has a command that begins with 'man '"])
 
@@ -192,7 +208,8 @@ class Facts(unittest.TestCase):
     def test_contributing_lists_the_suites(self):
         suites = re.search(r"^readonly SUITES='\n(.*?)'$", self.page("test"), re.M | re.S)[1]
         row = re.search(r"^\| `\./test NAME \.\.` \| (.*) \|$", self.page("CONTRIBUTING.md"), re.M)[1]
-        self.assertEqual(re.findall(r"`(\w+)`", row), [line.split()[0] for line in suites.splitlines() if not line.startswith("+")])
+        self.assertEqual(re.findall(r"`(\w+)`", row),
+                         [line.split()[0] for line in suites.splitlines() if not line.startswith("+")])
 
 
 if __name__ == "__main__":

@@ -26,12 +26,14 @@ class Examples(unittest.TestCase):
         self.assertEqual([name for name in [*COPIES, *PAGES] if name not in names], [])
         for name in names:
             if name not in PAGES:
-                self.assertEqual(read(f"{TOP}/examples/{name}"), read(f"{CHECKED}/{COPIES.get(name, f'examples/{name}')}"), name)
+                self.assertEqual(read(f"{TOP}/examples/{name}"),
+                                 read(f"{CHECKED}/{COPIES.get(name, f'examples/{name}')}"), name)
 
     def test_the_others_are_written_by_a_page(self):
         for name, page in PAGES.items():
             text = "".join(f"    {line}\n" for line in read(f"{TOP}/examples/{name}").splitlines())
-            self.assertIn(f"    cat > {name} << 'EOT'\n{text}    EOT\n    ./tcpwit check < {name}\n\n    yes ", read(f"{TOP}/{page}"))
+            self.assertIn(f"    cat > {name} << 'EOT'\n{text}    EOT\n    ./tcpwit check < {name}\n\n    yes ",
+                          read(f"{TOP}/{page}"))
 
     def test_each_copy_has_an_example(self):
         copies = {os.path.basename(COPIES.get(name, name)) for name in os.listdir(f"{TOP}/examples")}

@@ -1,6 +1,7 @@
 #!/usr/bin/python3
-"""Tests `tcpwit_lab find`: how it ends, ports 0, where it adds lines, which lines are copies of which, segments that an attacker chose, which of
-several witnesses it prefers, hosts that process late or measure few round trips, and duties that a witness has to keep."""
+"""Tests `tcpwit_lab find`: how it ends, ports 0, where it adds lines, which lines are copies of which, segments that an
+attacker chose, which of several witnesses it prefers, hosts that process late or measure few round trips, and duties
+that a witness has to keep."""
 import glob
 import os
 import random
@@ -16,7 +17,8 @@ import unittest.mock
 sys.dont_write_bytecode = True
 TOP = os.path.dirname(os.path.dirname(os.path.abspath(__file__)))
 sys.path.insert(0, f"{TOP}/bench")
-from hostile_cases import CALLERS, FIRST_EVENT_LINE, WIRES, Case, Connection, colliding_payload, connected, segments_whose_digests_collide  # noqa: E402
+from hostile_cases import CALLERS, FIRST_EVENT_LINE, WIRES, Case, Connection  # noqa: E402
+from hostile_cases import colliding_payload, connected, segments_whose_digests_collide  # noqa: E402
 
 LAB = shlex.split(os.environ.get("TCPWIT_LAB", f"{TOP}/tcpwit_lab"))
 DATA = f"{TOP}/crates/test_cases/data"
@@ -28,7 +30,8 @@ UNEXPLAINED = "3 2 O 0 0fa0005000000001000000005002200000000000\n"
 
 def find(trace, *words, seconds=60):
     """The lines of the trace and of the witness that are found, and standard error."""
-    ran = subprocess.run([*LAB, "find", *words], input=trace, capture_output=True, text=True, check=True, timeout=seconds)
+    ran = subprocess.run([*LAB, "find", *words], input=trace, capture_output=True, text=True, check=True,
+                         timeout=seconds)
     lines = ran.stdout.splitlines()
     start = next(at for at, line in enumerate(lines) if line.startswith("witness "))
     return lines[:start], lines[start + 1:], ran.stderr
@@ -43,12 +46,14 @@ def copies(witness):
 class Endings(unittest.TestCase):
     def test_all_other_choices(self):
         said = find(HEADER + CALL + UNEXPLAINED, "--budget", "1000000")[2]
-        self.assertRegex(said, "^no choice that find knows explains line 9 of the trace; other choices tried: [1-9][0-9]*\n$")
+        self.assertRegex(said,
+                         "^no choice that find knows explains line 9 of the trace; other choices tried: [1-9][0-9]*\n$")
 
     def test_a_budget_bounds_what_is_tried(self):
         for budget in (0, 20):
             found = find(HEADER + CALL + UNEXPLAINED, "--budget", str(budget))
-            told = re.fullmatch("line 9 of the trace isn't explained, and the budget is spent; other choices tried: ([0-9]+)\n", found[2])
+            told = re.fullmatch("line 9 of the trace isn't explained, and the budget is spent; other choices tried: "
+                                "([0-9]+)\n", found[2])
             self.assertTrue(0 < int(told[1]) < budget if budget else told[1] == "0", told)
             self.assertEqual(find(HEADER + CALL + UNEXPLAINED, "--budget", str(budget)), found)
 
@@ -59,7 +64,8 @@ class Endings(unittest.TestCase):
 class PortZero(unittest.TestCase):
     """A step can't name a port 0, so the line of a segment that an endpoint sends from it or to it is refused."""
     HEAD = "trace {}\nskew 0\nmsl 60000000\ngrain 4000\nminrto 200000\nextra 65535\n"
-    HEADS = (HEAD.format(1), HEAD.format(4) + "initial 6928\nhosts 1\ncongestion none\n", HEAD.format(5) + "initial 6928\nhosts 2\ncongestion full\nslack 0\n",
+    HEADS = (HEAD.format(1), HEAD.format(4) + "initial 6928\nhosts 1\ncongestion none\n",
+             HEAD.format(5) + "initial 6928\nhosts 2\ncongestion full\nslack 0\n",
              HEAD.format(5) + "initial 6928\nhosts 1\ncongestion full\nslack 1000000\n")
     LISTEN = "1 1 B listen 0 80 4\n1 1 E ok 5\n"
 
@@ -83,13 +89,15 @@ class PortZero(unittest.TestCase):
     def test_no_listener_answers_a_syn_from_it(self):
         for head in (self.HEADS[1], self.HEADS[3]):
             line = 1 + head.count("\n")
-            events = "2 2 I 0 000000500000177100000000500203e800000000\n2 2 O 0 0050000000001771000017725012ffff00000000\n"
+            events = ("2 2 I 0 000000500000177100000000500203e800000000\n"
+                      "2 2 O 0 0050000000001771000017725012ffff00000000\n")
             said, witness = self.verdict(head + self.LISTEN + events, False)
             self.assertEqual((said.split()[2:], witness[-1]), ([str(line + 3), "not-made"], f"2 L {line + 3} 0"))
 
     def test_a_reset_answers_a_segment_from_it(self):
         for head in (self.HEADS[1], self.HEADS[3]):
-            events = "2 2 I 0 0000005000001771000003ef501003e800000000\n2 2 O 0 00500000000003ef000000005004000000000000\n"
+            events = ("2 2 I 0 0000005000001771000003ef501003e800000000\n"
+                      "2 2 O 0 00500000000003ef000000005004000000000000\n")
             self.assertEqual(self.verdict(head + events, True)[0], "yes 2 1")
 
 
@@ -124,11 +132,13 @@ class Copies(unittest.TestCase):
         draws = random.Random(1)
         with unittest.mock.patch("hostile_cases.colliding_payload", lambda _, size: draws.randbytes(size)):
             other = segments_whose_digests_collide(20_000)
-        colliding, usual = (seconds_of("".join(line + "\n" for line in one.header + one.events), one.steps) for one in (case, other))
+        colliding, usual = (seconds_of("".join(line + "\n" for line in one.header + one.events), one.steps)
+                            for one in (case, other))
         self.assertLess(colliding, 3 * usual)
 
     def test_equal_segments(self):
-        """Segments of one connection, half of them with one digest, are sent and received in any order, again and again."""
+        """Segments of one connection, half of them with one digest, are sent and received in any order, again and
+        again."""
         for seed in range(5):
             draws = random.Random(seed)
             case, connection, wanted = Case(), Connection(), {}
@@ -137,7 +147,8 @@ class Copies(unittest.TestCase):
             opener, _, _ = connected(case, connection)
             texts = []
             for position in range(1, 1 + 60 * 20, 60):
-                payload = colliding_payload(connection.text(0, position, "A", 1), 60) if position % 120 else draws.randbytes(60)
+                text = connection.text(0, position, "A", 1)
+                payload = colliding_payload(text, 60) if position % 120 else draws.randbytes(60)
                 case.call(CALLERS[0], f"send {opener} {payload.hex()}", "ok 60")
                 texts.append(connection.text(0, position, "A", 1, payload))
             first = FIRST_EVENT_LINE + 2
@@ -160,7 +171,8 @@ class Copies(unittest.TestCase):
 
 
 class Recording:
-    """A trace of host 0 alone. Port 4000 is connected to port 80, 40 ms away, and each of its segments acknowledges byte `acked`."""
+    """A trace of host 0 alone. Port 4000 is connected to port 80, 40 ms away, and each of its segments acknowledges
+    byte `acked`."""
 
     HEADER = "trace 3,skew 0,msl 120000000,grain 1000,minrto 1000000,extra 0,initial 5681,half 0".split(",")
     CLOCK = 40_000
@@ -237,7 +249,8 @@ class LateHosts(unittest.TestCase):
             it.sent(at, 1, payload, after=3)
         it.sent(301, 801)
         last = it.moment - 10
-        self.assertEqual({line: taken for line, taken in self.found(it).items() if line in burst}, dict.fromkeys(burst, (last, True, False)))
+        self.assertEqual({line: taken for line, taken in self.found(it).items() if line in burst},
+                         dict.fromkeys(burst, (last, True, False)))
 
     def test_a_dropped_segment(self):
         """The host dropped the first of sixteen segments. No acknowledgment was built long before it was sent."""
@@ -256,7 +269,8 @@ class Samples(unittest.TestCase):
     """RFC 6298, 3 lets a host measure one round trip at a time."""
 
     def slow_acknowledgments(self, it):
-        """Four segments at once: the first is measured, and the others' acknowledgments come 0.9 s later. Then one is lost."""
+        """Four segments at once: the first is measured, and the others' acknowledgments come 0.9 s later. Then one is
+        lost."""
         payload = b"x" * 500
         it.call(f"send {it.opener} {5 * payload.hex()}", "ok 2500")
         for at in range(4):
@@ -293,7 +307,8 @@ class Watched(Recording):
     """Such a trace of version 5, whose duties are judged with a slack in microseconds."""
 
     def __init__(self, slack, level="full"):
-        self.HEADER = f"trace 5,skew 0,msl 120000000,grain 1000,minrto 1000000,extra 0,initial 5681,hosts 1,congestion {level},slack {slack}".split(",")
+        self.HEADER = ("trace 5,skew 0,msl 120000000,grain 1000,minrto 1000000,extra 0,initial 5681,hosts 1,"
+                       f"congestion {level},slack {slack}").split(",")
         super().__init__()
 
     def stop(self, after):

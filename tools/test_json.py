@@ -25,7 +25,8 @@ from unproved import kept  # noqa: E402
 
 def run(words, text, **options):
     """The output and the status."""
-    ran = subprocess.run([*LAB, *words], input=text, stdout=subprocess.PIPE, stderr=subprocess.DEVNULL, check=False, timeout=60, **options)
+    ran = subprocess.run([*LAB, *words], input=text, stdout=subprocess.PIPE, stderr=subprocess.DEVNULL, check=False,
+                         timeout=60, **options)
     return ran.stdout.decode(), ran.returncode
 
 
@@ -64,7 +65,8 @@ class Json(unittest.TestCase):
                      for name in ("explained", "judged", "remarked", "refused")}
 
     def object(self, kind, words, text, **options):
-        """The object for these words; it has the members of its kind or, with a status above 1, of a refusal, and of no other kind."""
+        """The object for these words; it has the members of its kind or, with a status above 1, of a refusal, and of no
+        other kind."""
         line, status = run([*words, "--json"], text, **options)
         self.assertEqual((line.count("\n"), line[-1:]), (1, "\n"))
         found = json.loads(line)
@@ -84,7 +86,8 @@ class Json(unittest.TestCase):
                 self.assertEqual(line_of(self.object("explained", ["explain"], text)), answer)
                 found = self.object("remarked", ["remark"], text)
                 self.assertEqual(line_of(found), answer)
-                self.assertEqual([remark["text"] for remark in found.get("remarks", [])], found["said"] if found["status"] < 2 else [])
+                self.assertEqual([remark["text"] for remark in found.get("remarks", [])],
+                                 found["said"] if found["status"] < 2 else [])
 
     def test_remarks_have_their_lines(self):
         with open(f"{DATA}/remarked.txt", encoding="utf-8") as file:
@@ -93,7 +96,8 @@ class Json(unittest.TestCase):
         for name in names:
             for remark in self.object("remarked", ["remark"], content(f"{DATA}/{name}.case")).get("remarks", []):
                 first, last = remark.get("first"), remark.get("last")
-                place = "at the end" if first is None else f"line {first}" if first == last else f"lines {first} to {last}"
+                place = f"line {first}" if first == last else f"lines {first} to {last}"
+                place = "at the end" if first is None else place
                 self.assertTrue(remark["text"].startswith(f"{place}: "), remark)
                 seen.add(place.split(" ", maxsplit=1)[0])
         self.assertEqual(seen, {"line", "lines", "at"})
@@ -115,9 +119,11 @@ class Json(unittest.TestCase):
         self.assertEqual("connections" in found, found["answer"] == "yes")
         for level in found["levels"]:
             if "without_duties" in level:
-                self.assertIn(f"Under {level['level']}, without duties: {line_of(level['without_duties'])}", found["said"])
+                self.assertIn(f"Under {level['level']}, without duties: {line_of(level['without_duties'])}",
+                              found["said"])
         said = [line for line in found["said"] if line.startswith("Under ") and ", without" not in line]
-        self.assertLessEqual(set(said), {f"Under {level['level']}: {level.get('sentence')}" for level in found["levels"]})
+        self.assertLessEqual(set(said),
+                             {f"Under {level['level']}: {level.get('sentence')}" for level in found["levels"]})
 
     def test_the_refused_line_as_it_was_given(self):
         seen = set()
@@ -151,34 +157,45 @@ class Json(unittest.TestCase):
         with tempfile.TemporaryDirectory() as folder:
             found = self.object("judged", ["judge", "--case", "run.case"], text, cwd=folder)
             self.assertEqual(found["said"][-1], f"The case has all {found['kept']} event lines of the trace, in order.")
-            self.assertEqual((found["added"], found["hosts"], found["connections"]), (1, 2, {"begun": 1, "established": 1}))
+            self.assertEqual((found["added"], found["hosts"], found["connections"]),
+                             (1, 2, {"begun": 1, "established": 1}))
             self.assertEqual(os.listdir(folder), ["run.case"])
-            self.assertEqual(self.object("judged", ["judge", "--case", "none/run.case"], text, cwd=folder)["answer"], "bad device")
+            self.assertEqual(self.object("judged", ["judge", "--case", "none/run.case"], text, cwd=folder)["answer"],
+                             "bad device")
 
     def test_a_text_that_cannot_be_read(self):
         with open("/proc/self/mem", "rb") as unreadable:
-            ran = subprocess.run([*LAB, "judge", "--json"], stdin=unreadable, capture_output=True, check=False, timeout=60)
-        self.assertEqual((json.loads(ran.stdout), ran.returncode), ({"status": 5, "answer": "bad device", "said": ["bad device"]}, 5))
+            ran = subprocess.run([*LAB, "judge", "--json"], stdin=unreadable, capture_output=True, check=False,
+                                 timeout=60)
+        self.assertEqual((json.loads(ran.stdout), ran.returncode),
+                         ({"status": 5, "answer": "bad device", "said": ["bad device"]}, 5))
 
     def test_one_host(self):
-        self.assertEqual(self.object("judged", ["judge"], content(f"{TOP}/examples/one_host_recorded.case").split(b"witness ")[0])["hosts"], 1)
+        trace = content(f"{TOP}/examples/one_host_recorded.case").split(b"witness ")[0]
+        self.assertEqual(self.object("judged", ["judge"], trace)["hosts"], 1)
 
     def test_refused_memory(self):
         """An answer is an object, even if there is no memory for the words that ask for one."""
         text = content(f"{TOP}/examples/handshake.case")
-        program, refused = kept("tcpwit_lab") if LAB == [f"{TOP}/tcpwit_lab"] else LAB[0], {"status": 4, "answer": "bad memory", "said": ["bad memory"]}
+        program = kept("tcpwit_lab") if LAB == [f"{TOP}/tcpwit_lab"] else LAB[0]
+        refused = {"status": 4, "answer": "bad memory", "said": ["bad memory"]}
         with tempfile.TemporaryDirectory() as folder:
             library = built_library(folder)
-            for words, given in ((["explain", "--simulated"], text), (["judge", "--slack", "0"], text.split(b"witness ")[0]), (["remark"], text)):
+            for words, given in ((["explain", "--simulated"], text),
+                                 (["judge", "--slack", "0"], text.split(b"witness ")[0]), (["remark"], text)):
                 right = run([*words, "--json"], given)
-                for refusal in ({"REFUSE_AT": "1"}, {"REFUSE_FROM": "1"}, *({kind: str(n)} for n in range(2, 40) for kind in ("REFUSE_AT", "REFUSE_FROM"))):
+                for refusal in ({"REFUSE_AT": "1"}, {"REFUSE_FROM": "1"},
+                                *({kind: str(n)} for n in range(2, 40) for kind in ("REFUSE_AT", "REFUSE_FROM"))):
                     surroundings = {"LD_PRELOAD": library, **refusal}
-                    lines = [subprocess.run([program, *asked], input=given, capture_output=True, env=surroundings, check=False, timeout=60)
+                    lines = [subprocess.run([program, *asked], input=given, capture_output=True, env=surroundings,
+                                            check=False, timeout=60)
                              for asked in ([words[0], "--json", *words[1:]], [*words, "--json"], words)]
                     for answer in lines[:2]:
-                        self.assertTrue((answer.stdout.decode(), answer.returncode) == right or json.loads(answer.stdout) == refused, (words, refusal, answer))
+                        self.assertTrue((answer.stdout.decode(), answer.returncode) == right
+                                        or json.loads(answer.stdout) == refused, (words, refusal, answer))
                     if refusal.popitem()[1] == "1":
-                        self.assertEqual([(answer.stdout.decode()[:1], answer.returncode) for answer in lines], [("{", 4), ("{", 4), ("b", 4)])
+                        self.assertEqual([(answer.stdout.decode()[:1], answer.returncode) for answer in lines],
+                                         [("{", 4), ("{", 4), ("b", 4)])
 
 
 if __name__ == "__main__":

@@ -1,8 +1,8 @@
 #!/usr/bin/python3
 """Compares what `tcpwit_lab judge` prints with the stored texts in crates/test_cases/data/judged.txt.
 
-A text begins with a line `== STATUS NAME WORDS`: the status, the trace crates/test_cases/data/NAME.trace, and the words after `judge`.
-If the words name a file for the case, `tcpwit check` must give it the verdict of the last level.
+A text begins with a line `== STATUS NAME WORDS`: the status, the trace crates/test_cases/data/NAME.trace, and the words
+after `judge`. If the words name a file for the case, `tcpwit check` must give it the verdict of the last level.
 """
 import os
 import shlex
@@ -33,7 +33,8 @@ class Judged(unittest.TestCase):
         for status, name, words, text in stored_texts():
             with self.subTest(f"judge {name} {' '.join(words)}"), tempfile.TemporaryDirectory() as folder:
                 with open(f"{DATA}/{name}.trace", "rb") as trace:
-                    ran = subprocess.run([*LAB, "judge", *words], stdin=trace, capture_output=True, check=False, timeout=60, cwd=folder)
+                    ran = subprocess.run([*LAB, "judge", *words], stdin=trace, capture_output=True, check=False,
+                                         timeout=60, cwd=folder)
                 self.assertEqual((ran.stdout.decode(), ran.returncode), (text, status))
                 kept = os.listdir(folder)
                 if kept:
@@ -43,7 +44,8 @@ class Judged(unittest.TestCase):
 
     def verdict_on(self, path):
         with open(path, "rb") as case:
-            return subprocess.run([*TCPWIT, "check"], stdin=case, capture_output=True, check=False, timeout=60).stdout.decode().strip()
+            ran = subprocess.run([*TCPWIT, "check"], stdin=case, capture_output=True, check=False, timeout=60)
+            return ran.stdout.decode().strip()
 
     def last_verdict(self, text):
         rows = [line for line in text.splitlines() if line.split(" ", 1)[0] in LEVELS]

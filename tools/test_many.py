@@ -1,6 +1,6 @@
 #!/usr/bin/python3
-"""Tests when `tcpwit many` prints its answers, in which order, what it answers to lines that are too long, how much memory it needs, and how it
-ends if a read or a write fails."""
+"""Tests when `tcpwit many` prints its answers, in which order, what it answers to lines that are too long, how much
+memory it needs, and how it ends if a read or a write fails."""
 import os
 import shlex
 import socket
@@ -57,7 +57,8 @@ def many_lines(rounds):
 
 def read_line(program):
     """The next line that the program prints, or nothing if it takes too long."""
-    timer = subprocess.Popen([sys.executable, "-c", f"import time, os, signal; time.sleep({PATIENCE}); os.kill({program.pid}, signal.SIGKILL)"])
+    code = f"import time, os, signal; time.sleep({PATIENCE}); os.kill({program.pid}, signal.SIGKILL)"
+    timer = subprocess.Popen([sys.executable, "-c", code])
     line = program.stdout.readline().decode()
     timer.kill()
     timer.wait()
@@ -67,8 +68,10 @@ def read_line(program):
 class Many(unittest.TestCase):
     def test_answers_come_before_the_next_case(self):
         for workers in WORKERS:
-            with self.subTest(workers=workers), subprocess.Popen(command(workers), stdin=subprocess.PIPE, stdout=subprocess.PIPE) as program:
-                for case, answer in [(EXPLAINED, YES), (SPOILT, BAD), (EXPLAINED, YES), (LARGE, BAD), (EXPLAINED, YES)] * 3:
+            with self.subTest(workers=workers), subprocess.Popen(command(workers), stdin=subprocess.PIPE,
+                                                                 stdout=subprocess.PIPE) as program:
+                for case, answer in [(EXPLAINED, YES), (SPOILT, BAD), (EXPLAINED, YES), (LARGE, BAD),
+                                     (EXPLAINED, YES)] * 3:
                     program.stdin.write(case.encode() + b"end\n")
                     program.stdin.flush()
                     self.assertEqual(read_line(program), answer)
@@ -79,15 +82,18 @@ class Many(unittest.TestCase):
 
     def test_answers_come_before_the_rest_of_a_case(self):
         # How much of the next case has come: lines, a part of a line, a part of the line that ends it.
-        parts = ["trace 1\n", HEADER, HEADER + "10 1 B lis", EXPLAINED[:-1], EXPLAINED, EXPLAINED + "en", EXPLAINED + "end", EXPLAINED + "end\r"]
+        parts = ["trace 1\n", HEADER, HEADER + "10 1 B lis", EXPLAINED[:-1], EXPLAINED, EXPLAINED + "en",
+                 EXPLAINED + "end", EXPLAINED + "end\r"]
         for workers in WORKERS:
-            with self.subTest(workers=workers), subprocess.Popen(command(workers), stdin=subprocess.PIPE, stdout=subprocess.PIPE) as program:
+            with self.subTest(workers=workers), subprocess.Popen(command(workers), stdin=subprocess.PIPE,
+                                                                 stdout=subprocess.PIPE) as program:
                 for count in (1, 2, 31, 32, 33, 100):
                     for part in parts:
                         program.stdin.write(((SPOILT + "end\n") * (count - 1) + EXPLAINED + "end\r\n" + part).encode())
                         program.stdin.flush()
                         self.assertEqual([read_line(program) for _ in range(count)], [BAD] * (count - 1) + [YES])
-                        program.stdin.write((EXPLAINED + "end\n")[len(part) :].encode() if not part.endswith("\r") else b"\n")
+                        program.stdin.write((EXPLAINED + "end\n")[len(part) :].encode() if not part.endswith("\r")
+                                            else b"\n")
                         program.stdin.flush()
                         self.assertEqual(read_line(program), YES)
                 program.stdin.close()
@@ -106,7 +112,8 @@ class Many(unittest.TestCase):
                 self.assertEqual((ended.stdout.decode(), ended.returncode), (wanted, REFUSED), workers)
 
     def test_lines_that_are_too_long(self):
-        # A line has at most 140,000 bytes, not counting its end. The answer has the length of a longer one, whatever follows it.
+        # A line has at most 140,000 bytes, not counting its end. The answer has the length of a longer one, whatever
+        # follows it.
         cases, answers = [], []
         for length in (140_001, 140_002, 140_003, 1_000_000):
             for end in ("\n", "\r\n"):
@@ -121,16 +128,22 @@ class Many(unittest.TestCase):
         text = "".join(case + "end\n" for case in cases)
         for last, answer in (("a" * 300_000, "bad trace 7 0 300000"), ("end" * 50_000 + "\r", "bad trace 7 0 150001")):
             for workers in WORKERS:
-                ended = subprocess.run(command(workers), input=(text + HEADER + last).encode(), stdout=subprocess.PIPE, timeout=PATIENCE)
+                ended = subprocess.run(command(workers), input=(text + HEADER + last).encode(), stdout=subprocess.PIPE,
+                                       timeout=PATIENCE)
                 self.assertEqual(ended.stdout.decode().splitlines(True), [*answers, answer + " line-too-long\n"])
 
     def test_answers_to_long_lines_are_those_of_check(self):
-        lines = [b"a" * 140_003 + end for end in (b"\n", b"\r\n", b"\r\r\n", b"\0\n")] + [b"\r" * 200_000 + b"\n", b"witness 1 " * 20_000 + b"\n"]
-        befores = [b"", HEADER.encode(), HEADER.encode() + b"10 1 B listen\n", EXPLAINED.encode(), b"trace 5\n", b"x\n" * 3]
-        cases = [before + line + after for line in lines for before in befores for after in (b"", b"witness 1\n1 L 2\n")]
-        wanted = b"".join(subprocess.run([*TCPWIT, "check"], input=case, stdout=subprocess.PIPE).stdout for case in cases)
+        lines = [*(b"a" * 140_003 + end for end in (b"\n", b"\r\n", b"\r\r\n", b"\0\n")),
+                 b"\r" * 200_000 + b"\n", b"witness 1 " * 20_000 + b"\n"]
+        befores = [b"", HEADER.encode(), HEADER.encode() + b"10 1 B listen\n", EXPLAINED.encode(), b"trace 5\n",
+                   b"x\n" * 3]
+        cases = [before + line + after for line in lines for before in befores
+                 for after in (b"", b"witness 1\n1 L 2\n")]
+        wanted = b"".join(subprocess.run([*TCPWIT, "check"], input=case, stdout=subprocess.PIPE).stdout
+                          for case in cases)
         for workers in WORKERS:
-            ended = subprocess.run(command(workers), input=b"".join(case + b"end\n" for case in cases), stdout=subprocess.PIPE, timeout=PATIENCE)
+            ended = subprocess.run(command(workers), input=b"".join(case + b"end\n" for case in cases),
+                                   stdout=subprocess.PIPE, timeout=PATIENCE)
             self.assertEqual(ended.stdout, wanted)
 
     def test_memory(self):
@@ -154,7 +167,8 @@ class Many(unittest.TestCase):
         size, piece = 60_000_000, b"a" * 1_000_000
         for workers in WORKERS:
             words = [sys.executable, "-c", MEASURE, *command(workers)]
-            with subprocess.Popen(words, stdin=subprocess.PIPE, stdout=subprocess.PIPE, stderr=subprocess.PIPE) as program:
+            with subprocess.Popen(words, stdin=subprocess.PIPE, stdout=subprocess.PIPE,
+                                  stderr=subprocess.PIPE) as program:
                 for before in (HEADER, EXPLAINED):
                     program.stdin.write(before.encode())
                     for end in (b"", b"\n"):
@@ -165,13 +179,15 @@ class Many(unittest.TestCase):
                 program.stdin.close()
                 answers = program.stdout.read().decode()
                 ended, kilobytes = program.stderr.read().split()[-2:]
-            self.assertEqual(answers, f"bad trace 7 0 {size} line-too-long\n{YES}bad witness 8 0 {size} line-too-long\n{YES}")
+            self.assertEqual(answers,
+                             f"bad trace 7 0 {size} line-too-long\n{YES}bad witness 8 0 {size} line-too-long\n{YES}")
             self.assertEqual(int(ended), REFUSED)
             self.assertLess(int(kilobytes), 16_000 + 2100 * (workers + 2), workers)
 
     def test_read_that_fails(self):
         for workers in WORKERS:
-            with socket.create_server(("127.0.0.1", 0)) as server, socket.create_connection(server.getsockname()) as writer:
+            with (socket.create_server(("127.0.0.1", 0)) as server,
+                  socket.create_connection(server.getsockname()) as writer):
                 reader = server.accept()[0]
                 with reader, subprocess.Popen(command(workers), stdin=reader, stdout=subprocess.PIPE) as program:
                     reader.close()
@@ -191,7 +207,8 @@ class Many(unittest.TestCase):
         cases = ((EXPLAINED + "end\n") * 3000).encode()
         for workers in WORKERS:
             with open("/dev/full", "wb", buffering=0) as full:
-                self.assertEqual(subprocess.run(command(workers), input=cases, stdout=full, timeout=PATIENCE).returncode, NO_DEVICE)
+                self.assertEqual(subprocess.run(command(workers), input=cases, stdout=full,
+                                                timeout=PATIENCE).returncode, NO_DEVICE)
 
 
 if __name__ == "__main__":

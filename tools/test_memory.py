@@ -25,7 +25,8 @@ print(os.waitstatus_to_exitcode(ended), usage.ru_maxrss, file=sys.stderr)
 def write_transfer(name):
     """Writes the trace of a transfer of ROUNDS segments with SIZE bytes each. It has each byte four times, in hex."""
     words = [sys.executable, f"{TOP}/bench/bulk_transfer.py", str(ROUNDS), str(SIZE)]
-    with open(name, "w", encoding="ascii") as file, subprocess.Popen(words, stdout=subprocess.PIPE, text=True) as generator:
+    with (open(name, "w", encoding="ascii") as file,
+          subprocess.Popen(words, stdout=subprocess.PIPE, text=True) as generator):
         is_witness = False
         for line in generator.stdout:
             is_witness = is_witness or line.startswith("witness")
@@ -41,10 +42,11 @@ class Memory(unittest.TestCase):
         write_transfer(self.trace)
 
     def peak(self, status, *words):
-        """The largest memory of a subcommand that ends with this status, in bytes for each byte of the trace. The memory of the process
-        that runs the program counts until the program starts, so a small one does."""
+        """The largest memory of a subcommand that ends with this status, in bytes for each byte of the trace. The
+        memory of the process that runs the program counts until the program starts, so a small one does."""
         with open(self.trace, "rb") as source:
-            measured = subprocess.run([sys.executable, "-c", MEASURE, *LAB, *words], stdin=source, stdout=subprocess.DEVNULL, stderr=subprocess.PIPE)
+            measured = subprocess.run([sys.executable, "-c", MEASURE, *LAB, *words], stdin=source,
+                                      stdout=subprocess.DEVNULL, stderr=subprocess.PIPE)
         ended, kilobytes = measured.stderr.split()[-2:]
         self.assertEqual(int(ended), status)
         return int(kilobytes) * 1024 / os.path.getsize(self.trace)

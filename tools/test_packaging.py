@@ -1,6 +1,6 @@
 #!/usr/bin/python3
-"""Tests what packaging/build runs, packs and refuses. This needs no toolchain: a script replaces it, /bin/true replaces both programs, and
-functions that do nothing replace those of the library."""
+"""Tests what packaging/build runs, packs and refuses. This needs no toolchain: a script replaces it, /bin/true replaces
+both programs, and functions that do nothing replace those of the library."""
 import gzip
 import os
 import re
@@ -14,8 +14,9 @@ TOP = os.path.dirname(os.path.dirname(os.path.abspath(__file__)))
 FOLDERS = ("bindings", "docs", "examples", "importer", "packaging", "stacks")
 FILES = (".gitignore", "CHANGELOG.md", "README.md", "tools/unproved.py", "crates/verdict/src/rule.rt")
 TOOLS = ("ar", "cc", "dpkg-deb", "git", "objcopy", "objdump", "strip", "xz")
-# Replaces the toolchain. It records each `rt run` with the first line that it reads. It builds the program once and then leaves it unchanged, since
-# no source changes. Then it prints the program's expected output. The folder of the toolchain has an allocator.
+# Replaces the toolchain. It records each `rt run` with the first line that it reads. It builds the program once and
+# then leaves it unchanged, since no source changes. Then it prints the program's expected output. The folder of the
+# toolchain has an allocator.
 RT = """#!/bin/sh
 name=$(basename "$PWD")
 case $1 in
@@ -63,7 +64,8 @@ class Build(unittest.TestCase):
         self.addCleanup(folder.cleanup)
         self.folder, self.top, self.out = folder.name, f"{folder.name}/clone", f"{folder.name}/packages"
         for name in FOLDERS:
-            shutil.copytree(f"{TOP}/{name}", f"{self.top}/{name}", ignore=shutil.ignore_patterns("__pycache__", "out", ".built"))
+            shutil.copytree(f"{TOP}/{name}", f"{self.top}/{name}",
+                            ignore=shutil.ignore_patterns("__pycache__", "out", ".built"))
         for name in FILES + tuple(self.crate_files()):
             os.makedirs(os.path.dirname(f"{self.top}/{name}"), exist_ok=True)
             shutil.copy(f"{TOP}/{name}", f"{self.top}/{name}")
@@ -79,7 +81,8 @@ class Build(unittest.TestCase):
     @staticmethod
     def crate_files():
         """The files with a program's arguments, input and output."""
-        names = [f"crates/{crate}/{name}" for crate in ("tcpwit", "tcpwit_lab") for name in ("args", "stdin", "stdout", "status")]
+        names = [f"crates/{crate}/{name}" for crate in ("tcpwit", "tcpwit_lab")
+                 for name in ("args", "stdin", "stdout", "status")]
         return [name for name in names if os.path.exists(f"{TOP}/{name}")]
 
     def write(self, name, text):
@@ -103,17 +106,21 @@ class Build(unittest.TestCase):
                    "c/liblibc_c": "#include <stdlib.h>\nvoid rattle_dealloc(void *block) { free(block); }\n"}
         for name, source in sources.items():
             self.write(f"{name}.c", source)
-            subprocess.run(["cc", "-c", "-fPIC", f"{self.folder}/{name}.c", "-o", f"{self.folder}/{name}.o"], check=True)
+            subprocess.run(["cc", "-c", "-fPIC", f"{self.folder}/{name}.c", "-o", f"{self.folder}/{name}.o"],
+                           check=True)
             subprocess.run(["ar", "rcs", f"{self.folder}/{name}.a", f"{self.folder}/{name}.o"], check=True)
 
     def environment(self):
         """The environment of each command: PATH has the script, but not this machine's toolchain."""
-        user = {f"GIT_{role}_{key}": value for role in ("AUTHOR", "COMMITTER") for key, value in (("NAME", "Someone"), ("EMAIL", "someone@example.org"))}
-        return {"PATH": f"{self.folder}/bin:/usr/bin:/bin", "HOME": self.folder, "PYTHONDONTWRITEBYTECODE": "1", "LC_ALL": "C.UTF-8", **user}
+        user = {f"GIT_{role}_{key}": value for role in ("AUTHOR", "COMMITTER")
+                for key, value in (("NAME", "Someone"), ("EMAIL", "someone@example.org"))}
+        return {"PATH": f"{self.folder}/bin:/usr/bin:/bin", "HOME": self.folder, "PYTHONDONTWRITEBYTECODE": "1",
+                "LC_ALL": "C.UTF-8", **user}
 
     def git(self, *words):
         """Output of a git command."""
-        return subprocess.run(["git", *words], cwd=self.top, env=self.environment(), check=True, capture_output=True, text=True).stdout.strip()
+        return subprocess.run(["git", *words], cwd=self.top, env=self.environment(), check=True, capture_output=True,
+                              text=True).stdout.strip()
 
     def commit(self):
         """Commits everything."""
@@ -122,8 +129,8 @@ class Build(unittest.TestCase):
 
     def build(self, *words):
         """Status, lines of output and errors of packaging/build."""
-        done = subprocess.run(["packaging/build", "--out", self.out, *words], cwd=self.top, env=self.environment(), capture_output=True, text=True,
-                              timeout=120, check=False)
+        done = subprocess.run(["packaging/build", "--out", self.out, *words], cwd=self.top, env=self.environment(),
+                              capture_output=True, text=True, timeout=120, check=False)
         return done.returncode, done.stdout.splitlines(), done.stderr
 
     def runs(self):
@@ -137,7 +144,8 @@ class Build(unittest.TestCase):
 
     def packages(self):
         """The names of the files that were created."""
-        return {name: read(f"{self.out}/{name}") for name in sorted(os.listdir(self.out))} if os.path.exists(self.out) else {}
+        names = sorted(os.listdir(self.out)) if os.path.exists(self.out) else []
+        return {name: read(f"{self.out}/{name}") for name in names}
 
     def unpacked(self, start="tcpwit"):
         """The folder of a package's files."""
@@ -166,7 +174,8 @@ class Build(unittest.TestCase):
         wanted = [f"{self.out}/{name}" for name in (*names[1:], names[0])]
         self.assertEqual(lines, [*wanted, f"commit    {self.git('rev-parse', 'HEAD')}", "toolchain a toolchain"])
         subprocess.run(["sha256sum", "--check", "--strict", "--quiet", "SHA256SUMS"], cwd=self.out, check=True)
-        self.assertEqual([line.split("  ")[1] for line in read(f"{self.out}/SHA256SUMS").decode().splitlines()], names[1:])
+        self.assertEqual([line.split("  ")[1] for line in read(f"{self.out}/SHA256SUMS").decode().splitlines()],
+                         names[1:])
 
     def test_what_the_package_says(self):
         self.build()
@@ -190,13 +199,17 @@ class Build(unittest.TestCase):
             subprocess.run(["dpkg-deb", "--control", f"{self.out}/{package}", f"{shared}/control"], check=True)
             self.assertEqual(read(f"{shared}/control/shlibs"), b"libtcpwit 1 libtcpwit1\n")
             self.assertIn("ldconfig", read(f"{shared}/control/triggers").decode())
-        self.write("program.c", '#include <tcpwit.h>\n#include <tcpwit_trace.h>\nint main(void) { tcpwit_check("", 0, NULL); return 0; }\n')
+        self.write("program.c", '#include <tcpwit.h>\n#include <tcpwit_trace.h>\n'
+                                'int main(void) { tcpwit_check("", 0, NULL); return 0; }\n')
         libraries = f"{root}/usr/lib/x86_64-linux-gnu"
-        environment = {**self.environment(), "PKG_CONFIG_PATH": f"{libraries}/pkgconfig", "PKG_CONFIG_SYSROOT_DIR": root}
+        environment = {**self.environment(), "PKG_CONFIG_PATH": f"{libraries}/pkgconfig",
+                       "PKG_CONFIG_SYSROOT_DIR": root}
         for words in ("-ltcpwit", f"{libraries}/libtcpwit.a"):
-            command = f"cc program.c -I{root}/usr/include -L{libraries} {words} -o program && LD_LIBRARY_PATH={libraries} ./program"
+            command = (f"cc program.c -I{root}/usr/include -L{libraries} {words} -o program && "
+                       f"LD_LIBRARY_PATH={libraries} ./program")
             subprocess.run(["sh", "-c", command], cwd=self.folder, env=environment, check=True)
-        symbols = subprocess.run(["nm", "-D", "--defined-only", f"{libraries}/libtcpwit.so.1"], capture_output=True, text=True, check=True).stdout
+        symbols = subprocess.run(["nm", "-D", "--defined-only", f"{libraries}/libtcpwit.so.1"], capture_output=True,
+                                 text=True, check=True).stdout
         self.assertEqual({line.split()[-1].split("@")[0] for line in symbols.splitlines()} - {"TCPWIT_1"}, names)
         self.assertIn("prefix=/usr\n", read(f"{libraries}/pkgconfig/tcpwit.pc").decode())
 
@@ -206,7 +219,8 @@ class Build(unittest.TestCase):
         for folder, _, names in os.walk(f"{self.unpacked()}/usr/share/man"):
             for name in names:
                 page = gzip.decompress(read(f"{folder}/{name}"))
-                done = subprocess.run(["groff", "-man", "-ww", "-z", "-Tutf8", "-Kutf8"], input=page, capture_output=True, check=True)
+                done = subprocess.run(["groff", "-man", "-ww", "-z", "-Tutf8", "-Kutf8"], input=page,
+                                      capture_output=True, check=True)
                 self.assertEqual((name, done.stderr), (name, b""))
                 self.assertNotRegex(page, b"@[A-Z]+@")
 
@@ -268,7 +282,8 @@ class Build(unittest.TestCase):
             file.write(f"\n\ndef build_object(name, calls, out):\n    shutil.copy('{self.folder}/stub.o', out)\n")
         status, lines, error = self.build("--unproved")
         self.assertEqual((status, self.runs()), (0, []), error)
-        self.assertEqual([re.sub(r"_.*_amd64", "", name) for name in self.packages()], [re.sub(r"(\w)\.", r"\1-unproved.", name, count=1) for name in NAMES])
+        self.assertEqual([re.sub(r"_.*_amd64", "", name) for name in self.packages()],
+                         [re.sub(r"(\w)\.", r"\1-unproved.", name, count=1) for name in NAMES])
         self.assertEqual(lines[5], f"commit    {self.git('rev-parse', 'HEAD')} and uncommitted changes")
         self.assertIn("proofs    NOT PROVED", read(f"{self.unpacked()}/usr/share/doc/tcpwit-unproved/BUILT").decode())
 

@@ -1,5 +1,6 @@
 #!/usr/bin/python3
-"""Tests how `tcpwit check` reads its standard input: when it answers, what it leaves unread, and how much memory it needs."""
+"""Tests how `tcpwit check` reads its standard input: when it answers, what it leaves unread, and how much memory it
+needs."""
 import contextlib
 import itertools
 import os
@@ -141,7 +142,8 @@ def answer_to_files(trace, witness):
         for file, text in ((lines, trace), (steps, witness)):
             file.write(text)
             file.flush()
-        ended = subprocess.run([*CHECK, "--trace", lines.name, "--witness", steps.name], stdout=subprocess.PIPE, timeout=PATIENCE)
+        ended = subprocess.run([*CHECK, "--trace", lines.name, "--witness", steps.name], stdout=subprocess.PIPE,
+                               timeout=PATIENCE)
     return ended.stdout.decode(), ended.returncode
 
 
@@ -181,7 +183,8 @@ def line_of(program, seconds):
 def peak(path):
     """The status of the program, what it printed, and its peak memory in bytes, if its input is this file."""
     with open(path, "rb") as source:
-        ended = subprocess.run([sys.executable, "-c", MEASURE, *CHECK], stdin=source, capture_output=True, timeout=10 * PATIENCE)
+        ended = subprocess.run([sys.executable, "-c", MEASURE, *CHECK], stdin=source, capture_output=True,
+                               timeout=10 * PATIENCE)
     status, kilobytes = ended.stderr.split()[-2:]
     return int(status), ended.stdout.decode(), int(kilobytes) * 1024
 
@@ -223,10 +226,12 @@ class SameAnswers(unittest.TestCase):
         self.assertGreater(len(names), 10)
 
     def test_generated_cases(self):
-        for words, wanted in (("bulk_transfer.py 50", "yes 412 309"), ("calls.py 500", "yes 1000 500"), ("colliding_threads.py 100", "yes 200 100"),
-                              ("made_again.py 300", None), ("out_of_order.py 300", None)):
+        for words, wanted in (("bulk_transfer.py 50", "yes 412 309"), ("calls.py 500", "yes 1000 500"),
+                              ("colliding_threads.py 100", "yes 200 100"), ("made_again.py 300", None),
+                              ("out_of_order.py 300", None)):
             script, *rest = words.split()
-            text = subprocess.run([sys.executable, f"{TOP}/bench/{script}", *rest], stdout=subprocess.PIPE, check=True).stdout
+            text = subprocess.run([sys.executable, f"{TOP}/bench/{script}", *rest], stdout=subprocess.PIPE,
+                                  check=True).stdout
             found = answer_to(text)
             self.assertEqual((found[0].split()[0], found[1]), ("yes", YES), words)
             if wanted is not None:
@@ -250,7 +255,8 @@ class SameAnswers(unittest.TestCase):
     def test_longest_line(self):
         # It is too long with one byte more.
         for length in (LONGEST - 1, LONGEST):
-            self.assertEqual(answer_to(f"{HEADER}{'1' * length}\n".encode()), (f"bad trace 7 0 {length} number\n", REFUSED))
+            self.assertEqual(answer_to(f"{HEADER}{'1' * length}\n".encode()),
+                             (f"bad trace 7 0 {length} number\n", REFUSED))
 
     def test_old_bytes_decide(self):
         # However long ago a segment was sent, its bytes are compared first.
@@ -314,7 +320,8 @@ class Early(unittest.TestCase):
     def test_read_that_fails(self):
         # A reset makes the next read fail. After the first fault there is none.
         for text, wanted in ((CASE, "bad device\n"), (HEADER, "bad device\n"), *FAULTS.values()):
-            with socket.create_server(("127.0.0.1", 0)) as server, socket.create_connection(server.getsockname()) as writer:
+            with (socket.create_server(("127.0.0.1", 0)) as server,
+                  socket.create_connection(server.getsockname()) as writer):
                 reader = server.accept()[0]
                 with reader, begun(stdin=reader) as program:
                     reader.close()

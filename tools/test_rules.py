@@ -1,6 +1,6 @@
 #!/usr/bin/python3
-"""Compares the rules in the code with docs/reference/rules.md: each rule's number, name, words, causes and RFC sections, and which rules
-depend on the level."""
+"""Compares the rules in the code with docs/reference/rules.md: each rule's number, name, words, causes and RFC
+sections, and which rules depend on the level."""
 import os
 import re
 import unittest
@@ -63,7 +63,8 @@ def text_in(string, constant, constants):
 
 
 def special_causes(code, constants):
-    """The causes for what may be known at a step, by variant of `Known`: a usual text, and one for captures, which may be empty."""
+    """The causes for what may be known at a step, by variant of `Known`: a usual text, and one for captures, which may
+    be empty."""
     texts = []
     for part in code[code.index("pub fn usual(") :].split("pub fn captured("):
         arms = [(re.findall(r"Known::(\w+)", names), text_in(*text, constants)) for names, *text in CAUSE.findall(part)]
@@ -73,7 +74,8 @@ def special_causes(code, constants):
 
 
 def in_table(code, causes, headings):
-    """What the code says of each rule, by heading. Causes are pairs of a usual text and one for captures, which may be empty."""
+    """What the code says of each rule, by heading. Causes are pairs of a usual text and one for captures, which may be
+    empty."""
     constants = {name: value_of(text) for name, text in re.findall(rf"const (\w+): &str =\s*{STRING};", causes, re.S)}
     special = special_causes(causes, constants)
     arms = re.split(r"Rule::(\w+) =>", code)
@@ -103,7 +105,8 @@ def causes_in(paragraphs):
     for place, paragraph in enumerate(paragraphs):
         if paragraph.startswith("Causes: "):
             first = cause_in(paragraph, "^Causes: ", "")
-            items = re.split(r"(?:^| )- (?=[A-Z])", paragraphs[place + 1])[1:] if paragraphs[place + 1].startswith("- ") else []
+            rest = paragraphs[place + 1]
+            items = re.split(r"(?:^| )- (?=[A-Z])", rest)[1:] if rest.startswith("- ") else []
             return [first, *(cause_in(item, "^.*?: ", first[1]) for item in items)]
     return []
 
@@ -136,7 +139,8 @@ def faults(names, table, causes, page):
             another = told[heading][part]
             is_list = isinstance(one, list) and len(one) == len(another)
             pairs = zip(one, another) if is_list else [(one, another)]
-            found += [f"{heading}: the {part} differ:\n  {TABLE}: {left}\n  {PAGE}: {right}" for left, right in pairs if left != right]
+            found += [f"{heading}: the {part} differ:\n  {TABLE}: {left}\n  {PAGE}: {right}" for left, right in pairs
+                      if left != right]
     return found
 
 
@@ -159,7 +163,8 @@ class Rules(unittest.TestCase):
         self.assertEqual(code, {20, 22, 33, 37, 50, 51})
         self.assertEqual(levels_in_page(page), code)
         # The entry of a rule that a level leaves out says so.
-        for heading, level in (("50 resent", "not at the level `none`"), ("51 resent-beyond", "only at the level `full`")):
+        for heading, level in (("50 resent", "not at the level `none`"),
+                               ("51 resent-beyond", "only at the level `full`")):
             entry = re.search(rf"(?ms)^### {heading}\n(.*?)^### ", page)[1]
             self.assertIn(level, " ".join(entry.split()))
 

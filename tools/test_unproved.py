@@ -1,5 +1,6 @@
 #!/usr/bin/python3
-"""Tests which programs the scripts of a clone run, and their messages if there is none. This needs no toolchain: scripts replace it."""
+"""Tests which programs the scripts of a clone run, and their messages if there is none. This needs no toolchain:
+scripts replace it."""
 import os
 import pwd
 import re
@@ -12,8 +13,9 @@ import unittest
 TOP = os.path.dirname(os.path.dirname(os.path.abspath(__file__)))
 NO_PROGRAM = 127
 # The files of a repository that the scripts need.
-FOLDERS = ("importer/tcpwit_importer", "stacks/runner")
-FILES = ("tcpwit", "tcpwit_lab", "tools/unproved.py", "importer/tcpwit-import", "stacks/run", "stacks/scenarios/data-bulk.scenario")
+FOLDERS = ("importer/tcpwit_importer", "stacks/tcpwit_stacks")
+FILES = ("tcpwit", "tcpwit_lab", "tools/unproved.py", "importer/tcpwit-import", "stacks/run",
+         "stacks/scenarios/data-bulk.scenario")
 # A program that answers `judge` without input as tcpwit_lab does, and prints its name for everything else.
 PROGRAM = """#!/bin/sh
 [ "$*" = judge ] && exit 2
@@ -94,15 +96,17 @@ class Clone(unittest.TestCase):
     def run_in_clone(self, *words, **variables):
         """Status, output and errors of a command whose PATH lacks this machine's toolchain."""
         environment = {"PATH": f"{self.folder}/bin:/usr/bin:/bin", "PYTHONDONTWRITEBYTECODE": "1", **variables}
-        done = subprocess.run(words, cwd=self.top, env=environment, capture_output=True, text=True, timeout=60, check=False)
+        done = subprocess.run(words, cwd=self.top, env=environment, capture_output=True, text=True, timeout=60,
+                              check=False)
         return done.returncode, done.stdout, done.stderr
 
     def found(self, name):
         """The program that the importer or the suite for stacks finds, and its messages on standard error."""
         if name == "importer":
-            code = "import sys; sys.path.insert(0, 'importer'); from tcpwit_importer.commands import lab; print(lab.program(None))"
+            code = ("import sys; sys.path.insert(0, 'importer'); from tcpwit_importer.commands import lab; "
+                    "print(lab.program(None))")
         else:
-            code = "import sys; sys.path.insert(0, 'stacks/runner'); import programs; " \
+            code = "import sys; sys.path.insert(0, 'stacks'); from tcpwit_stacks import programs; " \
                    "print(programs.program('tcpwit', None), programs.program('tcpwit_lab', None))"
         status, out, error = self.run_in_clone(sys.executable, "-W", "ignore", "-c", code)
         self.assertEqual(status, 0, error)
@@ -144,7 +148,8 @@ class Clone(unittest.TestCase):
         for name, text in (("bin/rt", RT), ("toolchain/bin/clang", MAKER)):
             slow = text.replace("#!/bin/sh\n", "#!/bin/sh\nsleep 0.5\n")
             self.write(f"kit/{name}", slow.format(kit=f"{self.folder}/kit", folder=self.folder))
-        code = "import sys; sys.path.insert(0, 'tools'); import unproved; unproved.PERIOD = 0.2; unproved.kept('tcpwit')"
+        code = ("import sys; sys.path.insert(0, 'tools'); import unproved; unproved.PERIOD = 0.2; "
+                "unproved.kept('tcpwit')")
         status, out, error = self.run_in_clone(sys.executable, "-c", code)
         self.assertEqual((status, out), (0, ""), error)
         for step in ("step 1 of 2, translating: 0 s", "step 2 of 2, optimizing: 0 s"):
@@ -175,11 +180,12 @@ class Clone(unittest.TestCase):
                 os.chown(os.path.join(folder, name), owner.pw_uid, owner.pw_gid, follow_symlinks=False)
         status, out, error = self.run_in_clone("tools/unproved.py", "--keep", "tcpwit_lab", SUDO_UID=str(owner.pw_uid))
         self.assertEqual((status, out), (0, f"{self.top}/.built/tcpwit_lab\n"), error)
-        self.assertEqual({os.stat(f"{self.top}/.built/{name}").st_uid for name in ("", "tcpwit_lab", "tcpwit_lab.lock")}, {owner.pw_uid})
+        self.assertEqual({os.stat(f"{self.top}/.built/{name}").st_uid
+                          for name in ("", "tcpwit_lab", "tcpwit_lab.lock")}, {owner.pw_uid})
 
     def test_scripts_without_the_toolchain(self):
-        for words in (["importer/tcpwit-import", "--capture", "0", "none.pcap", "--calls", "0", "none.log", "--out", "run.trace"],
-                      ["stacks/run", "true", "data-bulk"]):
+        for words in (["importer/tcpwit-import", "--capture", "0", "none.pcap", "--calls", "0", "none.log", "--out",
+                       "run.trace"], ["stacks/run", "true", "data-bulk"]):
             status, out, error = self.run_in_clone(*words)
             self.assertEqual((status, out), (2, ""), error)
             self.assertIn("install the Debian package", error)

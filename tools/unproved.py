@@ -5,14 +5,15 @@
     python3 tools/unproved.py --object NAME CALLS OUT
     python3 tools/unproved.py --keep NAME ..
 
-NAME is a crate with a `main`, OUT the file of the program. With --object, NAME is a static library, CALLS a file of tests that call
-each function that it exports, and OUT an object file with these functions. With --keep, the program of each crate is built as `./tcpwit`
-builds it, unless a current one exists, and its path is printed. The status is 127 if there is no program and none can be built.
+NAME is a crate with a `main`, OUT the file of the program. With --object, NAME is a static library, CALLS a file of
+tests that call each function that it exports, and OUT an object file with these functions. With --keep, the program of
+each crate is built as `./tcpwit` builds it, unless a current one exists, and its path is printed. The status is 127 if
+there is no program and none can be built.
 
-`rt try` builds a module of the whole program, compiles and runs it, and keeps nothing. This script takes the module that `rt try`
-passes to its compiler, and compiles and links it with the toolchain's own tools. The module has a run-time check instead of each
-proof: if one fails, the program stops instead of continuing with a wrong value. The script depends on the folder layout of the
-November 2026 toolchain.
+`rt try` builds a module of the whole program, compiles and runs it, and keeps nothing. This script takes the module
+that `rt try` passes to its compiler, and compiles and links it with the toolchain's own tools. The module has a
+run-time check instead of each proof: if one fails, the program stops instead of continuing with a wrong value. The
+script depends on the folder layout of the November 2026 toolchain.
 """
 import fcntl
 import glob
@@ -26,15 +27,17 @@ import tempfile
 import time
 
 TOP = os.path.dirname(os.path.dirname(os.path.abspath(__file__)))
-FLAGS = """--target=x86_64-unknown-linux-gnu -march=x86-64 -ffunction-sections -fdata-sections --no-default-config -no-canonical-prefixes
- -fintegrated-cc1 -c -x ir -fPIE""".split()
+FLAGS = """--target=x86_64-unknown-linux-gnu -march=x86-64 -ffunction-sections -fdata-sections --no-default-config
+ -no-canonical-prefixes -fintegrated-cc1 -c -x ir -fPIE""".split()
 # How many seconds pass between two lines that report that a build goes on.
 PERIOD = 15
 # The status if there is no program. `tcpwit` itself never ends with it, so it can't be mistaken for a verdict.
 NO_PROGRAM = 127
-INSTALL = """  Without the toolchain, install the Debian package, which contains the proved programs (packaging/README.md).
-  With it, add its folder `bin` to PATH. sudo may use another PATH, so run ./{name} once without sudo."""
-# Saves the module of the whole program, and stops `rt try` there. The first module that `rt try` compiles is a small one.
+INSTALL = ("  Without the toolchain, install the Debian package, which contains the proved programs "
+           "(packaging/README.md).\n"
+           "  With it, add its folder `bin` to PATH. sudo may use another PATH, so run ./{name} once without sudo.")
+# Saves the module of the whole program, and stops `rt try` there. The first module that `rt try` compiles is a small
+# one.
 KEEPER = """#!/bin/sh
 for word in "$@"; do
   case "$word" in *.bc) if [ "$(stat -c %s "$word")" -gt 100000 ]; then cp "$word" {kept}; exit 1; fi;; esac
@@ -52,7 +55,8 @@ def stop(cause):
 def need_toolchain(name):
     """Ends if a program can't be built."""
     if shutil.which("rt") is None:
-        stop(f"{name} isn't built, and the Rattle toolchain, whose command is rt, isn't in PATH.\n{INSTALL.format(name=name)}")
+        stop(f"{name} isn't built, and the Rattle toolchain, whose command is rt, isn't in PATH.\n"
+             f"{INSTALL.format(name=name)}")
 
 
 def watched(step, words, **options):
@@ -99,11 +103,13 @@ def kit_beside(folder, kept):
 
 
 def module_of(name, folder, *words, top=TOP):
-    """The module of a program, as a file in the folder. The words go to `rt try`, which works in the repository `top`."""
+    """The module of a program, as a file in the folder. The words go to `rt try`, which works in the repository
+    `top`."""
     kept = f"{folder}/kept.bc"
     kit_beside(f"{folder}/kit", kept)
     pipes = {"stdin": subprocess.DEVNULL, "stdout": subprocess.PIPE, "stderr": subprocess.PIPE}
-    tried = watched("step 1 of 2, translating", [f"{folder}/kit/bin/rt", "try", name, *words], cwd=f"{top}/crates/{name}", text=True, **pipes)
+    tried = watched("step 1 of 2, translating", [f"{folder}/kit/bin/rt", "try", name, *words],
+                    cwd=f"{top}/crates/{name}", text=True, **pipes)
     if not os.path.exists(kept):
         stop(f"{tried.stdout}{tried.stderr}`rt try` made no module of {name}")
     return kept
@@ -119,7 +125,8 @@ def copy_with_tests(name, calls, top):
 
 
 def exported(name, calls, text):
-    """The module of the tests that call a static library, without their `main`, and with the functions that the library exports."""
+    """The module of the tests that call a static library, without their `main`, and with the functions that the library
+    exports."""
     text = re.sub(r"(?m)^define i32 @main\(\)", "define internal i32 @tests_main()", text)
     for source in sorted(glob.glob(f"{TOP}/crates/{name}/src/**/*.rt", recursive=True)):
         with open(source, encoding="utf-8") as file:
@@ -142,7 +149,8 @@ def build_object(name, calls, out):
     with tempfile.TemporaryDirectory() as folder:
         copy_with_tests(name, calls, f"{folder}/copy")
         module = module_of(name, folder, "--test", top=f"{folder}/copy")
-        subprocess.run([clang, "-S", "-emit-llvm", "-Xclang", "-disable-llvm-passes", "-x", "ir", module, "-o", f"{folder}/module.ll"], check=True)
+        subprocess.run([clang, "-S", "-emit-llvm", "-Xclang", "-disable-llvm-passes", "-x", "ir", module, "-o",
+                        f"{folder}/module.ll"], check=True)
         with open(f"{folder}/module.ll", encoding="utf-8") as file:
             text = exported(name, calls, file.read())
         with open(f"{folder}/module.ll", "w", encoding="utf-8") as file:
@@ -157,19 +165,22 @@ def linked(objects, out):
     lib = f"{whole}/toolchain/lib"
     before = [f"{lib}/{name}" for name in ("Scrt1.o", "crti.o", "crtbeginS.o")]
     libraries = [f"{whole}/c/libos_c.a", f"{whole}/c/liblibc_c.a"]
-    libraries += [f"{lib}/{name}" for name in ("libm.so.6", "libc.so.6", "libc_nonshared.a", "libgcc.a", "libgcc_s.so.1")]
+    libraries += [f"{lib}/{name}"
+                  for name in ("libm.so.6", "libc.so.6", "libc_nonshared.a", "libgcc.a", "libgcc_s.so.1")]
     after = [f"{lib}/{name}" for name in ("crtendS.o", "crtn.o")]
     words = ["-pie", "--gc-sections", "-dynamic-linker", "/lib64/ld-linux-x86-64.so.2", "-o", out]
     subprocess.run([f"{whole}/toolchain/bin/ld.lld", *words, *before, *objects, *libraries, *after], check=True)
 
 
 def build(name, out, level="-O1"):
-    """Builds the program of a crate as the file `out`. Without optimization (-O0), it builds sooner and runs 50 to 100 times slower."""
+    """Builds the program of a crate as the file `out`. Without optimization (-O0), it builds sooner and runs 50 to 100
+    times slower."""
     need_toolchain(name)
     os.makedirs(os.path.dirname(os.path.abspath(out)), exist_ok=True)
     with tempfile.TemporaryDirectory() as folder:
         module = module_of(name, folder)
-        compiled = watched("step 2 of 2, optimizing", [f"{kit()}/toolchain/bin/clang", *FLAGS, level, module, "-o", f"{folder}/program.o"])
+        compiled = watched("step 2 of 2, optimizing",
+                           [f"{kit()}/toolchain/bin/clang", *FLAGS, level, module, "-o", f"{folder}/program.o"])
         compiled.check_returncode()
         linked([f"{folder}/program.o"], f"{folder}/program")
         beside = f"{out}.{os.getpid()}"
@@ -193,7 +204,8 @@ def crates_of(name):
 
 def newest_source(name):
     """When a source of the crate, or of one that it depends on, was last written."""
-    sources = [path for crate in crates_of(name) for path in glob.glob(f"{TOP}/crates/{crate}/src/**/*.rt", recursive=True)]
+    sources = [path for crate in crates_of(name)
+               for path in glob.glob(f"{TOP}/crates/{crate}/src/**/*.rt", recursive=True)]
     return max(os.stat(path).st_mtime for path in sources)
 
 
@@ -222,12 +234,14 @@ def build_once(name, program):
     with open(f"{program}.lock", "w", encoding="utf-8") as lock:
         fcntl.flock(lock, fcntl.LOCK_EX)
         if not is_current(program, name):
-            print(f"{name}: building it without proofs, once, as {program}; this takes about four minutes of one processor", file=sys.stderr, flush=True)
+            print(f"{name}: building it without proofs, once, as {program}; this takes about four minutes of one "
+                  "processor", file=sys.stderr, flush=True)
             build(name, program)
 
 
 def leave_sudo():
-    """Continues as the user who called sudo, if they own the repository: otherwise, they couldn't build the program again."""
+    """Continues as the user who called sudo, if they own the repository: otherwise, they couldn't build the program
+    again."""
     owner = os.stat(TOP).st_uid
     if os.geteuid() == 0 and os.environ.get("SUDO_UID") == str(owner):
         entry = pwd.getpwuid(owner)

@@ -1,10 +1,11 @@
 #!/usr/bin/env python3
-"""Runs the built program with arguments that aren't UTF-8, are empty, very long or very many, and with file names of all kinds.
+"""Runs the built program with arguments that aren't UTF-8, are empty, very long or very many, and with file names of
+all kinds.
 
     python3 tools/words.py PROGRAM
 
-`rows` and `named` have the expected output and status of each run. Differences are printed; the last line has the counts, and the
-exit status is 1 if anything differed.
+`rows` and `named` have the expected output and status of each run. Differences are printed; the last line has the
+counts, and the exit status is 1 if anything differed.
 """
 import os
 import subprocess
@@ -25,7 +26,8 @@ WITNESS = b"witness 1\n"
 
 def rows():
     """Arguments, with the expected output and status."""
-    odd = [b"\xff", b"\xc3", b"\xed\xa0\x80", b"\xc0\xaf", b"\xf4\x90\x80\x80", "é".encode(), "\u202e".encode(), b"\x01", b"\n", b" "]
+    odd = [b"\xff", b"\xc3", b"\xed\xa0\x80", b"\xc0\xaf", b"\xf4\x90\x80\x80", "é".encode(), "\u202e".encode(),
+           b"\x01", b"\n", b" "]
     yield [], USAGE
     for word in [b"", *odd, b"c" * LONGEST_WORD, b"\xff" * LONGEST_WORD]:
         yield [word], USAGE
@@ -57,7 +59,8 @@ def rows():
 
 
 # Names of files that exist.
-NAMES = [b"case", b"a b", "é".encode(), "日本".encode(), b"a=b", b"=", b"-", b"-dash", b"--trace", b"?", b"??", b"new\nline", b"n" * 240, b"./a b"]
+NAMES = [b"case", b"a b", "é".encode(), "日本".encode(), b"a=b", b"=", b"-", b"-dash", b"--trace", b"?", b"??",
+         b"new\nline", b"n" * 240, b"./a b"]
 
 
 def option(name, value):
@@ -106,11 +109,13 @@ def main():
                 with open(os.path.join(folder.encode(), name + end), "wb") as file:
                     file.write(text)
         for words, wanted in runs():
-            done = subprocess.run([program, *words], stdin=subprocess.DEVNULL, capture_output=True, cwd=folder, timeout=60)
+            done = subprocess.run([program, *words], stdin=subprocess.DEVNULL, capture_output=True, cwd=folder,
+                                  timeout=60)
             count += 1
             if (done.stdout, done.returncode, done.stderr) != (*wanted, b""):
                 differing += 1
-                print([word[:40] for word in words[:6]], done.stdout[:80], done.stderr[:80], done.returncode, "and not", wanted)
+                print([word[:40] for word in words[:6]], done.stdout[:80], done.stderr[:80], done.returncode, "and not",
+                      wanted)
     print(f"{count} runs, {differing} differing")
     sys.exit(1 if differing else 0)
 

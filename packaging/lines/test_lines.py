@@ -1,5 +1,6 @@
 #!/usr/bin/env python3
-"""Tests tcpwit-junit, tcpwit-status and tcpwit-parts on the lines in docs/reference/formats.md and examples/README.md."""
+"""Tests tcpwit-junit, tcpwit-status and tcpwit-parts on the lines in docs/reference/formats.md and
+examples/README.md."""
 import os
 import subprocess
 import tempfile
@@ -10,7 +11,8 @@ HERE = os.path.dirname(os.path.abspath(__file__))
 EXAMPLES = os.path.join(os.path.dirname(os.path.dirname(HERE)), "examples")
 YES, NO, BAD = "yes 18 13\n", "no 31 0 call-answer\n", "bad witness 7 0 7 cut\n"
 # Each kind of line, with its status from section 9 of docs/reference/formats.md.
-STATUSES = {YES: 0, NO: 1, BAD: 2, "bad trace 7 9 13 segment too-long\n": 2, "bad usage\n": 3, "bad memory\n": 4, "bad device\n": 5}
+STATUSES = {YES: 0, NO: 1, BAD: 2, "bad trace 7 9 13 segment too-long\n": 2, "bad usage\n": 3, "bad memory\n": 4,
+            "bad device\n": 5}
 
 
 def run(name, *words, text=""):
@@ -48,11 +50,14 @@ class Report(unittest.TestCase):
         self.assertEqual({key: suite.get(key) for key in ("name", "tests", "failures", "errors")},
                          {"name": "tcpwit", "tests": "3", "failures": "1", "errors": "1"})
         rows = [(case.get("name"), [(it.tag, it.get("message")) for it in case]) for case in suite]
-        self.assertEqual(rows, [("a.case", []), ("b <&\">.case", [("failure", NO.strip())]), ("c.case", [("error", BAD.strip())])])
+        self.assertEqual(rows,
+                         [("a.case", []), ("b <&\">.case", [("failure", NO.strip())]),
+                          ("c.case", [("error", BAD.strip())])])
 
     def test_lost_lines_make_no_report(self):
         ran = run("tcpwit-junit", "a", "b", text=YES)
-        self.assertEqual((ran.returncode, ran.stdout, ran.stderr), (5, b"", b"tcpwit-junit: expected 2 answers, got 1\n"))
+        self.assertEqual((ran.returncode, ran.stdout, ran.stderr),
+                         (5, b"", b"tcpwit-junit: expected 2 answers, got 1\n"))
         self.assertEqual(run("tcpwit-junit", "a", text="ssh: lost\n").returncode, 5)
 
     def test_names_that_xml_has_no_character_for(self):
@@ -97,7 +102,8 @@ class Program(unittest.TestCase):
             with open(os.path.join(EXAMPLES, name + ".case"), "rb") as file:
                 text = file.read()
             cases += text + (b"" if text.endswith(b"\n") else b"\n") + b"end\n"
-        many = subprocess.run([os.environ["TCPWIT"], "many", "--workers", "2"], input=cases, capture_output=True, check=False)
+        many = subprocess.run([os.environ["TCPWIT"], "many", "--workers", "2"], input=cases, capture_output=True,
+                              check=False)
         ran = run("tcpwit-junit", *names, text=many.stdout.decode())
         self.assertEqual(len(tree.fromstring(ran.stdout)), 3)
         self.assertEqual(ran.returncode, many.returncode)

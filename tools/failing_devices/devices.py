@@ -9,12 +9,14 @@ BAD_DEVICE = "bad device\n"
 def shell(program, words, redirections, folder):
     """Runs the program with redirections of the shell. Returns its output, its error output and its status."""
     script = f'exec "$0" "$@" {redirections}'
-    done = subprocess.run(["sh", "-c", script, program, *words], capture_output=True, cwd=folder, timeout=60, stdin=subprocess.DEVNULL)
+    done = subprocess.run(["sh", "-c", script, program, *words], capture_output=True, cwd=folder, timeout=60,
+                          stdin=subprocess.DEVNULL)
     return done.stdout.decode(), done.stderr.decode(), done.returncode
 
 
 def gone(program, words, text, taken):
-    """Runs the program while the reader of its output reads this many bytes and ends. Returns the bytes read, and the rest."""
+    """Runs the program while the reader of its output reads this many bytes and ends. Returns the bytes read, and the
+    rest."""
     reader, writer = os.pipe()
     output = open(reader, "rb")
     if taken == 0:
@@ -39,8 +41,8 @@ def ends(has_record):
     many = ["many", "--workers", "2"]
     record = ["record", "--rounds", "2", "--lose", "0"]
     yes, shown = "yes 18 13\n", "src 4000 dst 80 seq 4294967295 ack 0 flags S wnd 65535 mss - len 0 first 0\n"
-    commands = [(["check"], "< case", yes), (many, "< case", yes), (files, "", yes), (segment, "", shown), (["chck"], "", "bad usage\n"),
-                (record, "", None)]
+    commands = [(["check"], "< case", yes), (many, "< case", yes), (files, "", yes), (segment, "", shown),
+                (["chck"], "", "bad usage\n"), (record, "", None)]
     for words, given, line in commands:
         if words == record and not has_record:
             continue
@@ -69,7 +71,8 @@ def tried_devices(program, cases, folder):
         with open(os.path.join(folder, name), "wb") as file:
             file.write(part)
     os.symlink("loop", os.path.join(folder, "loop"))
-    has_record = subprocess.run([program, "record", "--rounds", "1", "--lose", "0"], capture_output=True).stdout != b"bad usage\n"
+    has_record = subprocess.run([program, "record", "--rounds", "1", "--lose", "0"],
+                                capture_output=True).stdout != b"bad usage\n"
     runs, wrong = 0, []
     for words, redirections, output, status in ends(has_record):
         found = shell(program, words, redirections, folder)
@@ -81,7 +84,8 @@ def tried_devices(program, cases, folder):
             if file.read() != {"case": text, "case.trace": trace, "case.witness": b"witness 1\n" + witness}[name]:
                 wrong.append(f"{name} was changed")
     for words, given, taken in ((["check"], text, 0), (["many", "--workers", "2"], (text + b"end\n") * 20_000, 0),
-                                (["many", "--workers", "2"], (text + b"end\n") * 20_000, 15), (["segment", "00"], b"", 0)):
+                                (["many", "--workers", "2"], (text + b"end\n") * 20_000, 15),
+                                (["segment", "00"], b"", 0)):
         took, error, status = gone(program, words, given, taken)
         runs += 1
         if (error, status) != ("", 5) or took != "yes 18 13\nyes 18 13\n"[:taken]:

@@ -3,21 +3,20 @@
 
     sweep.py PROGRAM CASES [--jobs N]
 
-PROGRAM is the built `tcpwit`, CASES the folder of the case files with its `expected.txt`. The script builds `fail.c`, next to it,
-with `cc`, and loads it with LD_PRELOAD. Each command runs with unlimited reads and writes, and with pieces of 7 bytes or 1, which
-need many of them. Then the Nth read, and the Nth write, fails, is interrupted, moves one byte or moves none. This is done for every
-N up to the last, for the Nth alone and together with all later ones.
+PROGRAM is the built `tcpwit`, CASES the folder of the case files with its `expected.txt`. The script builds `fail.c`,
+next to it, with `cc`, and loads it with LD_PRELOAD. Each command runs with unlimited reads and writes, and with pieces
+of 7 bytes or 1, which need many of them. Then the Nth read, and the Nth write, fails, is interrupted, moves one byte or
+moves none. This is done for every N up to the last, for the Nth alone and together with all later ones.
 
-A failed read must result in `bad device` and status 5; in `many`, answers to the first cases may come before. A write that fails or
-moves nothing must result in status 5, with the output before it and no write after it. A read that moves nothing is the end of its text, so the answer must be that for the text so far.
-After an interruption, the answer must be the right one or that for a failure; after one byte, it must be the right one. `devices`
-tries failing inputs and outputs of the system, without the library. Anything else, a signal, or output on standard error is wrong
-and is printed. The last line has the counts; the exit status is 1 if any run was wrong.
+A failed read must result in `bad device` and status 5; in `many`, answers to the first cases may come before. A write
+that fails or moves nothing must result in status 5, with the output before it and no write after it. A read that moves
+nothing is the end of its text, so the answer must be that for the text so far. After an interruption, the answer must
+be the right one or that for a failure; after one byte, it must be the right one. `devices` tries failing inputs and
+outputs of the system, without the library. Anything else, a signal, or output on standard error is wrong and is
+printed. The last line has the counts; the exit status is 1 if any run was wrong.
 
 `check` of one text may read no further than the first fault of the trace. So a later read that would fail isn't met.
 """
-import argparse
-import concurrent.futures
 import contextlib
 import os
 import subprocess
@@ -27,7 +26,7 @@ import tempfile
 HERE = os.path.dirname(os.path.abspath(__file__))
 sys.path.insert(0, os.path.dirname(HERE))
 
-from commands import commands
+import sweeps
 from devices import tried_devices
 
 BAD_DEVICE = (b"bad device\n", 5)
@@ -40,7 +39,8 @@ class Run:
     def __init__(self, program, library, command, environment):
         words, text = command
         with tempfile.NamedTemporaryFile() as counts:
-            surroundings = {"PATH": os.environ.get("PATH", ""), "LD_PRELOAD": library, "FAIL_COUNT": counts.name, **environment}
+            surroundings = {"PATH": os.environ.get("PATH", ""), "LD_PRELOAD": library, "FAIL_COUNT": counts.name,
+                            **environment}
             try:
                 done = subprocess.run([program, *words], input=text, capture_output=True, env=surroundings, timeout=60)
             except subprocess.TimeoutExpired:
@@ -48,7 +48,8 @@ class Run:
                 return
             self.answer, self.error = (done.stdout, done.returncode), done.stderr
             found = [int(number) for number in counts.read().split()]
-        self.reads, self.writes, self.writes_behind, self.file, self.read_before, *self.read_of = found or [0, 0, 0, -1, 0, 0, 0]
+        found = found or [0, 0, 0, -1, 0, 0, 0]
+        self.reads, self.writes, self.writes_behind, self.file, self.read_before, *self.read_of = found
 
 
 def cut_answer(program, library, command, run, is_from):
@@ -95,7 +96,8 @@ def is_right(program, library, command, plain, environment):
         elif how == "nothing":
             allowed = [cut_answer(program, library, command, run, "FAIL_FROM" in environment)]
         elif how != "short":
-            allowed += [(start + BAD_DEVICE[0], BAD_DEVICE[1]) for start in (starts(plain.answer[0]) if "many" in command[0] else [b""])]
+            allowed += [(start + BAD_DEVICE[0], BAD_DEVICE[1])
+                        for start in (starts(plain.answer[0]) if "many" in command[0] else [b""])]
     elif int(environment["FAIL_WRITE"]) > plain.writes:
         allowed = [plain.answer]
     elif how != "short":
@@ -107,7 +109,8 @@ def is_right(program, library, command, plain, environment):
 
 
 def most_reads(command, line, piece):
-    """How many reads of pieces of so many bytes `check` may need for its standard input: up to the end of the line that has a fault."""
+    """How many reads of pieces of so many bytes `check` may need for its standard input: up to the end of the line that
+    has a fault."""
     words, text = command
     rows, answer = text.splitlines(keepends=True), line.split()
     is_cut = answer[:2] == ["bad", "trace"] and int(answer[2]) <= len(rows)
@@ -125,57 +128,39 @@ def failures(plain, piece):
                     yield {place: str(n), "FAIL_HOW": how, "FAIL_PIECE": piece, "FAIL_FROM": "1"}
 
 
-def swept(program, library, name, command, line, pool):
-    """The number of runs of one command, and the wrong ones, as texts."""
-    runs, wrong = 0, []
+def sweep_command(sweep, name, command, line):
+    """Runs one command, whose expected answer is `line`, with each failure."""
     for piece in ("", "7", "1"):
-        plain = Run(program, library, command, {"FAIL_PIECE": piece})
+        plain = Run(sweep.program, sweep.library, command, {"FAIL_PIECE": piece})
         if plain.answer is None or plain.error or plain.answer[0].decode() != line + "\n":
-            return runs + 1, [*wrong, f"{name}: without failures {plain.answer} {plain.error}"]
+            sweep.add(1, [f"{name}: without failures {plain.answer} {plain.error}"])
+            return
         if piece and command[0] == ["check"] and plain.reads > most_reads(command, line, piece):
-            wrong.append(f"{name}: {plain.reads} reads of {piece} bytes, which are more than it needs")
+            sweep.add(0, [f"{name}: {plain.reads} reads of {piece} bytes, which are more than it needs"])
         if piece == "1" and plain.reads > 200:
             continue
         asked = list(failures(plain, piece))
-        answers = pool.map(lambda environment: is_right(program, library, command, plain, environment), asked)
-        failed = [
-            f"{name} {environment}: {run.answer} {run.error} {run.__dict__}"
-            for environment, (is_fine, run) in zip(asked, answers)
-            if not is_fine
-        ]
-        print(f"{name}: pieces of {piece or 'any'} bytes, {plain.reads} reads, {plain.writes} writes, {len(asked)} runs, {len(failed)} wrong", flush=True)
-        runs, wrong = runs + len(asked) + 1, wrong + failed
-    return runs, wrong
+        found = sweep.pool.map(lambda each: is_right(sweep.program, sweep.library, command, plain, each), asked)
+        failed = [f"{name} {environment}: {run.answer} {run.error} {run.__dict__}"
+                  for environment, (is_fine, run) in zip(asked, found) if not is_fine]
+        print(f"{name}: pieces of {piece or 'any'} bytes, {plain.reads} reads, {plain.writes} writes, {len(asked)} "
+              f"runs, {len(failed)} wrong", flush=True)
+        sweep.add(len(asked) + 1, failed)
 
 
 def built_library(folder):
-    library = os.path.join(folder, "fail.so")
-    subprocess.run(["cc", "-O2", "-Wall", "-shared", "-fPIC", "-o", library, os.path.join(HERE, "fail.c")], check=True)
-    return library
+    """The library that makes reads and writes fail, built in this folder."""
+    return sweeps.built_library(os.path.join(HERE, "fail.c"), folder)
 
 
 def main():
-    words = argparse.ArgumentParser(description=__doc__.splitlines()[0])
-    words.add_argument("program", metavar="PROGRAM", help="the program tcpwit")
-    words.add_argument("cases", metavar="CASES", help="the folder of the case files, crates/test_cases/data")
-    words.add_argument("--jobs", metavar="N", type=int, default=os.cpu_count(), help="how many runs at once (default: one for each processor)")
-    words = words.parse_args()
-    program = os.path.abspath(words.program)
-    runs, wrong = 0, []
-    with tempfile.TemporaryDirectory() as folder, concurrent.futures.ThreadPoolExecutor(words.jobs) as pool:
-        library = built_library(folder)
-        for name, (command, line) in commands(words.cases, folder).items():
-            if line is None:
-                # recordings differ from run to run, so `record` is only tried with failing inputs and outputs of the system
-                continue
-            done, failed = swept(program, library, name, command, line, pool)
-            runs, wrong = runs + done, wrong + failed
-        done, failed = tried_devices(program, words.cases, folder)
-        runs, wrong = runs + done, wrong + failed
-    for text in wrong:
-        print(text)
-    print(f"{runs} runs, {len(wrong)} wrong")
-    sys.exit(1 if wrong else 0)
+    words = sweeps.parser(__doc__).parse_args()
+    with sweeps.started(words, built_library) as (sweep, commands):
+        for name, (command, line) in commands.items():
+            # Recordings differ from run to run, so `record` is only tried with devices of the system that fail.
+            if line is not None:
+                sweep_command(sweep, name, command, line)
+        sweep.add(*tried_devices(sweep.program, words.cases, sweep.folder))
 
 
 if __name__ == "__main__":

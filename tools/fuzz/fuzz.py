@@ -3,11 +3,12 @@
 
     fuzz.py PROGRAM CASES [--changes N] [--seed S] [--other CHECKER] [--jobs N]
 
-PROGRAM is the built `tcpwit`, CASES the folder of the case files. Each mutation changes bytes, fields, lines or numbers (near limits)
-of a case, one to four times. The mutated cases are checked by `many` in batches, by `check`, and, if they can be split into two
-files, by `check --trace --witness`; with --other also by a second checker, which reads a case from standard input and prints the same
-line. All answers must be equal. Differences are printed with the seed of the mutation, and the case is saved in `differing/`. The
-last line has the counts; the exit status is 1 if anything differed.
+PROGRAM is the built `tcpwit`, CASES the folder of the case files. Each mutation changes bytes, fields, lines or numbers
+(near limits) of a case, one to four times. The mutated cases are checked by `many` in batches, by `check`, and, if they
+can be split into two files, by `check --trace --witness`; with --other also by a second checker, which reads a case
+from standard input and prints the same line. All answers must be equal. Differences are printed with the seed of the
+mutation, and the case is saved in `differing/`. The last line has the counts; the exit status is 1 if anything
+differed.
 """
 import argparse
 import concurrent.futures
@@ -17,8 +18,8 @@ import subprocess
 import sys
 import tempfile
 
-LIMITS = [0, 1, 2, 7, 14, 15, 536, 1095, 1096, 2190, 2191, 65515, 65516, 65535, 65536, 2**31 - 1, 2**31, 2**32 - 1, 2**32,
-          10**12, 10**12 + 1, 10**18, 10**18 + 1, 2**63, 2**64 - 1, 2**64]
+LIMITS = [0, 1, 2, 7, 14, 15, 536, 1095, 1096, 2190, 2191, 65515, 65516, 65535, 65536, 2**31 - 1, 2**31, 2**32 - 1,
+          2**32, 10**12, 10**12 + 1, 10**18, 10**18 + 1, 2**63, 2**64 - 1, 2**64]
 # Replaces an answer if a signal ended the program.
 ENDED = b"ended by signal"
 
@@ -31,19 +32,25 @@ def changed_number(text, random_):
     return (b"-%d" % -value) if value < 0 else b"%d" % value
 
 
+def rearrange(items, place, kind, random_):
+    """Deletes an item (kind 0), adds a copy of one (1), or swaps two."""
+    if kind == 0:
+        del items[place]
+    elif kind == 1:
+        items.insert(place, random_.choice(items))
+    else:
+        other = random_.randrange(len(items))
+        items[place], items[other] = items[other], items[place]
+
+
 def changed_field(line, random_):
     fields = line.split(b" ")
     place = random_.randrange(len(fields))
     kind = random_.randrange(6)
     if kind <= 2:
         fields[place] = changed_number(fields[place], random_)
-    elif kind == 3:
-        del fields[place]
-    elif kind == 4:
-        fields.insert(place, random_.choice(fields))
     else:
-        other = random_.randrange(len(fields))
-        fields[place], fields[other] = fields[other], fields[place]
+        rearrange(fields, place, kind - 3, random_)
     return b" ".join(fields)
 
 
@@ -65,13 +72,8 @@ def changed_lines(lines, random_):
     kind = random_.randrange(8)
     if kind <= 4:
         lines[place] = changed_field(lines[place], random_)
-    elif kind == 5:
-        del lines[place]
-    elif kind == 6:
-        lines.insert(place, random_.choice(lines))
     else:
-        other = random_.randrange(len(lines))
-        lines[place], lines[other] = lines[other], lines[place]
+        rearrange(lines, place, kind - 5, random_)
     return lines
 
 
@@ -127,21 +129,24 @@ def compared(words, seed, text, many_line, folder):
 
 
 def batch(words, cases, first, count, folder):
-    """Compares `count` mutations with the seeds from `first` on. Returns those that differ, and how many were yes or no."""
+    """Compares `count` mutations with the seeds from `first` on. Returns those that differ, and how many were yes or
+    no."""
     texts = []
     for seed in range(first, first + count):
         random_ = random.Random(seed)
         texts.append(changed(random_.choice(cases), random_))
     usable = [not any(line.removesuffix(b"\r") == b"end" for line in text.split(b"\n")) for text in texts]
     joined = b"".join(text + (b"" if text.endswith(b"\n") or not text else b"\n") + b"end\n" for text in texts)
-    lines = answer([words.program, "many", "--workers", "2"], joined).splitlines(keepends=True) if all(usable) else [None] * count
-    differing, judged = [], 0
+    differing, judged, lines = [], 0, [None] * count
+    if all(usable):
+        lines = answer([words.program, "many", "--workers", "2"], joined).splitlines(keepends=True)
     if len(lines) != count:
         differing.append((first, joined, {"many": b"%d lines for %d cases" % (len(lines), count)}))
         lines = [None] * count
     for seed, text, line in zip(range(first, first + count), texts, lines):
         # in the joined input, a text whose last line has no end gets one, so `many` answers a different text
-        alone = line if line is not None and (text.endswith(b"\n") or not text) else answer([words.program, "check"], text)
+        is_same = line is not None and (text.endswith(b"\n") or not text)
+        alone = line if is_same else answer([words.program, "check"], text)
         judged += alone[:3] in (b"yes", b"no ")
         found = compared(words, seed, text, alone, folder)
         if found:
@@ -153,13 +158,17 @@ def main():
     words = argparse.ArgumentParser(description=__doc__.splitlines()[0])
     words.add_argument("program", metavar="PROGRAM", help="the program tcpwit")
     words.add_argument("cases", metavar="CASES", help="the folder of the case files, crates/test_cases/data")
-    words.add_argument("--changes", metavar="N", type=int, default=100_000, help="how many mutations are tried (default: 100,000)")
-    words.add_argument("--seed", metavar="SEED", type=int, default=1, help="the seed of the first mutation (default: 1)")
+    words.add_argument("--changes", metavar="N", type=int, default=100_000,
+                       help="how many mutations are tried (default: 100,000)")
+    words.add_argument("--seed", metavar="SEED", type=int, default=1,
+                       help="the seed of the first mutation (default: 1)")
     words.add_argument("--other", metavar="PROGRAM", help="a second checker; reads a case from standard input")
-    words.add_argument("--jobs", metavar="N", type=int, default=os.cpu_count(), help="how many runs at once (default: one for each processor)")
+    words.add_argument("--jobs", metavar="N", type=int, default=os.cpu_count(),
+                       help="how many runs at once (default: one for each processor)")
     words = words.parse_args()
     words.program = os.path.abspath(words.program)
-    cases = [open(os.path.join(root, file), "rb").read() for root, _, files in os.walk(words.cases) for file in sorted(files) if file.endswith(".case")]
+    cases = [open(os.path.join(root, file), "rb").read() for root, _, files in os.walk(words.cases)
+             for file in sorted(files) if file.endswith(".case")]
     size = 50
     firsts = range(words.seed, words.seed + words.changes, size)
     wrong = judged = 0

@@ -3,11 +3,11 @@
 
     traces.py PROGRAM LAB CASES .. [--changes N] [--seed S] [--budget N] [--jobs N]
 
-PROGRAM is the built `tcpwit`, LAB the built `tcpwit_lab`, and each CASES a folder with cases and traces. A mutation deletes, doubles,
-swaps or cuts off lines, or changes a digit of a segment, a moment or an answer, one to three times. `find` must end with status 0 or
-2. `check` must answer yes exactly if `find` doesn't name an unexplained line, and `remark` must end with status 0 or 1. Other traces
-are printed with the seed of the mutation, and saved in `differing/`. The last line has the counts; the exit status is 1 if anything
-was wrong.
+PROGRAM is the built `tcpwit`, LAB the built `tcpwit_lab`, and each CASES a folder with cases and traces. A mutation
+deletes, doubles, swaps or cuts off lines, or changes a digit of a segment, a moment or an answer, one to three times.
+`find` must end with status 0 or 2. `check` must answer yes exactly if `find` doesn't name an unexplained line, and
+`remark` must end with status 0 or 1. Other traces are printed with the seed of the mutation, and saved in `differing/`.
+The last line has the counts; the exit status is 1 if anything was wrong.
 """
 import argparse
 import concurrent.futures
@@ -18,7 +18,8 @@ import sys
 
 # Longer texts would take most of the time.
 LONGEST = 60_000
-ANSWERS = ["ok", "ok 3", "again", "closed", "data 61", "eof", "notconn", "refused", "reset", "timeout", "state ESTABLISHED"]
+ANSWERS = ["ok", "ok 3", "again", "closed", "data 61", "eof", "notconn", "refused", "reset", "timeout",
+           "state ESTABLISHED"]
 SHIFTS = [-1_000_000, -1000, -1, 1, 1000, 1_000_000]
 # The digits of sequence number, acknowledgment number, flags and window in the hex of a segment.
 FIELDS = [*range(8, 24), *range(26, 32)]
@@ -33,7 +34,8 @@ def trace_of(text):
 
 def traces(folders):
     found = []
-    for path in sorted(os.path.join(root, name) for folder in folders for root, _, names in os.walk(folder) for name in names):
+    for path in sorted(os.path.join(root, name) for folder in folders for root, _, names in os.walk(folder)
+                       for name in names):
         if path.endswith((".case", ".trace")) and os.path.getsize(path) < LONGEST:
             with open(path, encoding="utf-8", errors="replace", newline="\n") as file:
                 found.append(trace_of(file.read()))
@@ -117,11 +119,15 @@ def main():
     words = argparse.ArgumentParser(description=__doc__.splitlines()[0])
     words.add_argument("program", metavar="PROGRAM", help="the program tcpwit")
     words.add_argument("lab", metavar="LAB", help="the program tcpwit_lab")
-    words.add_argument("cases", metavar="CASES", nargs="+", help="folders with cases and traces, such as crates/test_cases/data")
-    words.add_argument("--changes", metavar="N", type=int, default=100_000, help="how many mutations are tried (default: 100,000)")
-    words.add_argument("--seed", metavar="SEED", type=int, default=1, help="the seed of the first mutation (default: 1)")
+    words.add_argument("cases", metavar="CASES", nargs="+",
+                       help="folders with cases and traces, such as crates/test_cases/data")
+    words.add_argument("--changes", metavar="N", type=int, default=100_000,
+                       help="how many mutations are tried (default: 100,000)")
+    words.add_argument("--seed", metavar="SEED", type=int, default=1,
+                       help="the seed of the first mutation (default: 1)")
     words.add_argument("--budget", metavar="N", type=int, default=20_000, help="the budget of find (default: 20,000)")
-    words.add_argument("--jobs", metavar="N", type=int, default=os.cpu_count(), help="how many runs at once (default: one for each processor)")
+    words.add_argument("--jobs", metavar="N", type=int, default=os.cpu_count(),
+                       help="how many runs at once (default: one for each processor)")
     words = words.parse_args()
     words.program, words.lab = os.path.abspath(words.program), os.path.abspath(words.lab)
     known = traces(words.cases)
@@ -137,7 +143,8 @@ def main():
                 print(seed, fault, flush=True)
             else:
                 verdicts[verdict.split(" ")[0]] += 1
-    print(f"{len(seeds)} changes, {verdicts['yes']} yes, {verdicts['no']} no, {verdicts['bad']} bad traces, {wrong} wrong")
+    print(f"{len(seeds)} changes, {verdicts['yes']} yes, {verdicts['no']} no, {verdicts['bad']} bad traces, "
+          f"{wrong} wrong")
     sys.exit(1 if wrong else 0)
 
 

@@ -3,11 +3,11 @@
 
     copies.py TESTS [--most N] [--jobs N]
 
-TESTS is the test program of `test_recording`, which `rt test` in that crate leaves in `out/`. A segment that is sent twice is copied.
-If the memory for the copy is refused, the segment is sent once, and the test still passes. If another allocation is refused, there is
-no recording, or memory runs out, and the test reports it. Anything else (a case without a yes, a signal other than that of a failed
-test, a run of more than 60 seconds) is wrong and is printed. The last line has the counts; the exit status is 1 if a run was wrong, or
-if no refusal affected a copy.
+TESTS is the test program of `test_recording`, which `rt test` in that crate leaves in `out/`. A segment that is sent
+twice is copied. If the memory for the copy is refused, the segment is sent once, and the test still passes. If another
+allocation is refused, there is no recording, or memory runs out, and the test reports it. Anything else (a case without
+a yes, a signal other than that of a failed test, a run of more than 60 seconds) is wrong and is printed. The last line
+has the counts; the exit status is 1 if a run was wrong, or if no refusal affected a copy.
 """
 import argparse
 import concurrent.futures
@@ -32,7 +32,8 @@ def run(program, library, environment):
     """The status and the output, or None if it took too long."""
     surroundings = {"PATH": os.environ.get("PATH", ""), "LD_PRELOAD": library, **environment}
     try:
-        done = subprocess.run([program, TEST], stdout=subprocess.PIPE, stderr=subprocess.STDOUT, env=surroundings, timeout=60)
+        done = subprocess.run([program, TEST], stdout=subprocess.PIPE, stderr=subprocess.STDOUT, env=surroundings,
+                              timeout=60)
     except subprocess.TimeoutExpired:
         return None
     return done.returncode, done.stdout.decode(errors="replace")
@@ -53,8 +54,10 @@ def told(answer):
 def main():
     words = argparse.ArgumentParser(description=__doc__.splitlines()[0])
     words.add_argument("tests", metavar="TESTS", help="the test program of test_recording")
-    words.add_argument("--most", metavar="N", type=int, default=4000, help="how many allocations are refused at most, evenly spread (default: 4000)")
-    words.add_argument("--jobs", metavar="N", type=int, default=os.cpu_count(), help="how many runs at once (default: one for each processor)")
+    words.add_argument("--most", metavar="N", type=int, default=4000,
+                       help="how many allocations are refused at most, evenly spread (default: 4000)")
+    words.add_argument("--jobs", metavar="N", type=int, default=os.cpu_count(),
+                       help="how many runs at once (default: one for each processor)")
     words = words.parse_args()
     program = os.path.abspath(words.tests)
     with tempfile.TemporaryDirectory() as folder, concurrent.futures.ThreadPoolExecutor(words.jobs) as pool:

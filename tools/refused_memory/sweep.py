@@ -3,35 +3,31 @@
 
     sweep.py PROGRAM CASES [--most N] [--jobs N]
 
-PROGRAM is the built `tcpwit`, CASES the folder of the case files with its `expected.txt`. The script builds `refuse.c`, next to it,
-with `cc`, and loads it with LD_PRELOAD. Each command first runs without refusals, to count its allocations. Then memory is refused
-for the n-th allocation alone, for the n-th and all later ones, for every 2nd, 3rd and 7th, and for all of at least 2^k bytes. At most
-N values of n are tried (default: 4000), evenly spread.
+PROGRAM is the built `tcpwit`, CASES the folder of the case files with its `expected.txt`. The script builds `refuse.c`,
+next to it, with `cc`, and loads it with LD_PRELOAD. Each command first runs without refusals, to count its allocations.
+Then memory is refused for the n-th allocation alone, for the n-th and all later ones, for every 2nd, 3rd and 7th, and
+for all of at least 2^k bytes. At most N values of n are tried (default: 4000), evenly spread.
 
-The right answers are the one without refusals, and the line `bad memory` with status 4. With many cases, single lines may also be
-`bad memory`, with status 4, and that line may follow the answers to the first cases. `check` must answer yes to the output of
-`record`. Anything else (another line, a signal, output on standard error, a run of more than 60 seconds) is wrong and is printed. The
-last line has the counts; the exit status is 1 if any run was wrong.
+The right answers are the one without refusals, and the line `bad memory` with status 4. With many cases, single lines
+may also be `bad memory`, with status 4, and that line may follow the answers to the first cases. `check` must answer
+yes to the output of `record`. Anything else (another line, a signal, output on standard error, a run of more than 60
+seconds) is wrong and is printed. The last line has the counts; the exit status is 1 if any run was wrong.
 """
-import argparse
-import concurrent.futures
 import os
 import subprocess
 import sys
-import tempfile
 
 HERE = os.path.dirname(os.path.abspath(__file__))
 sys.path.insert(0, os.path.dirname(HERE))
 
-from commands import commands
+import sweeps
 
 BAD_MEMORY = b"bad memory\n"
 
 
 def built_library(folder):
-    library = os.path.join(folder, "refuse.so")
-    subprocess.run(["cc", "-O2", "-Wall", "-shared", "-fPIC", "-o", library, os.path.join(HERE, "refuse.c")], check=True)
-    return library
+    """The library that refuses memory, built in this folder."""
+    return sweeps.built_library(os.path.join(HERE, "refuse.c"), folder)
 
 
 def run(program, library, command, environment):
@@ -86,41 +82,38 @@ def refusals(count, most):
         yield {"REFUSE_SIZE": str(2**power)}
 
 
-def swept(program, library, name, command, line, most, folder, pool):
-    """The number of runs of one command, and the wrong ones, as texts."""
-    counts = os.path.join(folder, "count")
-    plain = run(program, library, command, {"REFUSE_COUNT": counts})
+def sweep_command(sweep, name, command, line, most):
+    """Runs one command with each refusal. `line` is its expected answer, if it has a fixed one."""
+    def ran(environment):
+        return run(sweep.program, sweep.library, command, environment)
+
+    counts = os.path.join(sweep.folder, "count")
+    plain = ran({"REFUSE_COUNT": counts})
     if plain is None or plain[1] or (line is not None and plain[0].decode() != line + "\n"):
-        return 1, [f"{name}: without refusal {plain}"]
+        sweep.add(1, [f"{name}: without refusal {plain}"])
+        return
     with open(counts) as file:
         count = int(file.read())
     wanted = plain[0], plain[2]
     asked = list(refusals(count, most))
-    answers = pool.map(lambda environment: run(program, library, command, environment), asked)
-    is_fine = (lambda answer: is_recorded(program, answer)) if name.startswith("record") else (lambda answer: is_right(answer, wanted))
-    wrong = [f"{name} {environment}: {answer}" for environment, answer in zip(asked, answers) if not is_fine(answer)]
+
+    def is_fine(answer):
+        return is_recorded(sweep.program, answer) if name.startswith("record") else is_right(answer, wanted)
+
+    answers = zip(asked, sweep.pool.map(ran, asked))
+    wrong = [f"{name} {environment}: {answer}" for environment, answer in answers if not is_fine(answer)]
     print(f"{name}: {count} allocations, {len(asked)} runs, {len(wrong)} wrong", flush=True)
-    return len(asked) + 1, wrong
+    sweep.add(len(asked) + 1, wrong)
 
 
 def main():
-    words = argparse.ArgumentParser(description=__doc__.splitlines()[0])
-    words.add_argument("program", metavar="PROGRAM", help="the program tcpwit")
-    words.add_argument("cases", metavar="CASES", help="the folder of the case files, crates/test_cases/data")
-    words.add_argument("--most", metavar="N", type=int, default=4000, help="how many allocations of a command are refused at most, evenly spread (default: 4000)")
-    words.add_argument("--jobs", metavar="N", type=int, default=os.cpu_count(), help="how many runs at once (default: one for each processor)")
+    words = sweeps.parser(__doc__)
+    words.add_argument("--most", metavar="N", type=int, default=4000,
+                       help="how many allocations of a command are refused at most, evenly spread (default: 4000)")
     words = words.parse_args()
-    program = os.path.abspath(words.program)
-    runs, wrong = 0, []
-    with tempfile.TemporaryDirectory() as folder, concurrent.futures.ThreadPoolExecutor(words.jobs) as pool:
-        library = built_library(folder)
-        for name, (command, line) in commands(words.cases, folder).items():
-            done, failed = swept(program, library, name, command, line, words.most, folder, pool)
-            runs, wrong = runs + done, wrong + failed
-    for text in wrong:
-        print(text)
-    print(f"{runs} runs, {len(wrong)} wrong")
-    sys.exit(1 if wrong else 0)
+    with sweeps.started(words, built_library) as (sweep, commands):
+        for name, (command, line) in commands.items():
+            sweep_command(sweep, name, command, line, words.most)
 
 
 if __name__ == "__main__":

@@ -3,8 +3,8 @@
 
     captures.py [--count N] [--seed S]
 
-A capture of each kind of the importer's tests is changed at random: bytes, lengths, its end, parts or records that it has twice or not at all.
-The script stops at the first capture that the importer doesn't read or refuse, and keeps it.
+A capture of each kind of the importer's tests is changed at random: bytes, lengths, its end, parts or records that it
+has twice or not at all. The script stops at the first capture that the importer doesn't read or refuse, and keeps it.
 """
 import argparse
 import os
@@ -20,7 +20,8 @@ from tests import damage, samples  # noqa: E402
 def main():
     """Runs it and returns the exit status."""
     parser = argparse.ArgumentParser(description=__doc__.splitlines()[0])
-    parser.add_argument("--count", metavar="N", type=int, default=10_000, help="how many captures to read (default: 10000)")
+    parser.add_argument("--count", metavar="N", type=int, default=10_000,
+                        help="how many captures to read (default: 10000)")
     parser.add_argument("--seed", metavar="S", type=int, default=1, help="the seed of the changes (default: 1)")
     given = parser.parse_args()
     captures = [data for _, data in [*samples.every(), ("together", samples.together())]]

@@ -3,8 +3,8 @@
 
     soak.py PROGRAM [--minutes M] [--seed S]
 
-Each run has a random number of rounds (1 to 1000), K (0 or 2 to 50) and version. It fails if `record` ends with a status other than 0
-or 1, or with one that doesn't match the trace, or if `check` doesn't answer yes to its output.
+Each run has a random number of rounds (1 to 1000), K (0 or 2 to 50) and version. It fails if `record` ends with a
+status other than 0 or 1, or with one that doesn't match the trace, or if `check` doesn't answer yes to its output.
 """
 import argparse
 import os
@@ -71,7 +71,8 @@ def features_of(text):
 
 
 def has_ended(text, rounds):
-    """Whether the trace shows that host 1 received the bytes of all rounds and both hosts closed. If so, the status must be 0."""
+    """Whether the trace shows that host 1 received the bytes of all rounds and both hosts closed. If so, the status
+    must be 0."""
     bytes_told, oks = 0, Counter()
     for line in text.partition("\nwitness ")[0].split("\n"):
         words = line.split(" ")

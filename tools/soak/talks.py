@@ -3,9 +3,10 @@
 
     talks.py [--first SEED] [--count N]
 
-Copies the repository's last commit into a folder of its own, adds the program below as a crate with the talks of `test_recording`, and
-runs it with `rt try`, which proves nothing. The seed decides what happens to the segments of one talk. If `check` doesn't answer yes to
-a recording, or a host receives wrong bytes, the script prints the seed, and the exit status is 1.
+Copies the repository's last commit into a folder of its own, adds the program below as a crate with the talks of
+`test_recording`, and runs it with `rt try`, which proves nothing. The seed decides what happens to the segments of one
+talk. If `check` doesn't answer yes to a recording, or a host receives wrong bytes, the script prints the seed, and the
+exit status is 1.
 """
 import argparse
 import pathlib
@@ -37,7 +38,8 @@ fn main(rt: HostRuntime) -> std::io::Result<()> {
         seed += 1;
     }
     let Kinds { timeouts, recoveries, probes, closes, ends } = &kinds;
-    println!(rt; "events: {timeouts} timeouts, {recoveries} recoveries, {probes} probes, {closes} closes at once, {ends} ends of waits")?;
+    println!(rt; "events: {timeouts} timeouts, {recoveries} recoveries, {probes} probes, \\
+        {closes} closes at once, {ends} ends of waits")?;
     Ok(())
 }
 '''
@@ -75,7 +77,8 @@ def prepare(folder):
 def main():
     parser = argparse.ArgumentParser(description=__doc__.splitlines()[0])
     parser.add_argument("--first", metavar="SEED", type=int, default=0, help="the seed of the first talk (default: 0)")
-    parser.add_argument("--count", metavar="N", type=int, default=TALKS, help=f"how many talks are simulated (default: {TALKS})")
+    parser.add_argument("--count", metavar="N", type=int, default=TALKS,
+                        help=f"how many talks are simulated (default: {TALKS})")
     given = parser.parse_args()
     failed = 0
     with tempfile.TemporaryDirectory() as folder:
@@ -84,7 +87,8 @@ def main():
             count = min(TALKS, given.first + given.count - first)
             told = talked(folder, first, count)
             failed += len(told) != 1
-            print(f"seeds {first} to {first + count - 1}:", *told or ["the program did not end"], sep="\n    ", flush=True)
+            print(f"seeds {first} to {first + count - 1}:", *told or ["the program did not end"], sep="\n    ",
+                  flush=True)
     return 1 if failed else 0
 
 

@@ -3,15 +3,16 @@
 
     tools/wrong_bodies/run.py [--list] [NAME ..]
 
-Each file CRATE/FUNCTION.WHAT.edit in this folder changes a body. It has the lines of a must-fail edit, which `rt must-fail` reads:
-`file:`, and pairs of `old:` and `new:`. Before them it has three more: `promise:` names a contract as guarantees.md does, `function:` is
-the changed function, as the end of the name that `rt check` prints, and `clause:` is the clause of it that refuses the body (`result`
-if its only `ensures` has no name).
+Each file CRATE/FUNCTION.WHAT.edit in this folder changes a body. It has the lines of a must-fail edit, which `rt
+must-fail` reads: `file:`, and pairs of `old:` and `new:`. Before them it has three more: `promise:` names a contract as
+guarantees.md does, `function:` is the changed function, as the end of the name that `rt check` prints, and `clause:` is
+the clause of it that refuses the body (`result` if its only `ensures` has no name).
 
-The script copies the crates, with what earlier checks kept in `out`, and checks that the functions are proved. Then it applies one edit
-after the other, checks the function, prints the clause and puts the file back. It fails if a body is proved, can't be applied or
-compiled, or isn't refused by its clause, or if a promise has no edit. Names, of crates or edits, select a part; --list only prints the
-rows for the table in docs/design/proving.md. What isn't proved yet is proved first, which takes long: run `rt check` in the crate before.
+The script copies the crates, with what earlier checks kept in `out`, and checks that the functions are proved. Then it
+applies one edit after the other, checks the function, prints the clause and puts the file back. It fails if a body is
+proved, can't be applied or compiled, or isn't refused by its clause, or if a promise has no edit. Names, of crates or
+edits, select a part; --list only prints the rows for the table in docs/design/proving.md. What isn't proved yet is
+proved first, which takes long: run `rt check` in the crate before.
 """
 import glob
 import os
@@ -28,8 +29,10 @@ TOP = os.path.dirname(os.path.dirname(HERE))
 PAGE = f"{TOP}/docs/guarantees.md"
 PARTS = ("src", "specs", "proofs")
 KEYS = ("promise", "function", "clause", "file", "old", "new")
-# What a check says of a goal that it doesn't prove: in a note, of a proof file, or in the line of a function whose proof it looked for.
-NOTE = re.compile(r"note: \S+?:\d+:\d+: it is not proved that what the function ensures holds when it returns \(`([^`]*)`\)")
+# What a check says of a goal that it doesn't prove: in a note, of a proof file, or in the line of a function whose
+# proof it looked for.
+NOTE = re.compile(r"note: \S+?:\d+:\d+: it is not proved that what the function ensures holds when it returns "
+                  r"\(`([^`]*)`\)")
 ANSWER = re.compile(r"\S+Answers\.antt:\d+:\d+: error: `(returns[^`]*)`: (.*)")
 SEARCH = re.compile(r"fn \S+: .*`search` did not prove (.*)")
 # A proof file that names what the edit took away says nothing of the clause.
@@ -63,7 +66,8 @@ class Edit:
             elif key == "new":
                 text = texts.get(path) or read(path)
                 if text.count(old) != 1:
-                    raise ValueError(f"`{old.strip()}` is in {os.path.relpath(path, folder)} {text.count(old)} times, and not once")
+                    raise ValueError(f"`{old.strip()}` is in {os.path.relpath(path, folder)} {text.count(old)} times, "
+                                     "and not once")
                 texts[path] = text.replace(old, value)
         return texts
 
@@ -96,7 +100,8 @@ def below(crates):
 def edits_of(names):
     """The edits that are selected, by crate in the order of crates.txt."""
     crates = list(uses())
-    edits = sorted((Edit(path) for path in glob.glob(f"{HERE}/*/*.edit")), key=lambda edit: (crates.index(edit.crate), edit.name))
+    edits = sorted((Edit(path) for path in glob.glob(f"{HERE}/*/*.edit")),
+                   key=lambda edit: (crates.index(edit.crate), edit.name))
     unknown = [name for name in names if not any(name in (edit.crate, edit.name) for edit in edits)]
     if unknown:
         sys.exit(f"no crate or edit here is named {', '.join(unknown)}")
@@ -137,7 +142,8 @@ def rows(edits):
     order = promises()
     told = sorted(edits, key=lambda edit: order.index(edit.promise))
     bodies = [edit.name.split(".", 1)[1].replace("_", " ") for edit in told]
-    return [f"| `{edit.promise}` | {body} | `{edit.crate}::{edit.function}`: {edit.clause} |" for edit, body in zip(told, bodies)]
+    return [f"| `{edit.promise}` | {body} | `{edit.crate}::{edit.function}`: {edit.clause} |"
+            for edit, body in zip(told, bodies)]
 
 
 def linked(source, target):
@@ -164,7 +170,8 @@ def copy_crates(folder, crates):
 def check(folder, crate, functions):
     """The status and the output of a check of these functions of a crate."""
     words = ["rt", "check", *(word for name in functions for word in ("--only", name)), "--jobs", "1"]
-    how = {"stdin": subprocess.DEVNULL, "stdout": subprocess.PIPE, "stderr": subprocess.STDOUT, "text": True, "errors": "replace"}
+    how = {"stdin": subprocess.DEVNULL, "stdout": subprocess.PIPE, "stderr": subprocess.STDOUT, "text": True,
+           "errors": "replace"}
     with subprocess.Popen(words, cwd=f"{folder}/crates/{crate}", start_new_session=True, **how) as ran:
         try:
             told = ran.communicate()[0]

@@ -1,10 +1,11 @@
 #!/usr/bin/env python3
-"""Tests the library for C, as built by bindings/c/build: its answers on all case files, in C and C++, by several threads, with refused
-memory, and under valgrind.
+"""Tests the library for C, as built by bindings/c/build: its answers on all case files, in C and C++, by several
+threads, with refused memory, and under valgrind.
 
     bindings/c/test/test_c.py [LIBRARY]
 
-LIBRARY is the folder of the built library. Without it, the library is built without proofs first, unless a current one is in .built/.
+LIBRARY is the folder of the built library. Without it, the library is built without proofs first, unless a current one
+is in .built/.
 """
 import os
 import re
@@ -46,8 +47,8 @@ class Library(unittest.TestCase):
         cls.programs = {}
         for name, words in COMPILERS.items():
             program = f"{cls.folder}/{name}"
-            subprocess.run([*words, *WARNINGS, "-g", "-O1", f"-I{LIBRARY}", f"{HERE}/programs.c", "-o", program, "-x", "none", f"-L{LIBRARY}",
-                            f"-Wl,-rpath,{LIBRARY}", "-ltcpwit", "-lpthread"], check=True)
+            subprocess.run([*words, *WARNINGS, "-g", "-O1", f"-I{LIBRARY}", f"{HERE}/programs.c", "-o", program, "-x",
+                            "none", f"-L{LIBRARY}", f"-Wl,-rpath,{LIBRARY}", "-ltcpwit", "-lpthread"], check=True)
             cls.programs[name] = program
         cls.program = cls.programs["gcc"]
 
@@ -68,17 +69,21 @@ class Library(unittest.TestCase):
                 with open(f"{self.folder}/{part}", "wb") as file:
                     file.write(piece)
             if cut:
-                self.assertEqual(output(self.program, "two", f"{self.folder}/trace", f"{self.folder}/witness"), line + "\n", name)
+                self.assertEqual(output(self.program, "two", f"{self.folder}/trace", f"{self.folder}/witness"),
+                                 line + "\n", name)
 
     def test_all_compilers_and_the_static_library_agree(self):
         names = list(expected())[::25]
         wanted = output(self.program, "lines", *map(case, names))
         for program in self.programs.values():
             self.assertEqual(output(program, "lines", *map(case, names)), wanted)
-        words = output("pkg-config", "--cflags", "--libs", "--static", "tcpwit", env={**os.environ, "PKG_CONFIG_PATH": LIBRARY}).split()
+        words = output("pkg-config", "--cflags", "--libs", "--static", "tcpwit",
+                       env={**os.environ, "PKG_CONFIG_PATH": LIBRARY}).split()
         program = f"{self.folder}/static"
-        subprocess.run(["gcc", f"{HERE}/programs.c", "-o", program, *words, "-lpthread", "-Wl,-Bstatic", "-ltcpwit", "-Wl,-Bdynamic"], check=True)
-        subprocess.run(["gcc", f"{HERE}/programs.c", "-o", program, f"-I{LIBRARY}", f"{LIBRARY}/libtcpwit.a", "-lpthread"], check=True)
+        subprocess.run(["gcc", f"{HERE}/programs.c", "-o", program, *words, "-lpthread", "-Wl,-Bstatic", "-ltcpwit",
+                        "-Wl,-Bdynamic"], check=True)
+        subprocess.run(["gcc", f"{HERE}/programs.c", "-o", program, f"-I{LIBRARY}", f"{LIBRARY}/libtcpwit.a",
+                        "-lpthread"], check=True)
         self.assertEqual(output(program, "lines", *map(case, names)), wanted)
 
     def test_eight_threads_agree(self):
@@ -93,7 +98,8 @@ class Library(unittest.TestCase):
         self.assertEqual(output(self.program, "rules").splitlines(), lines)
 
     def test_small_memory_gets_the_beginning(self):
-        self.assertEqual(output(self.program, "short").splitlines(), ["23 1234567", "23 bad ", "8 ", "8 1234567", "8 ack-lat", "8 ack-lat"])
+        self.assertEqual(output(self.program, "short").splitlines(),
+                         ["23 1234567", "23 bad ", "8 ", "8 1234567", "8 ack-lat", "8 ack-lat"])
 
     def test_half_of_the_stack_that_the_header_requires_is_enough(self):
         with open(f"{TOP}/bindings/c/tcpwit.h", encoding="utf-8") as file:
@@ -103,7 +109,8 @@ class Library(unittest.TestCase):
         self.assertEqual(dict(zip(names, said)), names)
 
     def test_a_copy_of_a_freed_text_may_not_be_freed(self):
-        found = subprocess.run(["valgrind", "--quiet", "--error-exitcode=9", self.program, "copied"], stderr=subprocess.PIPE, text=True, check=False)
+        found = subprocess.run(["valgrind", "--quiet", "--error-exitcode=9", self.program, "copied"],
+                               stderr=subprocess.PIPE, text=True, check=False)
         self.assertEqual((found.returncode, found.stderr.count("Invalid free()")), (9, 1))
 
     def test_the_lab_says_what_the_program_says(self):
@@ -115,20 +122,23 @@ class Library(unittest.TestCase):
             file.write(trace)
         said = output(self.program, "lab", name, f"{self.folder}/one_trace")
         lab = os.environ.get("TCPWIT_LAB", f"{TOP}/tcpwit_lab")
-        run = lambda words, given: subprocess.run([lab, *words], input=given, stdout=subprocess.PIPE, stderr=subprocess.DEVNULL, check=False)
+        run = lambda words, given: subprocess.run([lab, *words], input=given, stdout=subprocess.PIPE,
+                                                  stderr=subprocess.DEVNULL, check=False)
         explained, remarked = run(["explain", "--simulated"], text), run(["remark"], text)
         found, judged = run(["find"], trace), run(["judge", "--case", f"{self.folder}/judged"], trace)
         with open(f"{self.folder}/judged", "rb") as file:
             kept = file.read()
         printed = judged.stdout[: judged.stdout.rindex(b"\n", 0, -1) + 1]
-        wanted = b"".join([b"explain 1\n", explained.stdout, b"remark %d\n" % remarked.returncode, remarked.stdout, b"find 0\n", found.stdout,
-                           b"judge 1 3\n", printed, kept])
+        wanted = b"".join([b"explain 1\n", explained.stdout, b"remark %d\n" % remarked.returncode, remarked.stdout,
+                           b"find 0\n", found.stdout, b"judge 1 3\n", printed, kept])
         self.assertEqual(said, wanted.decode())
 
     def test_traces_are_written(self):
         program = f"{self.folder}/trace"
-        subprocess.run(["gcc", "-std=c99", *WARNINGS, f"-I{TOP}/bindings/c", f"{HERE}/trace.c", "-o", program], check=True)
-        for words, path in (([], f"{CASES}/examples/handshake_and_five_bytes.case"), (["unanswered"], f"{TOP}/stacks/tests/unanswered.case")):
+        subprocess.run(["gcc", "-std=c99", *WARNINGS, f"-I{TOP}/bindings/c", f"{HERE}/trace.c", "-o", program],
+                       check=True)
+        for words, path in (([], f"{CASES}/examples/handshake_and_five_bytes.case"),
+                            (["unanswered"], f"{TOP}/stacks/tests/unanswered.case")):
             with open(path, encoding="utf-8") as file:
                 self.assertEqual(output(program, *words), file.read())
         self.assertEqual(output(program, "any"), "hosts 2\ncongestion recovery\nslack any\n")
@@ -145,7 +155,8 @@ class Library(unittest.TestCase):
 
     def test_refused_memory_is_an_answer(self):
         program = f"{self.folder}/refused"
-        words = ["gcc", "-std=c11", *WARNINGS, "-O1", f"-I{LIBRARY}", f"-I{TOP}/bindings/c", f"{HERE}/refused.c", "-o", program, f"{LIBRARY}/libtcpwit.a"]
+        words = ["gcc", "-std=c11", *WARNINGS, "-O1", f"-I{LIBRARY}", f"-I{TOP}/bindings/c", f"{HERE}/refused.c", "-o",
+                 program, f"{LIBRARY}/libtcpwit.a"]
         subprocess.run([*words, "-Wl,--wrap=malloc,--wrap=realloc"], check=True)
         name = f"{TOP}/examples/queue_full.case"
         with open(name, "rb") as file:
@@ -159,7 +170,8 @@ class Library(unittest.TestCase):
 
     def test_valgrind_finds_nothing(self):
         names = list(expected())[::90]
-        words = ["valgrind", "--quiet", "--leak-check=full", "--errors-for-leak-kinds=all", "--show-leak-kinds=all", "--error-exitcode=9"]
+        words = ["valgrind", "--quiet", "--leak-check=full", "--errors-for-leak-kinds=all", "--show-leak-kinds=all",
+                 "--error-exitcode=9"]
         output(*words, self.program, "lines", *map(case, names))
         name = f"{TOP}/stacks/recorded/lwip-hostile-ack-despite-nagle.case"
         with open(name, "rb") as file:
@@ -171,7 +183,8 @@ class Library(unittest.TestCase):
     def test_only_these_names_are_exported(self):
         with open(f"{TOP}/bindings/c/tcpwit.map", encoding="utf-8") as file:
             names = sorted(re.findall(r"tcpwit_\w+", file.read()))
-        shared = [line.split()[-1].split("@")[0] for line in output("nm", "-D", "--defined-only", f"{LIBRARY}/libtcpwit.so.1").splitlines()]
+        shared = [line.split()[-1].split("@")[0]
+                  for line in output("nm", "-D", "--defined-only", f"{LIBRARY}/libtcpwit.so.1").splitlines()]
         self.assertEqual(sorted(it for it in shared if it != "TCPWIT_1"), names)
         static = output("nm", "-g", "--defined-only", f"{LIBRARY}/libtcpwit.a").splitlines()
         self.assertEqual(sorted(line.split()[-1] for line in static if len(line.split()) == 3), names)
@@ -190,7 +203,13 @@ def current_library():
     return folder
 
 
+def given_library():
+    """The folder of the library that the command line names, else that of the current one."""
+    is_given = len(sys.argv) > 1 and os.path.isdir(sys.argv[1])
+    return os.path.abspath(sys.argv.pop(1)) if is_given else current_library()
+
+
 if __name__ == "__main__":
     sys.dont_write_bytecode = True
-    LIBRARY = os.path.abspath(sys.argv.pop(1)) if len(sys.argv) > 1 and os.path.isdir(sys.argv[1]) else current_library()
+    LIBRARY = given_library()
     unittest.main()

@@ -7,9 +7,9 @@ Yes(lines=0, hidden=0)
 >>> print(answer)
 yes 0 0
 
-`check` judges a case, which is a trace and its witness; it is the proved code of `tcpwit check`. `judge` looks for a witness of a trace
-and judges it at each level. `Trace` writes traces. The functions may be called from any number of threads; while one runs, other threads
-run Python code. If memory runs out, they raise MemoryError.
+`check` judges a case, which is a trace and its witness; it is the proved code of `tcpwit check`. `judge` looks for a
+witness of a trace and judges it at each level. `Trace` writes traces. The functions may be called from any number of
+threads; while one runs, other threads run Python code. If memory runs out, they raise MemoryError.
 """
 from __future__ import annotations
 
@@ -18,12 +18,14 @@ import re
 from typing import Union
 
 from . import library
-from .answers import Answer, Fault, Judgement, Level, No, Rule, TextError, TraceError, WitnessError, Yes
+from .answers import Answer, Fault, Judgement, Level, No, TextError, TraceError, WitnessError, Yes
 from .library import ANY_SLACK, LIBRARY, USUAL_BUDGET, USUAL_SLACK
+from .rules import Rule
 from .trace import Trace
 
-__all__ = ["ANY_SLACK", "Answer", "Fault", "Judgement", "Level", "No", "Rule", "TextError", "Trace", "TraceError", "USUAL_BUDGET", "USUAL_SLACK",
-           "WitnessError", "Yes", "check", "check_two", "explain", "find", "judge", "remark"]
+__all__ = ["ANY_SLACK", "Answer", "Fault", "Judgement", "Level", "No", "Rule", "TextError", "Trace", "TraceError",
+           "USUAL_BUDGET", "USUAL_SLACK", "WitnessError", "Yes", "check", "check_two", "explain", "find", "judge",
+           "remark"]
 
 Text = Union[str, bytes, Trace]
 
@@ -106,8 +108,8 @@ def find(trace: Text, budget: int = USUAL_BUDGET) -> bytes:
 def judge(trace: Text, level: Level = Level.FULL, slack: int = USUAL_SLACK, budget: int = USUAL_BUDGET) -> Judgement:
     """Judges a trace at each level until one has a yes. The judgement is true if `level` or a stricter one has a yes.
 
-    `slack` is in microseconds: how late a host may be with its duties. By default, it is that of a trace of version 5, else a second;
-    ANY_SLACK leaves duties unjudged. `budget` bounds what the search spends on going back.
+    `slack` is in microseconds: how late a host may be with its duties. By default, it is that of a trace of version 5,
+    else a second; ANY_SLACK leaves duties unjudged. `budget` bounds what the search spends on going back.
     """
     text, given = _bytes(trace), library.Judgement()
     status = LIBRARY.tcpwit_judge(text, len(text), slack, budget, ctypes.byref(given))

@@ -5,67 +5,7 @@ import enum
 from dataclasses import dataclass
 from typing import Union
 
-
-class Rule(enum.Enum):
-    """A rule that a no names; the value is its name. docs/reference/rules.md explains them."""
-
-    LINE_RANGE = "line-range"
-    LINE_AGAIN = "line-again"
-    THREAD_ORDER = "thread-order"
-    MOMENT_FALLS = "moment-falls"
-    MOMENT_OFF = "moment-off"
-    OVERDUE = "overdue"
-    THREAD_BUSY = "thread-busy"
-    NO_CALL = "no-call"
-    DONE_TWICE = "done-twice"
-    ANSWER_DIFFERS = "answer-differs"
-    SOCKET = "socket"
-    CALL_ANSWER = "call-answer"
-    NO_ENDPOINT = "no-endpoint"
-    STATE = "state"
-    ISS = "iss"
-    BYTES_DIFFER = "bytes-differ"
-    NOT_MADE = "not-made"
-    PAYLOAD_RANGE = "payload-range"
-    ACK_FIELD = "ack-field"
-    OLD_DATA = "old-data"
-    OFFERED = "offered"
-    CONGESTION = "congestion"
-    SIZE = "size"
-    NO_EMISSION = "no-emission"
-    COPY_DIFFERS = "copy-differs"
-    LIFETIME = "lifetime"
-    INBOX = "inbox"
-    NOT_PEER = "not-peer"
-    NUMBER = "number"
-    UNACCEPTABLE = "unacceptable"
-    ACK_RANGE = "ack-range"
-    QUEUE_FULL = "queue-full"
-    GROWTH = "growth"
-    SAMPLE = "sample"
-    TIMER_OFF = "timer-off"
-    TIMER_EARLY = "timer-early"
-    RECOVERY = "recovery"
-    SCALE_UNREAD = "scale-unread"
-    UNPLACED = "unplaced"
-    DROPPED = "dropped"
-    DISCARDED = "discarded"
-    PROCESS_LATE = "process-late"
-    SEND_LATE = "send-late"
-    ACK_LATE = "ack-late"
-    EXPIRY_LATE = "expiry-late"
-    RESEND_LATE = "resend-late"
-    PROBE_LATE = "probe-late"
-    START_LATE = "start-late"
-    RESET_LATE = "reset-late"
-    RESENT = "resent"
-    RESENT_BEYOND = "resent-beyond"
-    ACK_EXCESS = "ack-excess"
-
-    @property
-    def number(self) -> int:
-        """The rule's number, from 1 to 52."""
-        return list(Rule).index(self) + 1
+from .rules import Rule
 
 
 class Fault(enum.Enum):
@@ -115,8 +55,8 @@ class Yes:
 class No:
     """The witness doesn't explain the trace. It is false.
 
-    `witness_line` is the line of the first step that breaks a rule, or 0 if something is left at the end; `trace_line` is the line of
-    the trace that the step names, or 0.
+    `witness_line` is the line of the first step that breaks a rule, or 0 if something is left at the end; `trace_line`
+    is the line of the trace that the step names, or 0.
 
     >>> bool(No(witness_line=34, trace_line=0, rule=Rule.QUEUE_FULL))
     False
@@ -137,7 +77,8 @@ Answer = Union[Yes, No]
 
 
 class TextError(ValueError):
-    """A text can't be read. `line` counts from 1 in its own text; `start` and `stop` count bytes of that line from 0."""
+    """A text can't be read. `line` counts from 1 in its own text; `start` and `stop` count bytes of that line from
+    0."""
 
     text = "text"
 
@@ -163,7 +104,8 @@ class WitnessError(TextError):
 
 @dataclass(frozen=True)
 class Judgement:
-    """How a trace was judged. It is true if `least` or a stricter level has a yes, and prints as `tcpwit_lab judge` prints it."""
+    """How a trace was judged. It is true if `least` or a stricter level has a yes, and prints as `tcpwit_lab judge`
+    prints it."""
 
     level: Level | None
     """The strictest level with a yes; None if none has one."""

@@ -1,6 +1,7 @@
 """The library for C, as its header declares it (bindings/c/tcpwit.h).
 
-It is looked for in the file that the environment variable TCPWIT_LIBRARY names, then beside this file, then where the system looks.
+It is looked for in the file that the environment variable TCPWIT_LIBRARY names, then beside this file, then where the
+system looks.
 """
 from __future__ import annotations
 
@@ -11,8 +12,9 @@ import os
 class Answer(ctypes.Structure):
     """struct tcpwit_result."""
 
-    _fields_ = [(name, ctypes.c_uint32) for name in ("kind", "rule", "fault")] + [
-        (name, ctypes.c_uint64) for name in ("lines", "hidden", "witness_line", "trace_line", "fault_line", "fault_start", "fault_stop")]
+    _fields_ = [*((name, ctypes.c_uint32) for name in ("kind", "rule", "fault")),
+                *((name, ctypes.c_uint64) for name in ("lines", "hidden", "witness_line", "trace_line", "fault_line",
+                                                       "fault_start", "fault_stop"))]
 
 
 class Text(ctypes.Structure):

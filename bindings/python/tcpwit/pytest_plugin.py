@@ -9,7 +9,8 @@ from . import USUAL_BUDGET, USUAL_SLACK, Judgement, Level, Text, explain, judge
 
 
 def conforms(trace: Text, level: Level = Level.FULL, slack: int = USUAL_SLACK, budget: int = USUAL_BUDGET) -> Judgement:
-    """Fails the test unless `level` or a stricter one has a yes. The message is the judgement and the explanation of its last case."""
+    """Fails the test unless `level` or a stricter one has a yes. The message is the judgement and the explanation of
+    its last case."""
     __tracebackhide__ = True
     judgement = judge(trace, level, slack, budget)
     if not judgement:

@@ -10,8 +10,9 @@ LAST_THREAD = 2**32 - 1
 class Call:
     """A call of a thread, which begins with `with` and ends with its block.
 
-    Inside the block, say how it ends: `ok()`, `number(n)`, `data(b)`, `state(s)` or `answer(word)`; if nothing is said, it ends with `ok`.
-    If the block raises an exception, the call has no end. By default, it ends at the moment of the last line.
+    Inside the block, say how it ends: `ok()`, `number(n)`, `data(b)`, `state(s)` or `answer(word)`; if nothing is said,
+    it ends with `ok`. If the block raises an exception, the call has no end. By default, it ends at the moment of the
+    last line.
     """
 
     def __init__(self, trace: Trace, moment: int, thread: int, words: str) -> None:
@@ -26,13 +27,15 @@ class Call:
         self._trace._event(self._moment, self._thread, f"B {self._words}")
         return self
 
-    def __exit__(self, kind: type[BaseException] | None, error: BaseException | None, trace: TracebackType | None) -> None:
+    def __exit__(self, kind: type[BaseException] | None, error: BaseException | None,
+                 trace: TracebackType | None) -> None:
         if kind is None:
             moment = self._trace.moment if self._end is None else self._end
             self._trace._event(moment, self._thread, f"E {self._answer}")
 
     def answer(self, word: str, moment: int | None = None) -> None:
-        """The answer, as a word of the format: `again`, `eof`, `closed`, `reset` and so on; and the moment of the end."""
+        """The answer, as a word of the format: `again`, `eof`, `closed`, `reset` and so on; and the moment of the
+        end."""
         self._answer, self._end = word, moment
 
     def ok(self, moment: int | None = None) -> None:
@@ -53,10 +56,11 @@ class Call:
 
 
 class Trace:
-    """A trace in version 5. Moments are microseconds on one clock; a moment that goes back is written as the one before.
+    """A trace in version 5. Moments are microseconds on one clock; a moment that goes back is written as the one
+    before.
 
-    Threads are numbers: one for each calling thread, and others for segments received, segments sent and timers of each host. The lines
-    of one thread keep their order.
+    Threads are numbers: one for each calling thread, and others for segments received, segments sent and timers of each
+    host. The lines of one thread keep their order.
 
     >>> trace = Trace(hosts=1, slack=20_000)
     >>> with trace.listen(10, thread=1, host=0, port=80, backlog=4) as call:
@@ -67,11 +71,13 @@ class Trace:
     30 4294967295 E badsocket
     """
 
-    def __init__(self, *, hosts: int = 2, congestion: str = "full", slack: int | None = 1_000_000, skew: int = 0, msl: int = 120_000_000,
-                 grain: int = 1_000, minrto: int = 1_000_000, extra: int = 0, initial: int = 5681) -> None:
+    def __init__(self, *, hosts: int = 2, congestion: str = "full", slack: int | None = 1_000_000, skew: int = 0,
+                 msl: int = 120_000_000, grain: int = 1_000, minrto: int = 1_000_000, extra: int = 0,
+                 initial: int = 5681) -> None:
         self.moment = 0
-        self._lines = ["trace 5", f"skew {skew}", f"msl {msl}", f"grain {grain}", f"minrto {minrto}", f"extra {extra}", f"initial {initial}",
-                       f"hosts {hosts}", f"congestion {congestion}", f"slack {'any' if slack is None else slack}"]
+        self._lines = ["trace 5", f"skew {skew}", f"msl {msl}", f"grain {grain}", f"minrto {minrto}", f"extra {extra}",
+                       f"initial {initial}", f"hosts {hosts}", f"congestion {congestion}",
+                       f"slack {'any' if slack is None else slack}"]
 
     def _event(self, moment: int, thread: int, words: str) -> None:
         """Writes an event line."""
@@ -135,6 +141,7 @@ class Trace:
         self._event(moment, thread, f"T {host} {local} {remote} {timer}")
 
     def finish(self, moment: int) -> None:
-        """The recording stops. A call that changes nothing shows how long it lasted, without which nothing is late after the last event."""
+        """The recording stops. A call that changes nothing shows how long it lasted, without which nothing is late
+        after the last event."""
         with self.status(moment, LAST_THREAD, 0) as call:
             call.answer("badsocket")

@@ -1,5 +1,6 @@
 #!/usr/bin/python3
-"""Tests the Python package with the library for C, which is built without proofs first, unless a current one is in .built/.
+"""Tests the Python package with the library for C, which is built without proofs first, unless a current one is in
+.built/.
 
     bindings/python/tests/test_tcpwit.py [LIBRARY]
 
@@ -23,7 +24,7 @@ sys.dont_write_bytecode = True
 sys.path[:0] = [PACKAGE, f"{TOP}/bindings/c/test"]
 import test_c  # noqa: E402
 
-LIBRARY = os.path.abspath(sys.argv.pop(1)) if len(sys.argv) > 1 and os.path.isdir(sys.argv[1]) else test_c.current_library()
+LIBRARY = test_c.given_library()
 os.environ["TCPWIT_LIBRARY"] = f"{LIBRARY}/libtcpwit.so.1"
 import tcpwit  # noqa: E402
 
@@ -74,7 +75,8 @@ class Package(unittest.TestCase):
             self.assertEqual(rule.value, name.value.decode())
         with open(f"{TOP}/bindings/c/tcpwit.h", encoding="utf-8") as file:
             numbers = re.findall(r"TCPWIT_FAULT_(\w+) = (\d+)", file.read())
-        self.assertEqual({int(number): name for name, number in numbers}, {number: fault.name for number, fault in tcpwit._FAULTS.items()})
+        self.assertEqual({int(number): name for name, number in numbers},
+                         {number: fault.name for number, fault in tcpwit._FAULTS.items()})
 
     def test_texts_may_be_str_or_bytes_or_two(self):
         case = contents(f"{TOP}/examples/handshake.case")
@@ -133,28 +135,35 @@ class Package(unittest.TestCase):
                 file.write(re.sub(r"^    ", "", code, flags=re.MULTILINE))
             shutil.copy(f"{TOP}/crates/test_cases/data/kernel/lost-fin.trace", f"{folder}/run.trace")
             environment = {**os.environ, "PYTHONPATH": PACKAGE}
-            words = ["/usr/bin/python3", "-m", "pytest", "-q", "-p", "tcpwit.pytest_plugin", "-p", "no:cacheprovider", "test_trace.py"]
-            done = subprocess.run(words, cwd=folder, env=environment, stdout=subprocess.PIPE, stderr=subprocess.STDOUT, text=True, check=False)
+            words = ["/usr/bin/python3", "-m", "pytest", "-q", "-p", "tcpwit.pytest_plugin", "-p", "no:cacheprovider",
+                     "test_trace.py"]
+            done = subprocess.run(words, cwd=folder, env=environment, stdout=subprocess.PIPE, stderr=subprocess.STDOUT,
+                                  text=True, check=False)
             self.assertRegex(done.stdout, r"\b1 passed\b")
             with open(f"{folder}/run.trace", "wb") as file:
                 file.write(trace_of(contents(REFUSED)))
-            done = subprocess.run(words, cwd=folder, env=environment, stdout=subprocess.PIPE, stderr=subprocess.STDOUT, text=True, check=False)
+            done = subprocess.run(words, cwd=folder, env=environment, stdout=subprocess.PIPE, stderr=subprocess.STDOUT,
+                                  text=True, check=False)
             self.assertRegex(done.stdout, r"\b1 failed\b")
             self.assertIn("none      no 25 25 ack-late", done.stdout)
             self.assertIn("the step: 2760000 L 25 ", done.stdout)
 
     def test_a_wheel_has_the_library(self):
         with tempfile.TemporaryDirectory() as folder:
-            shutil.copytree(PACKAGE, f"{folder}/python", ignore=shutil.ignore_patterns("__pycache__", "tests", "build", "*.egg-info"))
+            shutil.copytree(PACKAGE, f"{folder}/python",
+                            ignore=shutil.ignore_patterns("__pycache__", "tests", "build", "*.egg-info"))
             shutil.copy(f"{LIBRARY}/libtcpwit.so.1", f"{folder}/python/tcpwit")
-            words = ["/usr/bin/python3", "-m", "pip", "wheel", "--quiet", "--no-deps", "--no-build-isolation", "--wheel-dir", folder, f"{folder}/python"]
+            words = ["/usr/bin/python3", "-m", "pip", "wheel", "--quiet", "--no-deps", "--no-build-isolation",
+                     "--wheel-dir", folder, f"{folder}/python"]
             subprocess.run(words, check=True, stdout=subprocess.DEVNULL, stderr=subprocess.DEVNULL)
             wheel = f"{folder}/tcpwit-1.0-py3-none-linux_x86_64.whl"
-            words = ["/usr/bin/python3", "-m", "pip", "install", "--quiet", "--no-deps", "--no-index", "--target", f"{folder}/installed", wheel]
+            words = ["/usr/bin/python3", "-m", "pip", "install", "--quiet", "--no-deps", "--no-index", "--target",
+                     f"{folder}/installed", wheel]
             subprocess.run(words, check=True, stdout=subprocess.DEVNULL, stderr=subprocess.DEVNULL)
             environment = {"PATH": os.environ["PATH"], "PYTHONPATH": f"{folder}/installed"}
             words = ["/usr/bin/python3", "-c", "import sys, tcpwit; print(tcpwit.check(sys.stdin.read()))"]
-            done = subprocess.run(words, input=contents(f"{TOP}/examples/handshake.case"), env=environment, cwd=folder, stdout=subprocess.PIPE, check=True)
+            done = subprocess.run(words, input=contents(f"{TOP}/examples/handshake.case"), env=environment, cwd=folder,
+                                  stdout=subprocess.PIPE, check=True)
             self.assertEqual(done.stdout, b"yes 18 13\n")
 
 

@@ -1,68 +1,171 @@
-//! The rules that a no names.
+//! The rules that a no names. `tools/rule_names.py` writes this file.
 
 use core::fmt;
 
 /// A rule that a no names. `docs/reference/rules.md` explains them.
 #[derive(Clone, Copy, Debug, PartialEq, Eq, Hash)]
 pub enum Rule {
+    /// L names no event line, or names an unplaced line with another count of extra numbers than its kind needs.
     LineRange,
+    /// That line was placed before.
     LineAgain,
+    /// An earlier line of its thread is not placed.
     ThreadOrder,
+    /// The step's moment is before that of the step before.
     MomentFalls,
+    /// The step's moment is before the line's, or after it by more than the skew.
     MomentOff,
+    /// Some line that is not placed may no longer wait.
     Overdue,
+    /// The line begins a call, but the thread has an open call.
     ThreadBusy,
+    /// An effect or the end of a call, but the thread has no open call.
     NoCall,
+    /// An effect, but the open call already had its effect.
     DoneTwice,
+    /// The end of a call that had no effect yet, or had another answer.
     AnswerDiffers,
+    /// An effect returns a socket number that was returned before.
     Socket,
+    /// An effect with an answer that the call may not have.
     CallAnswer,
+    /// No endpoint exists at these ports, or it is closed.
     NoEndpoint,
+    /// The endpoint's state allows no segment of that kind.
     State,
+    /// The initial send sequence number is missing, was given before, or is given without a SYN.
     Iss,
+    /// The segment on the wire is not the one that was built.
     BytesDiffer,
+    /// No such segment was built, or it was already sent.
     NotMade,
+    /// The segment's bytes are not among those accepted, or its FIN is not at the end of them.
     PayloadRange,
+    /// An acknowledgment before the peer's SYN was received, or no acknowledgment after it.
     AckField,
+    /// A segment with old data at a place where nothing may be retransmitted.
     OldData,
+    /// New data ends beyond the offered window (RFC 9293, 3.8.6).
     Offered,
+    /// New data ends beyond the congestion window (RFC 5681, 3.1).
     Congestion,
+    /// The segment holds more data than the sender's maximum segment size.
     Size,
+    /// What arrives is not a segment that the other host sent.
     NoEmission,
+    /// What arrives has other bytes than the segment that it copies.
     CopyDiffers,
+    /// The segment is older than the maximum segment lifetime.
     Lifetime,
+    /// The segment isn't waiting in the host's inbox.
     Inbox,
+    /// The segment was built by another endpoint than this endpoint's peer.
     NotPeer,
+    /// A sequence or acknowledgment number does not read back to its position.
     Number,
+    /// The segment is not acceptable (RFC 9293, 3.4).
     Unacceptable,
+    /// The acknowledgment is missing or out of range.
     AckRange,
+    /// The child would join a full listen queue.
     QueueFull,
+    /// The congestion window or the slow start threshold is above the greatest value allowed.
     Growth,
+    /// A round trip time is measured when it may not be (RFC 6298, 3).
     Sample,
+    /// The timer is not armed, or what it waits for doesn't exist.
     TimerOff,
+    /// The timer expires before it may.
     TimerEarly,
+    /// Fast recovery may not be entered (RFC 5681, 3.2).
     Recovery,
+    /// A segment's window would be read with another shift than its sender's.
     ScaleUnread,
+    /// A line is not placed after the last step.
     Unplaced,
+    /// A segment is dropped that the host has to process or answer (RFC 9293, 3.10.7).
     Dropped,
+    /// What is next in order is received but not kept (RFC 9293, 3.10.7.4).
     Discarded,
+    /// A segment waits too long in the inbox (RFC 9293, 3.10.7).
     ProcessLate,
+    /// A segment is sent too long after it was built (RFC 9293, 3.10.2 and 3.10.7).
     SendLate,
+    /// An acknowledgment is late (RFC 9293, 3.8.6.3; RFC 5681, 4.2).
     AckLate,
+    /// The retransmission timer expires late (RFC 6298, 5.1 to 5.3).
     ExpiryLate,
+    /// The retransmission after an expiry is late (RFC 6298, 5.4).
     ResendLate,
+    /// A probe of a closed window is late (RFC 9293, 3.8.6.1).
     ProbeLate,
+    /// What may be sent is sent late (RFC 9293, 3.8.6.2.1, 3.10.2 and 3.10.4).
     StartLate,
+    /// The reset of an aborted connection is late (RFC 9293, 3.10.5).
     ResetLate,
+    /// A position is retransmitted twice after one expiry (RFC 6298, 5.4; RFC 5681, 3.2).
     Resent,
+    /// A retransmission ends beyond the congestion window (RFC 5681, 3.1).
     ResentBeyond,
+    /// There are more acknowledgments than received segments (RFC 5681, 4.2).
     AckExcess,
 }
 
 impl Rule {
     /// All rules, in the order of their numbers.
     pub const ALL: [Rule; 52] = [
-        Rule::LineRange, Rule::LineAgain, Rule::ThreadOrder, Rule::MomentFalls, Rule::MomentOff, Rule::Overdue, Rule::ThreadBusy, Rule::NoCall, Rule::DoneTwice, Rule::AnswerDiffers, Rule::Socket, Rule::CallAnswer, Rule::NoEndpoint, Rule::State, Rule::Iss, Rule::BytesDiffer, Rule::NotMade, Rule::PayloadRange, Rule::AckField, Rule::OldData, Rule::Offered, Rule::Congestion, Rule::Size, Rule::NoEmission, Rule::CopyDiffers, Rule::Lifetime, Rule::Inbox, Rule::NotPeer, Rule::Number, Rule::Unacceptable, Rule::AckRange, Rule::QueueFull, Rule::Growth, Rule::Sample, Rule::TimerOff, Rule::TimerEarly, Rule::Recovery, Rule::ScaleUnread, Rule::Unplaced, Rule::Dropped, Rule::Discarded, Rule::ProcessLate, Rule::SendLate, Rule::AckLate, Rule::ExpiryLate, Rule::ResendLate, Rule::ProbeLate, Rule::StartLate, Rule::ResetLate, Rule::Resent, Rule::ResentBeyond, Rule::AckExcess,
+        Rule::LineRange,
+        Rule::LineAgain,
+        Rule::ThreadOrder,
+        Rule::MomentFalls,
+        Rule::MomentOff,
+        Rule::Overdue,
+        Rule::ThreadBusy,
+        Rule::NoCall,
+        Rule::DoneTwice,
+        Rule::AnswerDiffers,
+        Rule::Socket,
+        Rule::CallAnswer,
+        Rule::NoEndpoint,
+        Rule::State,
+        Rule::Iss,
+        Rule::BytesDiffer,
+        Rule::NotMade,
+        Rule::PayloadRange,
+        Rule::AckField,
+        Rule::OldData,
+        Rule::Offered,
+        Rule::Congestion,
+        Rule::Size,
+        Rule::NoEmission,
+        Rule::CopyDiffers,
+        Rule::Lifetime,
+        Rule::Inbox,
+        Rule::NotPeer,
+        Rule::Number,
+        Rule::Unacceptable,
+        Rule::AckRange,
+        Rule::QueueFull,
+        Rule::Growth,
+        Rule::Sample,
+        Rule::TimerOff,
+        Rule::TimerEarly,
+        Rule::Recovery,
+        Rule::ScaleUnread,
+        Rule::Unplaced,
+        Rule::Dropped,
+        Rule::Discarded,
+        Rule::ProcessLate,
+        Rule::SendLate,
+        Rule::AckLate,
+        Rule::ExpiryLate,
+        Rule::ResendLate,
+        Rule::ProbeLate,
+        Rule::StartLate,
+        Rule::ResetLate,
+        Rule::Resent,
+        Rule::ResentBeyond,
+        Rule::AckExcess,
     ];
 
     /// The rule with this number, from 1 to 52.

@@ -1,7 +1,7 @@
 """The processes that a run starts, each in a group of its own so that none is left over.
 
-Processes that leave their group are found too: once their parent has ended, they become children of the runner, and their
-environment has a mark.
+Processes that leave their group are found too: once their parent has ended, they become children of the runner, and
+their environment has a mark.
 """
 import contextlib
 import ctypes
@@ -44,8 +44,8 @@ def start(command):
         if STOPPED.is_set():
             raise Stopped()
         mark = f"{os.getpid()}:{next(COUNTS)}:"
-        process = subprocess.Popen(command, stdin=subprocess.PIPE, stdout=subprocess.PIPE, stderr=subprocess.PIPE, bufsize=0,
-                                   start_new_session=True, env={**os.environ, MARK: mark})
+        process = subprocess.Popen(command, stdin=subprocess.PIPE, stdout=subprocess.PIPE, stderr=subprocess.PIPE,
+                                   bufsize=0, start_new_session=True, env={**os.environ, MARK: mark})
         process.mark = mark
         RUNNING.add(process)
         return process
@@ -80,7 +80,8 @@ def has_mark(number, mark):
 
 
 def end_left(find, is_left):
-    """Ends leftover processes among the children that `find` returns, until none are left, except those of other users."""
+    """Ends leftover processes among the children that `find` returns, until none are left, except those of other
+    users."""
     spared = set()
     for _ in range(MOST_ROUNDS):
         found = {number for number in find() - spared if is_left(number)}
@@ -122,7 +123,8 @@ def kill(process):
 
 
 def end(process):
-    """Ends a process and those it started, and frees its number and pipes. Processes without the mark are left to `end_orphans`."""
+    """Ends a process and those it started, and frees its number and pipes. Processes without the mark are left to
+    `end_orphans`."""
     with LOCK:
         RUNNING.discard(process)
         kill(process)
@@ -133,7 +135,8 @@ def end(process):
 
 
 def end_orphans(before):
-    """Ends what the run left. `before`: children that this process already had; if it had any, only marked processes belong to the run."""
+    """Ends what the run left. `before`: children that this process already had; if it had any, only marked processes
+    belong to the run."""
     end_left(children, lambda number: not before or has_mark(number, f"{os.getpid()}:"))
 
 

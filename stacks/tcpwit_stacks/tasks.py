@@ -1,16 +1,16 @@
-"""Runs and judges scenarios."""
+"""What all scenarios of a run have in common, and the way of each from the stack to its outcome."""
 import concurrent.futures
 import os
 import time
 from dataclasses import dataclass
 
-import files
-import host
-import judging
-import limits
-import processes
-import programs
-import simulation
+from . import files, processes, programs
+from .host import Cannot
+from .limits import Broken, Limits, Watch
+from .outcomes import FULL, Outcome
+from .profiles import header_of, profile, trace_of
+from .simulation import Run
+from .storms import KEPT
 
 
 @dataclass
@@ -18,9 +18,9 @@ class Task:
     """What all scenarios of a run have in common."""
     command: list
     values: dict            # of the profile
-    judge: object           # a judging.Judge; None if nothing is to be judged
+    judge: object           # a Judge; None if nothing is to be judged
     out: str
-    limits: limits.Limits
+    limits: Limits
     run_end: float          # when the run's time is up
 
 
@@ -31,9 +31,9 @@ def task_of(words, folder):
     if words.out:
         os.makedirs(words.out, exist_ok=True)
     command = programs.stack_of(words, folder)
-    values = judging.profile(files.read(words.profile) if words.profile else "", words.profile)
+    values = profile(files.read(words.profile) if words.profile else "", words.profile)
     judge = programs.judge_of(words, values)
-    bounds = limits.Limits(words.command_limit, words.scenario_limit, words.run_limit, words.events)
+    bounds = Limits(words.command_limit, words.scenario_limit, words.run_limit, words.events)
     return Task(command, values, judge, words.out, bounds, time.monotonic() + words.run_limit)
 
 
@@ -50,18 +50,18 @@ def outcomes_of(wanted, task, jobs):
 
 def one(scenario, task):
     """Runs and judges one scenario."""
-    outcome, began = judging.Outcome(scenario), time.monotonic()
+    outcome, began = Outcome(scenario), time.monotonic()
     try:
-        watch = limits.Watch(task.limits, task.run_end)
+        watch = Watch(task.limits, task.run_end)
         watch.left("before this scenario began")
-        run = simulation.Run(scenario, task.command, watch, task.values["options"])
+        run = Run(scenario, task.command, watch, task.values["options"])
         record(outcome, run, task)
-        if not outcome.verdict:
+        if not outcome.answer:
             judge_and_keep(outcome, run, task.values, task.judge.watched(watch) if task.judge else None, task.out)
-    except limits.Broken as cause:
-        outcome.verdict = f"broken {cause}"
+    except Broken as cause:
+        outcome.answer = f"broken {cause}"
     except processes.Stopped:
-        outcome.verdict = "broken the run was stopped"
+        outcome.answer = "broken the run was stopped"
     outcome.seconds = time.monotonic() - began
     return outcome
 
@@ -70,14 +70,15 @@ def record(outcome, run, task):
     """Runs a scenario and records its results, even if it doesn't finish."""
     try:
         run.run()
-    except host.Cannot as cause:
-        outcome.verdict = f"skipped {cause}"
+    except Cannot as cause:
+        outcome.answer = f"skipped {cause}"
         return
     finally:
         outcome.lines, outcome.resent, outcome.expired = len(run.lines), run.resent, run.expired
         outcome.said = [line for each in run.hosts for line in each.tail()]
         if task.out:
-            files.write(os.path.join(task.out, run.scenario.name + ".trace"), judging.trace_of(task.values, run.peer, run.lines))
+            files.write(os.path.join(task.out, run.scenario.name + ".trace"),
+                        trace_of(task.values, run.peer, run.lines, FULL))
     outcome.unexpected, outcome.waiting = run.unexpected + run.stuck(), run.waiting()
     if run.early:
         note_early_end(outcome, run, task.values)
@@ -88,17 +89,17 @@ def note_early_end(outcome, run, values):
     """Notes that a run was ended after too many events, and where a storm began."""
     text = f"run: ended after {run.count} events"
     if run.storm is not None:
-        line = len(judging.header_of(values, run.peer)) + run.storm + 1
-        text += f": a storm of acknowledgments from line {line} of the trace on, of which {simulation.KEPT} lines are kept"
+        line = len(header_of(values, run.peer, FULL)) + run.storm + 1
+        text += f": a storm of acknowledgments from line {line} of the trace on, of which {KEPT} lines are kept"
         outcome.notes.append(f"line {line}: {run.lines[run.storm]}")
     outcome.unexpected.append(text)
 
 
 def judge_and_keep(outcome, run, values, judge, out):
-    """Judges one scenario. NAME.case is judged in full; NAME.LEVEL.case has the yes if that needed a less strict level."""
+    """Judges one scenario. NAME.case is judged at full; NAME.LEVEL.case has a yes at a laxer level."""
     if not judge:
-        outcome.verdict = "recorded"
+        outcome.answer = "recorded"
         return
     cases = judge.judge(outcome, run, values)
     for level, case in cases.items() if out else ():
-        files.write(os.path.join(out, outcome.scenario.name + ("" if level == judging.FULL else f".{level}") + ".case"), case)
+        files.write(os.path.join(out, outcome.scenario.name + ("" if level == FULL else f".{level}") + ".case"), case)

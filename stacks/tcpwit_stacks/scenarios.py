@@ -1,9 +1,10 @@
-"""Parses the scenarios in scenarios/. LANGUAGE.md describes their language."""
+"""Scenarios, and the language in which their files are written (LANGUAGE.md)."""
 import re
 from dataclasses import dataclass, field
 
 KINDS = ("syn", "syn-ack", "data", "fin", "ack", "rst", "any")
-CALLS = {"listen": 1, "open": 2, "await": 1, "accept": 1, "send": 2, "recv": 2, "shut": 1, "close": 1, "abort": 1, "status": 1}
+CALLS = {"listen": 1, "open": 2, "await": 1, "accept": 1, "send": 2, "recv": 2, "shut": 1, "close": 1, "abort": 1,
+         "status": 1}
 
 
 class Fault(Exception):
@@ -94,8 +95,8 @@ def tcp_options(text):
 
 
 # The values that words of a script's steps may have.
-PUT = {"seq": place, "ack": place, "len": half, "win": half, "mss": half, "fill": lambda text: number(text, 255), "times": number, "each": seconds,
-       "raw": tcp_options, "to": place}
+PUT = {"seq": place, "ack": place, "len": half, "win": half, "mss": half, "fill": lambda text: number(text, 255),
+       "times": number, "each": seconds, "raw": tcp_options, "to": place}
 EXPECT = {"within": seconds, "seq": place, "ack": place, "len": half}
 
 

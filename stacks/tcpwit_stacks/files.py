@@ -1,11 +1,11 @@
-"""Reads and writes files, and prints. Errors name the file."""
+"""Files and standard output. Errors name the file."""
 import contextlib
 import errno
 import os
 import stat
 import sys
 
-from texts import shown
+from .texts import shown
 
 # The folder of the suite.
 TOP = os.path.dirname(os.path.dirname(os.path.realpath(__file__)))

@@ -22,7 +22,8 @@ class Watch:
     def __init__(self, limits, run_end):
         self.limits = limits
         self.until = min(time.monotonic() + limits.scenario, run_end)
-        self.cause = f"the run took more than {limits.run:g} s" if self.until == run_end else f"the scenario took more than {limits.scenario:g} s"
+        what, limit = ("run", limits.run) if self.until == run_end else ("scenario", limits.scenario)
+        self.cause = f"the {what} took more than {limit:g} s"
 
     def left(self, where):
         """How many seconds are left; raises Broken if none are. `where`: what is being done."""

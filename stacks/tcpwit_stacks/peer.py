@@ -1,9 +1,8 @@
 """A scripted peer: host 1 of a half case. It sends the segments of a script and sees those of host 0."""
 import re
 
-import segments
-from language import seconds
-from segments import ACK, RST, SYN, Segment, stream
+from .scenarios import seconds
+from .segments import ACK, LETTERS, RST, SYN, Segment, stream, write
 
 WAIT = 5_000_000
 
@@ -67,7 +66,7 @@ class Peer:
         return ((value or 0) + more) % 2**32
 
     def send(self, letters, options):
-        flags = sum(segments.LETTERS[letter] for letter in letters if letter != "-")
+        flags = sum(LETTERS[letter] for letter in letters if letter != "-")
         count = int(options.get("len", 0))
         own = "seq" not in options
         seq = self.number(options.get("seq"), self.nxt)
@@ -87,7 +86,7 @@ class Peer:
             self.shifts[1] = segment.shift()
         if own and not flags & RST:
             self.nxt = (self.nxt + segment.length()) % 2**32
-        self.run.at(self.run.now + self.run.scenario.delay, "come", 0, segments.write(segment).hex())
+        self.run.at(self.run.now + self.run.scenario.delay, "come", 0, write(segment).hex())
 
     # ---- the script ----
 

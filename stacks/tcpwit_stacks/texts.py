@@ -1,4 +1,4 @@
-"""Makes text from outside safe for a terminal and for XML: from a stack, a program, a file or a name."""
+"""Text from outside (a stack, a program, a file, a name), made safe for a terminal and for XML."""
 
 
 def shown(text, kept=""):

@@ -1,11 +1,8 @@
-"""Segments as bytes: the parts that the wire and a scripted peer read and write (docs/reference/formats.md, section 10)."""
-import os
-import sys
+"""Segments as bytes: what the wire and a scripted peer read and write (docs/reference/formats.md, section 10)."""
 from dataclasses import dataclass
 
-sys.path.append(os.path.join(os.path.dirname(os.path.realpath(__file__)), "..", "..", "importer"))
-from tcpwit_importer.capture import segments as headers  # noqa: E402
-from tcpwit_importer.capture.segments import ACK, FIN, PSH, RST, SYN, URG  # noqa: E402
+from tcpwit_importer.capture import segments as headers
+from tcpwit_importer.capture.segments import ACK, FIN, PSH, RST, SYN, URG
 
 LETTERS = {"F": FIN, "S": SYN, "R": RST, "P": PSH, "A": ACK, "U": URG}
 
@@ -60,5 +57,6 @@ def write(segment):
 
 
 def stream(at, count, host):
-    """Bytes at .. at + count - 1, from 0, of a host's stream on a connection. Neighboring bytes differ, and so do the hosts."""
+    """Bytes at .. at + count - 1, from 0, of a host's stream on a connection. Neighboring bytes differ, and so do the
+    hosts."""
     return bytes((3 * n + n // 251 + 101 * host) % 256 for n in range(at, at + count))

@@ -1,114 +1,28 @@
 """A run of one scenario: a clock, a wire, threads of calls, and the lines of the trace.
 
-Time is simulated: the stack handles each event instantly, and the clock then moves to the next event. So a run depends only on
-the scenario, its seed and the stack.
+Time is simulated: the stack handles each event instantly, and the clock then moves to the next event. So a run depends
+only on the scenario, its seed and the stack.
 """
 import heapq
-import random
 
-from host import Cannot, Host
-from peer import Peer
-from segments import RST, SYN, read, stream
+from .host import Cannot, Host
+from .peer import Peer
+from .segments import SYN, read, stream
+from .storms import KEPT, storm
+from .wire import Sent, Wire
 
 FAULTS = ("refused", "reset", "timeout")
+# The calls that report a fault of their connection.
+TELLING = ("await", "send", "recv", "shut")
 # Threads of the lines that no call writes, for host 0 and host 1.
 OUT_THREAD, IN_THREAD, TIMER_THREAD = 90, 92, 94
 # The thread of the call that ends the recording. It is about a socket that doesn't exist, so it changes nothing.
 LAST_THREAD, NO_SOCKET = 96, 0
 LONGEST_CALL = 60000
-# A storm: how many acknowledgments count as much as one other segment, and how many of its lines are judged.
-WEIGHT, KEPT = 20, 100
 
 
-class Wire:
-    """Decides which copies of a segment arrive, and when."""
-
-    def __init__(self, scenario):
-        self.scenario = scenario
-        self.random = random.Random(scenario.seed)
-        self.counts = [0] * len(scenario.rules)
-        self.bases = {}
-        self.waits = {}
-
-    def carries(self, host, segment, byte):
-        """Whether a segment has this byte of its host's stream, from 1."""
-        base = self.bases.get((host, segment.src, segment.dst))
-        if base is None or not segment.payload:
-            return False
-        first = (segment.seq - base) % 2**32
-        return first <= byte < first + len(segment.payload)
-
-    def meant(self, at, rule, host, segment):
-        fits = self.carries(host, segment, rule.byte) if rule.kind == "byte" else rule.kind in ("any", segment.kind())
-        if rule.host != host or not fits:
-            return False
-        self.counts[at] += 1
-        if rule.share:
-            return self.random.random() < rule.share
-        return self.counts[at] in rule.picks or bool(rule.first) and self.counts[at] >= rule.first
-
-    def delays(self, host, segment, moment):
-        """The delay of each copy of a segment."""
-        kind = segment.kind()
-        if kind in ("syn", "syn-ack"):
-            self.bases[host, segment.src, segment.dst] = segment.seq
-        self.waits[host, kind] = self.waits.get((host, kind), 0) + 1
-        delay, copies, lost = self.scenario.delay, [], False
-        for at, rule in enumerate(self.scenario.rules):
-            if not self.meant(at, rule, host, segment):
-                continue
-            if rule.deed == "lose":
-                lost = True
-            elif rule.deed == "hold":
-                delay += rule.time
-            else:
-                copies.append(self.scenario.delay + rule.time)
-        if any(first <= moment < last for first, last in self.scenario.cuts):
-            return []
-        return copies if lost else [delay, *copies]
-
-
-class Sent:
-    """What was sent so far."""
-
-    def __init__(self):
-        self.first = {}      # (host, ports): the number of its last SYN
-        self.after = {}      # (host, ports): the number after the last one that was sent
-
-    def is_again(self, host, segment):
-        """Whether all of a segment was sent before. Marks it as sent."""
-        key, count = (host, segment.src, segment.dst), segment.length()
-        if not count or segment.has(RST):
-            return False
-        after = (segment.seq + count) % 2**32
-        if segment.has(SYN) and self.first.get(key) != segment.seq:
-            self.first[key] = segment.seq
-        elif (self.after.get(key, segment.seq) - after) % 2**32 < 2**31:
-            return True
-        self.after[key] = after
-        return False
-
-
-def is_acknowledgment(line):
-    """Whether a line of the trace shows a segment that only acknowledges."""
-    words = line.split(" ")
-    if words[2] not in ("O", "I"):
-        return False
-    return words[4][26:28] in ("10", "18") and len(words[4]) // 2 == int(words[4][24], 16) * 4
-
-
-def storm(lines):
-    """The place after which almost all lines up to the end are acknowledgments; None if there are only a few."""
-    most, weight, began = KEPT, 0, None
-    for at in range(len(lines) - 1, -1, -1):
-        weight += 1 if is_acknowledgment(lines[at]) else -WEIGHT
-        if weight > most:
-            most, began = weight, at
-    return began
-
-
-class Runner:
-    """A thread of the scenario and its state."""
+class Thread:
+    """A thread of the scenario, and how far it is."""
 
     def __init__(self, thread):
         self.number, self.host, self.steps = thread.number, thread.host, thread.steps
@@ -128,7 +42,7 @@ class Run:
         self.wire = Wire(scenario)
         self.lines, self.events, self.hosts = [], [], []
         self.now = self.order = self.count = 0
-        self.threads = [Runner(thread) for thread in scenario.threads]
+        self.threads = [Thread(thread) for thread in scenario.threads]
         self.names = {}          # (thread's host or None, name): socket number
         self.handles = {}        # socket number: (host, the stack's number)
         self.last_number = 1
@@ -257,7 +171,7 @@ class Run:
         """Repeats a fault that the stack reports only once."""
         if answer in FAULTS:
             self.faults.setdefault(number, answer)
-        elif number in self.faults and word in ("await", "send", "recv", "shut") and not answer.startswith(("data", "eof")):
+        elif number in self.faults and word in TELLING and not answer.startswith(("data", "eof")):
             return self.faults[number]
         return answer
 
@@ -393,7 +307,8 @@ class Run:
             self.peer.finish()
 
     def finish(self, limit):
-        """Ends the recording with a call at the last moment that was simulated, so that the trace shows how long nothing happened."""
+        """Ends the recording with a call at the last moment that was simulated, so that the trace shows how long
+        nothing happened."""
         if not self.early:
             self.now = max(self.now, limit)
         self.say(LAST_THREAD, f"B status {NO_SOCKET}")
@@ -403,7 +318,8 @@ class Run:
 
     def waiting(self):
         """Calls that never ended."""
-        return [f"thread {thread.number}: {thread.open[0].word} {' '.join(thread.open[0].args)}" for thread in self.threads if thread.open]
+        return [f"thread {thread.number}: {thread.open[0].word} {' '.join(thread.open[0].args)}"
+                for thread in self.threads if thread.open]
 
     def stuck(self):
         """Threads that wait for something that never arrived."""

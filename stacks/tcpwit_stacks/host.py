@@ -1,17 +1,17 @@
-"""A stack in a process of its own, and the lines that it may print (see the top of ../driver.c)."""
+"""A stack in a process of its own, and the lines that it may print (see the top of driver.c)."""
 import os
 import re
 import selectors
 import time
 
-import processes
-from limits import Broken
-from texts import shown
+from . import processes
+from .limits import Broken
+from .texts import shown
 
 SHORTEST = 20   # bytes of a TCP header without options
 # The answers that a call may have, besides the words below.
-GIVEN = {"listen": r"ok \d+", "open": r"ok \d+", "accept": r"ok \d+", "send": r"ok [1-9]\d*", "recv": r"data ([0-9a-f]{2})+",
-         "status": r"state [A-Z0-9-]+"}
+GIVEN = {"listen": r"ok \d+", "open": r"ok \d+", "accept": r"ok \d+", "send": r"ok [1-9]\d*",
+         "recv": r"data ([0-9a-f]{2})+", "status": r"state [A-Z0-9-]+"}
 WORDS = ("again", "eof", "closed", "notconn", "refused", "reset", "timeout", "inuse")
 NEXT = r"-|\d+"
 EXPIRED = r"\d+ \d+ (rto|persist|2msl|giveup)"
@@ -53,11 +53,16 @@ class Host:
     # ---- the pipes ----
 
     def move(self, seconds):
-        """Reads and writes as much as possible, after waiting at most this long. Returns whether it read or wrote anything."""
+        """Reads and writes as much as possible, after waiting at most this long. Returns whether it read or wrote
+        anything."""
         found = self.selector.select(max(0, seconds))
         for key, _ in found:
             key.data()
         return bool(found)
+
+    def has(self, pipe):
+        """Whether a pipe is among those that are waited for."""
+        return pipe in [key.fileobj for key in self.selector.get_map().values()]
 
     def write(self):
         try:
@@ -89,14 +94,15 @@ class Host:
         """The exception for a fault of the process."""
         self.failed = True
         until = time.monotonic() + GRACE / 4
-        while time.monotonic() < until and self.process.stderr in [key.fileobj for key in self.selector.get_map().values()]:
+        while time.monotonic() < until and self.has(self.process.stderr):
             self.move(until - time.monotonic())
         return Broken(f"host {self.number} {cause}, to: {command[:60].rstrip()}")
 
     # ---- commands ----
 
     def ask(self, word, command):
-        """Sends a command, whose call is `word`. Returns the answer and the events: ('out', hex) and ('expired', ports and timer)."""
+        """Sends a command, whose call is `word`. Returns the answer and the events: ('out', hex) and
+        ('expired', ports and timer)."""
         seconds = min(self.watch.limits.command, self.watch.left(f"before: {command[:60]}"))
         until = time.monotonic() + seconds
         self.pending = (command + "\n").encode()
@@ -123,7 +129,8 @@ class Host:
                 raise self.broken(f"{cause} after '{shown(self.said[-60:])}'" if self.said else cause, command)
             if time.monotonic() >= until or not self.move(until - time.monotonic()):
                 self.watch.left(f"during host {self.number}'s command: {command[:60].rstrip()}")
-                raise self.broken(processes.status(self.process) or f"printed nothing for {self.watch.limits.command:g} s", command)
+                raise self.broken(processes.status(self.process)
+                                  or f"printed nothing for {self.watch.limits.command:g} s", command)
         line, _, self.said = self.said.partition(b"\n")
         return shown(line.decode("ascii", "backslashreplace"))
 
@@ -142,7 +149,7 @@ class Host:
 
     def end(self):
         """Closes the input, and ends the process if it doesn't end soon; after a fault, ends it at once."""
-        if self.process.stdin in [key.fileobj for key in self.selector.get_map().values()]:
+        if self.has(self.process.stdin):
             self.selector.unregister(self.process.stdin)
         self.process.stdin.close()
         until = time.monotonic() + (0 if self.failed else GRACE)

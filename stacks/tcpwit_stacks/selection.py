@@ -1,19 +1,20 @@
-"""Selects the scenarios of a run: by their names, or those that failed in the last run."""
+"""The scenarios that a run selects: by their names, or those that failed in the last run."""
 import contextlib
 import hashlib
 import os
 import shutil
 
-import language
-from files import TOP, naming, read, stop, why_no_file
-from programs import folder_of
-from texts import shown
+from . import scenarios
+from .files import TOP, naming, read, stop, why_no_file
+from .programs import folder_of
+from .texts import shown
 
 ENDING = ".scenario"
 
 
 def paths_of(words):
-    """The files of the scenarios that these words select, each once; all if there are no words. A complete name or a file selects one."""
+    """The files of the scenarios that these words select, each once; all if there are no words. A complete name or a
+    file selects one."""
     folder = os.path.join(TOP, "scenarios")
     paths = [os.path.join(folder, name) for name in sorted(os.listdir(folder)) if name.endswith(ENDING)]
     if not words:
@@ -34,7 +35,7 @@ def paths_of(words):
 def scenarios_of(words):
     """The scenarios that these words select."""
     for path in paths_of(words):
-        scenario = language.read(shown(os.path.basename(path).rsplit(".", 1)[0]), read(path))
+        scenario = scenarios.read(shown(os.path.basename(path).rsplit(".", 1)[0]), read(path))
         scenario.path = path
         yield scenario
 

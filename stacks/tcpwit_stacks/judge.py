@@ -1,0 +1,127 @@
+"""The judge of a run: `tcpwit_lab`, which finds a witness, and `tcpwit check`, whose answer counts."""
+import copy
+import json
+import os
+import tempfile
+
+from . import processes
+from .limits import Broken
+from .outcomes import FULL, LEVELS
+from .profiles import USUAL, VERSION, trace_of
+from .texts import shown
+
+# The commands of tcpwit_lab. The segments came over a simulated wire, so no capture can have changed them.
+EXPLAIN, REMARK, LEVELS_OF = ["explain", "--simulated", "--json"], ["remark", "--json"], ["judge", "--json"]
+# How many seconds a program may take in a trial before the first scenario.
+LIMIT = 60
+
+
+class Judge:
+    def __init__(self, check, lab, watch=None, budget=None):
+        """The commands of tcpwit and tcpwit_lab, the limits of a scenario, and the search's budget (None: the usual
+        one)."""
+        self.check, self.lab, self.watch = check, lab, watch
+        self.budget = ["--budget", str(budget)] if budget is not None else []
+
+    def watched(self, watch):
+        """The same judge, within the limits of a scenario."""
+        judge = copy.copy(self)
+        judge.watch = watch
+        return judge
+
+    # ---- the programs ----
+
+    def call(self, program, words, text):
+        """A program's output and status, with these arguments."""
+        where = shown(f"in {' '.join([*map(os.path.basename, program), *words[:1]])}")
+        told, status = processes.call([*program, *words], text, self.watch.left(where) if self.watch else LIMIT)
+        if told is None:
+            raise Broken(f"{self.watch.cause if self.watch else f'it took more than {LIMIT} s'}, {where}")
+        return told, status
+
+    def answer(self, case):
+        """What `tcpwit check` answers."""
+        told, status = self.call(self.check, ["check"], case)
+        if not told.strip():
+            raise Broken(shown(f"{' '.join(self.check)} check printed nothing and ended with status {status}"))
+        return shown(told.strip())
+
+    def case(self, trace):
+        """The trace with the witness that `tcpwit_lab find` finds."""
+        return self.call(self.lab, ["find", *self.budget], trace)[0]
+
+    def object(self, words, text):
+        """The object that `tcpwit_lab` prints with --json."""
+        told, status = self.call(self.lab, words, text)
+        try:
+            return json.loads(told)
+        except ValueError:
+            cause = f"{' '.join(self.lab)} {words[0]} printed no object and ended with status {status}"
+            raise Broken(shown(cause)) from None
+
+    # ---- before the first scenario ----
+
+    def unfit(self):
+        """The program that is older than the suite, which needs format version 5 and --json; empty if none is."""
+        case = self.case(trace_of(USUAL, False, [], LEVELS[-1]))
+        try:
+            told = [self.object(words, case) for words in (EXPLAIN, REMARK, LEVELS_OF)]
+        except Broken:
+            told = []
+        if not case.startswith(f"trace {VERSION}\n") or not told:
+            return " ".join(self.lab)
+        return "" if self.answer(case).startswith("yes") else " ".join(self.check)
+
+    def empty(self, values):
+        """The answer for an empty trace with these values of a profile."""
+        return self.answer(self.case(trace_of(values, False, [], LEVELS[-1])))
+
+    # ---- a scenario ----
+
+    def judge(self, outcome, run, values):
+        """Finds witnesses and fills in the outcome. Returns the case of `full` and that of the strictest level with a
+        yes, keyed by level."""
+        trace = trace_of(values, run.peer, run.lines, FULL)
+        cases = {FULL: self.case(trace)}
+        outcome.answer = self.answer(cases[FULL])
+        if outcome.answer.startswith("yes"):
+            outcome.level = FULL
+        else:
+            self.explain(outcome, cases[FULL])
+        if outcome.answer.startswith("no"):
+            self.try_laxer_levels(outcome, trace, cases)
+        if outcome.is_judged():
+            self.remark(outcome, cases[outcome.level or FULL])
+        return cases
+
+    def explain(self, outcome, case):
+        """Says why `full` refuses a case. A limit that is reached doesn't change the verdict."""
+        try:
+            outcome.why = [shown(line) for line in self.object(EXPLAIN, case)["said"][1:] if line.strip()]
+        except Broken as cause:
+            outcome.notes.append(f"run: {cause}; the explanation wasn't finished")
+
+    def try_laxer_levels(self, outcome, trace, cases):
+        """Looks for the strictest level with a yes, after a no at `full`."""
+        try:
+            with tempfile.NamedTemporaryFile() as file:
+                found = self.object([*LEVELS_OF, *self.budget, "--case", file.name], trace)
+                if found["answer"] != "yes":
+                    return
+                with open(file.name, encoding="utf-8", errors="backslashreplace") as written:
+                    case = written.read()
+            answer = self.answer(case)
+        except Broken as cause:
+            outcome.unexpected.append(f"run: {cause}; the levels after full weren't finished")
+            return
+        if not answer.startswith("yes"):
+            raise Broken(f"at {found['level']}, tcpwit_lab judges yes, but tcpwit answers {answer}")
+        outcome.refused, outcome.answer, outcome.level = outcome.answer, answer, found["level"]
+        cases[outcome.level] = case
+
+    def remark(self, outcome, case):
+        """Lists the remarks. A limit that is reached doesn't change the verdict."""
+        try:
+            outcome.remarks = [shown(line) for line in self.object(REMARK, case)["said"]]
+        except Broken as cause:
+            outcome.unremarked = f"run: {cause}; the remarks weren't finished"
