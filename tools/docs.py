@@ -29,11 +29,10 @@ SOURCE = re.compile(r"\.(md|py|c|h|go|rs|sbatch|scenario)$")
 SECTION = re.compile(r'(?:(?:\]\(([^)\s]+\.md)\)|`([\w./]+\.md)`),? )?(?:\bsection (\d+)|(?<=, )"([^"\n]+)")')
 # A name of code in backticks: it has an underscore, `::` or a capital inside.
 IDENTIFIER = re.compile(r"`(\w+(?:::\w+)*)(?:\(\))?`")
-# Names in pages that aren't in this repository: code of lwIP and gVisor, and functions that performance.md measured but
-# no longer exist.
+# Names in pages that aren't in this repository: code of lwIP and gVisor.
 FOREIGN = frozenset("tcp_in.c tcp_out.c tcp.c opt.h tcp_process tcp_receive tcp_abandon rcv.go endpoint.go "
                     "header/tcp.go protocol.go connect.go segment_queue.go snd.go handleRcvdSegment "
-                    "maybeSendSegment count_below count_in_turn place_searched".split())
+                    "maybeSendSegment".split())
 # Where names of code are looked up: everything except pages.
 CODE = re.compile(r"\.(rt|antt|txt|py|c|h|go|rs|scenario|edit|sbatch)$|/[\w-]+$")
 # What the examples fetch from their own server, which serves the folder where the command is run.

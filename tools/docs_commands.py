@@ -159,7 +159,7 @@ class Copy:
         return at
 
     def captures(self, at):
-        """The captures and logs of a recording, with the names in docs/how-to/captures.md."""
+        """The captures and logs of a recording, with the names in docs/how-to/calls.md."""
         with tarfile.open(f"{self.top}/importer/tests/data/recordings.tar.xz") as archive:
             for host in (0, 1):
                 for source, name in (("pcap", f"c{host}.pcap"), ("log", f"s{host}.log")):

@@ -96,14 +96,13 @@ OTHER = re.compile(r"Only host 0 |The search added |The case has |No connection 
 
 
 class Yes(unittest.TestCase):
-    """What a yes means is said in README.md and in guarantees.md, and `judge` prints sentences of it."""
+    """What a yes says at each level is in formats.md, and `judge` prints these sentences."""
 
-    def box(self, page):
-        """The paragraphs and the items of the box, each by its first word."""
-        text = docs.text_of(f"{docs.TOP}/{page}").split("## What a yes means\n\n")[1]
-        lines = re.sub(r"(?m)^> ?", "", re.match(r"(?:>.*\n)+", text)[0])
-        parts = [" ".join(part.removeprefix("- ").split()) for part in re.split(r"\n\n|\n- ", lines)]
-        return {part.split(" ")[0]: part for part in parts}
+    def levels(self):
+        """The item of each level, by the level."""
+        text = docs.text_of(f"{docs.TOP}/docs/reference/formats.md").split("\n## 5 Levels\n")[1].split("\n## ")[0]
+        items = re.findall(r"^- (`\w+`: .*\n(?:  .*\n)*)", text, re.M)
+        return {re.match(r"`(\w+)`", item)[1]: " ".join(item.split()) for item in items}
 
     def answers(self):
         """The word with a yes, and the lines after it that tell what that means, for each such answer of `judge`."""
@@ -111,20 +110,13 @@ class Yes(unittest.TestCase):
             if found := re.search(r"^(\w+) +yes .*\n((?:(?!Under ).+\n)+)", block, re.M):
                 yield found[1], found[2].splitlines()
 
-    def test_the_box_is_the_same(self):
-        self.assertEqual(self.box("README.md"), self.box("docs/guarantees.md"))
-
-    def test_judge_prints_its_sentences(self):
-        box = self.box("README.md")
-        half = "Only host 0 was recorded; the other host isn't judged."
-        for part in half.lower().split("; "):
-            self.assertIn(part, box["A"].lower())
+    def test_judge_prints_the_sentences_of_the_levels(self):
+        levels = self.levels()
         answers = list(self.answers())
         self.assertEqual({word for word, _ in answers}, {"full", "recovery", "none"})
         for word, lines in answers:
             self.assertLessEqual(max(map(len, lines)), 100)
-            self.assertEqual(f"`{word}`: " + " ".join(line for line in lines if not OTHER.match(line)),
-                             box[f"`{word}`:"])
+            self.assertEqual(f"`{word}`: " + " ".join(line for line in lines if not OTHER.match(line)), levels[word])
 
 
 class Commands(unittest.TestCase):

@@ -131,22 +131,25 @@ class Json(unittest.TestCase):
             text = content(f"{DATA}/{name}")
             with tempfile.TemporaryDirectory() as folder:
                 levels = self.object("judged", ["judge", "--case", "run.case"], text, cwd=folder).get("levels", [])
-                header = [line for line in content(f"{folder}/run.case").split(b"witness ")[0].splitlines() if not is_event(line)] if levels else []
+                lines = content(f"{folder}/run.case").split(b"witness ")[0].splitlines() if levels else []
+            header = [line for line in lines if not is_event(line)]
             for level in levels:
                 with self.subTest(f"{name} {level['level']}"):
                     seen.add(self.refused_line(level, header, text.splitlines()))
         self.assertEqual(seen, {"yes", "no line", "after an added line", "after no added line"})
 
     def refused_line(self, level, header, given):
-        """Compares the refused line of a level with that of the case that `find` gives for this header in version 5. Returns where it is."""
+        """Compares the refused line of a level with that of the case that `find` gives for this header in version 5.
+        Returns where it is."""
         line = re.match(r"line (\d+)", level.get("sentence", ""))
         if line is None:
             self.assertNotIn("input_line", level)
             return "yes" if level["answer"] == "yes" else "no line"
-        header = [b"congestion " + level["level"].encode() if line.startswith(b"congestion ") else line for line in header]
+        judged = b"congestion " + level["level"].encode()
+        header = [judged if line.startswith(b"congestion ") else line for line in header]
         events = [line for line in given if is_event(line)]
-        case = run(["find"], b"".join(line + b"\n" for line in header + events))[0].encode().split(b"witness ")[0].splitlines()
-        before = case[len(header):int(line[1])]
+        case = run(["find"], b"".join(line + b"\n" for line in header + events))[0].encode()
+        before = case.split(b"witness ")[0].splitlines()[len(header):int(line[1])]
         self.assertEqual(given[level["input_line"] - 1], before[-1])
         added = len(before) - (level["input_line"] - (len(given) - len(events)))
         self.assertEqual(added, sum(line not in events for line in before))

@@ -19,6 +19,8 @@ MEANING = re.compile(rf"&Meaning \{{\s*refused:\s*{TEXT},\s*usual:\s*{TEXT},", r
 FURTHER = re.compile(rf"\b(captured|rfc):\s*{TEXT},", re.S)
 CAUSE = re.compile(rf"((?:\|?\s*Known::\w+\s*)+)=>\s*{TEXT}", re.S)
 CAPTURED = ". In a capture: "
+# The end of each cause of an entry, which the page says once, after them.
+SHARED = re.compile(r'^Each of these may also be: "(.*)"\.$')
 
 
 def read(name):
@@ -102,12 +104,14 @@ def cause_in(sentences, lead, shared):
 
 def causes_in(paragraphs):
     """The causes in the paragraphs of an entry: those at any step, and those of each list item."""
+    ends = "".join(f"; {found[1]}" for found in map(SHARED.match, paragraphs) if found)
     for place, paragraph in enumerate(paragraphs):
         if paragraph.startswith("Causes: "):
             first = cause_in(paragraph, "^Causes: ", "")
             rest = paragraphs[place + 1]
             items = re.split(r"(?:^| )- (?=[A-Z])", rest)[1:] if rest.startswith("- ") else []
-            return [first, *(cause_in(item, "^.*?: ", first[1]) for item in items)]
+            causes = (first, *(cause_in(item, "^.*?: ", first[1]) for item in items))
+            return [(usual + ends, captured) for usual, captured in causes]
     return []
 
 

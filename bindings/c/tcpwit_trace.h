@@ -1,5 +1,5 @@
 /* Writes the lines of a trace and of a witness from the hooks of a stack (docs/reference/formats.md,
- * docs/how-to/embedding.md).
+ * docs/how-to/own-traces.md).
  *
  * C99. Allocates nothing and includes only fixed-width integers; it passes the bytes to your function. One line needs several calls of
  * that function, so if threads share a trace, hold a lock around each function of this file.

@@ -1,11 +1,11 @@
 #!/usr/bin/env python3
-"""Tries wrong bodies of the functions that carry the promises of docs/guarantees.md: the prover must refuse each.
+"""Tries wrong bodies of the functions that docs/reference/contracts.md names: the prover must refuse each.
 
     tools/wrong_bodies/run.py [--list] [NAME ..]
 
 Each file CRATE/FUNCTION.WHAT.edit in this folder changes a body. It has the lines of a must-fail edit, which `rt
 must-fail` reads: `file:`, and pairs of `old:` and `new:`. Before them it has three more: `promise:` names a contract as
-guarantees.md does, `function:` is the changed function, as the end of the name that `rt check` prints, and `clause:` is
+contracts.md does, `function:` is the changed function, as the end of the name that `rt check` prints, and `clause:` is
 the clause of it that refuses the body (`result` if its only `ensures` has no name).
 
 The script copies the crates, with what earlier checks kept in `out`, and checks that the functions are proved. Then it
@@ -26,7 +26,7 @@ import time
 
 HERE = os.path.dirname(os.path.abspath(__file__))
 TOP = os.path.dirname(os.path.dirname(HERE))
-PAGE = f"{TOP}/docs/guarantees.md"
+PAGE = f"{TOP}/docs/reference/contracts.md"
 PARTS = ("src", "specs", "proofs")
 KEYS = ("promise", "function", "clause", "file", "old", "new")
 # What a check says of a goal that it doesn't prove: in a note, of a proof file, or in the line of a function whose
@@ -109,7 +109,7 @@ def edits_of(names):
 
 
 def promises():
-    """The contracts that the rows of guarantees.md name, such as `checker::check`."""
+    """The contracts that the rows of contracts.md name, such as `checker::check`."""
     found = []
     for row in re.findall(r"^\|.*\|$", read(PAGE), re.M):
         cells = row.split(" | ")

@@ -1,5 +1,5 @@
 // Package trace writes the lines of a trace and of a witness from the hooks of a stack (docs/reference/formats.md,
-// docs/how-to/embedding.md).
+// docs/how-to/own-traces.md).
 //
 //	t := trace.New(file, 5)
 //	t.Header(0, 60000000, 1000, 200000, 0, 5681)

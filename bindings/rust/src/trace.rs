@@ -1,4 +1,4 @@
-//! Writes the lines of a trace and of a witness from the hooks of a stack (docs/reference/formats.md, docs/how-to/embedding.md).
+//! Writes the lines of a trace and of a witness from the hooks of a stack (docs/reference/formats.md, docs/how-to/own-traces.md).
 //!
 //! ```
 //! use tcpwit::trace::{Header, Trace};

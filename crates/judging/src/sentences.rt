@@ -104,7 +104,7 @@ fn say_without_duties(out: &mut String, levels: &[Level]) -> Result<(), OutOfMem
     Ok(())
 }
 
-// What a yes at a level says. README.md, "What a yes means", has the same sentences.
+// What a yes at a level says. docs/reference/formats.md, section 5, has the same sentences.
 fn meaning(level: Judged) -> &'static str {
     match level {
         Judged::Full => "The run follows RFC 9293, 6298 and 5681 as this profile reads them.\n",
