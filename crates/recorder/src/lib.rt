@@ -39,7 +39,8 @@
 //! - `Seat`: a thread's place; `Receipt`, `receipt_stands`: what a call returned, and that the merged trace has its
 //!   line
 //! - `HostBook`: what one host recorded; `merge`, `Recorded`, `MergeFault`: two books as a trace and its witness
-//! - `LoopEnd`: why a loop ended; `Fate`, `WireFate`, `LoseEach` of `wire_fates`: what becomes of segments in transit
+//! - `LoopEnd`: why a loop ended; `Fate`, `WireFate`, `LoseEach`: what becomes of segments in transit; `HeldBack`: those
+//!   that are sent later
 //!
 //! Private modules:
 //!
@@ -49,10 +50,13 @@
 //! - `desk`: the state under the lock
 //! - `recorder`: seats, calls, looking, stopping, finishing
 //! - `loops`: segments are sent and arrive, timers expire
+//! - `fate`, `held_back`: what becomes of a segment in transit; the segments that are held back
 //! - `joining`: the merge of two books
 #![tactic(auto)]
 
 mod desk;
+mod fate;
+mod held_back;
 mod host_book;
 mod joining;
 mod loops;
@@ -62,6 +66,8 @@ mod seat;
 mod seats;
 mod site;
 
+pub use fate::{Fate, LoseEach, WireFate};
+pub use held_back::HeldBack;
 pub use host_book::HostBook;
 pub use joining::merge;
 pub use loops::LoopEnd;
@@ -72,4 +78,3 @@ pub use seat::Seat;
 pub use seats::Seats;
 pub use site::Site;
 pub use stack_core::{Answered, CoreConfig, Flying};
-pub use wire_fates::{Fate, LoseEach, WireFate};

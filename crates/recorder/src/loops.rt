@@ -1,5 +1,7 @@
 //! The loops of a host: its segments are sent, those of the other host arrive, its timers expire.
 
+use crate::fate::{Fate, LoseEach, WireFate};
+use crate::held_back::HeldBack;
 use crate::recorder::Recorder;
 use crate::site::Site;
 use case_forms::OutOfMemory;
@@ -8,7 +10,6 @@ use stack_core::Flying;
 use std::alloc::Global;
 use std::sync::Wait;
 use std::thread;
-use wire_fates::{Fate, HeldBack, LoseEach, WireFate};
 
 /// Why a loop ended.
 #[derive(Clone, Copy)]
