@@ -1,15 +1,11 @@
 -- What holds of each run holds of the steps of a witness that explains its trace.
-use Rattle.std.proofs.Common.{◌≡◌, ℕ, zero, suc, List, [], ◌∷◌, take, subst, Some, Result, Ok, Err}
-use Rattle.std.specs.Prelude.{slice_get, IfOk, ◌↔◌}
-use Rattle.case_forms.specs.declared.trace.Trace.{Trace}
-use Rattle.case_forms.specs.declared.steps.Witness.{Witness}
-use Rattle.verdict.specs.declared.report.Verdict.{Verdict}
+use Rattle.std.proofs.Common.{◌≡◌, ℕ, zero, suc, List, [], ◌∷◌, take, subst, Some}
+use Rattle.std.specs.Prelude.{slice_get}
 use Rattle.spec_network.specs.Hosts.{World, Stamped}
 use Rattle.spec_network.specs.HostRules.{Permitted}
 use Rattle.spec_network.specs.HostSteps.{after, after_all, Lawful}
 use Rattle.spec_tcp.specs.Machine.{tcp, tcp_shape}
 use Rattle.case_forms.specs.declared.trace.Header.{Header}
-use Rattle.checker.specs.Explains.{Explains, IsYes}
 
 -- the steps before one of a run are a run, and it is permitted after them
 pub run_at : (h : Header) (w : World tcp_shape) (xs : List (Stamped tcp_shape)) → Lawful (tcp h) w xs
@@ -29,9 +25,3 @@ run_until h w [] may zero = tt
 run_until h w [] may (suc place) = tt
 run_until h w (x ∷ xs) may zero = tt
 run_until h w (x ∷ xs) may (suc place) = (may.0, run_until h (after (tcp h) x.moment w x.step) xs may.1 place)
-
--- what holds where a witness explains its trace holds where the verdict is yes
-pub yes_then : {E : Type 0} (t : Trace) (w : Witness) (P : Type 0) (r : Result Verdict E) → (Explains t w → P)
-    → IfOk r (λ v. IsYes v ↔ Explains t w) → IfOk r (λ v. IsYes v → P)
-yes_then t w P (Ok v) then explained = λ said. then (explained.0 said)
-yes_then t w P (Err e) then explained = tt

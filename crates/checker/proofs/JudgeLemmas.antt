@@ -2,7 +2,7 @@
 use Rattle.std.proofs.Common.{◌≡◌, ℕ, ◌+◌, ◌<◌, zero, suc, true, List, [], ◌∷◌, ◌++◌, length, take, refl, sym, ap, ◌∙◌}
 use Rattle.std.proofs.Common.{subst, arith, Option, Some, None, inl, inr, ◌⊎◌, append_assoc, append-nil, length-append}
 use Rattle.std.proofs.Common.{Result, Ok, Err}
-use Rattle.std.specs.Prelude.{not, count_by, slice_get, IfOk, ◌↔◌}
+use Rattle.std.specs.Prelude.{not, count_by, slice_get, IfOk}
 use Rattle.std.specs.List.{cons_option}
 use Rattle.std.specs.Option.{option_map_or}
 use Rattle.case_forms.specs.declared.trace.Header.{Header}
@@ -26,8 +26,9 @@ use Rattle.checker.specs.Seen.{move_of, moves, act_of, stamped}
 use Rattle.checker.specs.Verdicts.{act_after, act_rules, all_rules, broken, next_world, takes_line, line_named, verdict, verdict_from, verdict_left, late_after}
 use Rattle.checker.specs.Verdicts.{refused_or}
 use Rattle.checker.specs.Explains.{Explains, IsYes}
+use Rattle.checker.specs.Meaning.{Means}
 use Rattle.checker.specs.Judges.{broken_at, rules_at, Says}
-use Rattle.checker.proofs.YesLemmas.{after_more, yes_explains, explains_yes}
+use Rattle.checker.proofs.YesLemmas.{after_more, yes_explains}
 
 -- the world that steps leave, and one step more
 pub world_more : (header : Header) (lines : List Line) (w : Known) (earlier : List Step) (s : Step)
@@ -189,11 +190,7 @@ verdict_says t w (No witness_line trace_line rule) is =
           },
         ))
 
--- the same of what a function answers
-pub answer_says : {E : Type 0} (t : Trace) (w : Witness) (r : Result Verdict E) → IfOk r (λ v. v ≡ verdict t w) → IfOk r (Says t w)
-answer_says t w (Ok v) is = verdict_says t w v (sym is)
-answer_says t w (Err e) is = tt
-
-pub answer_explained : {E : Type 0} (t : Trace) (w : Witness) (r : Result Verdict E) → IfOk r (λ v. v ≡ verdict t w) → IfOk r (λ v. IsYes v ↔ Explains t w)
-answer_explained t w (Ok v) is = (λ said. yes_explains t w (subst IsYes is said), λ e. subst IsYes (sym is) (explains_yes t w e))
-answer_explained t w (Err e) is = tt
+-- what the verdict means, a function's answer means
+pub answer_means : {E : Type 0} (t : Trace) (w : Witness) (r : Result Verdict E) → Means t w (verdict t w) → IfOk r (λ v. v ≡ verdict t w) → IfOk r (Means t w)
+answer_means t w (Ok v) means is = subst (λ (u : Verdict). Means t w u) (sym is) means
+answer_means t w (Err e) means is = tt

@@ -13,5 +13,6 @@ pub mod Turns
 pub mod Texts
 pub mod OneText
 pub mod Headline
+pub mod Meaning
 pub mod Judging
 pub mod Slack

@@ -21,6 +21,8 @@ ghost use Rattle.checker.specs.Verdicts.{verdict};
 ghost use Rattle.checker.specs.Judging.{LessJudgedStaysYes};
 ghost use Rattle.checker.specs.Slack.{AnyNamesNoDuty, LessLateStaysYes};
 ghost use Rattle.checker.specs.Explains.{Explains, IsYes};
+ghost use Rattle.checker.specs.Judges.{Says};
+ghost use Rattle.checker.specs.Meaning.{Means};
 ghost use Rattle.checker.specs.Peers.{AllPeersAreMet, EachPeerWasMet};
 ghost use Rattle.checker.specs.Again.{HaveTwo, without_spans};
 ghost use Rattle.checker.specs.Headline.{ReceivesBeginSends};
@@ -113,6 +115,43 @@ pub fn explained_follows()
     states_follow();
     positions_never_fall();
 }
+
+/// The verdict of the definition means what `specs/Meaning` says. Each function that judges a case says so of its
+/// verdict, by the clause `means`.
+pub fn verdict_means()
+    ensures { (t : Trace) (w : Witness) → Means t w (verdict t w) }
+{
+    explained_follows();
+    receives_begin_sends();
+}
+
+/// Each promise of a verdict that means this.
+pub fn what_a_verdict_means()
+    // A yes says that the steps explain the trace, a no which rule is broken first, by the places in the two lists.
+    ensures says { (t : Trace) (w : Witness) (v : Verdict) → Means t w v → Says t w v }
+    ensures explained { (t : Trace) (w : Witness) (v : Verdict) → Means t w v → IsYes v ↔ Explains t w }
+
+    // From a yes, if both hosts are recorded, in terms of lines and steps only: what receives returned is at each
+    // moment a prefix of what the peer's sends accepted.
+    ensures heard { (t : Trace) (w : Witness) (v : Verdict) → Means t w v → IsYes v → AreBothRecorded t
+        → ReceivesBeginSends t w }
+
+    // The same for the model's endpoints; reads that returned the end returned all of it; what is acknowledged was
+    // taken before.
+    ensures received { (t : Trace) (w : Witness) (v : Verdict) → Means t w v → IsYes v → AreBothRecorded t
+        → ReadsBeginWhatWasSent t w }
+    ensures whole { (t : Trace) (w : Witness) (v : Verdict) → Means t w v → IsYes v → AreBothRecorded t
+        → EndsAreWhole t w }
+    ensures acknowledged { (t : Trace) (w : Witness) (v : Verdict) → Means t w v → IsYes v → AreBothRecorded t
+        → AllAcknowledgedWasTaken t w }
+
+    // From every yes: what reads returned came with segments that were taken; windows are kept; states follow each
+    // other by the arrows of RFC 9293, 3.3.2, figure 5; positions never fall.
+    ensures carried { (t : Trace) (w : Witness) (v : Verdict) → Means t w v → IsYes v → AllReadsWereCarried t w }
+    ensures windows { (t : Trace) (w : Witness) (v : Verdict) → Means t w v → IsYes v → AllKeepWindows t w }
+    ensures states { (t : Trace) (w : Witness) (v : Verdict) → Means t w v → IsYes v → AllStatesFollow t w }
+    ensures positions { (t : Trace) (w : Witness) (v : Verdict) → Means t w v → IsYes v → NoPositionFalls t w }
+{}
 
 /// What follows for streams holds at each moment of the witness, for what was returned and accepted by then.
 pub fn streams_at_each_moment()

@@ -15,7 +15,8 @@
 //!
 //! A witness is replayed once, step by step: `interval_order` decides whether the step may take its line now, and
 //! `spec_step` whether the model permits it. `specs/Explains` defines what a yes means, by places in the two lists;
-//! read it first. `specs/Headline` says what follows from a yes for the bytes that receives returned, in terms of lines
+//! read it first. `specs/Meaning` is the whole contract of a verdict, which each function that judges a case cites.
+//! `specs/Headline` says what follows from a yes for the bytes that receives returned, in terms of lines
 //! and steps only; `specs/Judges` what each verdict says; `specs/Verdicts` which verdict it is; `specs/Consequences`
 //! what follows from a yes for streams and windows. `specs/Ahead` defines what is left of a trace that is read one line
 //! ahead, `specs/Streaming` and `specs/Turns` how far a case has come, and `specs/Texts` what both texts give.
@@ -52,8 +53,8 @@ pub use case::{CaseFault, check_case};
 pub use laws::{
     any_names_no_duty, earlier_lines_are_taken_first, explained_follows, explained_is_yes,
     less_judged_stays_yes, less_late_stays_yes, peers_are_met, printed_case, receives_begin_sends,
-    streams_at_each_moment, two_witnesses_of_one_trace, verdict_when_read_again,
-    yes_counts_all_lines,
+    streams_at_each_moment, two_witnesses_of_one_trace, verdict_means, verdict_when_read_again,
+    what_a_verdict_means, yes_counts_all_lines,
 };
 pub use one_text::check_reader;
 pub use printed::print_case;

@@ -3,7 +3,7 @@
 //! The witness comes after the whole trace, so the lines of the trace are kept until steps take them. The steps are
 //! read as they come.
 
-ghost use Rattle.std.specs.Prelude.{◌≡◌, ◌≢◌, ◌↔◌, [], true, false, Err, Ok, IfErr, IfOk, IfSome, Some, None};
+ghost use Rattle.std.specs.Prelude.{◌≡◌, ◌≢◌, [], true, false, Err, Ok, IfErr, IfOk, IfSome, Some, None};
 ghost use Rattle.case_forms.specs.declared.trace.Trace.{Trace};
 ghost use Rattle.case_forms.specs.declared.steps.Witness.{Witness};
 ghost use Rattle.counted.specs.Counting.{left_of, failures_of, one_more};
@@ -14,18 +14,13 @@ ghost use Rattle.trace_reader.specs.TraceLeft.{kept_of, reader_failures, AreAt, 
 ghost use Rattle.trace_reader.specs.TraceLeft.{KeepsLine};
 ghost use Rattle.line_fields.specs.Left.{Yields};
 ghost use Rattle.checker.specs.Ahead.{IsAll, TraceFails};
-ghost use Rattle.checker.specs.Explains.{Explains, IsYes};
-ghost use Rattle.checker.specs.Judges.{Says};
-ghost use Rattle.checker.specs.Consequences.{AreBothRecorded, ReadsBeginWhatWasSent, EndsAreWhole};
-ghost use Rattle.checker.specs.Consequences.{AllAcknowledgedWasTaken, AllReadsWereCarried, AllKeepWindows};
-ghost use Rattle.checker.specs.Consequences.{AllStatesFollow, NoPositionFalls};
-ghost use Rattle.checker.specs.Headline.{ReceivesBeginSends};
+ghost use Rattle.checker.specs.Meaning.{Means};
 ghost use Rattle.checker.specs.OneText.{GivesText, AreInText, steps_behind, trace_with};
 ghost use Rattle.checker.specs.Streaming.{Tells};
 
 use crate::ahead::Ahead;
 use crate::case::{CaseFault, trace_fault, witness_fault};
-use crate::laws::{explained_follows, receives_begin_sends};
+use crate::laws::verdict_means;
 use crate::two_texts::judge;
 use case_forms::Header;
 use counted::Counted;
@@ -47,40 +42,17 @@ pub fn check_reader<R: BufRead>(
     alloc: Global,
     source: Counted<R>,
 ) -> (Result<Verdict, CaseFault>, Counted<R>)
-    // What follows from a yes if both hosts are recorded, as for `check_case`.
-    ensures heard { (t : Trace) (w : Witness) → AreInText (left_of R.remaining source) t w
-        → IfOk result.0 (λ v. IsYes v → AreBothRecorded t → ReceivesBeginSends t w) }
-
     // The answer is that of the case, if the bytes are known.
     ensures exact { GivesText result.0 (left_of R.remaining source) }
 
-    // What the verdict says about the trace and the witness of the case, by their places in the lists.
-    ensures says { (t : Trace) (w : Witness) → AreInText (left_of R.remaining source) t w → IfOk result.0 (Says t w) }
-    ensures explained { (t : Trace) (w : Witness) → AreInText (left_of R.remaining source) t w
-        → IfOk result.0 (λ v. IsYes v ↔ Explains t w) }
-
-    // What follows from a yes for the model's endpoints, as for `check_case`.
-    ensures received { (t : Trace) (w : Witness) → AreInText (left_of R.remaining source) t w
-        → IfOk result.0 (λ v. IsYes v → AreBothRecorded t → ReadsBeginWhatWasSent t w) }
-    ensures whole { (t : Trace) (w : Witness) → AreInText (left_of R.remaining source) t w
-        → IfOk result.0 (λ v. IsYes v → AreBothRecorded t → EndsAreWhole t w) }
-    ensures acknowledged { (t : Trace) (w : Witness) → AreInText (left_of R.remaining source) t w
-        → IfOk result.0 (λ v. IsYes v → AreBothRecorded t → AllAcknowledgedWasTaken t w) }
-    ensures carried { (t : Trace) (w : Witness) → AreInText (left_of R.remaining source) t w
-        → IfOk result.0 (λ v. IsYes v → AllReadsWereCarried t w) }
-    ensures windows { (t : Trace) (w : Witness) → AreInText (left_of R.remaining source) t w
-        → IfOk result.0 (λ v. IsYes v → AllKeepWindows t w) }
-    ensures states { (t : Trace) (w : Witness) → AreInText (left_of R.remaining source) t w
-        → IfOk result.0 (λ v. IsYes v → AllStatesFollow t w) }
-    ensures positions { (t : Trace) (w : Witness) → AreInText (left_of R.remaining source) t w
-        → IfOk result.0 (λ v. IsYes v → NoPositionFalls t w) }
+    // What the verdict says of the trace and the witness of the case, and what follows from a yes.
+    ensures means { (t : Trace) (w : Witness) → AreInText (left_of R.remaining source) t w → IfOk result.0 (Means t w) }
 
     // A failed read is counted, and nothing else.
     ensures read { result.0 ≡ Err CaseFault.Read → failures_of result.1 ≡ one_more (failures_of source) }
     ensures same { result.0 ≢ Err CaseFault.Read → failures_of result.1 ≡ failures_of source }
 {
-    explained_follows();
-    receives_begin_sends();
+    verdict_means();
     judge_text(alloc, source)
 }
 

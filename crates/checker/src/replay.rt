@@ -3,7 +3,7 @@
 //! Memory grows with the trace, since all its lines are offered at the start. A step takes time logarithmic in the
 //! number of lines that wait.
 
-ghost use Rattle.std.specs.Prelude.{◌≡◌, ◌↔◌, ◌<◌, ◌≤◌, ◌++◌, List, [], length, IfOk, IfNone, None};
+ghost use Rattle.std.specs.Prelude.{◌≡◌, ◌<◌, ◌≤◌, ◌++◌, List, [], length, IfOk, IfNone, None};
 ghost use Rattle.case_forms.specs.declared.trace.Line.{Line};
 ghost use Rattle.std.specs.List.{All};
 ghost use Rattle.std.specs.Option.{option_map};
@@ -19,14 +19,9 @@ ghost use Rattle.spec_duties.specs.Cases.{late_at_end, start, asked_rules, asked
 ghost use Rattle.checker.specs.Seen.{move_of};
 ghost use Rattle.checker.specs.Verdicts.{verdict, verdict_from, verdict_left, takes_line, line_named};
 ghost use Rattle.checker.specs.Kept.{kept_broken, kept_progress};
-ghost use Rattle.checker.specs.Explains.{Explains, IsYes};
-ghost use Rattle.checker.specs.Judges.{Says};
-ghost use Rattle.checker.specs.Headline.{ReceivesBeginSends};
-ghost use Rattle.checker.specs.Consequences.{AreBothRecorded, ReadsBeginWhatWasSent, EndsAreWhole};
-ghost use Rattle.checker.specs.Consequences.{AllAcknowledgedWasTaken, AllReadsWereCarried, AllKeepWindows};
-ghost use Rattle.checker.specs.Consequences.{AllStatesFollow, NoPositionFalls};
+ghost use Rattle.checker.specs.Meaning.{Means};
 
-use crate::laws::{explained_follows, receives_begin_sends};
+use crate::laws::verdict_means;
 use answers::step_line;
 use case_forms::{Extras, Header, Label, Line, NamedLine, OutOfMemory, Step, Trace, Witness};
 use endpoint_state::StepFault;
@@ -44,36 +39,13 @@ pub fn check(alloc: Global, trace: &Trace, witness: &Witness) -> Result<Verdict,
     requires witness { IsWitness witness.now }
     requires versions { trace.now.header.version ≡ witness.now.version }
 
-    // What follows from a yes if both hosts are recorded, in terms of the trace's lines and the witness's steps only:
-    // at each moment, what receives on a socket number returned is a prefix of what sends on one socket number of the
-    // other host accepted; once a receive returned the end, it is all of it.
-    ensures heard { IfOk result (λ v. IsYes v → AreBothRecorded trace.now → ReceivesBeginSends trace.now witness.now) }
-
     // The verdict is that of the definition.
     ensures exact { IfOk result (λ v. v ≡ verdict trace.now witness.now) }
 
-    // What the verdict says about the two lists, by their places.
-    ensures says { IfOk result (Says trace.now witness.now) }
-    ensures explained { IfOk result (λ v. IsYes v ↔ Explains trace.now witness.now) }
-
-    // The same for the model's endpoints: what reads returned is a prefix of what the peer's sends accepted; reads that
-    // returned the end returned all of it; what is acknowledged was taken before.
-    ensures received { IfOk result (λ v. IsYes v → AreBothRecorded trace.now
-        → ReadsBeginWhatWasSent trace.now witness.now) }
-    ensures whole { IfOk result (λ v. IsYes v → AreBothRecorded trace.now → EndsAreWhole trace.now witness.now) }
-    ensures acknowledged { IfOk result (λ v. IsYes v → AreBothRecorded trace.now
-        → AllAcknowledgedWasTaken trace.now witness.now) }
-
-    // What follows from every yes, even if only one host is recorded: what reads returned arrived in segments that were
-    // taken; windows are kept; states follow each other by the arrows of RFC 9293, 3.3.2, figure 5; positions never
-    // fall.
-    ensures carried { IfOk result (λ v. IsYes v → AllReadsWereCarried trace.now witness.now) }
-    ensures windows { IfOk result (λ v. IsYes v → AllKeepWindows trace.now witness.now) }
-    ensures states { IfOk result (λ v. IsYes v → AllStatesFollow trace.now witness.now) }
-    ensures positions { IfOk result (λ v. IsYes v → NoPositionFalls trace.now witness.now) }
+    // What it says of lines and steps, and what follows from a yes.
+    ensures means { IfOk result (Means trace.now witness.now) }
 {
-    explained_follows();
-    receives_begin_sends();
+    verdict_means();
     judge(
         alloc,
         &trace.header,

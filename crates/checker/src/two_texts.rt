@@ -3,7 +3,7 @@
 //! Of the trace, the lines that are reached and not yet placed are kept, and one more; of the witness, one step. The
 //! world keeps what endpoints have outstanding, and each segment that was made or sent, since later steps may name it.
 
-ghost use Rattle.std.specs.Prelude.{◌≡◌, ◌≢◌, ◌↔◌, ◌≤◌, List, [], Err, IfOk, IfSome, None, Option, Result};
+ghost use Rattle.std.specs.Prelude.{◌≡◌, ◌≢◌, ◌≤◌, List, [], Err, IfOk, IfSome, None, Option, Result};
 ghost use Rattle.case_forms.specs.declared.trace.Header.{Header};
 ghost use Rattle.case_forms.specs.declared.trace.Line.{Line};
 ghost use Rattle.case_forms.specs.declared.trace.Trace.{Trace};
@@ -17,19 +17,14 @@ ghost use Rattle.witness.specs.StepsLeft.{steps_left, fault_of, number_of, reade
 ghost use Rattle.spec_duties.specs.Cases.{late_at_end};
 ghost use Rattle.spec_tcp.specs.Bounds.{most_steps};
 ghost use Rattle.checker.specs.Verdicts.{verdict_left};
-ghost use Rattle.checker.specs.Explains.{Explains, IsYes};
-ghost use Rattle.checker.specs.Judges.{Says};
-ghost use Rattle.checker.specs.Headline.{ReceivesBeginSends};
-ghost use Rattle.checker.specs.Consequences.{AreBothRecorded, ReadsBeginWhatWasSent, EndsAreWhole};
-ghost use Rattle.checker.specs.Consequences.{AllAcknowledgedWasTaken, AllReadsWereCarried, AllKeepWindows};
-ghost use Rattle.checker.specs.Consequences.{AllStatesFollow, NoPositionFalls};
+ghost use Rattle.checker.specs.Meaning.{Means};
 ghost use Rattle.checker.specs.Ahead.{source_ahead, line_ahead, left_ahead, IsAhead, IsInStep};
 ghost use Rattle.checker.specs.Streaming.{OneFailed, SoFar, Tallied, Tells, first_of_both};
 ghost use Rattle.checker.specs.Texts.{GivesTexts, AreOf};
 
 use crate::ahead::Ahead;
 use crate::case::CaseFault;
-use crate::laws::{explained_follows, receives_begin_sends};
+use crate::laws::verdict_means;
 use crate::steps::drain_steps;
 use crate::turns::{ReplayOutcome, StepCounts, replay_steps};
 use answers::step_line;
@@ -49,41 +44,12 @@ pub fn check_streams<A: BufRead, B: BufRead>(
     a: Counted<A>,
     b: Counted<B>,
 ) -> (Result<Verdict, CaseFault>, Counted<A>, Counted<B>)
-    // What follows from a yes if both hosts are recorded, in terms of the trace's lines and the witness's steps that
-    // the texts give: at each moment, what receives on a socket number returned is a prefix of what sends on one socket
-    // number of the other host accepted; once a receive returned the end, it is all of it.
-    ensures heard { (t : Trace) (w : Witness) → AreOf (left_of A.remaining a) (left_of B.remaining b) t w →
-        IfOk result.0 (λ v. IsYes v → AreBothRecorded t → ReceivesBeginSends t w) }
-
     // What both texts give, if their bytes are known.
     ensures exact { GivesTexts result.0 (left_of A.remaining a) (left_of B.remaining b) }
 
-    // What the verdict says about the trace and the witness that the texts give, by their places in the lists.
-    ensures says { (t : Trace) (w : Witness) → AreOf (left_of A.remaining a) (left_of B.remaining b) t w
-        → IfOk result.0 (Says t w) }
-    ensures explained { (t : Trace) (w : Witness) → AreOf (left_of A.remaining a) (left_of B.remaining b) t w
-        → IfOk result.0 (λ v. IsYes v ↔ Explains t w) }
-
-    // The same for the model's endpoints: what reads returned is a prefix of what the peer's sends accepted; reads that
-    // returned the end returned all of it; what is acknowledged was taken before.
-    ensures received { (t : Trace) (w : Witness) → AreOf (left_of A.remaining a) (left_of B.remaining b) t w →
-        IfOk result.0 (λ v. IsYes v → AreBothRecorded t → ReadsBeginWhatWasSent t w) }
-    ensures whole { (t : Trace) (w : Witness) → AreOf (left_of A.remaining a) (left_of B.remaining b) t w →
-        IfOk result.0 (λ v. IsYes v → AreBothRecorded t → EndsAreWhole t w) }
-    ensures acknowledged { (t : Trace) (w : Witness) → AreOf (left_of A.remaining a) (left_of B.remaining b) t w →
-        IfOk result.0 (λ v. IsYes v → AreBothRecorded t → AllAcknowledgedWasTaken t w) }
-
-    // What follows from every yes, even if only one host is recorded: what reads returned arrived in segments that were
-    // taken; windows are kept; states follow each other by the arrows of RFC 9293, 3.3.2, figure 5; positions never
-    // fall.
-    ensures carried { (t : Trace) (w : Witness) → AreOf (left_of A.remaining a) (left_of B.remaining b) t w →
-        IfOk result.0 (λ v. IsYes v → AllReadsWereCarried t w) }
-    ensures windows { (t : Trace) (w : Witness) → AreOf (left_of A.remaining a) (left_of B.remaining b) t w →
-        IfOk result.0 (λ v. IsYes v → AllKeepWindows t w) }
-    ensures states { (t : Trace) (w : Witness) → AreOf (left_of A.remaining a) (left_of B.remaining b) t w →
-        IfOk result.0 (λ v. IsYes v → AllStatesFollow t w) }
-    ensures positions { (t : Trace) (w : Witness) → AreOf (left_of A.remaining a) (left_of B.remaining b) t w →
-        IfOk result.0 (λ v. IsYes v → NoPositionFalls t w) }
+    // What the verdict says of the trace and the witness that the texts give, and what follows from a yes.
+    ensures means { (t : Trace) (w : Witness) → AreOf (left_of A.remaining a) (left_of B.remaining b) t w
+        → IfOk result.0 (Means t w) }
 
     // A failed read is counted, and nothing else.
     ensures read { result.0 ≡ Err CaseFault.Read
@@ -91,8 +57,7 @@ pub fn check_streams<A: BufRead, B: BufRead>(
     ensures same_trace { result.0 ≢ Err CaseFault.Read → failures_of result.1 ≡ failures_of a }
     ensures same_witness { result.0 ≢ Err CaseFault.Read → failures_of result.2 ≡ failures_of b }
 {
-    explained_follows();
-    receives_begin_sends();
+    verdict_means();
     judge_texts(alloc, a, b)
 }
 
