@@ -1,4 +1,5 @@
 //! Which segments need not be processed, which dropped ones ask for an acknowledgment, and what may not be discarded.
+//! `lib.rt` says why each function here is inlined.
 
 ghost use Rattle.std.specs.Prelude.{◌≡◌};
 ghost use Rattle.duties.specs.Targets.{processing_place};

@@ -1,4 +1,5 @@
 //! The rules of duties at a step, and what is kept after it.
+//! `lib.rt` says why functions here are inlined.
 
 ghost use Rattle.std.specs.Prelude.{◌≡◌, ◌++◌, false, nat_eq, unwrap_or, IfOk, OnOk};
 ghost use Rattle.std.specs.Map.{lookup};

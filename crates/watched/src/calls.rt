@@ -1,4 +1,5 @@
 //! What duties read of the world at the effect of a call.
+//! `lib.rt` says why functions here are inlined.
 
 ghost use Rattle.std.specs.Prelude.{◌≡◌, ◌<◌, ◌^◌, if◌then◌else◌, length, IsTrue, None, Some};
 ghost use Rattle.case_forms.specs.declared.calls.Answer.{Answer};

@@ -1,4 +1,5 @@
 //! The model of a case with its duties.
+//! `lib.rt` says why functions here are inlined.
 
 ghost use Rattle.std.specs.Prelude.{◌≡◌, ◌<◌, ◌≤◌, IsTrue, Some, None, OnOk, IfErr};
 ghost use Rattle.std.specs.Option.{option_map_or};

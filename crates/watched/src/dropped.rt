@@ -1,4 +1,5 @@
 //! What may process a segment, which rules that would break, and whether it need not be processed.
+//! `lib.rt` says why `discards_at` is inlined.
 
 ghost use Rattle.std.specs.Prelude.{◌≡◌};
 ghost use Rattle.std.specs.Option.{option_map_or};

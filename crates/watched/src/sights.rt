@@ -1,4 +1,5 @@
 //! All that duties read of the world at a step.
+//! `lib.rt` says why functions here are inlined.
 
 ghost use Rattle.std.specs.Prelude.{◌≡◌, ◌<◌, ◌^◌, suc, length, nat_eq};
 ghost use Rattle.std.specs.Map.{lookup};
