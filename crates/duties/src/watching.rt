@@ -1,9 +1,9 @@
 //! The rules of duties at a step, and what is kept after it.
 //! `lib.rt` says why functions here are inlined.
 
-ghost use Rattle.std.specs.Prelude.{◌≡◌, ◌++◌, false, nat_eq, unwrap_or, IfOk, OnOk};
+ghost use Rattle.std.specs.Prelude.{◌≡◌, ◌++◌, false, nat_eq, unwrap_or, OnOk};
 ghost use Rattle.std.specs.Map.{lookup};
-ghost use Rattle.std.specs.Option.{option_map, option_map_or, IfNone};
+ghost use Rattle.std.specs.Option.{option_map, option_map_or};
 ghost use Rattle.std.specs.Result.{result_err};
 ghost use Rattle.indexmap.specs.IndexMap.{insert_entry};
 ghost use Rattle.verdict.specs.Rules.{first_broken};
@@ -513,28 +513,5 @@ impl Duties {
         self.note_queueing(moment, sight.queueing)?;
         note_mail(&mut self.inbox, moment, sight.mail)?;
         note_post(&mut self.built, moment, sight, after)
-    }
-
-    /// Judges a step, with this slack in microseconds, and notes it if no duty refuses it. The result is the first
-    /// broken rule. If memory runs out, the duties are of no use any more.
-    #[inline(always)]
-    pub fn watch(
-        &mut self,
-        header: &Header,
-        slack: u64,
-        moment: u64,
-        sight: &Sight,
-        after: &View,
-    ) -> Result<Option<Rule>, OutOfMemory>
-        ensures rule { IfOk result (λ rule. rule
-            ≡ first_broken (duty_rules header.now slack moment self.old sight.now)) }
-        ensures noted { IfOk result (λ rule. IfNone rule
-            (self.new ≡ duties_after after.now moment sight.now self.old)) }
-    {
-        if let Err(rule) = self.admits(header, slack, moment, sight) {
-            return Ok(Some(rule));
-        }
-        self.note(moment, sight, after)?;
-        Ok(None)
     }
 }
