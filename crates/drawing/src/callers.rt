@@ -3,7 +3,6 @@
 ghost use Rattle.std.specs.Prelude.{◌<◌};
 
 use case_forms::{Answer, Call, Host, Line, OutOfMemory};
-use replayed::socket_of;
 use std::alloc::Global;
 use std::collections::BTreeMap;
 
@@ -49,7 +48,14 @@ impl Callers {
     fn host_of(&self, call: &Call) -> Host {
         let known = match call {
             Call::Listen(host, ..) | Call::Connect(host, ..) => Some(host),
-            _ => socket_of(call).and_then(|socket| self.sockets.get(&socket)),
+            Call::Await(socket)
+            | Call::Accept(socket)
+            | Call::Send(socket, _)
+            | Call::Recv(socket, _)
+            | Call::Shut(socket)
+            | Call::Close(socket)
+            | Call::Abort(socket)
+            | Call::Status(socket) => self.sockets.get(socket),
         };
         known.copied().unwrap_or(Host::Zero)
     }

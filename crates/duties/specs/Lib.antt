@@ -1,1 +1,3 @@
+pub mod HostTables
+pub mod Lending
 pub mod Targets

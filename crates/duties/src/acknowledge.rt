@@ -1,4 +1,5 @@
 //! What was received is acknowledged within half a second.
+//! `lib.rt` says why each function here is inlined.
 
 ghost use Rattle.std.specs.Prelude.{◌≡◌};
 ghost use Rattle.spec_duties.specs.Acknowledge.{acknowledge_after, acknowledge_due, acknowledged_after};

@@ -1,4 +1,5 @@
 //! When a duty is late. Moments, times and the slack are in microseconds.
+//! `lib.rt` says why each function here is inlined.
 
 ghost use Rattle.std.specs.Prelude.{◌≡◌, ℕ};
 ghost use Rattle.std.specs.Option.{option_map};

@@ -1,6 +1,8 @@
 //! Which segments need not be processed, which dropped ones ask for an acknowledgment, and what may not be discarded.
+//! `lib.rt` says why each function here is inlined.
 
 ghost use Rattle.std.specs.Prelude.{◌≡◌};
+ghost use Rattle.std.specs.Result.{result_err};
 ghost use Rattle.duties.specs.Targets.{processing_place};
 ghost use Rattle.spec_duties.specs.Dropped.{asks, discards, dropping_of, has_content, holds_next, is_ack_range};
 ghost use Rattle.spec_duties.specs.Dropped.{is_challenged, is_next, is_unacceptable, keeps_order, meets_closed_window};
@@ -32,17 +34,17 @@ pub fn processing_place(target: Target, next: u32) -> Option<u32>
 }
 
 #[inline(always)]
-fn is_unacceptable(rule: Option<Rule>) -> bool
-    ensures { result ≡ is_unacceptable rule }
+fn is_unacceptable(processing: Result<(), Rule>) -> bool
+    ensures { result ≡ is_unacceptable (result_err processing) }
 {
-    matches!(rule, Some(Rule::Unacceptable))
+    matches!(processing, Err(Rule::Unacceptable))
 }
 
 #[inline(always)]
-fn is_ack_range(rule: Option<Rule>) -> bool
-    ensures { result ≡ is_ack_range rule }
+fn is_ack_range(processing: Result<(), Rule>) -> bool
+    ensures { result ≡ is_ack_range (result_err processing) }
 {
-    matches!(rule, Some(Rule::AckRange))
+    matches!(processing, Err(Rule::AckRange))
 }
 
 #[inline(always)]
@@ -71,21 +73,22 @@ pub fn meets_closed_window(e: &Endpoint, m: &Emission) -> bool
     !e.state.is_syn_sent() && e.receive_window() == 0 && 0 < m.length()
 }
 
-/// What a step that drops a segment shows of it.
+/// What a step that drops a segment shows of it. The results say whether the model permits processing the segment, and
+/// answering it with a reset.
 #[inline(always)]
 pub fn dropping_of(
     host: Host,
-    taking: Option<Rule>,
-    answering: Option<Rule>,
+    processing: Result<(), Rule>,
+    answering: Result<(), Rule>,
     spared: Spared,
 ) -> Dropping
-    ensures { result ≡ dropping_of host taking answering spared }
+    ensures { result ≡ dropping_of host (result_err processing) (result_err answering) spared }
 {
     Dropping {
         host,
-        takeable: taking.is_none(),
+        takeable: processing.is_ok(),
         spared,
-        answerable: answering.is_none() && !is_unacceptable(taking),
+        answerable: answering.is_ok() && !is_unacceptable(processing),
     }
 }
 
@@ -97,18 +100,18 @@ pub fn has_content(m: &Emission) -> bool
     0 < m.payload.len() || m.flags.fin
 }
 
-/// Whether a dropped segment asks for an acknowledgment.
+/// Whether a dropped segment asks for an acknowledgment. The result says whether the model permits processing it.
 #[inline(always)]
-pub fn asks(m: &Emission, taking: Option<Rule>, e: &Endpoint) -> bool
-    ensures { result ≡ asks m.now taking e.now }
+pub fn asks(m: &Emission, processing: Result<(), Rule>, e: &Endpoint) -> bool
+    ensures { result ≡ asks m.now (result_err processing) e.now }
 {
     if e.state.is_syn_sent() {
         return false;
     }
     if m.flags.rst {
-        return taking.is_none() && is_challenged(e, m);
+        return processing.is_ok() && is_challenged(e, m);
     }
-    is_unacceptable(taking) || is_ack_range(taking) && m.flags.ack || taking.is_none()
+    is_unacceptable(processing) || is_ack_range(processing) && m.flags.ack || processing.is_ok()
 }
 
 #[inline(always)]

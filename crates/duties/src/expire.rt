@@ -1,4 +1,5 @@
 //! An armed retransmission timer expires when its time has passed.
+//! `lib.rt` says why each function here is inlined.
 
 ghost use Rattle.std.specs.Prelude.{◌≡◌, ◌*◌, if◌then◌else◌};
 ghost use Rattle.spec_duties.specs.Expire.{expiry_due, has_expiry_due, longest_run, opened_after};

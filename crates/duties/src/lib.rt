@@ -10,6 +10,7 @@
 //! - `resent`, `excess`: the limits
 //! - `dropped`: which segments may be dropped, and what a dropped one asks for
 //! - `views`, `deadlines`: what duties read of an endpoint; when one is late
+//! - `per_host`: a value for each host
 //! - `laws`: what a greater slack accepts
 //!
 //! Each function of a step is inlined. Otherwise what a step shows (`Sight`, some 300 bytes) is copied from one to the
@@ -23,6 +24,7 @@ mod excess;
 mod expire;
 mod laws;
 mod owed;
+mod per_host;
 mod probe;
 mod resent;
 mod reset;

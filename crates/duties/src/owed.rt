@@ -1,4 +1,5 @@
 //! What an endpoint owes, which of it is late, and how a step changes it.
+//! `lib.rt` says why functions here are inlined.
 
 ghost use Rattle.std.specs.Prelude.{◌≡◌};
 ghost use Rattle.std.specs.Result.{result_err};

@@ -1,4 +1,5 @@
 //! A closed window is probed while bytes are left.
+//! `lib.rt` says why each function here is inlined.
 
 ghost use Rattle.std.specs.Prelude.{◌≡◌};
 ghost use Rattle.spec_duties.specs.Probe.{first_probing, greatest_factor, is_closed_with_work, is_probe};

@@ -1,4 +1,5 @@
 //! How often data is sent again.
+//! `lib.rt` says why each function here is inlined.
 
 ghost use Rattle.std.specs.Prelude.{◌≡◌};
 ghost use Rattle.spec_tcp.specs.Makes.Payload.{making_length};

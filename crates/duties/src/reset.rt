@@ -1,4 +1,5 @@
 //! An aborted connection is reset.
+//! `lib.rt` says why each function here is inlined.
 
 ghost use Rattle.std.specs.Prelude.{◌≡◌};
 ghost use Rattle.spec_duties.specs.Reset.{aborts, reset_after, reset_since, sends_reset};

@@ -1,4 +1,5 @@
 //! After an expiry, the oldest unacknowledged position is sent again.
+//! `lib.rt` says why each function here is inlined.
 
 ghost use Rattle.std.specs.Prelude.{◌≡◌};
 ghost use Rattle.spec_duties.specs.Events.{acknowledges_more, holds, is_sending};

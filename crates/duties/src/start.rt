@@ -1,4 +1,5 @@
 //! What waits to be sent is sent within a second.
+//! `lib.rt` says why each function here is inlined.
 
 ghost use Rattle.std.specs.Prelude.{◌≡◌};
 ghost use Rattle.spec_duties.specs.Start.{is_free_to_send, is_idle_with_work, longest_wait, start_after, start_due};

@@ -1,4 +1,5 @@
 //! What duties read of an endpoint.
+//! `lib.rt` says why each function here is inlined.
 
 ghost use Rattle.std.specs.Prelude.{◌≡◌};
 ghost use Rattle.spec_duties.specs.Views.{is_up, unborn, view_of};

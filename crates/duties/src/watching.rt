@@ -1,8 +1,9 @@
 //! The rules of duties at a step, and what is kept after it.
+//! `lib.rt` says why functions here are inlined.
 
-ghost use Rattle.std.specs.Prelude.{◌≡◌, ◌++◌, false, nat_eq, unwrap_or, IfOk, OnOk};
+ghost use Rattle.std.specs.Prelude.{◌≡◌, ◌++◌, false, nat_eq, unwrap_or, OnOk};
 ghost use Rattle.std.specs.Map.{lookup};
-ghost use Rattle.std.specs.Option.{option_map, option_map_or, IfNone};
+ghost use Rattle.std.specs.Option.{option_map, option_map_or};
 ghost use Rattle.std.specs.Result.{result_err};
 ghost use Rattle.indexmap.specs.IndexMap.{insert_entry};
 ghost use Rattle.verdict.specs.Rules.{first_broken};
@@ -17,6 +18,7 @@ ghost use Rattle.spec_duties.specs.Watching.{queued, sent_late, start, touched_r
 use crate::deadlines::is_late_at_once;
 use crate::excess::{is_excess, is_mere_ack, one_more};
 use crate::owed::{admits_owed, nothing, owed_after, owed_open};
+use crate::per_host::PerHost;
 use crate::resent::{is_resent, is_resent_beyond};
 use case_forms::{Header, Host, OutOfMemory};
 use spec_duties::{
@@ -31,22 +33,21 @@ use verdict::Rule;
 /// when each segment was built that isn't sent yet.
 #[derive(Drop)]
 pub struct Duties {
-    owed_0: Table<Owed>,
-    owed_1: Table<Owed>,
-    listening_0: Table<Listening>,
-    listening_1: Table<Listening>,
+    owed: PerHost<Table<Owed>>,
+    listening: PerHost<Table<Listening>>,
     inbox: Table<Option<u64>>,
     built: Table<Option<Built>>,
 }
 
 impl Model for Duties {
     ghost use Rattle.spec_duties.specs.Watching.{Duties};
+    ghost use Rattle.duties.specs.HostTables.{entries_of};
 
     ghost Value = { Duties };
 
     ghost view = { λ a. record {
-      owed = record { zero = a.owed_0.entries; one = a.owed_1.entries };
-      listening = record { zero = a.listening_0.entries; one = a.listening_1.entries };
+      owed = entries_of a.owed;
+      listening = entries_of a.listening;
       inbox = a.inbox.entries;
       built = a.built.entries;
     } };
@@ -58,10 +59,8 @@ impl Duties {
         ensures { result ≡ start }
     {
         Duties {
-            owed_0: Table::new(alloc),
-            owed_1: Table::new(alloc),
-            listening_0: Table::new(alloc),
-            listening_1: Table::new(alloc),
+            owed: PerHost::new(Table::new(alloc), Table::new(alloc)),
+            listening: PerHost::new(Table::new(alloc), Table::new(alloc)),
             inbox: Table::new(alloc),
             built: Table::new(alloc),
         }
@@ -72,21 +71,14 @@ impl Duties {
     pub fn owed_by(&self, host: Host, place: u32) -> Owed
         ensures { result ≡ owed_by self.now host place }
     {
-        let table = match host {
-            Host::Zero => &self.owed_0,
-            Host::One => &self.owed_1,
-        };
-        owed_in(table, u64::from(place))
+        owed_in(self.owed.get(host), u64::from(place))
     }
 
     #[inline(always)]
     fn listening_at(&self, host: Host, place: u32) -> Listening
         ensures { result ≡ listening_at (pick self.now.listening host) place }
     {
-        match host {
-            Host::Zero => listening_at(&self.listening_0, place),
-            Host::One => listening_at(&self.listening_1, place),
-        }
+        listening_at(self.listening.get(host), place)
     }
 
     /// When the listener was closed that created an endpoint, in microseconds. None: it wasn't, or there is none.
@@ -196,10 +188,7 @@ impl Duties {
         ensures { result_err result ≡ first_broken (touched_rules header.now slack moment self.now counts touched.now) }
     {
         let closed = self.listener_closed(touched.host, &touched.before);
-        let table = match touched.host {
-            Host::Zero => &self.owed_0,
-            Host::One => &self.owed_1,
-        };
+        let table = self.owed.get(touched.host);
         match table.get(u64::from(touched.place)) {
             Some(owed) => admits_endpoint(header, slack, moment, closed, counts, touched, owed),
             None => admits_endpoint(header, slack, moment, closed, counts, touched, &nothing()),
@@ -474,10 +463,14 @@ impl Duties {
             ≡ record self.old { owed = owed_table_after after.now moment counts self.old touched.now }) }
     {
         let closed = self.listener_closed(touched.host, &touched.before);
-        match touched.host {
-            Host::Zero => note_in(&mut self.owed_0, moment, closed, counts, touched, after),
-            Host::One => note_in(&mut self.owed_1, moment, closed, counts, touched, after),
-        }
+        note_in(
+            self.owed.get_mut(touched.host),
+            moment,
+            closed,
+            counts,
+            touched,
+            after,
+        )
     }
 
     // The listener of that endpoint.
@@ -487,10 +480,7 @@ impl Duties {
             ≡ record self.old { listening = moved_by after.now self.old.listening touched.now }) }
     {
         let (was, is) = (counts_for(&touched.before), counts_for(after));
-        match touched.host {
-            Host::Zero => move_child(&mut self.listening_0, was, is),
-            Host::One => move_child(&mut self.listening_1, was, is),
-        }
+        move_child(self.listening.get_mut(touched.host), was, is)
     }
 
     #[inline(always)]
@@ -500,14 +490,12 @@ impl Duties {
     {
         match queueing {
             Queueing::Nothing => Ok(()),
-            Queueing::Accepts { host, listener } => match host {
-                Host::Zero => leave(&mut self.listening_0, listener),
-                Host::One => leave(&mut self.listening_1, listener),
-            },
-            Queueing::Closes { host, listener } => match host {
-                Host::Zero => close(&mut self.listening_0, moment, listener),
-                Host::One => close(&mut self.listening_1, moment, listener),
-            },
+            Queueing::Accepts { host, listener } => {
+                leave(self.listening.get_mut(host), listener)
+            }
+            Queueing::Closes { host, listener } => {
+                close(self.listening.get_mut(host), moment, listener)
+            }
         }
     }
 
@@ -525,28 +513,5 @@ impl Duties {
         self.note_queueing(moment, sight.queueing)?;
         note_mail(&mut self.inbox, moment, sight.mail)?;
         note_post(&mut self.built, moment, sight, after)
-    }
-
-    /// Judges a step, with this slack in microseconds, and notes it if no duty refuses it. The result is the first
-    /// broken rule. If memory runs out, the duties are of no use any more.
-    #[inline(always)]
-    pub fn watch(
-        &mut self,
-        header: &Header,
-        slack: u64,
-        moment: u64,
-        sight: &Sight,
-        after: &View,
-    ) -> Result<Option<Rule>, OutOfMemory>
-        ensures rule { IfOk result (λ rule. rule
-            ≡ first_broken (duty_rules header.now slack moment self.old sight.now)) }
-        ensures noted { IfOk result (λ rule. IfNone rule
-            (self.new ≡ duties_after after.now moment sight.now self.old)) }
-    {
-        if let Err(rule) = self.admits(header, slack, moment, sight) {
-            return Ok(Some(rule));
-        }
-        self.note(moment, sight, after)?;
-        Ok(None)
     }
 }

@@ -172,7 +172,18 @@ impl Review<'_> {
         let world = replay.world();
         let changed = match call {
             Some(Call::Connect(host, lport, rport)) => endpoint_of(world, *host, *lport, *rport),
-            _ => named.and_then(|id| Some((id, endpoint_at(world, id)?))),
+            Some(
+                Call::Listen(..)
+                | Call::Await(_)
+                | Call::Accept(_)
+                | Call::Send(..)
+                | Call::Recv(..)
+                | Call::Shut(_)
+                | Call::Close(_)
+                | Call::Abort(_)
+                | Call::Status(_),
+            )
+            | None => named.and_then(|id| Some((id, endpoint_at(world, id)?))),
         };
         if let Some((id, endpoint)) = changed {
             if let Some(Call::Abort(_)) = call {

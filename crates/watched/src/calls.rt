@@ -1,4 +1,5 @@
 //! What duties read of the world at the effect of a call.
+//! `lib.rt` says why functions here are inlined.
 
 ghost use Rattle.std.specs.Prelude.{◌≡◌, ◌<◌, ◌^◌, if◌then◌else◌, length, IsTrue, None, Some};
 ghost use Rattle.case_forms.specs.declared.calls.Answer.{Answer};
@@ -37,12 +38,16 @@ fn accepting(host: Host, b: &HostTcp, place: u32) -> Queueing
     let Some(child) = listener.queue.first() else {
         return Queueing::Nothing;
     };
-    match b.endpoint_at(child) {
-        Some(endpoint) if !endpoint.state.is_closed() => Queueing::Accepts {
+    let Some(endpoint) = b.endpoint_at(child) else {
+        return Queueing::Nothing;
+    };
+    if endpoint.state.is_closed() {
+        Queueing::Nothing
+    } else {
+        Queueing::Accepts {
             host,
             listener: place,
-        },
-        _ => Queueing::Nothing,
+        }
     }
 }
 
@@ -50,12 +55,26 @@ fn accepting(host: Host, b: &HostTcp, place: u32) -> Queueing
 fn accept_sight(host: Host, b: &HostTcp, answer: &Answer, thing: SocketTarget) -> Sight
     ensures { result ≡ accept_sight host b.now answer.now thing }
 {
-    match (answer, thing) {
-        (Answer::Given(_), SocketTarget::ListenerAt(place)) => Sight {
+    let SocketTarget::ListenerAt(place) = thing else {
+        return unseen();
+    };
+    match answer {
+        Answer::Given(_) => Sight {
             queueing: accepting(host, b, place),
             ..unseen()
         },
-        _ => unseen(),
+        Answer::Done
+        | Answer::Bytes(_)
+        | Answer::Again
+        | Answer::Eof
+        | Answer::Closed
+        | Answer::NotConn
+        | Answer::Refused
+        | Answer::Reset
+        | Answer::Timeout
+        | Answer::InUse
+        | Answer::BadSocket
+        | Answer::State(_) => unseen(),
     }
 }
 

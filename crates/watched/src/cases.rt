@@ -1,4 +1,5 @@
 //! The model of a case with its duties.
+//! `lib.rt` says why functions here are inlined.
 
 ghost use Rattle.std.specs.Prelude.{◌≡◌, ◌<◌, ◌≤◌, IsTrue, Some, None, OnOk, IfErr};
 ghost use Rattle.std.specs.Option.{option_map_or};
@@ -113,11 +114,9 @@ fn watch(world: &World, duties: &mut Duties, moment: u64, sight: &Sight) -> Resu
     let Some(slack) = judged_slack(world.header()) else {
         return Ok(());
     };
-    let now = view_in(world, &sight.touched);
-    match duties.watch(world.header(), slack, moment, sight, &now)? {
-        None => Ok(()),
-        Some(rule) => Err(StepFault::Broken(rule)),
-    }
+    duties.admits(world.header(), slack, moment, sight)?;
+    duties.note(moment, sight, &view_in(world, &sight.touched))?;
+    Ok(())
 }
 
 // Does a step that takes no line in the world. It isn't inlined, since several kinds of judged steps call it.

@@ -1,7 +1,9 @@
 //! What may process a segment, which rules that would break, and whether it need not be processed.
+//! `lib.rt` says why `discards_at` is inlined.
 
 ghost use Rattle.std.specs.Prelude.{◌≡◌};
 ghost use Rattle.std.specs.Option.{option_map_or};
+ghost use Rattle.std.specs.Result.{result_err};
 ghost use Rattle.endpoint_state.specs.Kept.{AreReadable};
 ghost use Rattle.spec_tcp.specs.Arrives.{AtListener, Nobody, taker};
 ghost use Rattle.spec_tcp.specs.HostTcp.{listener_on};
@@ -42,23 +44,28 @@ pub(crate) fn target_of(b: &HostTcp, m: &Emission) -> Target
     }
 }
 
-/// The rule of the model that processing the segment would break, with nothing chosen.
-pub(crate) fn taking_breaks(world: &World, moment: u64, host: Host, line: u64) -> Option<Rule>
-    ensures { result ≡ taking_breaks world.now.header moment world.now.world host line }
+/// Whether the model permits processing the segment, with nothing chosen. The error is the first broken rule.
+pub(crate) fn admits_processing(
+    world: &World,
+    moment: u64,
+    host: Host,
+    line: u64,
+) -> Result<(), Rule>
+    ensures { result_err result ≡ taking_breaks world.now.header moment world.now.world host line }
 {
     let bare = TakeChoice {
         cwnd: 0,
         keep: false,
         sample: false,
     };
-    world.admits_taking(host, moment, line, bare).err()
+    world.admits_taking(host, moment, line, bare)
 }
 
-/// The rule of the model that a reset in answer would break.
-pub(crate) fn answering_breaks(world: &World, host: Host, line: u64) -> Option<Rule>
-    ensures { result ≡ answering_breaks world.now.header world.now.world host line }
+/// Whether the model permits a reset in answer. The error is the first broken rule.
+pub(crate) fn admits_answering(world: &World, host: Host, line: u64) -> Result<(), Rule>
+    ensures { result_err result ≡ answering_breaks world.now.header world.now.world host line }
 {
-    world.admits_reset(host, line).err()
+    world.admits_reset(host, line)
 }
 
 fn spared_at_listener(b: &HostTcp, place: u32) -> Spared

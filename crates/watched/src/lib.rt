@@ -2,7 +2,8 @@
 //!
 //! `spec_duties` has the definitions; `Cases` there joins duties with the model. Nothing is kept and nothing refused if
 //! the header says `slack any`. A step looks up a bounded number of entries; only the end walks endpoints and inboxes,
-//! once. As in `duties`, functions that pass a sight on are inlined.
+//! once. As in `duties`, functions that pass on what a step shows are inlined: it has some 300 bytes, which each call
+//! would copy.
 //!
 //! - `cases`: a case with its duties: each step, and the comparison at the end
 //! - `sights`: what a step shows of the world; `calls`: the same for the effect of a call; `dropped`: for a segment

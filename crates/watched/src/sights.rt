@@ -1,8 +1,10 @@
 //! All that duties read of the world at a step.
+//! `lib.rt` says why functions here are inlined.
 
 ghost use Rattle.std.specs.Prelude.{◌≡◌, ◌<◌, ◌^◌, suc, length, nat_eq};
 ghost use Rattle.std.specs.Map.{lookup};
 ghost use Rattle.std.specs.Option.{option_map_or};
+ghost use Rattle.std.specs.Result.{result_err};
 ghost use Rattle.case_forms.specs.Witnesses.{IsWithinLimits};
 ghost use Rattle.spec_network.specs.Hosts as network;
 ghost use Rattle.spec_network.specs.Tables.{on, pick};
@@ -17,7 +19,7 @@ ghost use Rattle.spec_duties.specs.declared.sights.Mail.TheVariants as mail;
 ghost use Rattle.watched.specs.Targets.{taker_at};
 
 use crate::calls::sight_of_effect;
-use crate::dropped::{answering_breaks, discards_at, spared_by, taking_breaks, target_of};
+use crate::dropped::{admits_answering, admits_processing, discards_at, spared_by, target_of};
 use case_forms::{Host, Label, Ports, SegmentPlan, TakeChoice, TakenLine};
 use duties::{Target, asks, dropping_of, has_content, processing_place, unborn, view_of};
 use endpoint_state::{HostTcp, World};
@@ -147,10 +149,10 @@ fn at_drop(
     host: Host,
     b: &HostTcp,
     m: &Emission,
-    taking: Option<Rule>,
+    processing: Result<(), Rule>,
     target: Target,
 ) -> Option<Touched>
-    ensures { result ≡ at_drop host b.now m.now taking (taker_at b.now target) }
+    ensures { result ≡ at_drop host b.now m.now (result_err processing) (taker_at b.now target) }
 {
     let Target::Endpoint(place) = target else {
         return None;
@@ -159,7 +161,7 @@ fn at_drop(
         return None;
     };
     let event = Event::Drops {
-        asks: asks(m, taking, endpoint),
+        asks: asks(m, processing, endpoint),
         unlimited: has_content(m),
     };
     at_place(host, b, event, place)
@@ -174,13 +176,14 @@ fn sight_of_drop(world: &World, host: Host, line: u64, moment: u64) -> Sight
         return unseen();
     };
     let body = world.body(host);
-    let taking = taking_breaks(world, moment, host, line);
-    let answering = answering_breaks(world, host, line);
+    let processing = admits_processing(world, moment, host, line);
+    let answering = admits_answering(world, host, line);
     let target = target_of(body, m);
+    let spared = spared_by(body, m, target);
     Sight {
-        touched: at_drop(host, body, m, taking, target),
+        touched: at_drop(host, body, m, processing, target),
         mail: Mail::Leaves(line),
-        dropping: Some(dropping_of(host, taking, answering, spared_by(body, m, target))),
+        dropping: Some(dropping_of(host, processing, answering, spared)),
         ..unseen()
     }
 }

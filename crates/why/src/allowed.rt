@@ -52,7 +52,15 @@ pub(crate) fn say_allowed(out: &mut String, scene: &Scene, call: &Call) -> Done 
             out.push_str(or)?;
             out.push_str(" ok N with a number N that was never returned")
         }
-        _ => Ok(()),
+        Call::Listen(..)
+        | Call::Connect(..)
+        | Call::Await(_)
+        | Call::Accept(_)
+        | Call::Send(..)
+        | Call::Shut(_)
+        | Call::Close(_)
+        | Call::Abort(_)
+        | Call::Status(_) => Ok(()),
     }
 }
 

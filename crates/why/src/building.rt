@@ -158,14 +158,40 @@ pub(crate) fn state(out: &mut String, world: &World, it: Building) -> Done {
     may_build(out, world, it)
 }
 
-// Kinds of segments: the name, whether it has SYN, ACK, FIN and RST, and how many bytes.
-const KINDS: [(&str, [bool; 4], u16); 6] = [
-    (" SYN", [true, false, false, false], 0),
-    (" SYN ACK", [true, true, false, false], 0),
-    (" ACK", [false, true, false, false], 0),
-    (" ACK with bytes", [false, true, false, false], 1),
-    (" FIN ACK", [false, true, true, false], 0),
-    (" RST", [false, false, false, true], 0),
+const NO_FLAGS: Flags = Flags {
+    ack: false,
+    rst: false,
+    syn: false,
+    fin: false,
+};
+
+const SYN: Flags = Flags {
+    syn: true,
+    ..NO_FLAGS
+};
+
+const SYN_ACK: Flags = Flags { ack: true, ..SYN };
+
+const ACK: Flags = Flags {
+    ack: true,
+    ..NO_FLAGS
+};
+
+const FIN_ACK: Flags = Flags { fin: true, ..ACK };
+
+const RST: Flags = Flags {
+    rst: true,
+    ..NO_FLAGS
+};
+
+// Kinds of segments: the name, the flags, and how many bytes.
+const KINDS: [(&str, Flags, u16); 6] = [
+    (" SYN", SYN, 0),
+    (" SYN ACK", SYN_ACK, 0),
+    (" ACK", ACK, 0),
+    (" ACK with bytes", ACK, 1),
+    (" FIN ACK", FIN_ACK, 0),
+    (" RST", RST, 0),
 ];
 
 // Writes which kinds of segments may be built at these ports.
@@ -173,7 +199,7 @@ fn may_build(out: &mut String, world: &World, it: Building) -> Done {
     out.push_str("allowed there:")?;
     let start = out.len();
     for (name, flags, len) in &KINDS {
-        if allows(world, it, flags, *len) {
+        if allows(world, it, *flags, *len) {
             out.push_str(word_if(start < out.len(), " or"))?;
             out.push_str(name)?;
         }
@@ -183,12 +209,11 @@ fn may_build(out: &mut String, world: &World, it: Building) -> Done {
 }
 
 // Whether the state of the endpoint lets it build a segment of this kind.
-fn allows(world: &World, it: Building, flags: &[bool; 4], len: u16) -> bool {
-    let [syn, ack, fin, rst] = *flags;
+fn allows(world: &World, it: Building, flags: Flags, len: u16) -> bool {
     let plan = SegmentPlan {
         pos: 0,
         len,
-        flags: Flags { ack, rst, syn, fin },
+        flags,
         ..*it.plan
     };
     has_room(world)

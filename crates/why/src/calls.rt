@@ -8,7 +8,6 @@ use crate::wire::first_difference;
 use case_forms::{Answer, Call, Event, Host, Label};
 use endpoint_state::World;
 use plain_words::{AnswerFields, AnswerWords, CallWords, HostName};
-use replayed::socket_of;
 use spec_tcp::{EndpointId, SocketTarget};
 
 // Of data with more bytes than this, only the length is shown.
@@ -79,13 +78,12 @@ pub(crate) fn describe_end(out: &mut String, scene: &Scene, thread: u32, answer:
     out.push_str("the line has the answer")?;
     say_answer(out, answer)?;
     describe_thread(out, scene, thread)?;
-    match (answer, scene.world.given_answer(thread)) {
-        (Answer::Bytes(told), Some(Answer::Bytes(given))) => {
-            let (told, given) = (told.as_slice(), given.as_slice());
-            first_difference(out, "byte", "in the effect", given, told)
-        }
-        _ => Ok(()),
+    let given = scene.world.given_answer(thread);
+    if let (Answer::Bytes(told), Some(Answer::Bytes(given))) = (answer, given) {
+        let (told, given) = (told.as_slice(), given.as_slice());
+        first_difference(out, "byte", "in the effect", given, told)?;
     }
+    Ok(())
 }
 
 /// Where a socket number was returned before.
@@ -125,10 +123,14 @@ fn describe_object(out: &mut String, scene: &Scene, call: &Call) -> Done {
             Some(place) => describe_at(out, scene, *host, place),
             None => Ok(()),
         },
-        _ => match socket_of(call) {
-            Some(socket) => describe_named(out, scene, socket),
-            None => Ok(()),
-        },
+        Call::Await(socket)
+        | Call::Accept(socket)
+        | Call::Send(socket, _)
+        | Call::Recv(socket, _)
+        | Call::Shut(socket)
+        | Call::Close(socket)
+        | Call::Abort(socket)
+        | Call::Status(socket) => describe_named(out, scene, *socket),
     }
 }
 

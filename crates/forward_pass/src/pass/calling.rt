@@ -69,20 +69,39 @@ impl Pass<'_> {
 
     // What ends or closes something lets calls go on that wait for it.
     fn wake_after(&mut self, call: &Call, meant: Option<Meant>) -> Done {
-        match (call, meant) {
-            (Call::Shut(_) | Call::Close(_) | Call::Abort(_), Some(meant)) => self.wake(meant),
-            _ => Ok(()),
+        match call {
+            Call::Shut(_) | Call::Close(_) | Call::Abort(_) => match meant {
+                Some(meant) => self.wake(meant),
+                None => Ok(()),
+            },
+            Call::Listen(..)
+            | Call::Connect(..)
+            | Call::Await(_)
+            | Call::Accept(_)
+            | Call::Send(..)
+            | Call::Recv(..)
+            | Call::Status(_) => Ok(()),
         }
     }
 
     // A call waits until it may have its effect.
     fn wait(&mut self, pending: Pending, call: &Call, meant: Option<Meant>) -> Done {
-        match (call, meant) {
-            (Call::Connect(host, lport, rport), _) => {
+        match call {
+            Call::Connect(host, lport, rport) => {
                 self.wait_for_ports(pending, EndpointKey::new(*host, *lport, *rport))
             }
-            (_, Some(meant)) => Ok(self.calls.put(meant, pending)?),
-            (_, None) => Ok(()),
+            Call::Listen(..)
+            | Call::Await(_)
+            | Call::Accept(_)
+            | Call::Send(..)
+            | Call::Recv(..)
+            | Call::Shut(_)
+            | Call::Close(_)
+            | Call::Abort(_)
+            | Call::Status(_) => match meant {
+                Some(meant) => Ok(self.calls.put(meant, pending)?),
+                None => Ok(()),
+            },
         }
     }
 

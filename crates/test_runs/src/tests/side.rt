@@ -61,7 +61,14 @@ fn answered(answer: &Answer) -> Told {
         Answer::Bytes(bytes) => ("bytes", u32::try_from(bytes.len()).unwrap_or(u32::MAX)),
         Answer::Refused => ("refused", 0),
         Answer::Reset => ("reset", 0),
-        _ => ("other", 0),
+        Answer::Again
+        | Answer::Eof
+        | Answer::Closed
+        | Answer::NotConn
+        | Answer::Timeout
+        | Answer::InUse
+        | Answer::BadSocket
+        | Answer::State(_) => ("other", 0),
     }
 }
 
