@@ -39,8 +39,8 @@ def marked(sources):
         holder = ""
         lines = open(path).read().split("\n")
         for line, after in zip(lines, lines[1:]):
-            if impl := re.match(r"impl(?:<.*?>)? (\w+)", line):
-                holder = impl[1] + "::"
+            if impl := re.match(r"impl(?:<.*?>)? (?:(\w+) for )?(\w+)", line):
+                holder = f"{impl[2]}{impl[1] or ''}::"
             if "#[inline(always)]" in line:
                 name = re.search(r"fn (\w+)", after)[1]
                 # A method is named by the module of its type.

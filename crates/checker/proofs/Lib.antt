@@ -1,5 +1,6 @@
 pub mod YesLemmas
 pub mod KeptLemmas
+pub mod HiddenLemmas
 pub mod CheckLemmas
 pub mod JudgeLemmas
 pub mod OfferLemmas

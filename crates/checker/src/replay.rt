@@ -14,8 +14,9 @@ ghost use Rattle.interval_order.specs.Orders.{passing, order_of, order_after};
 ghost use Rattle.interval_order.specs.OrderRules.{order_rules};
 ghost use Rattle.verdict.specs.Rules.{first_broken};
 ghost use Rattle.spec_tcp.specs.Bounds.{most_steps};
-ghost use Rattle.spec_tcp.specs.Steps.{hidden_step, line_step};
-ghost use Rattle.spec_duties.specs.Cases.{late_at_end, start, asked_rules, asked_after, first_known};
+ghost use Rattle.spec_tcp.specs.Steps.{line_step};
+ghost use Rattle.spec_step.specs.Acts.{IsSmall, step_hidden};
+ghost use Rattle.spec_duties.specs.Cases.{late_at_end, start, after, asked_rules, asked_after, case_rules, first_known};
 ghost use Rattle.checker.specs.Seen.{move_of};
 ghost use Rattle.checker.specs.Verdicts.{verdict, verdict_from, verdict_left, takes_line, line_named};
 ghost use Rattle.checker.specs.Kept.{kept_broken, kept_progress};
@@ -26,6 +27,7 @@ use answers::step_line;
 use case_forms::{Extras, Header, Label, Line, NamedLine, OutOfMemory, Step, Trace, Witness};
 use endpoint_state::StepFault;
 use interval_order::{Window, left_over};
+use spec_step::{Act, Hidden, act_of};
 use std::alloc::{AllocError, Global};
 use verdict::{Rule, Verdict};
 use watched::{Case, apply_hidden};
@@ -137,17 +139,12 @@ pub(crate) fn replay(
     ensures order { IfOk result (λ r. IfNone r (window.new ≡ order_after window.old (move_of step.now))) }
     ensures world { IfOk result (λ r. IfNone r (world.new ≡ kept_progress window.old world.old step.now)) }
 {
-    match &step.label {
-        Label::L(named) => match window.place(named.number, named.extras.count(), step.moment) {
+    match act_of(&step.label) {
+        Act::Line(named) => match window.place(named.number, named.extras.count(), step.moment) {
             Ok(line) => take_line(world, step.moment, line, named.extras),
             Err(rule) => Ok(Some(rule)),
         },
-        Label::D { .. }
-        | Label::M { .. }
-        | Label::T { .. }
-        | Label::K { .. }
-        | Label::R { .. }
-        | Label::F { .. } => pass(window, world, step.moment, &step.label),
+        Act::Hidden(hidden) => pass(window, world, step.moment, &hidden),
     }
 }
 
@@ -177,19 +174,19 @@ fn pass(
     window: &mut Window,
     world: &mut Case,
     moment: u64,
-    label: &Label<NamedLine>,
+    step: &Hidden<'_>,
 ) -> Result<Option<Rule>, OutOfMemory>
     requires steps { world.old.steps < most_steps }
-    requires label { IsWithinLimits label.now }
+    requires small { IsSmall step.now }
     ensures rule { IfOk result (λ r. r ≡ first_broken (order_rules window.old (passing moment)
-        ++ asked_rules world.old moment (hidden_step label.now))) }
+        ++ case_rules world.old.header moment world.old.world (step_hidden step.now))) }
     ensures order { IfOk result (λ r. IfNone r (window.new ≡ order_after window.old (passing moment))) }
-    ensures world { IfOk result (λ r. IfNone r (world.new ≡ asked_after world.old moment (hidden_step label.now))) }
+    ensures world { IfOk result (λ r. IfNone r (world.new ≡ after world.old moment (step_hidden step.now))) }
 {
     if let Err(rule) = window.pass(moment) {
         return Ok(Some(rule));
     }
-    match apply_hidden(world, moment, label) {
+    match apply_hidden(world, moment, step) {
         Ok(()) => Ok(None),
         Err(StepFault::Broken(rule)) => Ok(Some(rule)),
         Err(StepFault::OutOfMemory) => Err(AllocError),

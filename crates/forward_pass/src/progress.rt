@@ -1,8 +1,8 @@
 //! The world after the steps so far, and these steps. A method that does a step writes it down if it was done.
 
 ghost use Rattle.std.specs.Prelude.{◌<◌, OnOk};
-ghost use Rattle.case_forms.specs.Witnesses.{IsWithinLimits};
 ghost use Rattle.spec_tcp.specs.Bounds.{most_steps};
+ghost use Rattle.spec_step.specs.Acts.{IsSmall};
 
 use crate::calls::key_at;
 use crate::key::EndpointKey;
@@ -10,11 +10,11 @@ use crate::stop::{Done, Stop};
 use crate::watching::Watch;
 use case_forms::{
     Answer, Call, Expired, Extras, GREATEST_POSITION, Header, Host, Label, MOST_STEPS, NamedLine,
-    Recovery, SegmentPlan, Span, Step, Steps, TakeChoice, TakenLine, Timer, Wire,
+    OutOfMemory, Recovery, SegmentPlan, Span, Step, Steps, TakeChoice, TakenLine, Timer, Wire,
 };
 use duties::{Duties, admits_lates, expiry_due, lates_of, view_of};
 use endpoint_state::{Endpoint, StepFault, World};
-use spec_step::apply_hidden;
+use spec_step::{Hidden, ModelStep};
 use spec_tcp::{Arrived, Emission};
 use std::alloc::Global;
 use verdict::Rule;
@@ -180,19 +180,6 @@ impl Log {
         Ok(())
     }
 
-    // Writes a step down if it was done, or if nothing else is left to do.
-    fn push_done(
-        &mut self,
-        label: Label<NamedLine>,
-        done: Result<(), StepFault>,
-        will: Will,
-    ) -> Done {
-        if done.is_ok() || will == Will::Insist {
-            self.push_step(label)?;
-        }
-        Ok(done?)
-    }
-
     // The next step breaks this rule of a duty, if any, and is done all the same.
     fn forgive(&mut self, broken: Option<Rule>) {
         if let (Some(rule), None) = (broken, self.findings.forgiven) {
@@ -312,28 +299,32 @@ impl Progress {
     }
 
     // Does a step that takes no line.
-    fn do_hidden(&mut self, label: &Label<NamedLine>, will: Will) -> Result<(), StepFault>
+    fn do_hidden(&mut self, step: Hidden<'_>, will: Will) -> Result<(), StepFault>
         requires steps { self.old.world.steps < most_steps }
-        requires label { IsWithinLimits label.now }
+        requires small { IsSmall step }
     {
         match self.slack {
             Some(slack) => {
                 let watch = self.watch(slack, will);
-                let broken = watch.hidden(&mut self.world, &mut self.duties, label)?;
+                let broken = watch.hidden(&mut self.world, &mut self.duties, step)?;
                 self.log.forgive(broken);
                 Ok(())
             }
-            None => apply_hidden(&mut self.world, self.log.moment, label),
+            None => step.apply(&mut self.world, self.log.moment),
         }
     }
 
-    // Does a step that takes no line, and writes it down.
-    fn hidden(&mut self, label: Label<NamedLine>, will: Will) -> Done
-        requires { IsWithinLimits label }
+    // Does a step that takes no line, and writes it down, also if it isn't done and nothing else is left to do. What it
+    // answers is copied only then.
+    fn hidden(&mut self, step: Hidden<'_>, will: Will) -> Done
+        requires { IsSmall step }
     {
         has_room(&self.world)?;
-        let done = self.do_hidden(&label, will);
-        self.log.push_done(label, done, will)
+        let done = self.do_hidden(step, will);
+        if done.is_ok() || will == Will::Insist {
+            self.log.push_step(label_of(step)?)?;
+        }
+        Ok(done?)
     }
 
     /// The current line begins a call.
@@ -448,22 +439,7 @@ impl Progress {
 
     /// A thread's open call has its effect, with this answer.
     pub(crate) fn effect(&mut self, thread: u32, answer: &Answer, will: Will) -> Done {
-        if self.slack.is_none() {
-            return self.effect_unjudged(thread, answer, will);
-        }
-        let answer = answer.copy()?;
-        self.hidden(Label::D { thread, answer }, will)
-    }
-
-    // The same if no duty is judged. The answer is copied only once the call has its effect.
-    fn effect_unjudged(&mut self, thread: u32, answer: &Answer, will: Will) -> Done {
-        has_room(&self.world)?;
-        let done = self.world.effect(thread, answer);
-        if done.is_ok() || will == Will::Insist {
-            let answer = answer.copy()?;
-            self.log.push_step(Label::D { thread, answer })?;
-        }
-        Ok(done?)
+        self.hidden(Hidden::Effect { thread, answer }, will)
     }
 
     /// A host builds a segment. The result is the segment's number. If no step can build it, none is written down.
@@ -474,29 +450,29 @@ impl Progress {
         if !EndpointKey::new(host, plan.lport, plan.rport).can_build() {
             return Err(Stop::Broken(Rule::NotMade));
         }
-        self.hidden(Label::M { host, plan }, will)?;
+        self.hidden(Hidden::Build { host, plan: &plan }, will)?;
         Ok(self.world.count())
     }
 
     /// A host processes the segment that arrived with a line.
     pub(crate) fn take(&mut self, host: Host, line: u64, choice: TakeChoice, will: Will) -> Done {
-        self.hidden(Label::T { host, line, choice }, will)
+        self.hidden(Hidden::Process { host, line, choice }, will)
     }
 
     /// A host drops the segment that arrived with a line.
     pub(crate) fn drop_arrival(&mut self, host: Host, line: u64, will: Will) -> Done {
-        self.hidden(Label::K { host, line }, will)
+        self.hidden(Hidden::Drop { host, line }, will)
     }
 
     /// A host answers the segment that arrived with a line by a reset. The result is the reset's number.
     pub(crate) fn reply_with_reset(&mut self, host: Host, line: u64) -> Result<u32, Stop> {
-        self.hidden(Label::R { host, line }, Will::Try)?;
+        self.hidden(Hidden::Reset { host, line }, Will::Try)?;
         Ok(self.world.count())
     }
 
     /// An endpoint enters fast recovery.
     pub(crate) fn recover(&mut self, host: Host, recovery: Recovery) -> Done {
-        self.hidden(Label::F { host, recovery }, Will::Try)
+        self.hidden(Hidden::Recover { host, recovery }, Will::Try)
     }
 
     /// Whether an armed retransmission timer has to expire at some moment, if duties are judged.
@@ -566,4 +542,19 @@ impl Progress {
         let lates = lates_of(slack, self.log.moment, &view, closed, &owed);
         admits_lates(lates).err() == Some(rule)
     }
+}
+
+// The label of a step that takes no line.
+fn label_of(step: Hidden<'_>) -> Result<Label<NamedLine>, OutOfMemory> {
+    Ok(match step {
+        Hidden::Effect { thread, answer } => Label::D {
+            thread,
+            answer: answer.copy()?,
+        },
+        Hidden::Build { host, plan } => Label::M { host, plan: *plan },
+        Hidden::Process { host, line, choice } => Label::T { host, line, choice },
+        Hidden::Drop { host, line } => Label::K { host, line },
+        Hidden::Reset { host, line } => Label::R { host, line },
+        Hidden::Recover { host, recovery } => Label::F { host, recovery },
+    })
 }

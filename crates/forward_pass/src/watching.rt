@@ -1,14 +1,14 @@
 //! Steps that duties judge, too (version 5 with a slack).
 
 ghost use Rattle.std.specs.Prelude.{◌<◌};
-ghost use Rattle.case_forms.specs.Witnesses.{IsWithinLimits};
 ghost use Rattle.spec_tcp.specs.Bounds.{most_steps};
+ghost use Rattle.spec_step.specs.Acts.{IsSmall};
 
-use case_forms::{Label, TakenLine};
+use case_forms::TakenLine;
 use duties::Duties;
 use endpoint_state::{StepFault, World};
 use spec_duties::Sight;
-use spec_step::{admits_hidden, admits_line, apply_hidden, apply_line_owned};
+use spec_step::{Hidden, ModelStep};
 use verdict::Rule;
 use watched::{sight_of_hidden, sight_of_line, view_in};
 
@@ -37,35 +37,20 @@ impl Watch {
         if self.forgives { Ok(()) } else { Err(broken) }
     }
 
-    // The rule of a duty that a step breaks which takes a line, if that is forgiven. None: it breaks none.
-    fn judge_line(
+    // The rule of a duty that a step breaks, if that is forgiven. None: it breaks none.
+    fn judge<S: ModelStep>(
         self,
         world: &World,
         duties: &Duties,
-        line: &TakenLine,
-        sight: &Sight,
-    ) -> Result<Option<Rule>, Rule> {
-        let broken = self.broken(world, duties, sight);
-        if let Some(rule) = broken {
-            self.permits(rule, admits_line(world, self.moment, line))?;
-        }
-        Ok(broken)
-    }
-
-    // The same for a step that takes none.
-    fn judge_hidden<Taken>(
-        self,
-        world: &World,
-        duties: &Duties,
-        label: &Label<Taken>,
+        step: &S,
         sight: &Sight,
     ) -> Result<Option<Rule>, Rule>
         requires steps { world.now.steps < most_steps }
-        requires label { IsWithinLimits label.now }
+        requires small { S.is_small step.now }
     {
         let broken = self.broken(world, duties, sight);
         if let Some(rule) = broken {
-            self.permits(rule, admits_hidden(world, self.moment, label))?;
+            self.permits(rule, step.admits(world, self.moment))?;
         }
         Ok(broken)
     }
@@ -75,6 +60,23 @@ impl Watch {
         let now = view_in(world, &sight.touched);
         duties.note(self.moment, sight, &now)?;
         Ok(())
+    }
+
+    // Does a step, of which duties see this.
+    fn step<S: ModelStep + Drop>(
+        self,
+        world: &mut World,
+        duties: &mut Duties,
+        step: S,
+        sight: &Sight,
+    ) -> Result<Option<Rule>, StepFault>
+        requires steps { world.old.steps < most_steps }
+        requires small { S.is_small step }
+    {
+        let broken = self.judge(world, duties, &step, sight)?;
+        step.apply(world, self.moment)?;
+        self.note(world, duties, sight)?;
+        Ok(broken)
     }
 
     /// Does a step that takes a line. The result is the rule of a duty that it breaks, if that is forgiven. A step that
@@ -88,26 +90,20 @@ impl Watch {
         requires { world.old.steps < most_steps }
     {
         let sight = sight_of_line(world, self.moment, &line);
-        let broken = self.judge_line(world, duties, &line, &sight)?;
-        apply_line_owned(world, self.moment, line)?;
-        self.note(world, duties, &sight)?;
-        Ok(broken)
+        self.step(world, duties, line, &sight)
     }
 
     /// Does a step that takes none, in the same way.
-    pub(crate) fn hidden<Taken>(
+    pub(crate) fn hidden(
         self,
         world: &mut World,
         duties: &mut Duties,
-        label: &Label<Taken>,
+        step: Hidden<'_>,
     ) -> Result<Option<Rule>, StepFault>
         requires steps { world.old.steps < most_steps }
-        requires label { IsWithinLimits label.now }
+        requires small { IsSmall step }
     {
-        let sight = sight_of_hidden(world, self.moment, label);
-        let broken = self.judge_hidden(world, duties, label, &sight)?;
-        apply_hidden(world, self.moment, label)?;
-        self.note(world, duties, &sight)?;
-        Ok(broken)
+        let sight = sight_of_hidden(world, self.moment, &step);
+        self.step(world, duties, step, &sight)
     }
 }

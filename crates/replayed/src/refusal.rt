@@ -7,6 +7,7 @@ use crate::touched::{touched_by_line, touched_by_other};
 use crate::unused_lines::UnusedLines;
 use case_forms::{Extras, Header, Label, NamedLine, Step};
 use endpoint_state::World;
+use spec_step::{Act, act_of};
 use spec_tcp::EndpointId;
 use std::alloc::Global;
 use std::io::BufRead;
@@ -119,12 +120,12 @@ fn apply_read<A: BufRead>(
     lines: &mut UnusedLines<A>,
     step: &Step,
 ) -> Result<(), ReplayFault> {
-    let Label::L(named) = &step.label else {
-        return apply_other(watched, step);
-    };
-    match lines.remove(named.number)? {
-        Some(line) => apply_taken(watched, step.moment, line, named.extras),
-        None => Ok(()),
+    match act_of(&step.label) {
+        Act::Line(named) => match lines.remove(named.number)? {
+            Some(line) => apply_taken(watched, step.moment, line, named.extras),
+            None => Ok(()),
+        },
+        Act::Hidden(hidden) => apply_other(watched, step.moment, &hidden),
     }
 }
 
@@ -194,12 +195,14 @@ fn touched_at<A: BufRead>(
     lines: &mut UnusedLines<A>,
     step: &Step,
 ) -> Result<Option<EndpointId>, ReplayFault> {
-    let Label::L(named) = &step.label else {
-        return Ok(touched_by_other(world, step));
-    };
-    let line = lines.remove(named.number)?;
-    let taken = line.and_then(|line| line.taken(named.extras));
-    Ok(taken.and_then(|taken| touched_by_line(world, step.moment, &taken)))
+    match act_of(&step.label) {
+        Act::Line(named) => {
+            let line = lines.remove(named.number)?;
+            let taken = line.and_then(|line| line.taken(named.extras));
+            Ok(taken.and_then(|taken| touched_by_line(world, step.moment, &taken)))
+        }
+        Act::Hidden(hidden) => Ok(touched_by_other(world, step.moment, &hidden)),
+    }
 }
 
 // The line for `Refused`. `after` is the line after the last one used.

@@ -1,14 +1,15 @@
 //! The world of a case, and its duties, before and after each step.
 
 ghost use Rattle.std.specs.Prelude.{◌<◌, IsTrue};
-ghost use Rattle.case_forms.specs.Witnesses.{IsWithinLimits};
 ghost use Rattle.spec_tcp.specs.Bounds.{most_steps};
+ghost use Rattle.spec_step.specs.Acts.{IsSmall};
 
 use crate::case::Case;
-use case_forms::{Extras, GREATEST_POSITION, Label, Line, MOST_STEPS, NamedLine, Step};
+use case_forms::{Extras, GREATEST_POSITION, Line, MOST_STEPS, Step};
 use duties::Duties;
 use endpoint_state::{StepFault, World};
 use line_fields::{SourceFault, TextFault};
+use spec_step::{Act, Hidden, act_of};
 use std::alloc::{AllocError, AllocFailed, Global};
 use thiserror::Error;
 use watched::{apply_hidden, take_line};
@@ -90,12 +91,14 @@ impl<'c> Replay<'c> {
 
     /// Does a step. After one that a duty refuses, the replay is of no use.
     pub fn apply(&mut self, step: &Step) -> Result<(), ReplayFault> {
-        let Label::L(named) = &step.label else {
-            return apply_other(&mut self.watched, step);
-        };
-        match self.case.line(named.number) {
-            Some(line) => apply_taken(&mut self.watched, step.moment, line.copy()?, named.extras),
-            None => Ok(()),
+        match act_of(&step.label) {
+            Act::Line(named) => match self.case.line(named.number) {
+                Some(line) => {
+                    apply_taken(&mut self.watched, step.moment, line.copy()?, named.extras)
+                }
+                None => Ok(()),
+            },
+            Act::Hidden(hidden) => apply_other(&mut self.watched, step.moment, &hidden),
         }
     }
 }
@@ -114,14 +117,18 @@ pub(crate) fn apply_taken(
 }
 
 /// Does a step that uses no line, in the same way.
-pub(crate) fn apply_other(watched: &mut watched::Case, step: &Step) -> Result<(), ReplayFault> {
+pub(crate) fn apply_other(
+    watched: &mut watched::Case,
+    moment: u64,
+    step: &Hidden<'_>,
+) -> Result<(), ReplayFault> {
     if !may_go_on(watched) {
         return Err(ReplayFault::TooManySteps);
     }
-    if !is_within_limits(&step.label) {
+    if !is_small(step) {
         return Ok(());
     }
-    unless_broken(apply_hidden(watched, step.moment, &step.label))
+    unless_broken(apply_hidden(watched, moment, step))
 }
 
 // A step that breaks a rule isn't done, which is no fault.
@@ -146,12 +153,12 @@ fn may_go_on(watched: &watched::Case) -> bool
     watched.steps() < MOST_STEPS
 }
 
-/// Whether the position that a label names is within limits; no witness that can be read has another.
-pub(crate) fn is_within_limits(label: &Label<NamedLine>) -> bool
-    ensures { IsTrue result → IsWithinLimits label.now }
+/// Whether the position that a step names is within limits; no witness that can be read has another.
+pub(crate) fn is_small(step: &Hidden<'_>) -> bool
+    ensures { IsTrue result → IsSmall step.now }
 {
-    match label {
-        Label::M { plan, .. } => plan.pos <= GREATEST_POSITION,
+    match step {
+        Hidden::Build { plan, .. } => plan.pos <= GREATEST_POSITION,
         _ => true,
     }
 }

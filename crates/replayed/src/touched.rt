@@ -1,22 +1,23 @@
 //! The endpoint that a step touches, whose duties it compares.
 
-use crate::replay::{Replay, has_room, is_within_limits};
-use case_forms::{Label, Step, TakenLine};
+use crate::replay::{Replay, has_room, is_small};
+use case_forms::{Step, TakenLine};
 use endpoint_state::World;
 use spec_duties::Touched;
+use spec_step::{Act, Hidden, act_of};
 use spec_tcp::EndpointId;
 use watched::{sight_of_hidden, sight_of_line};
 
 impl Replay<'_> {
     /// The endpoint that a step touches, as it is before the step. None: it touches none, or creates one.
     pub fn touched(&self, step: &Step) -> Option<EndpointId> {
-        match &step.label {
-            Label::L(named) => {
+        match act_of(&step.label) {
+            Act::Line(named) => {
                 let line = self.case().line(named.number)?.copy().ok()?;
                 let taken = line.taken(named.extras)?;
                 touched_by_line(self.world(), step.moment, &taken)
             }
-            _ => touched_by_other(self.world(), step),
+            Act::Hidden(hidden) => touched_by_other(self.world(), step.moment, &hidden),
         }
     }
 }
@@ -30,14 +31,15 @@ pub(crate) fn touched_by_line(world: &World, moment: u64, line: &TakenLine) -> O
 }
 
 /// The endpoint that a step touches which uses no line. None: it touches none, or creates one.
-pub(crate) fn touched_by_other(world: &World, step: &Step) -> Option<EndpointId> {
-    if !has_room(world) || !is_within_limits(&step.label) {
+pub(crate) fn touched_by_other(
+    world: &World,
+    moment: u64,
+    step: &Hidden<'_>,
+) -> Option<EndpointId> {
+    if !has_room(world) || !is_small(step) {
         return None;
     }
-    born(
-        world,
-        sight_of_hidden(world, step.moment, &step.label).touched,
-    )
+    born(world, sight_of_hidden(world, moment, step).touched)
 }
 
 // What is touched, if it exists before the step.

@@ -1,3 +1,4 @@
+pub mod Acts
 pub mod Asked
 pub mod Faults
 pub mod Judging

@@ -1,74 +1,96 @@
-//! A step that takes no line.
+//! Steps that take no line.
 
 ghost use Rattle.std.specs.Prelude.{◌≡◌, ◌<◌, ℕ, None, Some, Err, IfErr, OnOk, OnErr};
 ghost use Rattle.std.specs.Result.{result_err};
-ghost use Rattle.case_forms.specs.Witnesses.{IsWithinLimits};
 ghost use Rattle.verdict.specs.Rules.{first_broken};
 ghost use Rattle.spec_network.specs.Hosts.{Effect};
 ghost use Rattle.spec_tcp.specs.Bounds.{most_steps};
-ghost use Rattle.spec_tcp.specs.Steps.{hidden_step};
 ghost use Rattle.endpoint_state.specs.Faults.{fault_rule};
 ghost use Rattle.endpoint_state.specs.Worlds.{after};
+ghost use Rattle.spec_step.specs.Acts.{IsSmall, step_hidden};
+ghost use Rattle.spec_step.specs.Asked.{broken_by};
 ghost use Rattle.spec_step.specs.Faults.{IfBroken};
-ghost use Rattle.spec_step.specs.Asked.{broken_by, asked_rules, asked_after};
 
-use case_forms::{Answer, Label};
+use crate::step::ModelStep;
+use case_forms::{Answer, Host, Recovery, SegmentPlan, TakeChoice};
 use endpoint_state::{StepFault, World};
 use verdict::Rule;
 
-/// Does a step that takes no line, as `apply` does any step. A label that takes one does nothing here.
-#[tactic(auto, using(crate::proofs::FaultLemmas::admitted, crate::proofs::FaultLemmas::broken, crate::proofs::FaultLemmas::memory))]
-#[inline(always)]
-pub fn apply_hidden<Taken>(
-    world: &mut World,
-    moment: u64,
-    label: &Label<Taken>,
-) -> Result<(), StepFault>
-    requires steps { world.old.steps < most_steps }
-    requires label { IsWithinLimits label.now }
-    ensures ok { OnOk result (world.new ≡ asked_after world.old moment (hidden_step label.now)) }
-    ensures admitted { OnOk result (first_broken (asked_rules world.old moment (hidden_step label.now)) ≡ None) }
-    ensures broken { IfErr result (λ fault. IfBroken fault
-        (λ rule. first_broken (asked_rules world.old moment (hidden_step label.now)) ≡ Some rule)) }
-    ensures memory { result ≡ Err StepFault.OutOfMemory
-        → first_broken (asked_rules world.old moment (hidden_step label.now)) ≡ None }
-    ensures err { OnErr result (world.new ≡ world.old) }
-{
-    match label {
-        Label::L(_) => Ok(()),
-        Label::D { thread, answer } => have_effect(world, *thread, answer),
-        Label::M { host, plan } => world.make(*host, plan, moment),
-        Label::T { host, line, choice } => world.take(*host, *line, *choice, moment),
-        Label::K { host, line } => {
-            world.drop_arrival(*host, *line)?;
-            Ok(())
+/// A step that takes no line: what a host does, or a call does to it, between the lines of a trace.
+#[derive(Clone, Copy)]
+pub enum Hidden<'a> {
+    /// The open call of a thread takes effect, with this answer (RFC 9293, 3.10).
+    Effect {
+        thread: u32,
+        answer: &'a Answer,
+    },
+    /// A host builds this segment (RFC 9293, 3.1).
+    Build {
+        host: Host,
+        plan: &'a SegmentPlan,
+    },
+    /// A host processes what waits under this line, with this choice (RFC 9293, 3.10.7).
+    Process {
+        host: Host,
+        line: u64,
+        choice: TakeChoice,
+    },
+    /// A host drops what waits under this line.
+    Drop {
+        host: Host,
+        line: u64,
+    },
+    /// A host answers what waits under this line with a reset (RFC 9293, 3.10.7.1).
+    Reset {
+        host: Host,
+        line: u64,
+    },
+    /// An endpoint of a host enters fast recovery (RFC 5681, 3.2).
+    Recover {
+        host: Host,
+        recovery: Recovery,
+    },
+}
+
+impl<'a> ModelStep for Hidden<'a> {
+    ghost step = { step_hidden };
+
+    ghost is_small = { IsSmall };
+
+    fn admits(&self, world: &World, moment: u64) -> Result<(), Rule> {
+        match self {
+            Hidden::Effect { thread, answer } => admits_effect(world, *thread, answer),
+            Hidden::Build { host, plan } => world.admits_making(*host, plan),
+            Hidden::Process { host, line, choice } => {
+                world.admits_taking(*host, moment, *line, *choice)
+            }
+            Hidden::Drop { host, line } => world.admits_dropping(*host, *line),
+            Hidden::Reset { host, line } => world.admits_reset(*host, *line),
+            Hidden::Recover { host, recovery } => world.admits_recovery(*host, moment, *recovery),
         }
-        Label::R { host, line } => world.reply_with_reset(*host, *line),
-        Label::F { host, recovery } => {
-            world.recover(*host, *recovery, moment)?;
-            Ok(())
+    }
+
+    #[tactic(auto, using(crate::proofs::FaultLemmas::admitted, crate::proofs::FaultLemmas::broken, crate::proofs::FaultLemmas::memory))]
+    #[inline(always)]
+    fn apply(self, world: &mut World, moment: u64) -> Result<(), StepFault> {
+        match self {
+            Hidden::Effect { thread, answer } => have_effect(world, thread, answer),
+            Hidden::Build { host, plan } => world.make(host, plan, moment),
+            Hidden::Process { host, line, choice } => world.take(host, line, choice, moment),
+            Hidden::Drop { host, line } => {
+                world.drop_arrival(host, line)?;
+                Ok(())
+            }
+            Hidden::Reset { host, line } => world.reply_with_reset(host, line),
+            Hidden::Recover { host, recovery } => {
+                world.recover(host, recovery, moment)?;
+                Ok(())
+            }
         }
     }
 }
 
-/// The least rule that a hidden step breaks.
-pub fn admits_hidden<Taken>(world: &World, moment: u64, label: &Label<Taken>) -> Result<(), Rule>
-    requires steps { world.now.steps < most_steps }
-    requires label { IsWithinLimits label.now }
-    ensures { result_err result ≡ first_broken (asked_rules world.now moment (hidden_step label.now)) }
-{
-    match label {
-        Label::L(_) => Ok(()),
-        Label::D { thread, answer } => admits_effect(world, *thread, answer),
-        Label::M { host, plan } => world.admits_making(*host, plan),
-        Label::T { host, line, choice } => world.admits_taking(*host, moment, *line, *choice),
-        Label::K { host, line } => world.admits_dropping(*host, *line),
-        Label::R { host, line } => world.admits_reset(*host, *line),
-        Label::F { host, recovery } => world.admits_recovery(*host, moment, *recovery),
-    }
-}
-
-// The same for the effect of a call, whose rules read no moment.
+// Whether a call may have its effect, whose rules read no moment.
 #[tactic(auto, using(endpoint_state::proofs::CallLemmas::effect_at_any_moment))]
 fn admits_effect(world: &World, thread: u32, answer: &Answer) -> Result<(), Rule>
     ensures { (moment : ℕ) → result_err result ≡ broken_by world.now moment (Effect thread answer.now) }

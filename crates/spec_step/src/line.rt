@@ -9,6 +9,7 @@ ghost use Rattle.verdict.specs.Rules.{first_broken};
 ghost use Rattle.spec_step.specs.Asked.{asked_after, asked_rules, broken_by, step_taking};
 ghost use Rattle.spec_step.specs.Faults.{IfBroken};
 
+use crate::step::ModelStep;
 use case_forms::{Event, Extras, Line, TakenLine};
 use endpoint_state::{StepFault, World};
 use verdict::Rule;
@@ -52,46 +53,70 @@ pub fn apply_line(world: &mut World, moment: u64, line: &TakenLine) -> Result<()
     }
 }
 
-/// Like `apply_line`, but consumes the line, so that its segment isn't copied.
-#[tactic(auto, using(crate::proofs::FaultLemmas::admitted, crate::proofs::FaultLemmas::broken, crate::proofs::FaultLemmas::memory))]
-pub fn apply_line_owned(world: &mut World, moment: u64, line: TakenLine) -> Result<(), StepFault>
-    requires { world.old.steps < most_steps }
-    ensures ok { OnOk result (world.new ≡ after world.old moment (line_step line)) }
-    ensures admitted { OnOk result (broken_by world.old moment (line_step line) ≡ None) }
-    ensures broken { IfErr result (λ fault. IfBroken fault (λ rule. broken_by world.old moment (line_step line)
-        ≡ Some rule)) }
-    ensures memory { result ≡ Err StepFault.OutOfMemory → broken_by world.old moment (line_step line) ≡ None }
-    ensures err { OnErr result (world.new ≡ world.old) }
-{
-    match line {
-        TakenLine::CallBegin { thread, call, .. } => world.begin_owned(thread, call),
-        TakenLine::CallEnd { thread, answer, .. } => world.finish(thread, &answer),
-        TakenLine::Sent {
-            line,
-            host,
-            made,
-            wire,
-        } => world.send_owned(host, line, made, wire, moment),
-        TakenLine::Came {
-            line,
-            host,
-            copied,
-            wire,
-        } => world.arrive_owned(host, line, copied, wire, moment),
-        TakenLine::Heard { line, host, wire } => world.hear(host, line, &wire, moment),
-        TakenLine::Expired {
-            host,
-            ports,
-            expired,
-            ..
-        } => {
-            world.expire(host, ports, expired, moment)?;
-            Ok(())
+impl ModelStep for TakenLine {
+    ghost step = { line_step };
+
+    ghost is_small = { λ line. Unit {0} };
+
+    fn admits(&self, world: &World, moment: u64) -> Result<(), Rule> {
+        match self {
+            TakenLine::CallBegin { thread, .. } => world.admits_begin(*thread),
+            TakenLine::CallEnd { thread, answer, .. } => world.admits_finish(*thread, answer),
+            TakenLine::Sent {
+                host,
+                made,
+                wire,
+                ..
+            } => world.admits_sending(*host, *made, wire),
+            TakenLine::Came {
+                host,
+                copied,
+                wire,
+                ..
+            } => world.admits_arrival(*host, moment, *copied, wire),
+            TakenLine::Heard { .. } => world.admits_hearing(),
+            TakenLine::Expired {
+                host,
+                ports,
+                expired,
+                ..
+            } => world.admits_expiry(*host, moment, *ports, *expired),
+        }
+    }
+
+    // Nothing is copied: the world keeps the segment or the call of the line.
+    #[tactic(auto, using(crate::proofs::FaultLemmas::admitted, crate::proofs::FaultLemmas::broken, crate::proofs::FaultLemmas::memory))]
+    fn apply(self, world: &mut World, moment: u64) -> Result<(), StepFault> {
+        match self {
+            TakenLine::CallBegin { thread, call, .. } => world.begin_owned(thread, call),
+            TakenLine::CallEnd { thread, answer, .. } => world.finish(thread, &answer),
+            TakenLine::Sent {
+                line,
+                host,
+                made,
+                wire,
+            } => world.send_owned(host, line, made, wire, moment),
+            TakenLine::Came {
+                line,
+                host,
+                copied,
+                wire,
+            } => world.arrive_owned(host, line, copied, wire, moment),
+            TakenLine::Heard { line, host, wire } => world.hear(host, line, &wire, moment),
+            TakenLine::Expired {
+                host,
+                ports,
+                expired,
+                ..
+            } => {
+                world.expire(host, ports, expired, moment)?;
+                Ok(())
+            }
         }
     }
 }
 
-/// Does a step that takes this line of a trace with these extra numbers, like `apply_line_owned`. If a line of its kind
+/// Does a step that takes this line of a trace with these extra numbers, like its `TakenLine`. If a line of its kind
 /// needs another count of them, it does nothing. Most kinds are done without a `TakenLine`, which would be one more
 /// copy.
 #[tactic(auto, using(crate::proofs::FaultLemmas::admitted, crate::proofs::FaultLemmas::broken, crate::proofs::FaultLemmas::memory))]
@@ -149,36 +174,7 @@ fn take_other(world: &mut World, moment: u64, line: Line, extras: Extras) -> Res
     ensures err { OnErr result (world.new ≡ world.old) }
 {
     match line.taken(extras) {
-        Some(taken) => apply_line_owned(world, moment, taken),
+        Some(taken) => taken.apply(world, moment),
         None => Ok(()),
-    }
-}
-
-/// The least rule broken by a step that takes a line.
-pub fn admits_line(world: &World, moment: u64, line: &TakenLine) -> Result<(), Rule>
-    ensures { result_err result ≡ broken_by world.now moment (line_step line.now) }
-{
-    match line {
-        TakenLine::CallBegin { thread, .. } => world.admits_begin(*thread),
-        TakenLine::CallEnd { thread, answer, .. } => world.admits_finish(*thread, answer),
-        TakenLine::Sent {
-            host,
-            made,
-            wire,
-            ..
-        } => world.admits_sending(*host, *made, wire),
-        TakenLine::Came {
-            host,
-            copied,
-            wire,
-            ..
-        } => world.admits_arrival(*host, moment, *copied, wire),
-        TakenLine::Heard { .. } => world.admits_hearing(),
-        TakenLine::Expired {
-            host,
-            ports,
-            expired,
-            ..
-        } => world.admits_expiry(*host, moment, *ports, *expired),
     }
 }

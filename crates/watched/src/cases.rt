@@ -2,19 +2,16 @@
 //! `lib.rt` says why functions here are inlined.
 
 ghost use Rattle.std.specs.Prelude.{◌≡◌, ◌<◌, ◌≤◌, IsTrue, Some, None, OnOk, IfErr};
-ghost use Rattle.std.specs.Option.{option_map_or};
-ghost use Rattle.case_forms.specs.Witnesses.{IsWithinLimits};
 ghost use Rattle.case_forms.specs.declared.named_line.Extras.{Extras};
 ghost use Rattle.verdict.specs.Rules.{first_broken};
-ghost use Rattle.spec_step.specs.Asked as plain;
+ghost use Rattle.spec_step.specs.Acts.{IsSmall, step_hidden};
 ghost use Rattle.spec_step.specs.Asked.{step_taking};
 ghost use Rattle.spec_step.specs.Faults.{IfBroken};
 ghost use Rattle.spec_tcp.specs.Bounds.{most_steps};
-ghost use Rattle.spec_tcp.specs.Steps.{line_step, hidden_step};
 ghost use Rattle.spec_duties.specs.Cases.{after, asked_after, asked_rules, broken_by, judged_rules, late_at_end};
 ghost use Rattle.spec_duties.specs.Cases.{noted_by};
 ghost use Rattle.spec_duties.specs.Cases.{start};
-ghost use Rattle.spec_duties.specs.Sights.{sight, unseen};
+ghost use Rattle.spec_duties.specs.Sights.{sight};
 ghost use Rattle.watched.specs.Watched.{IsPlain, case_of, noted};
 
 use crate::calls::sight_of_effect;
@@ -22,10 +19,11 @@ use crate::ending;
 use crate::sights::{
     sight_of_hidden, sight_of_line, sight_of_making, sight_of_sending, sight_of_taking, view_in,
 };
-use case_forms::{Event, Extras, Header, Label, Line, TakenLine};
+use case_forms::{Event, Extras, Header, Line, TakenLine};
 use duties::{Duties, judged_slack};
 use endpoint_state::{StepFault, World};
 use spec_duties::Sight;
+use spec_step::{Hidden, ModelStep};
 use std::alloc::Global;
 use std::marker::Model;
 use verdict::Rule;
@@ -119,38 +117,26 @@ fn watch(world: &World, duties: &mut Duties, moment: u64, sight: &Sight) -> Resu
     Ok(())
 }
 
-// Does a step that takes no line in the world. It isn't inlined, since several kinds of judged steps call it.
-#[inline(never)]
-fn do_unseen<Taken>(world: &mut World, moment: u64, label: &Label<Taken>) -> Result<(), StepFault>
-    requires steps { world.old.steps < most_steps }
-    requires label { IsWithinLimits label.now }
-    ensures ok { OnOk result (world.new ≡ plain.asked_after world.old moment (hidden_step label.now)) }
-    ensures admitted { OnOk result (first_broken (plain.asked_rules world.old moment (hidden_step label.now)) ≡ None) }
-    ensures broken { IfErr result (λ fault. IfBroken fault (λ rule.
-        first_broken (plain.asked_rules world.old moment (hidden_step label.now)) ≡ Some rule)) }
-{
-    spec_step::apply_hidden(world, moment, label)
-}
-
-// Does a step that takes a line, in the world and for the duties, which see this of it. It is inlined for each kind of
-// step, so that only what this kind shows is compared.
+// Does a step in the world, and for the duties, which see this of it. It is inlined for each kind of step, so that only
+// what this kind shows is compared.
 #[inline(always)]
-fn watch_line(
+fn watch_step<S: ModelStep>(
     world: &mut World,
     duties: &mut Duties,
     moment: u64,
-    line: TakenLine,
+    step: S,
     seen: &Sight,
 ) -> Result<(), StepFault>
     requires steps { world.old.steps < most_steps }
-    requires seen { seen.now ≡ sight world.old.header moment world.old.world (line_step line) }
+    requires small { S.is_small step }
+    requires seen { seen.now ≡ sight world.old.header moment world.old.world (S.step step) }
     ensures ok { OnOk result
-        (case_of world.new duties.new ≡ after (case_of world.old duties.old) moment (line_step line)) }
-    ensures admitted { OnOk result (broken_by (case_of world.old duties.old) moment (line_step line) ≡ None) }
+        (case_of world.new duties.new ≡ after (case_of world.old duties.old) moment (S.step step)) }
+    ensures admitted { OnOk result (broken_by (case_of world.old duties.old) moment (S.step step) ≡ None) }
     ensures broken { IfErr result (λ fault. IfBroken fault
-        (λ rule. broken_by (case_of world.old duties.old) moment (line_step line) ≡ Some rule)) }
+        (λ rule. broken_by (case_of world.old duties.old) moment (S.step step) ≡ Some rule)) }
 {
-    match spec_step::apply_line_owned(world, moment, line) {
+    match step.apply(world, moment) {
         Ok(()) => watch(world, duties, moment, seen),
         Err(fault) => Err(fault),
     }
@@ -168,36 +154,6 @@ fn is_plain(header: &Header, line: &Line) -> bool
     match &line.event {
         Event::CallBegin(_) | Event::CallEnd(_) => true,
         Event::Sent(_, _) | Event::Came(_, _) | Event::Expired(_, _, _, _) => false,
-    }
-}
-
-// Does a step that takes a line, and judges it.
-fn judge_taken(
-    world: &mut World,
-    duties: &mut Duties,
-    moment: u64,
-    line: TakenLine,
-) -> Result<(), StepFault>
-    requires { world.old.steps < most_steps }
-    ensures ok { OnOk result
-        (case_of world.new duties.new ≡ after (case_of world.old duties.old) moment (line_step line)) }
-    ensures admitted { OnOk result (broken_by (case_of world.old duties.old) moment (line_step line) ≡ None) }
-    ensures broken { IfErr result (λ fault. IfBroken fault
-        (λ rule. broken_by (case_of world.old duties.old) moment (line_step line) ≡ Some rule)) }
-{
-    match line {
-        TakenLine::Sent { host, made, .. } => {
-            let sight = sight_of_sending(world, host, made);
-            watch_line(world, duties, moment, line, &sight)
-        }
-        TakenLine::CallBegin { .. }
-        | TakenLine::CallEnd { .. }
-        | TakenLine::Came { .. }
-        | TakenLine::Heard { .. }
-        | TakenLine::Expired { .. } => {
-            let sight = sight_of_line(world, moment, &line);
-            watch_line(world, duties, moment, line, &sight)
-        }
     }
 }
 
@@ -219,119 +175,58 @@ fn judge_line(
     ensures broken { IfErr result (λ fault. IfBroken fault (λ rule.
         first_broken (asked_rules (case_of world.old duties.old) moment (step_taking extras line)) ≡ Some rule)) }
 {
-    match line.taken(extras) {
-        Some(taken) => judge_taken(world, duties, moment, taken),
-        None => Ok(()),
+    let Some(taken) = line.taken(extras) else {
+        return Ok(());
+    };
+    match taken {
+        TakenLine::Sent { host, made, .. } => {
+            let sight = sight_of_sending(world, host, made);
+            watch_step(world, duties, moment, taken, &sight)
+        }
+        TakenLine::CallBegin { .. }
+        | TakenLine::CallEnd { .. }
+        | TakenLine::Came { .. }
+        | TakenLine::Heard { .. }
+        | TakenLine::Expired { .. } => {
+            let sight = sight_of_line(world, moment, &taken);
+            watch_step(world, duties, moment, taken, &sight)
+        }
     }
 }
 
-// Does a step that takes this line with these extra numbers. The model alone does it if duties judge nothing of it.
-#[inline(always)]
-fn do_line(
-    world: &mut World,
-    duties: &mut Duties,
-    moment: u64,
-    line: Line,
-    extras: Extras,
-) -> Result<(), StepFault>
-    requires { world.old.steps < most_steps }
-    ensures ok { OnOk result (case_of world.new duties.new
-        ≡ asked_after (case_of world.old duties.old) moment (step_taking extras line)) }
-    ensures admitted { OnOk result
-        (first_broken (asked_rules (case_of world.old duties.old) moment (step_taking extras line)) ≡ None) }
-    ensures broken { IfErr result (λ fault. IfBroken fault (λ rule.
-        first_broken (asked_rules (case_of world.old duties.old) moment (step_taking extras line)) ≡ Some rule)) }
-{
-    if is_plain(world.header(), &line) {
-        spec_step::take_line(world, moment, line, extras)
-    } else {
-        judge_line(world, duties, moment, line, extras)
-    }
-}
-
-// Does a step that takes no line, which duties see like this. It is inlined for each kind of step.
-#[inline(always)]
-fn watch_hidden<Taken>(
-    world: &mut World,
-    duties: &mut Duties,
-    moment: u64,
-    label: &Label<Taken>,
-    seen: &Sight,
-) -> Result<(), StepFault>
-    requires steps { world.old.steps < most_steps }
-    requires label { IsWithinLimits label.now }
-    requires seen { seen.now
-        ≡ option_map_or (sight world.old.header moment world.old.world) (hidden_step label.now) unseen }
-    ensures ok { OnOk result
-        (case_of world.new duties.new ≡ asked_after (case_of world.old duties.old) moment (hidden_step label.now)) }
-    ensures admitted { OnOk result
-        (first_broken (asked_rules (case_of world.old duties.old) moment (hidden_step label.now)) ≡ None) }
-    ensures broken { IfErr result (λ fault. IfBroken fault (λ rule.
-        first_broken (asked_rules (case_of world.old duties.old) moment (hidden_step label.now)) ≡ Some rule)) }
-{
-    match do_unseen(world, moment, label) {
-        Ok(()) => watch(world, duties, moment, seen),
-        Err(fault) => Err(fault),
-    }
-}
-
-// Does one, if duties are judged.
+// The same for a step that takes no line.
 #[inline(never)]
-fn judge_hidden<Taken>(
+fn judge_hidden(
     world: &mut World,
     duties: &mut Duties,
     moment: u64,
-    label: &Label<Taken>,
+    step: &Hidden<'_>,
 ) -> Result<(), StepFault>
     requires steps { world.old.steps < most_steps }
-    requires label { IsWithinLimits label.now }
+    requires small { IsSmall step.now }
     ensures ok { OnOk result
-        (case_of world.new duties.new ≡ asked_after (case_of world.old duties.old) moment (hidden_step label.now)) }
-    ensures admitted { OnOk result
-        (first_broken (asked_rules (case_of world.old duties.old) moment (hidden_step label.now)) ≡ None) }
-    ensures broken { IfErr result (λ fault. IfBroken fault (λ rule.
-        first_broken (asked_rules (case_of world.old duties.old) moment (hidden_step label.now)) ≡ Some rule)) }
+        (case_of world.new duties.new ≡ after (case_of world.old duties.old) moment (step_hidden step.now)) }
+    ensures admitted { OnOk result (broken_by (case_of world.old duties.old) moment (step_hidden step.now) ≡ None) }
+    ensures broken { IfErr result (λ fault. IfBroken fault
+        (λ rule. broken_by (case_of world.old duties.old) moment (step_hidden step.now) ≡ Some rule)) }
 {
-    match label {
-        Label::D { thread, answer } => {
-            let sight = sight_of_effect(world, moment, *thread, answer);
-            watch_hidden(world, duties, moment, label, &sight)
+    match *step {
+        Hidden::Effect { thread, answer } => {
+            let sight = sight_of_effect(world, moment, thread, answer);
+            watch_step(world, duties, moment, *step, &sight)
         }
-        Label::M { host, plan } => {
-            let sight = sight_of_making(world, *host, plan, moment);
-            watch_hidden(world, duties, moment, label, &sight)
+        Hidden::Build { host, plan } => {
+            let sight = sight_of_making(world, host, plan, moment);
+            watch_step(world, duties, moment, *step, &sight)
         }
-        Label::T { host, line, choice } => {
-            let sight = sight_of_taking(world, *host, *line, *choice, moment);
-            watch_hidden(world, duties, moment, label, &sight)
+        Hidden::Process { host, line, choice } => {
+            let sight = sight_of_taking(world, host, line, choice, moment);
+            watch_step(world, duties, moment, *step, &sight)
         }
-        Label::L(_) | Label::K { .. } | Label::R { .. } | Label::F { .. } => {
-            let sight = sight_of_hidden(world, moment, label);
-            watch_hidden(world, duties, moment, label, &sight)
+        Hidden::Drop { .. } | Hidden::Reset { .. } | Hidden::Recover { .. } => {
+            let sight = sight_of_hidden(world, moment, step);
+            watch_step(world, duties, moment, *step, &sight)
         }
-    }
-}
-
-// Does one; the model alone does it if no duty is judged.
-#[tactic(auto, using(crate::proofs::CaseLemmas::plain_is, crate::proofs::CaseLemmas::plain_admits, crate::proofs::CaseLemmas::plain_breaks))]
-fn do_hidden<Taken>(
-    world: &mut World,
-    duties: &mut Duties,
-    moment: u64,
-    label: &Label<Taken>,
-) -> Result<(), StepFault>
-    requires steps { world.old.steps < most_steps }
-    requires label { IsWithinLimits label.now }
-    ensures ok { OnOk result
-        (case_of world.new duties.new ≡ asked_after (case_of world.old duties.old) moment (hidden_step label.now)) }
-    ensures admitted { OnOk result
-        (first_broken (asked_rules (case_of world.old duties.old) moment (hidden_step label.now)) ≡ None) }
-    ensures broken { IfErr result (λ fault. IfBroken fault (λ rule.
-        first_broken (asked_rules (case_of world.old duties.old) moment (hidden_step label.now)) ≡ Some rule)) }
-{
-    match world.header().slack {
-        Some(_) => judge_hidden(world, duties, moment, label),
-        None => spec_step::apply_hidden(world, moment, label),
     }
 }
 
@@ -346,21 +241,24 @@ pub fn take_line(case: &mut Case, moment: u64, line: Line, extras: Extras) -> Re
     ensures broken { IfErr result (λ fault. IfBroken fault
         (λ rule. first_broken (asked_rules case.old moment (step_taking extras line)) ≡ Some rule)) }
 {
-    do_line(&mut case.world, &mut case.duties, moment, line, extras)
+    if is_plain(case.world.header(), &line) {
+        spec_step::take_line(&mut case.world, moment, line, extras)
+    } else {
+        judge_line(&mut case.world, &mut case.duties, moment, line, extras)
+    }
 }
 
-/// Does a step that takes no line, in the same way. A label that takes one does nothing here.
-pub fn apply_hidden<Taken>(
-    case: &mut Case,
-    moment: u64,
-    label: &Label<Taken>,
-) -> Result<(), StepFault>
+/// Does a step that takes no line, in the same way.
+pub fn apply_hidden(case: &mut Case, moment: u64, step: &Hidden<'_>) -> Result<(), StepFault>
     requires steps { case.old.steps < most_steps }
-    requires label { IsWithinLimits label.now }
-    ensures ok { OnOk result (case.new ≡ asked_after case.old moment (hidden_step label.now)) }
-    ensures admitted { OnOk result (first_broken (asked_rules case.old moment (hidden_step label.now)) ≡ None) }
+    requires small { IsSmall step.now }
+    ensures ok { OnOk result (case.new ≡ after case.old moment (step_hidden step.now)) }
+    ensures admitted { OnOk result (broken_by case.old moment (step_hidden step.now) ≡ None) }
     ensures broken { IfErr result (λ fault. IfBroken fault
-        (λ rule. first_broken (asked_rules case.old moment (hidden_step label.now)) ≡ Some rule)) }
+        (λ rule. broken_by case.old moment (step_hidden step.now) ≡ Some rule)) }
 {
-    do_hidden(&mut case.world, &mut case.duties, moment, label)
+    match case.world.header().slack {
+        Some(_) => judge_hidden(&mut case.world, &mut case.duties, moment, step),
+        None => (*step).apply(&mut case.world, moment),
+    }
 }

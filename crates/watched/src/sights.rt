@@ -3,13 +3,12 @@
 
 ghost use Rattle.std.specs.Prelude.{◌≡◌, ◌<◌, ◌^◌, suc, length, nat_eq};
 ghost use Rattle.std.specs.Map.{lookup};
-ghost use Rattle.std.specs.Option.{option_map_or};
 ghost use Rattle.std.specs.Result.{result_err};
-ghost use Rattle.case_forms.specs.Witnesses.{IsWithinLimits};
 ghost use Rattle.spec_network.specs.Hosts as network;
 ghost use Rattle.spec_network.specs.Tables.{on, pick};
 ghost use Rattle.spec_tcp.specs.Bounds.{most_steps};
-ghost use Rattle.spec_tcp.specs.Steps.{hidden_step, line_step};
+ghost use Rattle.spec_tcp.specs.Steps.{line_step};
+ghost use Rattle.spec_step.specs.Acts.{step_hidden};
 ghost use Rattle.spec_duties.specs.Dropped.{has_content};
 ghost use Rattle.spec_duties.specs.Sights.{at_drop, at_next, at_place, at_ports, at_sender, at_target, processing_of};
 ghost use Rattle.spec_duties.specs.Sights.{sending_of, sight, touching, unseen, view_in};
@@ -20,10 +19,11 @@ ghost use Rattle.watched.specs.Targets.{taker_at};
 
 use crate::calls::sight_of_effect;
 use crate::dropped::{admits_answering, admits_processing, discards_at, spared_by, target_of};
-use case_forms::{Host, Label, Ports, SegmentPlan, TakeChoice, TakenLine};
+use case_forms::{Host, Ports, SegmentPlan, TakeChoice, TakenLine};
 use duties::{Target, asks, dropping_of, has_content, processing_place, unborn, view_of};
 use endpoint_state::{HostTcp, World};
 use spec_duties::{Event, Mail, Post, Queueing, Sending, Sight, Touched, View};
+use spec_step::Hidden;
 use spec_tcp::Emission;
 use verdict::Rule;
 
@@ -307,23 +307,24 @@ pub fn sight_of_line(world: &World, moment: u64, line: &TakenLine) -> Sight
 }
 
 /// What duties read of the world at a step that takes none.
-pub fn sight_of_hidden<Taken>(world: &World, moment: u64, label: &Label<Taken>) -> Sight
+pub fn sight_of_hidden(world: &World, moment: u64, step: &Hidden<'_>) -> Sight
     requires { world.now.steps < most_steps }
-    ensures { result ≡ option_map_or (sight world.now.header moment world.now.world) (hidden_step label.now) unseen }
+    ensures { result ≡ sight world.now.header moment world.now.world (step_hidden step.now) }
 {
-    match label {
-        Label::L(_) => unseen(),
-        Label::D { thread, answer } => sight_of_effect(world, moment, *thread, answer),
-        Label::M { host, plan } => sight_of_making(world, *host, plan, moment),
-        Label::T { host, line, choice } => sight_of_taking(world, *host, *line, *choice, moment),
-        Label::K { host, line } => sight_of_drop(world, *host, *line, moment),
-        Label::R { host, line } => sight_of_reset(world, *host, *line, moment),
-        Label::F { host, recovery } => {
+    match *step {
+        Hidden::Effect { thread, answer } => sight_of_effect(world, moment, thread, answer),
+        Hidden::Build { host, plan } => sight_of_making(world, host, plan, moment),
+        Hidden::Process { host, line, choice } => {
+            sight_of_taking(world, host, line, choice, moment)
+        }
+        Hidden::Drop { host, line } => sight_of_drop(world, host, line, moment),
+        Hidden::Reset { host, line } => sight_of_reset(world, host, line, moment),
+        Hidden::Recover { host, recovery } => {
             let ports = Ports {
                 lport: recovery.lport,
                 rport: recovery.rport,
             };
-            sight_at_ports(world, *host, Event::Recovers, ports)
+            sight_at_ports(world, host, Event::Recovers, ports)
         }
     }
 }
