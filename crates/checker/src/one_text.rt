@@ -21,7 +21,7 @@ ghost use Rattle.checker.specs.Streaming.{Tells};
 use crate::ahead::Ahead;
 use crate::case::{CaseFault, trace_fault, witness_fault};
 use crate::laws::verdict_means;
-use crate::two_texts::judge;
+use crate::verdicts::judge;
 use case_forms::Header;
 use counted::Counted;
 use kept_lines::KeptLines;
