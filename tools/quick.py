@@ -19,7 +19,7 @@ TESTS = [
     ("the importer", "importer", UNIT),
     ("the runner", "stacks", [*UNIT, "tests.test_runner"]),
     ("tools", "tools", [*UNIT, "test_bodies", "test_examples", "test_unproved"]),
-    ("pages", "tools", [*UNIT, "test_docs"]),
+    ("pages", "tools", [*UNIT, "test_docs", "test_pictures"]),
     ("rules", "tools", [*UNIT, "test_rules"]),
     ("schema", "tools", [*UNIT, "test_schema"]),
     ("names in pages", ".", ["tools/docs.py", "--names"]),
