@@ -44,6 +44,11 @@ for word in "$@"; do
 done
 exec {clang} "$@"
 """
+# `rt try` also begins a check, which takes as long as the translation and only looks for reserved names. A build needs
+# none.
+NO_CHECK = """#!/bin/sh
+exit 0
+"""
 
 
 def stop(cause):
@@ -79,8 +84,16 @@ def kit():
     return os.path.dirname(os.path.realpath(subprocess.check_output(["rt", "doc"], text=True).strip()))
 
 
+def write_script(path, text):
+    """Writes a script that can be run."""
+    os.makedirs(os.path.dirname(path), exist_ok=True)
+    with open(path, "w", encoding="utf-8") as file:
+        file.write(text)
+    os.chmod(path, 0o755)
+
+
 def kit_beside(folder, kept):
-    """A folder like the toolchain's, whose compiler saves the module that it gets."""
+    """A folder like the toolchain's, whose compiler saves the module that it gets, and whose checker does nothing."""
     whole = kit()
     for at in glob.glob(f"{whole}/*") + glob.glob(f"{whole}/bin/*") + glob.glob(f"{whole}/toolchain/*"):
         to = os.path.join(folder, os.path.relpath(at, whole))
@@ -89,6 +102,8 @@ def kit_beside(folder, kept):
         elif to.endswith(("/rt", "/rtlib.py")):
             os.makedirs(os.path.dirname(to), exist_ok=True)
             shutil.copy(at, to)
+        elif to.endswith("/bin/rattle"):
+            write_script(to, NO_CHECK)
         else:
             os.makedirs(os.path.dirname(to), exist_ok=True)
             os.symlink(at, to)
@@ -96,10 +111,7 @@ def kit_beside(folder, kept):
         to = os.path.join(folder, "toolchain/bin", os.path.basename(at))
         if not to.endswith("/clang"):
             os.symlink(at, to)
-    clang = f"{folder}/toolchain/bin/clang"
-    with open(clang, "w") as file:
-        file.write(KEEPER.format(kept=kept, clang=f"{whole}/toolchain/bin/clang"))
-    os.chmod(clang, 0o755)
+    write_script(f"{folder}/toolchain/bin/clang", KEEPER.format(kept=kept, clang=f"{whole}/toolchain/bin/clang"))
 
 
 def module_of(name, folder, *words, top=TOP):
@@ -172,13 +184,13 @@ def linked(objects, out):
     subprocess.run([f"{whole}/toolchain/bin/ld.lld", *words, *before, *objects, *libraries, *after], check=True)
 
 
-def build(name, out, level="-O1"):
-    """Builds the program of a crate as the file `out`. Without optimization (-O0), it builds sooner and runs 50 to 100
-    times slower."""
+def build(name, out, level="-O1", top=TOP):
+    """Builds the program of a crate of the repository `top` as the file `out`. Without optimization (-O0), it builds
+    sooner and runs 50 to 100 times slower."""
     need_toolchain(name)
     os.makedirs(os.path.dirname(os.path.abspath(out)), exist_ok=True)
     with tempfile.TemporaryDirectory() as folder:
-        module = module_of(name, folder)
+        module = module_of(name, folder, top=top)
         compiled = watched("step 2 of 2, optimizing",
                            [f"{kit()}/toolchain/bin/clang", *FLAGS, level, module, "-o", f"{folder}/program.o"])
         compiled.check_returncode()

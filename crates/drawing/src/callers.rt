@@ -1,7 +1,8 @@
-//! The hosts of calls, and the columns of their threads.
+//! The hosts of calls, and the bars of their threads.
 
 ghost use Rattle.std.specs.Prelude.{◌<◌};
 
+use crate::layout::MOST_BARS;
 use case_forms::{Answer, Call, Host, Line, OutOfMemory};
 use std::alloc::Global;
 use std::collections::BTreeMap;
@@ -12,15 +13,50 @@ pub(crate) struct Open {
     pub host: Host,
     /// The number of the line that began it.
     pub line: u64,
-    opens: bool,
+    /// Whether it returns a socket number.
+    pub opens: bool,
+}
+
+/// The threads of a host, in the order in which they are drawn. The first ones have bars of their own; all others
+/// share one.
+#[derive(Drop)]
+pub(crate) struct Threads {
+    pub drawn: Vec<u32>,
+    places: BTreeMap<u32, u64>,
+}
+
+impl Threads {
+    fn new(alloc: Global) -> Threads {
+        Threads {
+            drawn: Vec::new(alloc),
+            places: BTreeMap::new(alloc),
+        }
+    }
+
+    /// The place of a thread's bar.
+    pub(crate) fn place(&mut self, thread: u32) -> Result<u64, OutOfMemory> {
+        if let Some(place) = self.places.get(&thread) {
+            return Ok(*place);
+        }
+        let place = (self.drawn.len() as u64).min(MOST_BARS);
+        self.places.insert(thread, place)?;
+        self.drawn.push(thread)?;
+        Ok(place)
+    }
+
+    /// How many bars there are beside each other.
+    pub(crate) fn bars(&self) -> u64 {
+        (self.drawn.len() as u64).min(MOST_BARS.saturating_add(1))
+    }
 }
 
 /// What is known of threads and socket numbers.
 #[derive(Drop)]
 pub(crate) struct Callers {
     sockets: BTreeMap<u32, Host>,
-    open: BTreeMap<u32, Open>,
-    columns: BTreeMap<u32, u64>,
+    pub open: BTreeMap<u32, Open>,
+    zero: Threads,
+    one: Threads,
 }
 
 impl Callers {
@@ -28,7 +64,29 @@ impl Callers {
         Callers {
             sockets: BTreeMap::new(alloc),
             open: BTreeMap::new(alloc),
-            columns: BTreeMap::new(alloc),
+            zero: Threads::new(alloc),
+            one: Threads::new(alloc),
+        }
+    }
+
+    /// The threads of a host.
+    pub(crate) fn of(&self, host: Host) -> &Threads {
+        match host {
+            Host::Zero => &self.zero,
+            Host::One => &self.one,
+        }
+    }
+
+    /// Whether no bar is drawn.
+    pub(crate) fn is_empty(&self) -> bool {
+        self.zero.drawn.is_empty() && self.one.drawn.is_empty()
+    }
+
+    /// The place of the bar of a host's thread.
+    pub(crate) fn place(&mut self, host: Host, thread: u32) -> Result<u64, OutOfMemory> {
+        match host {
+            Host::Zero => self.zero.place(thread),
+            Host::One => self.one.place(thread),
         }
     }
 
@@ -38,10 +96,6 @@ impl Callers {
         let opens = matches!(call, Call::Listen(..) | Call::Connect(..) | Call::Accept(_));
         let host = self.host_of(call);
         self.open.insert(thread, Open { host, line, opens })?;
-        if !self.columns.contains_key(&thread) {
-            let column = self.columns.len() as u64;
-            self.columns.insert(thread, column)?;
-        }
         Ok(host)
     }
 
@@ -70,12 +124,5 @@ impl Callers {
         }
         self.open.remove(&thread);
         Ok(open)
-    }
-
-    /// The column of a thread, of six.
-    pub(crate) fn column(&self, thread: u32) -> u64
-        ensures { result < 6 }
-    {
-        self.columns.get(&thread).copied().unwrap_or(0) % 6
     }
 }

@@ -1,38 +1,53 @@
 //! What became of the lines of a case, by its witness.
 
 use crate::Done;
+use crate::picture::Look;
 use case_forms::{Event, Extras, Label, Line, NamedLine, OutOfMemory, Step};
 use replayed::Case;
 use segment::Flag;
 use std::alloc::Global;
-use std::collections::{BTreeMap, BTreeSet};
+use std::collections::BTreeMap;
 
 /// What became of a segment.
-#[derive(Clone, Copy)]
+#[derive(Clone, Copy, PartialEq, Eq)]
 pub(crate) enum Fate {
-    /// No step before the refused one uses its line, or receives it.
-    Seen,
+    /// No step before the refused one sends or receives it.
+    NotReached,
+    /// It was sent to the other host, which wasn't recorded.
+    Unrecorded,
+    /// It was sent before the refused step, and not yet received.
+    InFlight,
+    /// It was lost in transit.
+    Lost,
+    /// It was received, and not yet processed.
     Waits,
-    Taken,
+    Processed,
     /// It was processed, and the step didn't keep its bytes and its FIN.
     NotKept,
     Dropped,
+    /// It was answered with a reset.
     Reset,
-    /// It was lost in transit.
-    Lost,
 }
 
 impl Fate {
-    /// The class of its arrow.
-    pub(crate) fn class(self) -> &'static str {
-        match self {
-            Fate::Seen => "seen",
-            Fate::Waits => "waits",
-            Fate::Taken => "taken",
-            Fate::NotKept => "unkept",
-            Fate::Dropped => "dropped",
-            Fate::Reset => "reset",
-            Fate::Lost => "lost",
+    /// The class of its arrow, and its look.
+    pub(crate) fn look(self) -> Look {
+        let (class, color, dashes, meaning) = match self {
+            Fate::NotReached => ("unreached", "#bbb", "", "not reached"),
+            Fate::Unrecorded => ("unrecorded", "#446", "", "peer not recorded"),
+            Fate::InFlight => ("flying", "#446", "", "in flight"),
+            Fate::Lost => ("lost", "#a22", "", "lost"),
+            Fate::Waits => ("waits", "#36c", "", "waits"),
+            Fate::Processed => ("processed", "#186", "", "processed"),
+            Fate::NotKept => ("unkept", "#186", "2 3", "not kept"),
+            Fate::Dropped => ("dropped", "#888", "5 3", "dropped"),
+            Fate::Reset => ("reset", "#c60", "", "answered with a reset"),
+        };
+        Look {
+            class,
+            color,
+            dashes,
+            meaning,
         }
     }
 }
@@ -42,12 +57,12 @@ impl Fate {
 pub(crate) struct Fates {
     /// For each line of a received segment, the line that it copies.
     pub copies: BTreeMap<u64, u64>,
-    /// The lines that were copied.
-    copied: BTreeSet<u64>,
-    /// For each line that a step uses: of a received segment, its fate; of a sent one, that it is lost unless copied.
+    /// For each line that was copied, the first line that copies it.
+    pub copied: BTreeMap<u64, u64>,
+    /// For each line that a step uses: of a received segment, its fate; of a sent one, its fate unless it is copied.
     fates: BTreeMap<u64, Fate>,
-    /// Every received segment was processed, and both hosts were recorded: a sent segment that wasn't copied is lost.
-    are_whole: bool,
+    /// The fate of a segment that is sent and never copied.
+    uncopied: Fate,
     /// For each line that begins a call, the line after which the call has its effect.
     pub effects: BTreeMap<u64, u64>,
     /// For each thread, the line that began its call.
@@ -61,9 +76,9 @@ impl Fates {
     pub(crate) fn of(alloc: Global, case: &Case) -> Result<Fates, OutOfMemory> {
         let mut fates = Fates {
             copies: BTreeMap::new(alloc),
-            copied: BTreeSet::new(alloc),
+            copied: BTreeMap::new(alloc),
             fates: BTreeMap::new(alloc),
-            are_whole: false,
+            uncopied: uncopied_fate(case),
             effects: BTreeMap::new(alloc),
             begun: BTreeMap::new(alloc),
             last: 0,
@@ -72,28 +87,29 @@ impl Fates {
         Ok(fates)
     }
 
-    // Reads the steps before the refused one.
+    // Reads the steps before the refused one. If they receive all segments, any other segment is lost.
     fn read_all(&mut self, case: &Case) -> Done {
         for step in case.steps_before_refusal() {
             self.read(case, step)?;
         }
         let received = count_received(case.trace.lines.as_slice());
-        self.are_whole = !case.trace.header.version.is_half() && received == self.copies.len();
+        if self.uncopied == Fate::InFlight && received == self.copies.len() {
+            self.uncopied = Fate::Lost;
+        }
         Ok(())
     }
 
     /// What became of the segment that a line received.
     pub(crate) fn received(&self, line: u64) -> Fate {
-        self.fates.get(&line).copied().unwrap_or(Fate::Seen)
+        self.fates.get(&line).copied().unwrap_or(Fate::NotReached)
     }
 
-    /// What became of the segment that a line sent and no line copies. None: a line copies it.
-    pub(crate) fn sent(&self, line: u64) -> Option<Fate> {
-        if self.copied.contains(&line) {
-            return None;
+    /// What became of the segment that a line sent, if no line copies it.
+    pub(crate) fn sent(&self, line: u64) -> Fate {
+        match self.fates.get(&line) {
+            Some(_) => self.uncopied,
+            None => Fate::NotReached,
         }
-        let is_lost = self.are_whole && self.fates.contains_key(&line);
-        Some(if is_lost { Fate::Lost } else { Fate::Seen })
     }
 
     fn read(&mut self, case: &Case, step: &Step) -> Done {
@@ -111,7 +127,11 @@ impl Fates {
             }
             Label::T { line, choice, .. } => {
                 let is_kept = choice.keep || !carries_anything(case, *line);
-                let fate = if is_kept { Fate::Taken } else { Fate::NotKept };
+                let fate = if is_kept {
+                    Fate::Processed
+                } else {
+                    Fate::NotKept
+                };
                 self.put(*line, fate)?
             }
             Label::K { line, .. } => self.put(*line, Fate::Dropped)?,
@@ -125,12 +145,11 @@ impl Fates {
         match &line.event {
             Event::Came(_, _) => {
                 if let Extras::One(copied) = named.extras {
-                    self.copies.insert(named.number, u64::from(copied))?;
-                    self.copied.insert(u64::from(copied))?;
+                    self.copy(named.number, u64::from(copied))?;
                 }
                 self.put(named.number, Fate::Waits)?;
             }
-            Event::Sent(_, _) => self.put(named.number, Fate::Lost)?,
+            Event::Sent(_, _) => self.put(named.number, self.uncopied)?,
             Event::CallBegin(_) => {
                 self.begun.insert(line.thread, named.number)?;
             }
@@ -139,9 +158,26 @@ impl Fates {
         Ok(())
     }
 
+    fn copy(&mut self, line: u64, copied: u64) -> Done {
+        self.copies.insert(line, copied)?;
+        if !self.copied.contains_key(&copied) {
+            self.copied.insert(copied, line)?;
+        }
+        Ok(())
+    }
+
     fn put(&mut self, line: u64, fate: Fate) -> Done {
         self.fates.insert(line, fate)?;
         Ok(())
+    }
+}
+
+// What becomes of a segment that is sent, if no step before the refused one receives it.
+fn uncopied_fate(case: &Case) -> Fate {
+    if case.trace.header.version.is_half() {
+        Fate::Unrecorded
+    } else {
+        Fate::InFlight
     }
 }
 

@@ -8,16 +8,24 @@
 //! Private modules:
 //!
 //! - `showing`: a case as text
-//! - `diagram`: a case as a picture; `range`: the lines that are drawn; `picture`: parts in SVG; `fates`: what became
-//!   of the lines; `callers`: hosts and columns of threads; `missing`: what was due and is missing
+//! - `diagram`: a case as a picture; `range`: the lines that are drawn; `fates`: what became of the lines; `callers`:
+//!   hosts and bars of threads; `missing`: what was due and is missing
+//! - `labels`: what is written beside an event; `segments`: the labels of segments
+//! - `layout`: the measures; `rows`: the rows of lines and of what is between them; `frame`: what is around the events;
+//!   `picture`: parts in SVG
 #![tactic(auto)]
 
 mod callers;
 mod diagram;
 mod fates;
+mod frame;
+mod labels;
+mod layout;
 mod missing;
 mod picture;
 mod range;
+mod rows;
+mod segments;
 mod showing;
 
 pub use diagram::draw;

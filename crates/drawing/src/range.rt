@@ -1,7 +1,7 @@
 //! Which lines of a trace are drawn.
 
 use crate::fates::Fates;
-use case_forms::Label;
+use case_forms::{Label, Line};
 use replayed::{Case, Refusal};
 
 // How many lines are drawn if one end of the range is not named.
@@ -46,6 +46,15 @@ impl Drawn {
         Drawn { from, to }
     }
 
+    /// Those lines.
+    pub(crate) fn lines<'c>(self, case: &'c Case<'_>) -> &'c [Line] {
+        let lines = case.trace.lines.as_slice();
+        let first = case.trace.header.first_event_line();
+        let begin = place_of(self.from, first);
+        let end = place_of(self.to.saturating_add(1), first).min(lines.len());
+        lines.get(begin..end).unwrap_or(&[])
+    }
+
     /// Whether the line with this number is drawn.
     pub(crate) fn has(self, number: u64) -> bool {
         self.from <= number && number <= self.to
@@ -65,6 +74,11 @@ fn line_refused(case: &Case, fates: &Fates) -> Option<u64> {
         Label::L(named) if case.line(named.number).is_some() => Some(named.number.max(fates.last)),
         _ => Some(fates.last),
     }
+}
+
+// The place of a line, counted from the first one.
+fn place_of(number: u64, first: u64) -> usize {
+    usize::try_from(number.saturating_sub(first)).unwrap_or(usize::MAX)
 }
 
 /// The number of the last line of a case's trace.

@@ -39,8 +39,8 @@
 //! - `Seat`: a thread's place; `Receipt`, `receipt_stands`: what a call returned, and that the merged trace has its
 //!   line
 //! - `HostBook`: what one host recorded; `merge`, `Recorded`, `MergeFault`: two books as a trace and its witness
-//! - `LoopEnd`: why a loop ended; `Fate`, `WireFate`, `LoseEach`: what becomes of segments in transit; `HeldBack`: those
-//!   that are sent later
+//! - `LoopEnd`: why a loop ended; `Fate`, `WireFate`, `LoseEach`: what becomes of segments in transit; `HeldBack`:
+//!   those that are sent later
 //!
 //! Private modules:
 //!

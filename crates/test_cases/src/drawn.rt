@@ -125,8 +125,8 @@ fn ends_of(picture: &str) -> (u64, u64) {
 
 // The number of a trace's line that a row of a picture names.
 fn line_drawn(row: &str) -> Option<u64> {
-    let rest = row.strip_prefix("<text class=\"when\"")?;
+    let rest = row.strip_prefix("<text class=\"number\"")?;
     let (_place, text) = rest.split_once('>')?;
-    let (number, _moment) = text.split_once(' ')?;
+    let (number, _end) = text.split_once('<')?;
     number.parse::<u64>().ok()
 }
