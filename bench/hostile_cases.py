@@ -497,15 +497,19 @@ def children_of_a_closed_listener(count):
     return case
 
 
-@kind(10_000, 20_000, 40_000)
-def children_half_open(count):
-    case = Case()
+def half_open(case, count):
+    """Adds this many children that never get the third segment of their handshake, and closes their listener."""
     listener = case.given(CALLERS[1], "listen 1 80 0")
     for connection in callers(count):
         case.given(CALLERS[0], f"open 0 {connection.ports[0]} 80")
         case.take(1, case.carry(connection, 0, 0, "S", None), 0)
     case.call(CALLERS[1], f"abort {listener}", "ok")
     return case
+
+
+@kind(10_000, 20_000, 40_000)
+def children_half_open(count):
+    return half_open(Case(), count)
 
 
 @kind(100_000, 200_000, 400_000)
@@ -872,13 +876,7 @@ def watched_segments_never_sent(count):
 @kind(7_500, 15_000, 30_000)
 def watched_children_half_open(count):
     """Each counts for its listener until that is closed."""
-    case = Case(header=WATCHED_HEADER)
-    listener = case.given(CALLERS[1], "listen 1 80 0")
-    for connection in callers(count):
-        case.given(CALLERS[0], f"open 0 {connection.ports[0]} 80")
-        case.take(1, case.carry(connection, 0, 0, "S", None), 0)
-    case.call(CALLERS[1], f"abort {listener}", "ok")
-    return case
+    return half_open(Case(header=WATCHED_HEADER), count)
 
 
 def verdict_of(case):
