@@ -33,13 +33,12 @@ WINGS = (
         "Around it",
         "#c60",
         300,
-        """wire_fates recording_parts stack_core merging recorder two_hosts forward_pass witness_search plain_words
-        replayed why judging drawing remarks tcpwit_lab c_answers tcpwit_c test_io test_cases test_recording
-        bench_jobs""",
+        """recording_parts stack_core merging recorder two_hosts forward_pass witness_search plain_words
+        replayed why judging drawing remarks tcpwit_lab c_answers tcpwit_c test_runs test_cases bench_jobs""",
     ),
 )
 # Crates of laws alone, and tests and benchmarks: they have a dashed border.
-DASHED = "spec_tcp_laws spec_merge kept_duties test_io test_cases test_recording bench_jobs".split()
+DASHED = "spec_tcp_laws spec_merge kept_duties test_runs test_cases bench_jobs".split()
 # The programs, and the library for C.
 BOLD = "tcpwit tcpwit_lab tcpwit_c".split()
 

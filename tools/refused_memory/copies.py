@@ -3,7 +3,7 @@
 
     copies.py TESTS [--most N] [--jobs N]
 
-TESTS is the test program of `test_recording`, which `rt test` in that crate leaves in `out/`. A segment that is sent
+TESTS is the test program of `test_runs`, which `rt test` in that crate leaves in `out/`. A segment that is sent
 twice is copied. If the memory for the copy is refused, the segment is sent once, and the test still passes. If another
 allocation is refused, there is no recording, or memory runs out, and the test reports it. Anything else (a case without
 a yes, a signal other than that of a failed test, a run of more than 60 seconds) is wrong and is printed. The last line
@@ -53,7 +53,7 @@ def told(answer):
 
 def main():
     words = argparse.ArgumentParser(description=__doc__.splitlines()[0])
-    words.add_argument("tests", metavar="TESTS", help="the test program of test_recording")
+    words.add_argument("tests", metavar="TESTS", help="the test program of test_runs")
     words.add_argument("--most", metavar="N", type=int, default=4000,
                        help="how many allocations are refused at most, evenly spread (default: 4000)")
     words.add_argument("--jobs", metavar="N", type=int, default=os.cpu_count(),

@@ -4,7 +4,7 @@
     talks.py [--first SEED] [--count N]
 
 Copies the repository's last commit into a folder of its own, adds the program below as a crate with the talks of
-`test_recording`, and runs it with `rt try`, which proves nothing. The seed decides what happens to the segments of one
+`test_runs`, and runs it with `rt try`, which proves nothing. The seed decides what happens to the segments of one
 talk. If `check` doesn't answer yes to a recording, or a host receives wrong bytes, the script prints the seed, and the
 exit status is 1.
 """
@@ -61,12 +61,12 @@ def prepare(folder):
     subprocess.run(["tar", "x", "-C", folder], input=commit, check=True)
     lines = pathlib.Path(folder, "crates.txt")
     before = lines.read_text()
-    after = before.replace("test_recording tests_may=Threads+Wait:", "talks:")
+    after = before.replace("test_runs tests_may=Threads+Wait:", "talks:")
     if after == before:
-        sys.exit("crates.txt has no such line of test_recording")
+        sys.exit("crates.txt has no such line of test_runs")
     lines.write_text(after)
     crates = pathlib.Path(folder, "crates")
-    (crates / "test_recording").rename(crates / "talks")
+    (crates / "test_runs").rename(crates / "talks")
     (crates / "talks" / "src" / "lib.rt").unlink()
     tests = crates / "talks" / "src" / "tests.rt"
     tests.write_text(tests.read_text().replace("\nmod ", "\npub mod "))
