@@ -7,10 +7,10 @@ ghost use Rattle.spec_tcp.specs.Bounds.{most_steps};
 use case_forms::{Label, TakenLine};
 use duties::Duties;
 use endpoint_state::{StepFault, World};
-use spec_duties::Sight;
+use spec_duties::Observation;
 use spec_step::{admits_hidden, admits_line, apply_hidden, apply_line_owned};
 use verdict::Rule;
-use watched::{sight_of_hidden, sight_of_line, view_in};
+use watched::{observe_hidden, observe_line, view_in};
 
 /// When a step is done, and how duties judge it.
 #[derive(Clone, Copy)]
@@ -25,9 +25,9 @@ pub(crate) struct Watch {
 
 impl Watch {
     // The rule of a duty that a step breaks. None: it breaks none.
-    fn broken(self, world: &World, duties: &Duties, sight: &Sight) -> Option<Rule> {
+    fn broken(self, world: &World, duties: &Duties, seen: &Observation) -> Option<Rule> {
         duties
-            .admits(world.header(), self.slack, self.moment, sight)
+            .admits(world.header(), self.slack, self.moment, seen)
             .err()
     }
 
@@ -43,9 +43,9 @@ impl Watch {
         world: &World,
         duties: &Duties,
         line: &TakenLine,
-        sight: &Sight,
+        seen: &Observation,
     ) -> Result<Option<Rule>, Rule> {
-        let broken = self.broken(world, duties, sight);
+        let broken = self.broken(world, duties, seen);
         if let Some(rule) = broken {
             self.permits(rule, admits_line(world, self.moment, line))?;
         }
@@ -58,12 +58,12 @@ impl Watch {
         world: &World,
         duties: &Duties,
         label: &Label<Taken>,
-        sight: &Sight,
+        seen: &Observation,
     ) -> Result<Option<Rule>, Rule>
         requires steps { world.now.steps < most_steps }
         requires label { IsWithinLimits label.now }
     {
-        let broken = self.broken(world, duties, sight);
+        let broken = self.broken(world, duties, seen);
         if let Some(rule) = broken {
             self.permits(rule, admits_hidden(world, self.moment, label))?;
         }
@@ -71,9 +71,9 @@ impl Watch {
     }
 
     // What hosts owe after a step.
-    fn note(self, world: &World, duties: &mut Duties, sight: &Sight) -> Result<(), StepFault> {
-        let now = view_in(world, &sight.touched);
-        duties.note(self.moment, sight, &now)?;
+    fn note(self, world: &World, duties: &mut Duties, seen: &Observation) -> Result<(), StepFault> {
+        let now = view_in(world, &seen.touched);
+        duties.note(self.moment, seen, &now)?;
         Ok(())
     }
 
@@ -87,10 +87,10 @@ impl Watch {
     ) -> Result<Option<Rule>, StepFault>
         requires { world.old.steps < most_steps }
     {
-        let sight = sight_of_line(world, self.moment, &line);
-        let broken = self.judge_line(world, duties, &line, &sight)?;
+        let seen = observe_line(world, self.moment, &line);
+        let broken = self.judge_line(world, duties, &line, &seen)?;
         apply_line_owned(world, self.moment, line)?;
-        self.note(world, duties, &sight)?;
+        self.note(world, duties, &seen)?;
         Ok(broken)
     }
 
@@ -104,10 +104,10 @@ impl Watch {
         requires steps { world.old.steps < most_steps }
         requires label { IsWithinLimits label.now }
     {
-        let sight = sight_of_hidden(world, self.moment, label);
-        let broken = self.judge_hidden(world, duties, label, &sight)?;
+        let seen = observe_hidden(world, self.moment, label);
+        let broken = self.judge_hidden(world, duties, label, &seen)?;
         apply_hidden(world, self.moment, label)?;
-        self.note(world, duties, &sight)?;
+        self.note(world, duties, &seen)?;
         Ok(broken)
     }
 }

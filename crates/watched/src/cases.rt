@@ -14,18 +14,18 @@ ghost use Rattle.spec_tcp.specs.Steps.{line_step, hidden_step};
 ghost use Rattle.spec_duties.specs.Cases.{after, asked_after, asked_rules, broken_by, judged_rules, late_at_end};
 ghost use Rattle.spec_duties.specs.Cases.{noted_by};
 ghost use Rattle.spec_duties.specs.Cases.{start};
-ghost use Rattle.spec_duties.specs.Sights.{sight, unseen};
+ghost use Rattle.spec_duties.specs.Observations.{observe, unseen};
 ghost use Rattle.watched.specs.Watched.{IsPlain, case_of, noted};
 
-use crate::calls::sight_of_effect;
+use crate::calls::observe_effect;
 use crate::ending;
-use crate::sights::{
-    sight_of_hidden, sight_of_line, sight_of_making, sight_of_sending, sight_of_taking, view_in,
+use crate::observations::{
+    observe_hidden, observe_line, observe_making, observe_sending, observe_taking, view_in,
 };
 use case_forms::{Event, Extras, Header, Label, Line, TakenLine};
 use duties::{Duties, judged_slack};
 use endpoint_state::{StepFault, World};
-use spec_duties::Sight;
+use spec_duties::Observation;
 use std::alloc::Global;
 use std::marker::Model;
 use verdict::Rule;
@@ -105,17 +105,22 @@ impl Case {
 
 // Judges a step that the model did, and notes it if no duty refuses it.
 #[inline(always)]
-fn watch(world: &World, duties: &mut Duties, moment: u64, sight: &Sight) -> Result<(), StepFault>
-    ensures ok { OnOk result (case_of world.now duties.new ≡ noted moment sight.now (case_of world.now duties.old)) }
-    ensures admitted { OnOk result (first_broken (judged_rules world.now.header moment duties.old sight.now) ≡ None) }
+fn watch(
+    world: &World,
+    duties: &mut Duties,
+    moment: u64,
+    seen: &Observation,
+) -> Result<(), StepFault>
+    ensures ok { OnOk result (case_of world.now duties.new ≡ noted moment seen.now (case_of world.now duties.old)) }
+    ensures admitted { OnOk result (first_broken (judged_rules world.now.header moment duties.old seen.now) ≡ None) }
     ensures broken { IfErr result (λ fault. IfBroken fault
-        (λ rule. first_broken (judged_rules world.now.header moment duties.old sight.now) ≡ Some rule)) }
+        (λ rule. first_broken (judged_rules world.now.header moment duties.old seen.now) ≡ Some rule)) }
 {
     let Some(slack) = judged_slack(world.header()) else {
         return Ok(());
     };
-    duties.admits(world.header(), slack, moment, sight)?;
-    duties.note(moment, sight, &view_in(world, &sight.touched))?;
+    duties.admits(world.header(), slack, moment, seen)?;
+    duties.note(moment, seen, &view_in(world, &seen.touched))?;
     Ok(())
 }
 
@@ -140,10 +145,10 @@ fn watch_line(
     duties: &mut Duties,
     moment: u64,
     line: TakenLine,
-    seen: &Sight,
+    seen: &Observation,
 ) -> Result<(), StepFault>
     requires steps { world.old.steps < most_steps }
-    requires seen { seen.now ≡ sight world.old.header moment world.old.world (line_step line) }
+    requires seen { seen.now ≡ observe world.old.header moment world.old.world (line_step line) }
     ensures ok { OnOk result
         (case_of world.new duties.new ≡ after (case_of world.old duties.old) moment (line_step line)) }
     ensures admitted { OnOk result (broken_by (case_of world.old duties.old) moment (line_step line) ≡ None) }
@@ -187,16 +192,16 @@ fn judge_taken(
 {
     match line {
         TakenLine::Sent { host, made, .. } => {
-            let sight = sight_of_sending(world, host, made);
-            watch_line(world, duties, moment, line, &sight)
+            let seen = observe_sending(world, host, made);
+            watch_line(world, duties, moment, line, &seen)
         }
         TakenLine::CallBegin { .. }
         | TakenLine::CallEnd { .. }
         | TakenLine::Came { .. }
         | TakenLine::Heard { .. }
         | TakenLine::Expired { .. } => {
-            let sight = sight_of_line(world, moment, &line);
-            watch_line(world, duties, moment, line, &sight)
+            let seen = observe_line(world, moment, &line);
+            watch_line(world, duties, moment, line, &seen)
         }
     }
 }
@@ -256,12 +261,12 @@ fn watch_hidden<Taken>(
     duties: &mut Duties,
     moment: u64,
     label: &Label<Taken>,
-    seen: &Sight,
+    seen: &Observation,
 ) -> Result<(), StepFault>
     requires steps { world.old.steps < most_steps }
     requires label { IsWithinLimits label.now }
     requires seen { seen.now
-        ≡ option_map_or (sight world.old.header moment world.old.world) (hidden_step label.now) unseen }
+        ≡ option_map_or (observe world.old.header moment world.old.world) (hidden_step label.now) unseen }
     ensures ok { OnOk result
         (case_of world.new duties.new ≡ asked_after (case_of world.old duties.old) moment (hidden_step label.now)) }
     ensures admitted { OnOk result
@@ -294,20 +299,20 @@ fn judge_hidden<Taken>(
 {
     match label {
         Label::D { thread, answer } => {
-            let sight = sight_of_effect(world, moment, *thread, answer);
-            watch_hidden(world, duties, moment, label, &sight)
+            let seen = observe_effect(world, moment, *thread, answer);
+            watch_hidden(world, duties, moment, label, &seen)
         }
         Label::M { host, plan } => {
-            let sight = sight_of_making(world, *host, plan, moment);
-            watch_hidden(world, duties, moment, label, &sight)
+            let seen = observe_making(world, *host, plan, moment);
+            watch_hidden(world, duties, moment, label, &seen)
         }
         Label::T { host, line, choice } => {
-            let sight = sight_of_taking(world, *host, *line, *choice, moment);
-            watch_hidden(world, duties, moment, label, &sight)
+            let seen = observe_taking(world, *host, *line, *choice, moment);
+            watch_hidden(world, duties, moment, label, &seen)
         }
         Label::L(_) | Label::K { .. } | Label::R { .. } | Label::F { .. } => {
-            let sight = sight_of_hidden(world, moment, label);
-            watch_hidden(world, duties, moment, label, &sight)
+            let seen = observe_hidden(world, moment, label);
+            watch_hidden(world, duties, moment, label, &seen)
         }
     }
 }
