@@ -88,8 +88,8 @@ pub fn sent(moment: u64, wire: Wire, m: &Emission) -> Emission
     with_bytes(m, seg.payload, bytes, (seg.mss, seg.scale), moment)
 }
 
-/// A copy of a segment, as it arrives on a wire that has its bytes: they are moved, and so is the payload if the segment
-/// has the same. The error means that memory ran out.
+/// A copy of a segment, as it arrives on a wire that has its bytes: they are moved, and so is the payload if the
+/// segment has the same. The error means that memory ran out.
 pub fn copy(wire: Wire, m: &Emission) -> Result<Emission, OutOfMemory>
     requires { wire.bytes ≡ m.now.bytes }
     ensures { IfOk result (λ x. x ≡ m.now) }
