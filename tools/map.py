@@ -26,7 +26,7 @@ WINGS = (
         "Verdict",
         "#73a",
         196,
-        """verdict answers interval_order checker kept_duties answer_lines parallel_check answer_stream help_pages help cli
+        """verdict answers interval_order checker kept_duties answer_lines parallel_check answer_stream help cli
         tcpwit""",
     ),
     (
@@ -34,7 +34,8 @@ WINGS = (
         "#c60",
         300,
         """wire_fates recording_parts stack_core merging recorder two_hosts forward_pass witness_search plain_words
-        replayed why judging drawing remarks tcpwit_lab c_answers tcpwit_c test_io test_cases test_recording bench_jobs""",
+        replayed why judging drawing remarks tcpwit_lab c_answers tcpwit_c test_io test_cases test_recording
+        bench_jobs""",
     ),
 )
 # Crates of laws alone, and tests and benchmarks: they have a dashed border.

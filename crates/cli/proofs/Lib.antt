@@ -1,5 +1,6 @@
 pub mod Appended
 pub mod FileWords
+pub mod HelpWords
 pub mod ManyWords
 pub mod Numbers
 pub mod OptionWords

@@ -1,5 +1,5 @@
 -- Words have only one request.
-use Rattle.std.proofs.Common.{◌≡◌, ◌⊎◌, ℕ, List, [], Bor, Option, codes, get_or, drop, refl, sym, subst, ap, ◌∙◌, inl, inr}
+use Rattle.std.proofs.Common.{◌≡◌, ◌⊎◌, ℕ, Bool, true, false, List, [], Bor, Option, codes, get_or, drop, refl, sym, subst, ap, ◌∙◌, inl, inr}
 use Rattle.clap.specs.Words.{Text}
 use Rattle.two_hosts.specs.declared.plan.Plan.{Plan}
 use Rattle.cli.specs.CommandLine.{AsksCheck, AsksNothing, AsksSegment}
@@ -12,7 +12,9 @@ use Rattle.cli.specs.RecordWords.{AsksRecord}
 use Rattle.cli.specs.Requests.{IsRequested}
 use Rattle.cli.specs.SegmentText.{segment_line, segment_status}
 use Rattle.cli.specs.declared.request.Request.{Request}
-use Rattle.cli.specs.declared.request.Request.TheVariants.{Check, Files, Many, Record, Segment, Unknown}
+use Rattle.cli.specs.declared.request.Request.TheVariants.{Help, Files, Command, Unknown}
+use Rattle.cli.specs.declared.request.Command.TheVariants.{Check, Many, Record, Segment}
+use Rattle.cli.proofs.HelpWords.{asks, check_words, many_words, record_words, segment_words}
 use Rattle.cli.proofs.RecordOptions.{one_plan}
 
 -- the first word
@@ -44,45 +46,59 @@ alone words trace witness ((options, e, both), plain_trace, plain_witness) check
     by_case (inl (behind, begins, rest)) = some _ _ _ begins
     by_case (inr (behind, begins, rest)) = some _ _ _ begins
 
-pub check_only : (q : Request) (words : List Text) → IsRequested q words → AsksCheck words → q ≡ Check
-check_only Check words is asks = refl
-check_only (Files trace witness) words is asks = absurd (alone words trace.now witness.now is asks)
-check_only (Many n) words is asks = let bad : codes "many" ≡ codes "check" = sym (many_first words n is) ∙ ap first asks in cc
-check_only (Record plan) words is asks = let bad : codes "record" ≡ codes "check" = sym (record_first words plan is) ∙ ap first asks in cc
-check_only (Segment text) words is asks = let bad : codes "segment" ≡ codes "check" = ap first (sym is.0 ∙ asks) in cc
-check_only Unknown words is asks = absurd (is.check asks)
+-- words that ask for help are no command
+not_both : {A : Type 0} (words : List Text) → asks words ≡ true → asks words ≡ false → A
+not_both words is_help no_help = let bad : true ≡ false = sym is_help ∙ no_help in cc
+
+pub check_only : (q : Request) (words : List Text) → IsRequested q words → AsksCheck words → q ≡ Command Check
+check_only (Help topic) words is asked = not_both words is (check_words words asked)
+check_only (Files trace witness) words is asked = absurd (alone words trace.now witness.now is asked)
+check_only (Command Check) words is asked = refl
+check_only (Command (Many n)) words is asked = let bad : codes "many" ≡ codes "check" = sym (many_first words n is) ∙ ap first asked in cc
+check_only (Command (Record plan)) words is asked = let bad : codes "record" ≡ codes "check" = sym (record_first words plan is) ∙ ap first asked in cc
+check_only (Command (Segment text)) words is asked = let bad : codes "segment" ≡ codes "check" = ap first (sym is.0 ∙ asked) in cc
+check_only Unknown words is asked = absurd (is.check asked)
 
 -- it is the segment of this text
 pub record IsSegment (q : Request) (text : Text) : Type 0 where
   pub value : Bor Text
-  pub is : q ≡ Segment value
+  pub is : q ≡ Command (Segment value)
   pub same : value.now ≡ text
 
 pub segment_only : (q : Request) (words : List Text) (text : Text) → IsRequested q words → AsksSegment words text → IsSegment q text
-segment_only Check words text is asks = let bad : codes "check" ≡ codes "segment" = ap first (sym is ∙ asks.0) in cc
-segment_only (Files trace witness) words text is asks = let bad : codes "check" ≡ codes "segment" = sym (files_first words _ _ is) ∙ ap first asks.0 in cc
-segment_only (Many n) words text is asks = let bad : codes "many" ≡ codes "segment" = sym (many_first words n is) ∙ ap first asks.0 in cc
-segment_only (Record plan) words text is asks = let bad : codes "record" ≡ codes "segment" = sym (record_first words plan is) ∙ ap first asks.0 in cc
-segment_only (Segment value) words text is asks =
-    record { value = value; is = refl; same = ap (λ (ws : List Text). get_or ws 1 []) (sym is.0 ∙ asks.0) }
-segment_only Unknown words text is asks = absurd (is.segment text asks)
+segment_only (Help topic) words text is asked = not_both words is (segment_words words text asked)
+segment_only (Files trace witness) words text is asked =
+    let bad : codes "check" ≡ codes "segment" = sym (files_first words _ _ is) ∙ ap first asked.0 in cc
+segment_only (Command Check) words text is asked = let bad : codes "check" ≡ codes "segment" = ap first (sym is ∙ asked.0) in cc
+segment_only (Command (Many n)) words text is asked = let bad : codes "many" ≡ codes "segment" = sym (many_first words n is) ∙ ap first asked.0 in cc
+segment_only (Command (Record plan)) words text is asked =
+    let bad : codes "record" ≡ codes "segment" = sym (record_first words plan is) ∙ ap first asked.0 in cc
+segment_only (Command (Segment value)) words text is asked =
+    record { value = value; is = refl; same = ap (λ (ws : List Text). get_or ws 1 []) (sym is.0 ∙ asked.0) }
+segment_only Unknown words text is asked = absurd (is.segment text asked)
 
-pub many_only : (q : Request) (words : List Text) (n : ℕ) → IsRequested q words → AsksMany words n → (m : ℕ) × (q ≡ Many m)
-many_only Check words n is asks = let bad : codes "check" ≡ codes "many" = ap first (sym is) ∙ many_first words n asks in cc
-many_only (Files trace witness) words n is asks = let bad : codes "check" ≡ codes "many" = sym (files_first words _ _ is) ∙ many_first words n asks in cc
-many_only (Many m) words n is asks = (m, refl)
-many_only (Record plan) words n is asks = let bad : codes "record" ≡ codes "many" = sym (record_first words plan is) ∙ many_first words n asks in cc
-many_only (Segment text) words n is asks = let bad : codes "segment" ≡ codes "many" = ap first (sym is.0) ∙ many_first words n asks in cc
-many_only Unknown words n is asks = absurd (is.many n asks)
+pub many_only : (q : Request) (words : List Text) (n : ℕ) → IsRequested q words → AsksMany words n → (m : ℕ) × (q ≡ Command (Many m))
+many_only (Help topic) words n is asked = not_both words is (many_words words n asked)
+many_only (Files trace witness) words n is asked =
+    let bad : codes "check" ≡ codes "many" = sym (files_first words _ _ is) ∙ many_first words n asked in cc
+many_only (Command Check) words n is asked = let bad : codes "check" ≡ codes "many" = ap first (sym is) ∙ many_first words n asked in cc
+many_only (Command (Many m)) words n is asked = (m, refl)
+many_only (Command (Record plan)) words n is asked =
+    let bad : codes "record" ≡ codes "many" = sym (record_first words plan is) ∙ many_first words n asked in cc
+many_only (Command (Segment text)) words n is asked = let bad : codes "segment" ≡ codes "many" = ap first (sym is.0) ∙ many_first words n asked in cc
+many_only Unknown words n is asked = absurd (is.many n asked)
 
-pub record_only : (q : Request) (words : List Text) (plan : Plan) → IsRequested q words → AsksRecord words plan → q ≡ Record plan
-record_only Check words plan is asks = let bad : codes "check" ≡ codes "record" = ap first (sym is) ∙ record_first words plan asks in cc
-record_only (Files trace witness) words plan is asks =
-    let bad : codes "check" ≡ codes "record" = sym (files_first words _ _ is) ∙ record_first words plan asks in cc
-record_only (Many n) words plan is asks = let bad : codes "many" ≡ codes "record" = sym (many_first words n is) ∙ record_first words plan asks in cc
-record_only (Record other) words plan is asks = ap Record (one_plan words other plan is asks)
-record_only (Segment text) words plan is asks = let bad : codes "segment" ≡ codes "record" = ap first (sym is.0) ∙ record_first words plan asks in cc
-record_only Unknown words plan is asks = absurd (is.recording plan asks)
+pub record_only : (q : Request) (words : List Text) (plan : Plan) → IsRequested q words → AsksRecord words plan → q ≡ Command (Record plan)
+record_only (Help topic) words plan is asked = not_both words is (record_words words plan asked)
+record_only (Files trace witness) words plan is asked =
+    let bad : codes "check" ≡ codes "record" = sym (files_first words _ _ is) ∙ record_first words plan asked in cc
+record_only (Command Check) words plan is asked = let bad : codes "check" ≡ codes "record" = ap first (sym is) ∙ record_first words plan asked in cc
+record_only (Command (Many n)) words plan is asked =
+    let bad : codes "many" ≡ codes "record" = sym (many_first words n is) ∙ record_first words plan asked in cc
+record_only (Command (Record other)) words plan is asked = ap (λ (p : Plan). Command (Record p)) (one_plan words other plan is asked)
+record_only (Command (Segment text)) words plan is asked =
+    let bad : codes "segment" ≡ codes "record" = ap first (sym is.0) ∙ record_first words plan asked in cc
+record_only Unknown words plan is asked = absurd (is.recording plan asked)
 
 -- ---- how a run ends
 
@@ -93,17 +109,23 @@ ends_for q other input status old new is ends = subst (λ (r : Request). EndsFor
 pub segment_ends : (q : Request) (words : List Text) (text : Text) (input : Option (List ℕ)) (status : ℕ) (old new : Option (List ℕ)) → IsRequested q words
     → AsksSegment words text → EndsFor q input status old new
     → Ends (segment_status (segment_in text)) (segment_line (segment_in text)) status old new
-segment_ends q words text input status old new is asks ends =
-    let segment = segment_only q words text is asks in
+segment_ends q words text input status old new is asked ends =
+    let segment = segment_only q words text is asked in
     subst (λ (t : Text). Ends (segment_status (segment_in t)) (segment_line (segment_in t)) status old new) segment.same
     (subst (λ (r : Request). EndsFor r input status old new) segment.is ends)
 
-pub none_only : (q : Request) (words : List Text) (input : Option (List ℕ)) (status : ℕ) (old new : Option (List ℕ)) → IsRequested q words
-    → AsksNothing words → ((n : ℕ) → ¬ AsksMany words n) → ((plan : Plan) → ¬ AsksRecord words plan)
-    → EndsFor q input status old new → Ends 3 (codes "bad usage\n") status old new
-none_only Check words input status old new is nothing no_many no_record ends = absurd (nothing.check is)
-none_only (Files trace witness) words input status old new is nothing no_many no_record ends = ends
-none_only (Many n) words input status old new is nothing no_many no_record ends = absurd (no_many n is)
-none_only (Record plan) words input status old new is nothing no_many no_record ends = absurd (no_record plan is)
-none_only (Segment text) words input status old new is nothing no_many no_record ends = absurd (nothing.segment text.now is)
-none_only Unknown words input status old new is nothing no_many no_record ends = ends
+-- whether it is a command
+abbrev pub is_command : Request → Bool
+is_command (Command command) = true
+is_command _ = false
+
+-- words that request nothing of these are no command
+pub none_only : (q : Request) (words : List Text) → IsRequested q words → AsksNothing words → ((n : ℕ) → ¬ AsksMany words n)
+    → ((plan : Plan) → ¬ AsksRecord words plan) → is_command q ≡ false
+none_only (Help topic) words is nothing no_many no_record = refl
+none_only (Files trace witness) words is nothing no_many no_record = refl
+none_only (Command Check) words is nothing no_many no_record = absurd (nothing.check is)
+none_only (Command (Many n)) words is nothing no_many no_record = absurd (no_many n is)
+none_only (Command (Record plan)) words is nothing no_many no_record = absurd (no_record plan is)
+none_only (Command (Segment text)) words is nothing no_many no_record = absurd (nothing.segment text.now is)
+none_only Unknown words is nothing no_many no_record = refl

@@ -7,14 +7,18 @@ ghost use Rattle.counted.specs.Counting.{left_of, failures_of};
 ghost use Rattle.answer_lines.specs.Output.{line_of, status_of};
 ghost use Rattle.cli.specs.Output.{Ends};
 
-use crate::lines::say;
-use crate::running::answer_bad_memory;
-use answer_lines::{DEVICE, line_of, status_of};
+use crate::lines::{answer_bad_device, answer_bad_memory, say};
+use answer_lines::{line_of, status_of};
 use checker::{CaseFault, check_streams};
 use counted::Counted;
 use std::alloc::Global;
-use std::io::{BufRead, Write};
+use std::fs;
+use std::io::{BufRead, BufReader, Write};
+use std::rt::Files;
 use verdict::Verdict;
+
+/// How many bytes of an input are requested at once; otherwise a pipe would be read byte by byte.
+pub const INPUT_BYTES: usize = 64 * 1024;
 
 /// Answers a case whose trace and witness are two texts: writes the line of the trace's fault, else of the witness's,
 /// else of the verdict, and returns its status, as `run` does for a case in one text. Both are read while the case is
@@ -47,16 +51,30 @@ pub fn run_files<A: BufRead, B: BufRead, W: Write>(
     (status, a, b)
 }
 
-/// Answers that a device failed, for example because a file can't be opened or read: writes one line and returns the
-/// status 5. The count of failures must be below 2^50 before the call.
-pub fn answer_bad_device<W: Write>(w: &mut Counted<W>) -> u8
+/// Answers a case in the files with these names: the trace's, which is opened first, and the witness's.
+pub(crate) fn check_files<W: Write, H: Files>(
+    rt: &H,
+    alloc: Global,
+    trace: &str,
+    witness: &str,
+    w: &mut Counted<W>,
+) -> u8
     requires { failures_of w.old < 2 ^ 50 }
-    ensures status { result ≡ 5 }
-    ensures told { failures_of w.new ≡ failures_of w.old →
+    ensures told { result ≡ 5 → failures_of w.new ≡ failures_of w.old →
         Appends (left_of W.contents w.old) (left_of W.contents w.new) (codes "bad device\n") }
+    ensures quiet { result ≢ 5 → failures_of w.new ≡ failures_of w.old }
 {
-    let _ = say(w, b"bad device\n", DEVICE);
-    DEVICE
+    let (Ok(trace), Ok(witness)) = (fs::open(rt, trace), fs::open(rt, witness)) else {
+        return answer_bad_device(w);
+    };
+    let Ok(lines) = BufReader::with_capacity(alloc, INPUT_BYTES, trace) else {
+        return answer_bad_memory(w);
+    };
+    let Ok(steps) = BufReader::with_capacity(alloc, INPUT_BYTES, witness) else {
+        return answer_bad_memory(w);
+    };
+    let (status, _, _) = run_files(alloc, Counted::new(lines), Counted::new(steps), w);
+    status
 }
 
 /// Writes the line of a case's answer, and returns its status, or 5 if a write failed.

@@ -11,9 +11,7 @@ ghost use Rattle.two_hosts.specs.Plans.{header_of};
 ghost use Rattle.two_hosts.specs.declared.plan.Plan.{Plan};
 ghost use Rattle.cli.specs.Recorded.{EndsRecord};
 
-use crate::files::answer_bad_device;
-use crate::lines::say;
-use crate::running::answer_bad_memory;
+use crate::lines::{answer_bad_device, answer_bad_memory, say};
 use answers::exit_status;
 use checker::print_case;
 use counted::Counted;

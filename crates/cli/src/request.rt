@@ -1,34 +1,59 @@
 //! What the words request.
 
 ghost use Rattle.std.specs.Prelude.{◌≡◌, ◌∷◌, IfOk, codes, map};
-ghost use Rattle.cli.specs.Requests.{IsRequested};
+ghost use Rattle.help.specs.AskedHelp.{asks_help};
+ghost use Rattle.help.specs.declared.topics.Program.{Program};
+ghost use Rattle.cli.specs.Requests.{asks_for_help, IsRequested, IsWhole};
 
 use crate::file_words::files_in;
 use crate::options::{is_dashed, number_in, take_option};
 use crate::record_words::plan_in;
 use case_forms::OutOfMemory;
+use help::{Program, Topic, topic_of};
 use std::alloc::Global;
 use two_hosts::Plan;
 
 /// What the words after the program's name request.
 #[derive(Clone, Copy)]
-pub(crate) enum Request<'w> {
-    /// To check a case.
-    Check,
+pub enum Request<'w> {
+    /// To print this help, or the version.
+    Help(Topic<'w>),
     /// To check a case in two files: the name of the trace's file and of the witness's.
     Files(&'w str, &'w str),
+    /// A command that opens no file.
+    Command(Command<'w>),
+    /// Nothing that the program does.
+    Unknown,
+}
+
+/// A command that opens no file: it reads standard input at most.
+#[derive(Clone, Copy)]
+pub enum Command<'w> {
+    /// To check a case.
+    Check,
     /// To check many cases with so many workers.
     Many(usize),
     /// To record two hosts.
     Record(Plan),
     /// To print the segment of this hex text.
     Segment(&'w str),
-    /// No command of the program.
-    Unknown,
 }
 
 /// What the words request. The error is that memory ran out.
-pub(crate) fn request_of<'w>(alloc: Global, words: &[&'w str]) -> Result<Request<'w>, OutOfMemory>
+pub fn request_of<'w>(alloc: Global, words: &[&'w str]) -> Result<Request<'w>, OutOfMemory>
+    ensures requested { IfOk result (λ request. IsRequested request (map (λ word. word.now) words.now)) }
+    ensures help { IfOk result (λ request.
+        asks_for_help request ≡ asks_help Program.Tcpwit (map (λ word. word.now) words.now)) }
+    ensures whole { IfOk result (λ request. IsWhole request) }
+{
+    match topic_of(Program::Tcpwit, words) {
+        Some(topic) => Ok(Request::Help(topic)),
+        None => without_help(alloc, words),
+    }
+}
+
+// What the words request if they don't ask for help.
+fn without_help<'w>(alloc: Global, words: &[&'w str]) -> Result<Request<'w>, OutOfMemory>
     ensures { IfOk result (λ request. IsRequested request (map (λ word. word.now) words.now)) }
 {
     let [command, options @ ..] = words else {
@@ -48,7 +73,7 @@ fn check_with<'w>(options: &[&'w str]) -> Request<'w>
     ensures { IsRequested result (codes "check" ∷ map (λ word. word.now) options.now) }
 {
     if options.is_empty() {
-        return Request::Check;
+        return Request::Command(Command::Check);
     }
     match files_in(options) {
         Some((trace, witness)) => Request::Files(trace, witness),
@@ -67,7 +92,7 @@ fn many_with<'w>(alloc: Global, options: &[&'w str]) -> Result<Request<'w>, OutO
         return Ok(Request::Unknown);
     }
     match number_in(alloc, workers, 1, 64)? {
-        Some(workers) => Ok(Request::Many(workers as usize)),
+        Some(workers) => Ok(Request::Command(Command::Many(workers as usize))),
         None => Ok(Request::Unknown),
     }
 }
@@ -77,7 +102,7 @@ fn record_with<'w>(alloc: Global, options: &[&'w str]) -> Result<Request<'w>, Ou
     ensures { IfOk result (λ request. IsRequested request (codes "record" ∷ map (λ word. word.now) options.now)) }
 {
     match plan_in(alloc, options)? {
-        Some(plan) => Ok(Request::Record(plan)),
+        Some(plan) => Ok(Request::Command(Command::Record(plan))),
         None => Ok(Request::Unknown),
     }
 }
@@ -87,7 +112,7 @@ fn segment_with<'w>(words: &[&'w str]) -> Request<'w>
     ensures { IsRequested result (codes "segment" ∷ map (λ word. word.now) words.now) }
 {
     match words {
-        [text] if !is_dashed(text) => Request::Segment(text),
+        [text] if !is_dashed(text) => Request::Command(Command::Segment(text)),
         _ => Request::Unknown,
     }
 }

@@ -1,8 +1,8 @@
 -- The words that ask a program for its help or for its version.
 use Rattle.std.specs.Prelude.{Bool, false, ◌||◌, ◌&&◌, ℕ, List, [], ◌∷◌, codes}
 use Rattle.std.specs.Str.{bytes_eq}
-use Rattle.help_pages.specs.declared.topics.Program.{Program}
-use Rattle.help_pages.specs.declared.topics.Program.TheVariants.{Tcpwit, TcpwitLab}
+use Rattle.help.specs.declared.topics.Program.{Program}
+use Rattle.help.specs.declared.topics.Program.TheVariants.{Tcpwit, TcpwitLab}
 
 -- an option for help
 abbrev pub is_help_option : List ℕ → Bool

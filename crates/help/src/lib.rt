@@ -1,11 +1,20 @@
 //! What a program prints if it's asked for its help or its version.
 //!
-//! - `asking`: the words that ask for it (`specs/AskedHelp`)
-//! - `texts`: the text for these words, and its printing. `help_pages` has the texts, which are clap's.
+//! - `topics`: what help is about, and the words that ask for it (`specs/AskedHelp`)
+//! - `pages`: the text about a topic, as clap prints it. No contract says what it contains.
+//! - `command_line`: what the help of a program and of a subcommand says
+//! - `tcpwit`, `tcpwit_lab`: the command lines of both programs. Only help reads them: `cli` and the crate `tcpwit_lab`
+//!   say what the words mean.
+//! - `print`: how a text is printed
 #![tactic(auto)]
 
-mod asking;
-mod texts;
+mod command_line;
+mod pages;
+mod print;
+mod tcpwit;
+mod tcpwit_lab;
+mod topics;
 
-pub use help_pages::Program;
-pub use texts::{help_text, print_help};
+pub use pages::help_page;
+pub use print::print_help;
+pub use topics::{Program, Topic, topic_of};

@@ -1,24 +1,18 @@
-//! The program `tcpwit`: `cli::run_all` on the process's words, its standard input and its standard output; or, if the
-//! words name two files, `cli::run_files` on these. If the words ask for help or for the version, it prints that.
+//! The program `tcpwit`: it does what the process's words request, on its standard input and its standard output.
 #![tactic(auto)]
 
 ghost use Rattle.std.specs.Prelude.{◌≡◌, ◌<◌, ◌^◌, OnErr};
 ghost use Rattle.counted.specs.Counting.{failures_of};
 
-use cli::{answer_bad_device, answer_bad_memory, file_names, given_words, run_all, run_files};
+use cli::{INPUT_BYTES, answer_bad_memory, given_words, request_of, run_request};
 use counted::Counted;
-use help::{Program, help_text, print_help};
 use std::alloc::{AllocError, Global};
 use std::env::Args;
-use std::fs;
 use std::io::{BufRead, BufReader, Input, Write};
 use std::process::ExitCode;
 use std::rt::Files;
 use std::sync::Wait;
 use std::thread::Threads;
-
-// How many bytes of standard input are requested at once; otherwise a pipe would be read byte by byte.
-const INPUT_BYTES: usize = 64 * 1024;
 
 fn main(rt: HostRuntime) -> ExitCode {
     let mut writer = Counted::new(rt.stdout());
@@ -52,35 +46,7 @@ fn run_given<R: BufRead + Send, W: Write + Send, H: Files + Threads + Wait + Syn
     for word in given.iter().skip(1) {
         words.push(word.as_str())?;
     }
-    if let Some(text) = help_text(alloc, Program::Tcpwit, words.as_slice())? {
-        return Ok(print_help(w, text.as_str()));
-    }
-    let status = match file_names(alloc, words.as_slice())? {
-        Some((trace, witness)) => run_named(rt, alloc, &trace, &witness, w),
-        None => run_all(rt, alloc, words.as_slice(), r, w),
-    };
+    let request = request_of(alloc, words.as_slice())?;
+    let status = run_request(rt, alloc, request, r, w);
     Ok(status)
-}
-
-// Runs on the files with these names.
-fn run_named<W: Write, H: Files>(
-    rt: &H,
-    alloc: Global,
-    trace: &str,
-    witness: &str,
-    w: &mut Counted<W>,
-) -> u8
-    requires { failures_of w.old < 2 ^ 50 }
-{
-    let (Ok(trace), Ok(witness)) = (fs::open(rt, trace), fs::open(rt, witness)) else {
-        return answer_bad_device(w);
-    };
-    let Ok(lines) = BufReader::with_capacity(alloc, INPUT_BYTES, trace) else {
-        return answer_bad_memory(w);
-    };
-    let Ok(steps) = BufReader::with_capacity(alloc, INPUT_BYTES, witness) else {
-        return answer_bad_memory(w);
-    };
-    let (status, _, _) = run_files(alloc, Counted::new(lines), Counted::new(steps), w);
-    status
 }

@@ -1,11 +1,11 @@
-//! What the program does with its words and its standard input.
+//! What the program does with its standard input.
 
 use crate::report::{JudgedReport, RemarkedReport, Report};
 use crate::saying::{
-    DONE, NO, Refused, USAGE, say, say_altered, say_bad_device, say_bad_memory, say_bad_replay,
+    DONE, NO, Refused, say, say_altered, say_bad_device, say_bad_memory, say_bad_replay,
     say_bad_trace, say_fault, say_object, say_written,
 };
-use crate::words::{Asked, Form, Judging, asked_by};
+use crate::words::{Asked, Form, Judging};
 use counted::Counted;
 use drawing::{draw, show};
 use judging::{JudgeFault, Judgement, judge};
@@ -20,18 +20,14 @@ use verdict::Verdict;
 use why::{Said, explain};
 use witness_search::{CaseText, Ending, FoundCase, find_within};
 
-/// Does what the words after the program's name ask for, and answers the status: 0 if it is done, 1 if the answer is
-/// no, 2 if the text is refused, 3 for bad usage, 4 if memory ran out, and 5 if a read or a
-/// write failed.
+/// Does what is asked for with the text of standard input, and returns the status: 0 if it is done, 1 if the answer is
+/// no, 2 if the text is refused, 4 if memory ran out, and 5 if a read or a write failed.
 pub(crate) fn run<H: Files + Eprint + Input, W: Write>(
     rt: &H,
     alloc: Global,
-    words: &[&str],
+    asked: Asked<'_>,
     w: &mut Counted<W>,
 ) -> u8 {
-    let Some(asked) = asked_by(words) else {
-        return say(rt, w, b"bad usage\n", USAGE);
-    };
     let mut text = Vec::new(alloc);
     match rt.reader().read_to_end(&mut text) {
         Ok(_) => write_answer(rt, alloc, asked, text.as_slice(), w),

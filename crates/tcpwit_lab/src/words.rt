@@ -1,13 +1,25 @@
-//! What the words after the program's name ask for.
+//! What the words after the program's name request.
 
 use case_forms::Judged;
 use drawing::Range;
+use help::{Program, Topic, topic_of};
 use judging::{GREATEST_SLACK, Slack};
 use std::env::{Env, FillError};
 use why::Origin;
 use witness_search::USUAL_BUDGET;
 
-/// What the words ask for.
+/// What the words request.
+#[derive(Clone, Copy)]
+pub(crate) enum Request<'w> {
+    /// To print this help, or the version.
+    Help(Topic<'w>),
+    /// A command.
+    Command(Asked<'w>),
+    /// Nothing that the program does.
+    Unknown,
+}
+
+/// What is done with the text of standard input.
 #[derive(Clone, Copy)]
 pub(crate) enum Asked<'w> {
     /// How many steps are spent on going back.
@@ -52,8 +64,19 @@ pub(crate) struct Judging<'w> {
     pub budget: u64,
 }
 
-/// What the words ask for. None: nothing that the program does.
-pub(crate) fn asked_by<'w>(words: &[&'w str]) -> Option<Asked<'w>> {
+/// What the words request.
+pub(crate) fn request_of<'w>(words: &[&'w str]) -> Request<'w> {
+    match topic_of(Program::TcpwitLab, words) {
+        Some(topic) => Request::Help(topic),
+        None => match asked_by(words) {
+            Some(asked) => Request::Command(asked),
+            None => Request::Unknown,
+        },
+    }
+}
+
+// The command that the words are. None: they are none.
+fn asked_by<'w>(words: &[&'w str]) -> Option<Asked<'w>> {
     let [subcommand, options @ ..] = words else {
         return None;
     };

@@ -1,12 +1,30 @@
-//! The words that ask for help, and whose help it is.
+//! What help is about, and the words that ask for it.
 
 ghost use Rattle.std.specs.Prelude.{◌≡◌, is_some, map};
 ghost use Rattle.help.specs.AskedHelp.{asks_help, is_help_option, is_subcommand, is_version_option};
 
-use help_pages::{Program, Topic};
+/// A program that has help.
+#[derive(Clone, Copy)]
+pub enum Program {
+    /// `tcpwit`, the checker.
+    Tcpwit,
+    /// `tcpwit_lab`, the programs around it.
+    TcpwitLab,
+}
 
-/// What these words, which follow the program's name, ask for; None if for neither help nor the version.
-pub(crate) fn topic_of<'a>(program: Program, words: &[&'a str]) -> Option<Topic<'a>>
+/// What words ask for.
+#[derive(Clone, Copy)]
+pub enum Topic<'a> {
+    /// The version of the program.
+    Version,
+    /// The help of the program.
+    Program,
+    /// The help of this subcommand.
+    Subcommand(&'a str),
+}
+
+/// What these words, which follow the program's name, ask for. None: neither for help nor for the version.
+pub fn topic_of<'a>(program: Program, words: &[&'a str]) -> Option<Topic<'a>>
     ensures { is_some result ≡ asks_help program (map (λ word. word.now) words.now) }
 {
     match words {
