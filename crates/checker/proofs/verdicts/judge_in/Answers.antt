@@ -19,7 +19,7 @@ use Rattle.checker.proofs.verdicts.judge_in.Goals as goal
 pub returns-in_err-read_step-clause-tells : goal.returns-in_err-read_step-clause-tells
 returns-in_err-read_step-clause-tells g c = λ header t s begun.
     let so_far = c.loop-item.invariant.goes header t s begun in
-    let p = err_from_is_err_and c.from_residual-in_err-read_step.result c.from_residual-in_err-read_step.ensures.1 in
+    let p = err_from_is_err_and c.from_residual.result c.from_residual.ensures.1 in
     rw p.1 (subst (λ (e : CaseFault). CaseFails e t s) (sym p.2)
     (case_fails_before t (left_ahead g.A.Read.remaining c.loop-item.lines) s (steps_left g.B.Read.remaining c.loop-item.steps)
     so_far.0 so_far.1 _ so_far.2.passed so_far.2.done c.in_err-read_step.ensures.fault))
@@ -32,20 +32,20 @@ returns-in_err-replay_next-clause-tells g c = λ header t s begun.
     rw p.1 (subst (λ (e : CaseFault). CaseFails e t s) (sym p.2)
     (trace_first _ t s (trace_fails_before t _ so_far.0 _ here c.in_err-replay_next.ensures.fault)))
 
-pub returns-in-None-clause-tells : goal.returns-in-None-clause-tells
-returns-in-None-clause-tells g c = λ header t s begun.
+pub returns-in_default-clause-tells : goal.returns-in_default-clause-tells
+returns-in_default-clause-tells g c = λ header t s begun.
     let so_far = c.loop-item.invariant.goes header t s begun in
     let here =
     subst (λ (l : Ahead _). SoFar header t (left_ahead g.A.Read.remaining l) s (steps_left g.B.Read.remaining c.loop-item.steps)
     c.loop-item.window c.loop-item.world so_far.0 so_far.1) (sym c.in_ok-read_step.ensures.unread) so_far.2 in
     let next =
     subst (λ (item : Option Step). Yields (steps_left g.B.Read.remaining c.loop-item.steps) (steps_left g.B.Read.remaining c.read_step.new.steps) item)
-    c.in-None.is c.in_ok-read_step.ensures.next in
+    c.in_default.is c.in_ok-read_step.ensures.next in
     c.end_of_witness.ensures.tells header t s so_far.0 so_far.1 (steps_left g.B.Read.remaining c.loop-item.steps)
     (steps_left g.B.Read.remaining c.read_step.new.steps) here next so_far.3
 
-pub returns-in-Broken-clause-tells : goal.returns-in-Broken-clause-tells
-returns-in-Broken-clause-tells g c = λ header t s begun.
+pub returns-in-Err-Broken-clause-tells : goal.returns-in-Err-Broken-clause-tells
+returns-in-Err-Broken-clause-tells g c = λ header t s begun.
     let so_far = c.loop-item.invariant.goes header t s begun in
     let here =
     subst (λ (l : Ahead _). SoFar header t (left_ahead g.A.Read.remaining l) s (steps_left g.B.Read.remaining c.loop-item.steps)
@@ -53,7 +53,7 @@ returns-in-Broken-clause-tells g c = λ header t s begun.
     let next =
     subst (λ (item : Option Step). Yields (steps_left g.B.Read.remaining c.loop-item.steps) (steps_left g.B.Read.remaining c.read_step.new.steps) item)
     c.in-Some.is c.in_ok-read_step.ensures.next in
-    let after = rw c.in-Broken.is at (c.in_ok-replay_next.ensures.after header t s _ _ so_far.0 so_far.1 here next) in
+    let after = rw c.in-Err-Broken.is at (c.in_ok-replay_next.ensures.after header t s _ _ so_far.0 so_far.1 here next) in
     c.refuse.ensures.tells header t s (
       so_far.1,
       steps_left g.B.Read.remaining c.loop-item.steps,
@@ -62,7 +62,7 @@ returns-in-Broken-clause-tells g c = λ header t s begun.
       so_far.2.done,
       next,
       after.1,
-      λ all whole rest. after.2 all whole rest ∙ ap (λ (n : ℕ). No (n + 2) (line_named c.in-Some.step.label) c.in-Broken.rule) so_far.4,
+      λ all whole rest. after.2 all whole rest ∙ ap (λ (n : ℕ). No (n + 2) (line_named c.in-Some.step.label) c.in-Err-Broken.rule) so_far.4,
     )
 
 pub loop-item-preserved : goal.loop-item-preserved
