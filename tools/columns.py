@@ -17,9 +17,12 @@ import sys
 
 TOP = os.path.dirname(os.path.dirname(os.path.abspath(__file__)))
 BASELINE = os.path.join(TOP, "tools", "columns.txt")
+# Files of Python whose names have no ending.
+SCRIPTS = ("tcpwit", "bench/run", "bindings/test", "bindings/c/build", "importer/tcpwit-*", "packaging/build",
+           "packaging/lines/tcpwit-*", "stacks/run")
 # The maximum width of lines, by files.
 WIDTHS = (("crates/*/src/**/*.rt", 120), ("crates/*/specs/**/*.antt", 120), ("crates/*/proofs/**/*.antt", 160),
-          ("**/*.py", 120), ("**/*.md", 100))
+          ("**/*.py", 120), *((script, 120) for script in SCRIPTS), ("**/*.md", 100))
 # The beginnings of lines in a page that aren't prose: tables, and blocks of commands, output or texts.
 NO_PROSE = ("|", "    ")
 

@@ -1,6 +1,5 @@
 #!/usr/bin/env python3
-"""Shows how strictly recordings of this machine's kernel can be judged with a yes, by kernel settings, size and loss.
-Run as root.
+"""Shows how strictly recordings of this kernel can be judged with a yes, by settings, size and loss. Run as root.
 
     sudo python3 tools/recorded_figures.py --lab PATH --runs 6
 
