@@ -5,8 +5,8 @@ use crate::callers::Callers;
 use crate::fates::Fate;
 use crate::labels::{Length, RefusalWords};
 use crate::layout::{
-    BAR, BASE, DIGIT, ENTRY, Hosts, KEY, LETTER, MARGIN, MOST_BARS, NAMES, PEER, ROW, SAMPLE,
-    THREADS, TOP, ZERO,
+    BAR, BASE, DIGIT, ENTRY, Hosts, KEY, LETTER, MARGIN, MOST_BARS, MOST_PITCH, NAMES, PEER, ROW,
+    SAMPLE, THREADS, TOP, ZERO,
 };
 use crate::picture::{
     Column, Point, arrow, at, band, begin, begin_group, crossed, dot, end, end_group, line, style,
@@ -315,6 +315,9 @@ fn hosts_of(alloc: Global, case: &Case) -> Result<Hosts, OutOfMemory> {
     let digits = format!(in alloc; "{greatest}")?.len() as u64;
     Ok(Hosts {
         is_half: case.trace.header.version.is_half(),
-        pitch: digits.saturating_mul(DIGIT).saturating_add(BAR),
+        pitch: digits
+            .saturating_mul(DIGIT)
+            .saturating_add(BAR)
+            .min(MOST_PITCH),
     })
 }

@@ -35,7 +35,10 @@ pub(crate) const ZERO: u64 = 200;
 /// From a host to the middle of the bar beside it, and from there to the next bar, without the thread's digits.
 pub(crate) const BAR: u64 = 12;
 
-/// How many threads of a host have bars of their own.
+/// The greatest distance between two bars.
+pub(crate) const MOST_PITCH: u64 = 26;
+
+/// How many threads of a host have bars of their own. There is room for these, and for one that the others share.
 pub(crate) const MOST_BARS: u64 = 6;
 
 /// From host 0 to host 1, and in a half case to the peer, which is not recorded.

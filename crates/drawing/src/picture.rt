@@ -2,7 +2,6 @@
 
 use crate::Done;
 use crate::layout::LETTER;
-use case_forms::OutOfMemory;
 use std::alloc::Global;
 use std::fmt;
 
