@@ -21,11 +21,11 @@ use Rattle.verdict.proofs.RuleLemmas.{none_all}
 use Rattle.streams.specs.Lists.{modify}
 use Rattle.streams.proofs.Places.{get_append, all_push, all_modify}
 use Rattle.spec_network.specs.Tables.{pick, other, with_host, waiting}
-use Rattle.spec_network.specs.Hosts.{HostState, Turn, Idle, Called, Answered, World, HostStep, Does, Expires, Makes, Sends}
+use Rattle.spec_network.specs.Hosts.{HostState, Turn, Idle, Called, Answered, World, Deed, Does, Expires, Makes, Sends}
 use Rattle.spec_network.specs.Hosts.{Gets, Hears, Takes, Drops, Answers, Step, Begin, Finish, Effect, At, Stamped}
 use Rattle.spec_network.specs.Hosts.{turn_of}
 use Rattle.spec_network.specs.HostRules.{aim_of, Permitted}
-use Rattle.spec_network.specs.HostSteps.{host_step_after, call_after, effect_after, after, after_all, start, Lawful}
+use Rattle.spec_network.specs.HostSteps.{deed_after, call_after, effect_after, after, after_all, start, Lawful}
 use Rattle.window_rules.specs.declared.control.Profile.{Profile}
 use Rattle.spec_tcp.specs.Signals.{profile_of}
 use Rattle.spec_tcp.specs.declared.endpoint.EndpointId.{EndpointId}
@@ -211,27 +211,27 @@ moves_taking h s w host line how m steady waits may = go (taker (pick w.hosts ho
         (steady.own host i x there).waits (read_maker h.version e m) (read_syn h.version e m)
         (subst (λ (y : Endpoint). first_broken (endpoint_rules h host b how r s i y) ≡ None) one may))
 
-moves_host_step : (h : Header) (s : ℕ) (w : World tcp_shape) (host : Host) (d : HostStep tcp_shape) → Steady w.hosts → Permitted (tcp h) s w (At host d)
+moves_deed : (h : Header) (s : ℕ) (w : World tcp_shape) (host : Host) (d : Deed tcp_shape) → Steady w.hosts → Permitted (tcp h) s w (At host d)
     → Moves w (At host d) host (pick w.hosts host).body.endpoints
-    (host_step_after (tcp h) host s (suc w.count) (pick w.hosts (other host)).wire (pick w.hosts host) d).body.endpoints
-moves_host_step h s w host (Does x) steady may =
+    (deed_after (tcp h) host s (suc w.count) (pick w.hosts (other host)).wire (pick w.hosts host) d).body.endpoints
+moves_deed h s w host (Does x) steady may =
     moves_at_ports w (At host (Does x)) host (pick w.hosts host).body x.lport x.rport (λ e. after_recovery e x.cwnd x.ssthresh s) (λ e. refl)
-moves_host_step h s w host (Expires line x) steady may =
+moves_deed h s w host (Expires line x) steady may =
     moves_at_ports w (At host (Expires line x)) host (pick w.hosts host).body x.lport x.rport
     (λ e. after_expiry e x.expired s) (λ e. expiry_stream x.expired e s)
-moves_host_step h s w host (Makes m) steady may = moves_at_ports w (At host (Makes m)) host (pick w.hosts host).body m.lport m.rport (λ e. after_making e m s)
+moves_deed h s w host (Makes m) steady may = moves_at_ports w (At host (Makes m)) host (pick w.hosts host).body m.lport m.rport (λ e. after_making e m s)
     (λ e. either_stream m.flags.rst (record (shut_down (endpoint_made e m s)) { reset_due = false }) (endpoint_made e m s) e.stream refl refl)
-moves_host_step h s w host (Sends line number wire) steady may = moves_not w (At host (Sends line number wire)) host (pick w.hosts host).body.endpoints
-moves_host_step h s w host (Gets line copied wire) steady may = moves_not w (At host (Gets line copied wire)) host (pick w.hosts host).body.endpoints
-moves_host_step h s w host (Hears line wire) steady may = moves_not w (At host (Hears line wire)) host (pick w.hosts host).body.endpoints
-moves_host_step h s w host (Takes line how) steady may = let k = pick w.hosts host in let step : Step tcp_shape = At host (Takes line how) in
+moves_deed h s w host (Sends line number wire) steady may = moves_not w (At host (Sends line number wire)) host (pick w.hosts host).body.endpoints
+moves_deed h s w host (Gets line copied wire) steady may = moves_not w (At host (Gets line copied wire)) host (pick w.hosts host).body.endpoints
+moves_deed h s w host (Hears line wire) steady may = moves_not w (At host (Hears line wire)) host (pick w.hosts host).body.endpoints
+moves_deed h s w host (Takes line how) steady may = let k = pick w.hosts host in let step : Step tcp_shape = At host (Takes line how) in
     on_cases (λ (b : HostTcp). Moves w step host k.body.endpoints b.endpoints) (waiting line k.inbox) k.body _ (moves_not w step host k.body.endpoints)
     (λ m e.
     let t = on_passes (waiting line k.inbox) rules.Inbox (λ x. taker_rules h host k.body how x s (taker k.body x)) may in
     let one : t.0 ≡ m = same_Some t.0 m (sym t.1 ∙ e) in
     moves_taking h s w host line how m steady e (subst (λ (x : Emission). first_broken (taker_rules h host k.body how x s (taker k.body x)) ≡ None) one t.2))
-moves_host_step h s w host (Drops line) steady may = moves_not w (At host (Drops line)) host (pick w.hosts host).body.endpoints
-moves_host_step h s w host (Answers line) steady may = let k = pick w.hosts host in let step : Step tcp_shape = At host (Answers line) in
+moves_deed h s w host (Drops line) steady may = moves_not w (At host (Drops line)) host (pick w.hosts host).body.endpoints
+moves_deed h s w host (Answers line) steady may = let k = pick w.hosts host in let step : Step tcp_shape = At host (Answers line) in
     on_cases (λ (b : HostTcp). Moves w step host k.body.endpoints b.endpoints) (waiting line k.inbox) k.body _
     (moves_not w step host k.body.endpoints) (λ m e. moves_not w step host k.body.endpoints)
 
@@ -330,8 +330,8 @@ both_step h s w (Effect t answer) steady may = go (turn_of t w.threads)
     go (Called call) = by call (aim_of (tcp h) w.hosts (aim call))
     go (Answered x) = both_not w (Effect t answer)
 both_step h s w (At host d) steady may =
-    both_host w (At host d) host (host_step_after (tcp h) host s (suc w.count) (pick w.hosts (other host)).wire
-    (pick w.hosts host) d) (moves_host_step h s w host d steady may)
+    both_host w (At host d) host (deed_after (tcp h) host s (suc w.count) (pick w.hosts (other host)).wire
+    (pick w.hosts host) d) (moves_deed h s w host d steady may)
 
 abbrev peer_in : Option Endpoint → Option EndpointId
 peer_in o = option_map_or (λ e. e.stream.peer) o None

@@ -24,9 +24,9 @@ use Rattle.verdict.proofs.RuleLemmas.{none_all}
 use Rattle.streams.specs.Lists.{modify}
 use Rattle.streams.proofs.Places.{get_append, all_push, all_modify}
 use Rattle.spec_network.specs.Tables.{pick, other, waiting}
-use Rattle.spec_network.specs.Hosts.{World, HostStep, Does, Expires, Makes, Sends, Gets, Hears, Takes, Drops, Answers, At}
+use Rattle.spec_network.specs.Hosts.{World, Deed, Does, Expires, Makes, Sends, Gets, Hears, Takes, Drops, Answers, At}
 use Rattle.spec_network.specs.HostRules.{Permitted}
-use Rattle.spec_network.specs.HostSteps.{host_step_after}
+use Rattle.spec_network.specs.HostSteps.{deed_after}
 use Rattle.spec_network.proofs.Entries.{lookup_insert}
 use Rattle.window_rules.specs.declared.control.Profile.{Profile}
 use Rattle.spec_tcp.specs.Signals.{profile_of}
@@ -308,31 +308,31 @@ moved_taking all a h x b how m s from may = go (taker b m) refl may
           sockets = λ n t e. inl (t, e, refl);
         }
 
-pub moved_host_step : (all : List CallDone) (h : Header) (s : ℕ) (w : World tcp_shape) (host : Host) (d : HostStep tcp_shape)
+pub moved_deed : (all : List CallDone) (h : Header) (s : ℕ) (w : World tcp_shape) (host : Host) (d : Deed tcp_shape)
     → ((n : ℕ) (m : Emission) → waiting n (pick w.hosts host).inbox ≡ Some m → m.flags.syn ≡ true
     → (m.sender.host ≡ other host) × HasAt w.hosts m.sender m.lport m.rport) → Permitted (tcp h) s w (At host d)
-    → Moved all w.hosts host (pick w.hosts host).body (host_step_after (tcp h) host s (suc w.count) (pick w.hosts (other host)).wire (pick w.hosts host) d).body
-moved_host_step all h s w host (Does x) from may =
+    → Moved all w.hosts host (pick w.hosts host).body (deed_after (tcp h) host s (suc w.count) (pick w.hosts (other host)).wire (pick w.hosts host) d).body
+moved_deed all h s w host (Does x) from may =
     moved_at_ports all w.hosts host (pick w.hosts host).body x.lport x.rport (λ e. after_recovery e x.cwnd x.ssthresh s)
     (λ e. plain_end e (after_recovery e x.cwnd x.ssthresh s) refl refl refl)
-moved_host_step all h s w host (Expires line x) from may =
+moved_deed all h s w host (Expires line x) from may =
     moved_at_ports all w.hosts host (pick w.hosts host).body x.lport x.rport (λ e. after_expiry e x.expired s)
     (λ e. expiry_end e x.expired s)
-moved_host_step all h s w host (Makes m) from may =
+moved_deed all h s w host (Makes m) from may =
     moved_at_ports all w.hosts host (pick w.hosts host).body m.lport m.rport (λ e. after_making e m s)
     (λ e. making_end e m s)
-moved_host_step all h s w host (Sends line number wire) from may = moved_not all w.hosts host (pick w.hosts host).body
-moved_host_step all h s w host (Gets line copied wire) from may = moved_not all w.hosts host (pick w.hosts host).body
-moved_host_step all h s w host (Hears line wire) from may = moved_not all w.hosts host (pick w.hosts host).body
-moved_host_step all h s w host (Takes line how) from may = let k = pick w.hosts host in
+moved_deed all h s w host (Sends line number wire) from may = moved_not all w.hosts host (pick w.hosts host).body
+moved_deed all h s w host (Gets line copied wire) from may = moved_not all w.hosts host (pick w.hosts host).body
+moved_deed all h s w host (Hears line wire) from may = moved_not all w.hosts host (pick w.hosts host).body
+moved_deed all h s w host (Takes line how) from may = let k = pick w.hosts host in
     on_cases (λ (c : HostTcp). Moved all w.hosts host k.body c) (waiting line k.inbox) k.body _ (moved_not all w.hosts host k.body)
     (λ m e.
     let t = on_passes (waiting line k.inbox) rules.Inbox (λ x. taker_rules h host k.body how x s (taker k.body x)) may in
     let one : t.0 ≡ m = same_Some t.0 m (sym t.1 ∙ e) in
     moved_taking all w.hosts h host k.body how m s (from line m e)
     (subst (λ (x : Emission). first_broken (taker_rules h host k.body how x s (taker k.body x)) ≡ None) one t.2))
-moved_host_step all h s w host (Drops line) from may = moved_not all w.hosts host (pick w.hosts host).body
-moved_host_step all h s w host (Answers line) from may = let k = pick w.hosts host in
+moved_deed all h s w host (Drops line) from may = moved_not all w.hosts host (pick w.hosts host).body
+moved_deed all h s w host (Answers line) from may = let k = pick w.hosts host in
     on_cases (λ (c : HostTcp). Moved all w.hosts host k.body c) (waiting line k.inbox) k.body _
     (moved_not all w.hosts host k.body) (λ m e. moved_not all w.hosts host k.body)
 

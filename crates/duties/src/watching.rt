@@ -10,8 +10,7 @@ ghost use Rattle.verdict.specs.Rules.{first_broken};
 ghost use Rattle.spec_network.specs.Tables.{on, pick, waiting};
 ghost use Rattle.spec_duties.specs.Owed.{late_rules, lates_of, nothing, owed_after};
 ghost use Rattle.spec_duties.specs.Watching.{built_after, built_by, builds_mere_ack, closed_at, counts_for, counts_now};
-ghost use Rattle.spec_duties.specs.Watching.{drops_needed, duties_after, duty_rules, inbox_after, is_needed};
-ghost use Rattle.spec_duties.specs.Watching.{is_droppable};
+ghost use Rattle.spec_duties.specs.Watching.{drops_needed, duties_after, duty_rules, inbox_after, is_needed, is_spared};
 ghost use Rattle.spec_duties.specs.Watching.{joined, leaves_late, left, limit_rules, listener_closed, listening_after};
 ghost use Rattle.spec_duties.specs.Watching.{listening_at, moved, moved_by, new_listening, owed_by, owed_table_after};
 ghost use Rattle.spec_duties.specs.Watching.{queued, sent_late, start, touched_rules};
@@ -23,8 +22,7 @@ use crate::per_host::PerHost;
 use crate::resent::{is_resent, is_resent_beyond};
 use case_forms::{Header, Host, OutOfMemory};
 use spec_duties::{
-    Built, BuiltChange, Droppable, Dropping, Event, InboxChange, Listening, Observation, Owed,
-    Queueing, TouchedEndpoint, View,
+    Built, Dropping, Event, Listening, Mail, Owed, Post, Queueing, Sight, Spared, Touched, View,
 };
 use std::alloc::Global;
 use std::marker::Model;
@@ -123,13 +121,13 @@ impl Duties {
     }
 
     #[inline(always)]
-    fn is_droppable(&self, host: Host, droppable: Droppable) -> bool
-        ensures { result ≡ is_droppable self.now host droppable }
+    fn is_spared(&self, host: Host, spared: Spared) -> bool
+        ensures { result ≡ is_spared self.now host spared }
     {
-        match droppable {
-            Droppable::No => false,
-            Droppable::Yes => true,
-            Droppable::IfFull { listener, backlog } => {
+        match spared {
+            Spared::No => false,
+            Spared::Yes => true,
+            Spared::IfFull { listener, backlog } => {
                 u32::from(backlog) <= self.listening_at(host, listener).children
             }
         }
@@ -139,8 +137,7 @@ impl Duties {
     fn is_needed(&self, dropping: &Dropping) -> bool
         ensures { result ≡ is_needed self.now dropping.now }
     {
-        dropping.takeable && !self.is_droppable(dropping.host, dropping.droppable)
-            || dropping.answerable
+        dropping.takeable && !self.is_spared(dropping.host, dropping.spared) || dropping.answerable
     }
 
     #[inline(always)]
@@ -154,28 +151,28 @@ impl Duties {
     }
 
     #[inline(always)]
-    fn leaves_late(&self, slack: u64, moment: u64, inbox_change: InboxChange) -> bool
-        ensures { result ≡ leaves_late slack moment self.now inbox_change }
+    fn leaves_late(&self, slack: u64, moment: u64, mail: Mail) -> bool
+        ensures { result ≡ leaves_late slack moment self.now mail }
     {
-        match inbox_change {
-            InboxChange::Leaves(line) => match self.inbox.get(line) {
+        match mail {
+            Mail::Leaves(line) => match self.inbox.get(line) {
                 Some(since) => is_late_at_once(slack, moment, *since),
                 None => false,
             },
-            InboxChange::Nothing | InboxChange::Enters(_) => false,
+            Mail::Nothing | Mail::Enters(_) => false,
         }
     }
 
     #[inline(always)]
-    fn built_by(&self, built_change: BuiltChange) -> Option<Built>
-        ensures { result ≡ built_by self.now built_change }
+    fn built_by(&self, post: Post) -> Option<Built>
+        ensures { result ≡ built_by self.now post }
     {
-        match built_change {
-            BuiltChange::Sends(number) => match self.built.get(u64::from(number)) {
+        match post {
+            Post::Sends(number) => match self.built.get(u64::from(number)) {
                 Some(built) => *built,
                 None => None,
             },
-            BuiltChange::Nothing | BuiltChange::Builds(_) => None,
+            Post::Nothing | Post::Builds(_) => None,
         }
     }
 
@@ -186,7 +183,7 @@ impl Duties {
         slack: u64,
         moment: u64,
         counts: bool,
-        touched: &TouchedEndpoint,
+        touched: &Touched,
     ) -> Result<(), Rule>
         ensures { result_err result ≡ first_broken (touched_rules header.now slack moment self.now counts touched.now) }
     {
@@ -205,24 +202,24 @@ impl Duties {
         header: &Header,
         slack: u64,
         moment: u64,
-        seen: &Observation,
+        sight: &Sight,
     ) -> Result<(), Rule>
-        ensures { result_err result ≡ first_broken (duty_rules header.now slack moment self.now seen.now) }
+        ensures { result_err result ≡ first_broken (duty_rules header.now slack moment self.now sight.now) }
     {
-        if self.drops_needed(&seen.dropping) {
+        if self.drops_needed(&sight.dropping) {
             return Err(Rule::Dropped);
         }
-        if seen.discards {
+        if sight.discards {
             return Err(Rule::Discarded);
         }
-        if self.leaves_late(slack, moment, seen.inbox_change) {
+        if self.leaves_late(slack, moment, sight.mail) {
             return Err(Rule::ProcessLate);
         }
-        let built = self.built_by(seen.built_change);
+        let built = self.built_by(sight.post);
         if is_sent_late(slack, moment, built) {
             return Err(Rule::SendLate);
         }
-        match &seen.touched {
+        match &sight.touched {
             Some(touched) => {
                 self.admits_touched(header, slack, moment, counts_now(built), touched)
             }
@@ -265,12 +262,7 @@ fn counts_now(built: Option<Built>) -> bool
 }
 
 #[inline(always)]
-fn admits_limits(
-    header: &Header,
-    touched: &TouchedEndpoint,
-    counts: bool,
-    owed: &Owed,
-) -> Result<(), Rule>
+fn admits_limits(header: &Header, touched: &Touched, counts: bool, owed: &Owed) -> Result<(), Rule>
     ensures { result_err result ≡ first_broken (limit_rules header.now touched.now counts owed.now) }
 {
     if is_resent(
@@ -298,7 +290,7 @@ fn admits_endpoint(
     moment: u64,
     listener_closed: Option<u64>,
     counts: bool,
-    touched: &TouchedEndpoint,
+    touched: &Touched,
     owed: &Owed,
 ) -> Result<(), Rule>
     ensures { result_err result ≡ first_broken
@@ -367,7 +359,7 @@ fn move_child(
 
 // Whether a segment that is built now is a mere acknowledgment.
 #[inline(always)]
-fn builds_mere_ack(after: &View, touched: &Option<TouchedEndpoint>) -> bool
+fn builds_mere_ack(after: &View, touched: &Option<Touched>) -> bool
     ensures { result ≡ option_map_or (builds_mere_ack after.now) touched.now false }
 {
     let Some(touched) = touched else {
@@ -386,41 +378,37 @@ fn builds_mere_ack(after: &View, touched: &Option<TouchedEndpoint>) -> bool
 }
 
 #[inline(always)]
-fn note_inbox_change(
-    inbox: &mut Table<Option<u64>>,
-    moment: u64,
-    inbox_change: InboxChange,
-) -> Result<(), OutOfMemory>
-    ensures { OnOk result (inbox.new.entries ≡ inbox_after moment inbox_change inbox.old.entries) }
+fn note_mail(inbox: &mut Table<Option<u64>>, moment: u64, mail: Mail) -> Result<(), OutOfMemory>
+    ensures { OnOk result (inbox.new.entries ≡ inbox_after moment mail inbox.old.entries) }
 {
-    match inbox_change {
-        InboxChange::Nothing => Ok(()),
-        InboxChange::Enters(line) => inbox.insert(line, Some(moment)),
-        InboxChange::Leaves(line) => inbox.insert(line, None),
+    match mail {
+        Mail::Nothing => Ok(()),
+        Mail::Enters(line) => inbox.insert(line, Some(moment)),
+        Mail::Leaves(line) => inbox.insert(line, None),
     }
 }
 
 #[inline(always)]
-fn note_built_change(
+fn note_post(
     built: &mut Table<Option<Built>>,
     moment: u64,
-    seen: &Observation,
+    sight: &Sight,
     after: &View,
 ) -> Result<(), OutOfMemory>
     ensures { OnOk result
-        (built.new.entries ≡ built_after after.now moment seen.now.touched seen.now.built_change built.old.entries) }
+        (built.new.entries ≡ built_after after.now moment sight.now.touched sight.now.post built.old.entries) }
 {
-    match seen.built_change {
-        BuiltChange::Nothing => Ok(()),
-        BuiltChange::Builds(number) => {
-            let counts = builds_mere_ack(after, &seen.touched);
+    match sight.post {
+        Post::Nothing => Ok(()),
+        Post::Builds(number) => {
+            let counts = builds_mere_ack(after, &sight.touched);
             let it = Built {
                 since: moment,
                 counts,
             };
             built.insert(u64::from(number), Some(it))
         }
-        BuiltChange::Sends(number) => built.insert(u64::from(number), None),
+        Post::Sends(number) => built.insert(u64::from(number), None),
     }
 }
 
@@ -442,7 +430,7 @@ fn note_in(
     moment: u64,
     listener_closed: Option<u64>,
     counts: bool,
-    touched: &TouchedEndpoint,
+    touched: &Touched,
     after: &View,
 ) -> Result<(), OutOfMemory>
     ensures { OnOk result (table.new.entries ≡ insert_entry nat_eq table.old.entries touched.now.place
@@ -468,7 +456,7 @@ impl Duties {
         &mut self,
         moment: u64,
         counts: bool,
-        touched: &TouchedEndpoint,
+        touched: &Touched,
         after: &View,
     ) -> Result<(), OutOfMemory>
         ensures { OnOk result (self.new
@@ -487,7 +475,7 @@ impl Duties {
 
     // The listener of that endpoint.
     #[inline(always)]
-    fn note_child(&mut self, touched: &TouchedEndpoint, after: &View) -> Result<(), OutOfMemory>
+    fn note_child(&mut self, touched: &Touched, after: &View) -> Result<(), OutOfMemory>
         ensures { OnOk result (self.new
             ≡ record self.old { listening = moved_by after.now self.old.listening touched.now }) }
     {
@@ -514,16 +502,16 @@ impl Duties {
     /// Notes a step, if the endpoint that it touched is then seen like this. If memory runs out, the duties are of no
     /// use any more.
     #[inline(always)]
-    pub fn note(&mut self, moment: u64, seen: &Observation, after: &View) -> Result<(), OutOfMemory>
-        ensures { OnOk result (self.new ≡ duties_after after.now moment seen.now self.old) }
+    pub fn note(&mut self, moment: u64, sight: &Sight, after: &View) -> Result<(), OutOfMemory>
+        ensures { OnOk result (self.new ≡ duties_after after.now moment sight.now self.old) }
     {
-        let counts = counts_now(self.built_by(seen.built_change));
-        if let Some(touched) = &seen.touched {
+        let counts = counts_now(self.built_by(sight.post));
+        if let Some(touched) = &sight.touched {
             self.note_owed(moment, counts, touched, after)?;
             self.note_child(touched, after)?;
         }
-        self.note_queueing(moment, seen.queueing)?;
-        note_inbox_change(&mut self.inbox, moment, seen.inbox_change)?;
-        note_built_change(&mut self.built, moment, seen, after)
+        self.note_queueing(moment, sight.queueing)?;
+        note_mail(&mut self.inbox, moment, sight.mail)?;
+        note_post(&mut self.built, moment, sight, after)
     }
 }

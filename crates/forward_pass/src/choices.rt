@@ -51,7 +51,7 @@ pub enum Unseen {
 
 /// What is done otherwise at a line.
 #[derive(Clone, Copy, PartialEq, Eq)]
-pub enum Action {
+pub enum Deed {
     /// This becomes of its arrival.
     Fate(Fate),
     /// Its arrival or its call waits until after this line.
@@ -69,7 +69,7 @@ pub enum Action {
 pub struct Choice {
     /// The place of the line.
     pub place: usize,
-    pub action: Action,
+    pub deed: Deed,
 }
 
 /// What was chosen for an arrival.
@@ -121,8 +121,8 @@ pub struct Choices {
 // Puts a choice at its lines.
 fn put(by_place: &mut ByPlace, choice: Choice) -> Result<(), OutOfMemory> {
     put_at(by_place, choice.place, choice)?;
-    match choice.action {
-        Action::WaitUntil(after) => put_at(by_place, after, choice),
+    match choice.deed {
+        Deed::WaitUntil(after) => put_at(by_place, after, choice),
         _ => Ok(()),
     }
 }
@@ -195,7 +195,7 @@ impl Choices {
     pub(crate) fn arrival(&self, place: usize) -> Arrival {
         let mut arrival = Arrival::default();
         for choice in self.at(place) {
-            if let Action::Fate(fate) = choice.action {
+            if let Deed::Fate(fate) = choice.deed {
                 arrival.choose(fate);
             }
         }
@@ -205,6 +205,6 @@ impl Choices {
     /// Whether the arrival or the call of a line waits for a later one.
     pub(crate) fn waits(&self, place: usize) -> bool {
         let mut choices = self.at(place).iter();
-        choices.any(|choice| choice.place == place && matches!(choice.action, Action::WaitUntil(_)))
+        choices.any(|choice| choice.place == place && matches!(choice.deed, Deed::WaitUntil(_)))
     }
 }

@@ -35,7 +35,7 @@ mod stop;
 mod watching;
 
 pub use attempt::{Attempt, End, Failure};
-pub use choices::{Action, Choice, Choices, Fate, Remedy, Unseen};
+pub use choices::{Choice, Choices, Deed, Fate, Remedy, Unseen};
 pub use key::EndpointKey;
 pub use outgoing::LaterLines;
 pub use pass::Sought;

@@ -8,7 +8,7 @@ mod unseen;
 
 use crate::attempt::{End, Failure};
 use crate::calls::{Calls, key_of_call};
-use crate::choices::{Action, Choices, Remedy};
+use crate::choices::{Choices, Deed, Remedy};
 use crate::copies::Copies;
 use crate::key::EndpointKey;
 use crate::late::{Late, Waiting};
@@ -124,7 +124,7 @@ impl<'t> Pass<'t> {
     fn prepare(&mut self, place: usize) -> Done {
         let choices = self.choices;
         for choice in choices.at(place) {
-            if let Action::Before(at, remedy) = choice.action {
+            if let Deed::Before(at, remedy) = choice.deed {
                 self.apply(at, remedy)?;
             }
         }
@@ -148,12 +148,12 @@ impl<'t> Pass<'t> {
     fn build_chosen(&mut self, place: usize) -> Done {
         let choices = self.choices;
         for choice in choices.at(place) {
-            match choice.action {
-                Action::Build(later) => self.make_early(later)?,
-                Action::BuildUnseen(at, unseen) => {
+            match choice.deed {
+                Deed::Build(later) => self.make_early(later)?,
+                Deed::BuildUnseen(at, unseen) => {
                     self.make_unseen(at, unseen, u64::MAX)?;
                 }
-                Action::Fate(_) | Action::WaitUntil(_) | Action::Before(..) => {}
+                Deed::Fate(_) | Deed::WaitUntil(_) | Deed::Before(..) => {}
             }
         }
         Ok(())
@@ -163,7 +163,7 @@ impl<'t> Pass<'t> {
     fn end_waits(&mut self, place: usize) -> Done {
         let choices = self.choices;
         for choice in choices.at(place) {
-            if choice.action == Action::WaitUntil(place) {
+            if choice.deed == Deed::WaitUntil(place) {
                 self.end_wait(choice.place)?;
             }
         }

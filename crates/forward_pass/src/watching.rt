@@ -7,10 +7,10 @@ ghost use Rattle.spec_step.specs.Acts.{IsSmall};
 use case_forms::TakenLine;
 use duties::Duties;
 use endpoint_state::{StepFault, World};
-use spec_duties::Observation;
+use spec_duties::Sight;
 use spec_step::{Hidden, ModelStep};
 use verdict::Rule;
-use watched::{observe_hidden, observe_line, view_in};
+use watched::{sight_of_hidden, sight_of_line, view_in};
 
 /// When a step is done, and how duties judge it.
 #[derive(Clone, Copy)]
@@ -25,9 +25,9 @@ pub(crate) struct Watch {
 
 impl Watch {
     // The rule of a duty that a step breaks. None: it breaks none.
-    fn broken(self, world: &World, duties: &Duties, seen: &Observation) -> Option<Rule> {
+    fn broken(self, world: &World, duties: &Duties, sight: &Sight) -> Option<Rule> {
         duties
-            .admits(world.header(), self.slack, self.moment, seen)
+            .admits(world.header(), self.slack, self.moment, sight)
             .err()
     }
 
@@ -43,12 +43,12 @@ impl Watch {
         world: &World,
         duties: &Duties,
         step: &S,
-        seen: &Observation,
+        sight: &Sight,
     ) -> Result<Option<Rule>, Rule>
         requires steps { world.now.steps < most_steps }
         requires small { S.is_small step.now }
     {
-        let broken = self.broken(world, duties, seen);
+        let broken = self.broken(world, duties, sight);
         if let Some(rule) = broken {
             self.permits(rule, step.admits(world, self.moment))?;
         }
@@ -56,9 +56,9 @@ impl Watch {
     }
 
     // What hosts owe after a step.
-    fn note(self, world: &World, duties: &mut Duties, seen: &Observation) -> Result<(), StepFault> {
-        let now = view_in(world, &seen.touched);
-        duties.note(self.moment, seen, &now)?;
+    fn note(self, world: &World, duties: &mut Duties, sight: &Sight) -> Result<(), StepFault> {
+        let now = view_in(world, &sight.touched);
+        duties.note(self.moment, sight, &now)?;
         Ok(())
     }
 
@@ -68,14 +68,14 @@ impl Watch {
         world: &mut World,
         duties: &mut Duties,
         step: S,
-        seen: &Observation,
+        sight: &Sight,
     ) -> Result<Option<Rule>, StepFault>
         requires steps { world.old.steps < most_steps }
         requires small { S.is_small step }
     {
-        let broken = self.judge(world, duties, &step, seen)?;
+        let broken = self.judge(world, duties, &step, sight)?;
         step.apply(world, self.moment)?;
-        self.note(world, duties, seen)?;
+        self.note(world, duties, sight)?;
         Ok(broken)
     }
 
@@ -89,8 +89,8 @@ impl Watch {
     ) -> Result<Option<Rule>, StepFault>
         requires { world.old.steps < most_steps }
     {
-        let seen = observe_line(world, self.moment, &line);
-        self.step(world, duties, line, &seen)
+        let sight = sight_of_line(world, self.moment, &line);
+        self.step(world, duties, line, &sight)
     }
 
     /// Does a step that takes none, in the same way.
@@ -103,7 +103,7 @@ impl Watch {
         requires steps { world.old.steps < most_steps }
         requires small { IsSmall step }
     {
-        let seen = observe_hidden(world, self.moment, &step);
-        self.step(world, duties, step, &seen)
+        let sight = sight_of_hidden(world, self.moment, &step);
+        self.step(world, duties, step, &sight)
     }
 }

@@ -6,7 +6,7 @@ use Rattle.std.proofs.lemmas.Option.{none-some, same_Some}
 use Rattle.case_forms.specs.declared.calls.Host.{Host}
 use Rattle.case_forms.specs.declared.trace.Header.{Header}
 use Rattle.spec_network.specs.Tables.{pick}
-use Rattle.spec_network.specs.Hosts.{HostStep, Does, Expires, Makes, Sends, Gets, Hears, Takes, Drops, Answers, Begin, Finish, Effect, At}
+use Rattle.spec_network.specs.Hosts.{Deed, Does, Expires, Makes, Sends, Gets, Hears, Takes, Drops, Answers, Begin, Finish, Effect, At}
 use Rattle.spec_tcp.specs.Machine.{tcp, tcp_shape}
 use Rattle.spec_merge.specs.Books.{Item, Do, Bring, Key, item_line}
 use Rattle.spec_merge.specs.Keys.{EachEntry, If, NamesOne, Numbered, before}
@@ -61,20 +61,20 @@ lined h (Bring f) = inl (refl, refl)
 lined h (Do (Begin line t call)) = inr (line, refl, refl)
 lined h (Do (Finish line t answer)) = inr (line, refl, refl)
 lined h (Do (Effect t answer)) = inl (refl, refl)
-lined h (Do (At host d)) = host_step d
+lined h (Do (At host d)) = deed d
   where
-    host_step : (d : HostStep tcp_shape)
+    deed : (d : Deed tcp_shape)
         → ((takes_line (Do (At host d)) ≡ false) × (item_line (tcp h) (Do (At host d)) ≡ None))
         ⊎ ((m : ℕ) × (takes_line (Do (At host d)) ≡ true) × (item_line (tcp h) (Do (At host d)) ≡ Some m))
-    host_step (Does x) = inl (refl, refl)
-    host_step (Expires line x) = inr (line, refl, refl)
-    host_step (Makes plan) = inl (refl, refl)
-    host_step (Sends line number wire) = inr (line, refl, refl)
-    host_step (Gets line copied wire) = inr (line, refl, refl)
-    host_step (Hears line wire) = inr (line, refl, refl)
-    host_step (Takes line choice) = inl (refl, refl)
-    host_step (Drops line) = inl (refl, refl)
-    host_step (Answers line) = inl (refl, refl)
+    deed (Does x) = inl (refl, refl)
+    deed (Expires line x) = inr (line, refl, refl)
+    deed (Makes plan) = inl (refl, refl)
+    deed (Sends line number wire) = inr (line, refl, refl)
+    deed (Gets line copied wire) = inr (line, refl, refl)
+    deed (Hears line wire) = inr (line, refl, refl)
+    deed (Takes line choice) = inl (refl, refl)
+    deed (Drops line) = inl (refl, refl)
+    deed (Answers line) = inl (refl, refl)
 
 -- the first of numbered entries
 abbrev pub Front : Header → ℕ → TcpEntry → List TcpEntry → Type 0

@@ -7,7 +7,7 @@ use Rattle.case_forms.specs.declared.calls.Host.{Host}
 use Rattle.case_forms.specs.declared.calls.Host.TheVariants.{Zero, One}
 use Rattle.case_forms.specs.declared.trace.Header.{Header}
 use Rattle.spec_network.specs.Tables.{on}
-use Rattle.spec_network.specs.Hosts.{HostStep, Does, Expires, Makes, Sends, Gets, Hears, Takes, Drops, Answers, Step, Begin, Finish, Effect, At, Stamped}
+use Rattle.spec_network.specs.Hosts.{Deed, Does, Expires, Makes, Sends, Gets, Hears, Takes, Drops, Answers, Step, Begin, Finish, Effect, At, Stamped}
 use Rattle.spec_tcp.specs.Machine.{tcp, tcp_shape}
 use Rattle.spec_merge.specs.Books.{Item, Do, Bring, item_line}
 use Rattle.spec_merge.specs.Keys as keys
@@ -122,19 +122,19 @@ one_more b t u g ms all is c = subst (λ (xs : List (Option Host)). AreCounted t
 line_head : (h : Header) (x : TcpEntry) (xs : List TcpEntry) → line_turns (tcp h) (x ∷ xs) ≡ turn_if (takes_line x.item) x.key.host (line_turns (tcp h) xs)
 line_head h x xs = go x.item
   where
-    host_step : (host : Host) (d : HostStep tcp_shape)
+    deed : (host : Host) (d : Deed tcp_shape)
         → on (item_line (tcp h) (Do (At host d))) (line_turns (tcp h) xs)
         (λ line. Some x.key.host ∷ line_turns (tcp h) xs)
         ≡ turn_if (takes_line (Do (At host d))) x.key.host (line_turns (tcp h) xs)
-    host_step host (Does y) = refl
-    host_step host (Expires line y) = refl
-    host_step host (Makes plan) = refl
-    host_step host (Sends line number wire) = refl
-    host_step host (Gets line copied wire) = refl
-    host_step host (Hears line wire) = refl
-    host_step host (Takes line choice) = refl
-    host_step host (Drops line) = refl
-    host_step host (Answers line) = refl
+    deed host (Does y) = refl
+    deed host (Expires line y) = refl
+    deed host (Makes plan) = refl
+    deed host (Sends line number wire) = refl
+    deed host (Gets line copied wire) = refl
+    deed host (Hears line wire) = refl
+    deed host (Takes line choice) = refl
+    deed host (Drops line) = refl
+    deed host (Answers line) = refl
 
     go : (item : Item tcp_shape)
         → on (item_line (tcp h) item) (line_turns (tcp h) xs) (λ line. Some x.key.host ∷ line_turns (tcp h) xs)
@@ -143,28 +143,28 @@ line_head h x xs = go x.item
     go (Do (Begin line t call)) = refl
     go (Do (Finish line t answer)) = refl
     go (Do (Effect t answer)) = refl
-    go (Do (At host d)) = host_step host d
+    go (Do (At host d)) = deed host d
 
 make_head : (h : Header) (x : TcpEntry) (xs : List TcpEntry) → make_turns (tcp h) (x ∷ xs) ≡ turn_if (makes_segment x.item) x.key.host (make_turns (tcp h) xs)
 make_head h x xs = ap (λ (b : Bool). turn_if b x.key.host (make_turns (tcp h) xs)) (go x.item)
   where
-    host_step : (host : Host) (d : HostStep tcp_shape) → item_makes (tcp h) (Do (At host d)) ≡ makes_segment (Do (At host d))
-    host_step host (Does y) = refl
-    host_step host (Expires line y) = refl
-    host_step host (Makes plan) = refl
-    host_step host (Sends line number wire) = refl
-    host_step host (Gets line copied wire) = refl
-    host_step host (Hears line wire) = refl
-    host_step host (Takes line choice) = refl
-    host_step host (Drops line) = refl
-    host_step host (Answers line) = refl
+    deed : (host : Host) (d : Deed tcp_shape) → item_makes (tcp h) (Do (At host d)) ≡ makes_segment (Do (At host d))
+    deed host (Does y) = refl
+    deed host (Expires line y) = refl
+    deed host (Makes plan) = refl
+    deed host (Sends line number wire) = refl
+    deed host (Gets line copied wire) = refl
+    deed host (Hears line wire) = refl
+    deed host (Takes line choice) = refl
+    deed host (Drops line) = refl
+    deed host (Answers line) = refl
 
     go : (item : Item tcp_shape) → item_makes (tcp h) item ≡ makes_segment item
     go (Bring f) = refl
     go (Do (Begin line t call)) = refl
     go (Do (Finish line t answer)) = refl
     go (Do (Effect t answer)) = refl
-    go (Do (At host d)) = host_step host d
+    go (Do (At host d)) = deed host d
 
 lines_counted : (h : Header) (c : Counts) (xs : List TcpEntry) → AreCounted c.lines (counted c xs).lines (line_turns (tcp h) xs)
 lines_counted h c [] = nothing_more c.lines
@@ -219,18 +219,18 @@ renumbered_is : (h : Header) (names : Names) (g : Host) (s : Step tcp_shape) →
 renumbered_is h names g (Begin line t call) = refl
 renumbered_is h names g (Finish line t answer) = refl
 renumbered_is h names g (Effect t answer) = refl
-renumbered_is h names g (At host d) = host_step d
+renumbered_is h names g (At host d) = deed d
   where
-    host_step : (d : HostStep tcp_shape) → renumbered names g (At host d) ≡ restep (tcp h) names g (At host d)
-    host_step (Does y) = refl
-    host_step (Expires line y) = refl
-    host_step (Makes plan) = refl
-    host_step (Sends line number wire) = refl
-    host_step (Gets line copied wire) = refl
-    host_step (Hears line wire) = refl
-    host_step (Takes line choice) = refl
-    host_step (Drops line) = refl
-    host_step (Answers line) = refl
+    deed : (d : Deed tcp_shape) → renumbered names g (At host d) ≡ restep (tcp h) names g (At host d)
+    deed (Does y) = refl
+    deed (Expires line y) = refl
+    deed (Makes plan) = refl
+    deed (Sends line number wire) = refl
+    deed (Gets line copied wire) = refl
+    deed (Hears line wire) = refl
+    deed (Takes line choice) = refl
+    deed (Drops line) = refl
+    deed (Answers line) = refl
 
 pub steps_are : (h : Header) (names : Names) (xs : List TcpEntry) → all_renumbered names xs ≡ steps_of (tcp h) names xs
 steps_are h names [] = refl

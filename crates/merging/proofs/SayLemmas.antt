@@ -21,9 +21,9 @@ use Rattle.case_forms.specs.Versions.{is_half}
 use Rattle.verdict.specs.declared.rule.Rule.TheVariants as rules
 use Rattle.verdict.specs.Rules.{first_broken}
 use Rattle.spec_network.specs.Tables.{on, other, pick}
-use Rattle.spec_network.specs.Hosts.{HostStep, Does, Expires, Makes, Sends, Gets, Hears, Takes, Drops, Answers, Step, Begin}
+use Rattle.spec_network.specs.Hosts.{Deed, Does, Expires, Makes, Sends, Gets, Hears, Takes, Drops, Answers, Step, Begin}
 use Rattle.spec_network.specs.Hosts.{Finish, Effect, At, Stamped, HostState, World}
-use Rattle.spec_network.specs.HostRules.{Permitted, host_step_rules, just}
+use Rattle.spec_network.specs.HostRules.{Permitted, deed_rules, just}
 use Rattle.spec_network.specs.HostSteps.{Lawful, after}
 use Rattle.spec_tcp.specs.declared.endpoint.Emission.{Emission}
 use Rattle.spec_tcp.specs.Machine.{tcp, tcp_shape}
@@ -105,12 +105,12 @@ expiry_line h moment host line lport rport expireds.Giveup =
     }
 
 -- what comes in names the line that it copies
-abbrev pub IsWholeHostStep : HostStep tcp_shape → Type 0
-IsWholeHostStep (Hears line wire) = ⊥
-IsWholeHostStep d = Unit {0}
+abbrev pub IsWholeDeed : Deed tcp_shape → Type 0
+IsWholeDeed (Hears line wire) = ⊥
+IsWholeDeed d = Unit {0}
 
 abbrev pub IsWhole : Step tcp_shape → Type 0
-IsWhole (At host d) = IsWholeHostStep d
+IsWhole (At host d) = IsWholeDeed d
 IsWhole step = Unit {0}
 
 module _ (h : Header) (both : is_half h.version ≡ false) where
@@ -125,11 +125,11 @@ module _ (h : Header) (both : is_half h.version ≡ false) where
     takes = λ lines at. (_, at, ap (λ (b : Bool). if b then 0 else 1) (sym both));
   }
 
-  host_step_is : (moment : ℕ) (host : Host) (d : HostStep tcp_shape) → IsWholeHostStep d → IsHidden h moment (At host d) ⊎ IsLine h moment (At host d)
-  host_step_is moment host (Does x) w = inl (record { said = refl; number = refl; event = refl; act = λ find. refl; takes = λ lines. tt })
-  host_step_is moment host (Expires line x) w = inr (expiry_line h moment host line x.lport x.rport x.expired)
-  host_step_is moment host (Makes plan) w = inl (record { said = refl; number = refl; event = refl; act = λ find. refl; takes = λ lines. tt })
-  host_step_is moment host (Sends line number wire) w =
+  deed_is : (moment : ℕ) (host : Host) (d : Deed tcp_shape) → IsWholeDeed d → IsHidden h moment (At host d) ⊎ IsLine h moment (At host d)
+  deed_is moment host (Does x) w = inl (record { said = refl; number = refl; event = refl; act = λ find. refl; takes = λ lines. tt })
+  deed_is moment host (Expires line x) w = inr (expiry_line h moment host line x.lport x.rport x.expired)
+  deed_is moment host (Makes plan) w = inl (record { said = refl; number = refl; event = refl; act = λ find. refl; takes = λ lines. tt })
+  deed_is moment host (Sends line number wire) w =
       inr (record {
         line = _;
         said = refl;
@@ -139,11 +139,11 @@ module _ (h : Header) (both : is_half h.version ≡ false) where
         act = λ find at. ap (looked_up (extras.One number)) at;
         takes = λ lines at. (_, at, refl);
       })
-  host_step_is moment host (Gets line copied wire) w = inr (came_in moment host line copied wire)
-  host_step_is moment host (Hears line wire) w = absurd w
-  host_step_is moment host (Takes line choice) w = inl (record { said = refl; number = refl; event = refl; act = λ find. refl; takes = λ lines. tt })
-  host_step_is moment host (Drops line) w = inl (record { said = refl; number = refl; event = refl; act = λ find. refl; takes = λ lines. tt })
-  host_step_is moment host (Answers line) w = inl (record { said = refl; number = refl; event = refl; act = λ find. refl; takes = λ lines. tt })
+  deed_is moment host (Gets line copied wire) w = inr (came_in moment host line copied wire)
+  deed_is moment host (Hears line wire) w = absurd w
+  deed_is moment host (Takes line choice) w = inl (record { said = refl; number = refl; event = refl; act = λ find. refl; takes = λ lines. tt })
+  deed_is moment host (Drops line) w = inl (record { said = refl; number = refl; event = refl; act = λ find. refl; takes = λ lines. tt })
+  deed_is moment host (Answers line) w = inl (record { said = refl; number = refl; event = refl; act = λ find. refl; takes = λ lines. tt })
 
   step_is : (moment : ℕ) (step : Step tcp_shape) → IsWhole step → IsHidden h moment step ⊎ IsLine h moment step
   step_is moment (Begin line t call) w =
@@ -167,27 +167,27 @@ module _ (h : Header) (both : is_half h.version ≡ false) where
         takes = λ lines at. (_, at, refl);
       })
   step_is moment (Effect t answer) w = inl (record { said = refl; number = refl; event = refl; act = λ find. refl; takes = λ lines. tt })
-  step_is moment (At host d) w = host_step_is moment host d w
+  step_is moment (At host d) w = deed_is moment host d w
 
   -- a line that is heard of a host that is not recorded is not permitted where both are
-  host_step_whole : (host : Host) (moment : ℕ) (far : List (ℕ × Emission)) (x : HostState tcp_shape) (d : HostStep tcp_shape)
-      → first_broken (host_step_rules (tcp h) host moment far x d) ≡ None → IsWholeHostStep d
-  host_step_whole host moment far x (Hears line wire) may =
+  deed_whole : (host : Host) (moment : ℕ) (far : List (ℕ × Emission)) (x : HostState tcp_shape) (d : Deed tcp_shape)
+      → first_broken (deed_rules (tcp h) host moment far x d) ≡ None → IsWholeDeed d
+  deed_whole host moment far x (Hears line wire) may =
       none-some rules.NoEmission (sym may ∙ ap (λ (b : Bool). first_broken (just rules.NoEmission (not b))) both)
-  host_step_whole host moment far x (Does y) may = tt
-  host_step_whole host moment far x (Expires line y) may = tt
-  host_step_whole host moment far x (Makes plan) may = tt
-  host_step_whole host moment far x (Sends line number wire) may = tt
-  host_step_whole host moment far x (Gets line copied wire) may = tt
-  host_step_whole host moment far x (Takes line choice) may = tt
-  host_step_whole host moment far x (Drops line) may = tt
-  host_step_whole host moment far x (Answers line) may = tt
+  deed_whole host moment far x (Does y) may = tt
+  deed_whole host moment far x (Expires line y) may = tt
+  deed_whole host moment far x (Makes plan) may = tt
+  deed_whole host moment far x (Sends line number wire) may = tt
+  deed_whole host moment far x (Gets line copied wire) may = tt
+  deed_whole host moment far x (Takes line choice) may = tt
+  deed_whole host moment far x (Drops line) may = tt
+  deed_whole host moment far x (Answers line) may = tt
 
   step_whole : (moment : ℕ) (w : World tcp_shape) (step : Step tcp_shape) → Permitted (tcp h) moment w step → IsWhole step
   step_whole moment w (Begin line t call) may = tt
   step_whole moment w (Finish line t answer) may = tt
   step_whole moment w (Effect t answer) may = tt
-  step_whole moment w (At host d) may = host_step_whole host moment (pick w.hosts (other host)).wire (pick w.hosts host) d may
+  step_whole moment w (At host d) may = deed_whole host moment (pick w.hosts (other host)).wire (pick w.hosts host) d may
 
 -- ---- all steps
 

@@ -4,17 +4,17 @@ use Rattle.case_forms.specs.declared.calls.Host.{Host}
 use Rattle.case_forms.specs.declared.steps.Step as witness
 use Rattle.case_forms.specs.declared.version.Version.{Version}
 use Rattle.case_forms.specs.Witnesses.{TellsShift}
-use Rattle.spec_network.specs.Hosts.{HostStep, Does, Expires, Makes, Sends, Gets, Hears, Takes, Drops, Answers, Step, Begin, Finish, Effect, At}
+use Rattle.spec_network.specs.Hosts.{Deed, Does, Expires, Makes, Sends, Gets, Hears, Takes, Drops, Answers, Step, Begin, Finish, Effect, At}
 use Rattle.spec_tcp.specs.Machine.{tcp_shape}
 use Rattle.spec_merge.specs.Books.{Item, Do, Bring, Key}
 use Rattle.spec_merge.specs.Keys.{before}
 use Rattle.spec_merge.specs.Merging.{Names}
 use Rattle.spec_merge.specs.Recordings.{TcpEntry}
-use Rattle.stack_core.specs.Told.{AllTold, IsToldHostStep, IsToldItem, IsToldStep}
+use Rattle.stack_core.specs.Told.{AllTold, IsToldDeed, IsToldItem, IsToldStep}
 use Rattle.witness.specs.Printable.{TellShifts}
 use Rattle.merging.specs.Numbers.{counted, names_in, no_counts}
 use Rattle.merging.specs.Order.{in_order, in_order_with}
-use Rattle.merging.specs.Saying.{all_renumbered, both_renumbered, host_step_renumbered, host_step_said, label_said, renumbered, steps_said, with_renumbered}
+use Rattle.merging.specs.Saying.{all_renumbered, both_renumbered, deed_renumbered, deed_said, label_said, renumbered, steps_said, with_renumbered}
 
 told_merged : (v : Version) (xs ys : List TcpEntry) → AllTold v xs → AllTold v ys → AllTold v (in_order xs ys)
 told_merged v [] ys p q = q
@@ -29,23 +29,22 @@ told_merged v (x ∷ xs) ys p q = inner (in_order xs) (λ ys q. told_merged v xs
         go true more = (p.0, is (y ∷ ys) q)
         go false more = (q.0, more)
 
-host_step_shift : (v : Version) (names : Names) (h host : Host) (d : HostStep tcp_shape) → IsToldHostStep v d
-    → TellsShift v (host_step_said host (host_step_renumbered names h d))
-host_step_shift v names h host (Does x) told = tt
-host_step_shift v names h host (Expires line x) told = tt
-host_step_shift v names h host (Makes plan) told = told.2
-host_step_shift v names h host (Sends line number wire) told = tt
-host_step_shift v names h host (Gets line copied wire) told = tt
-host_step_shift v names h host (Hears line wire) told = tt
-host_step_shift v names h host (Takes line choice) told = tt
-host_step_shift v names h host (Drops line) told = tt
-host_step_shift v names h host (Answers line) told = tt
+deed_shift : (v : Version) (names : Names) (h host : Host) (d : Deed tcp_shape) → IsToldDeed v d → TellsShift v (deed_said host (deed_renumbered names h d))
+deed_shift v names h host (Does x) told = tt
+deed_shift v names h host (Expires line x) told = tt
+deed_shift v names h host (Makes plan) told = told.2
+deed_shift v names h host (Sends line number wire) told = tt
+deed_shift v names h host (Gets line copied wire) told = tt
+deed_shift v names h host (Hears line wire) told = tt
+deed_shift v names h host (Takes line choice) told = tt
+deed_shift v names h host (Drops line) told = tt
+deed_shift v names h host (Answers line) told = tt
 
 step_shift : (v : Version) (names : Names) (h : Host) (s : Step tcp_shape) → IsToldStep v s → TellsShift v (label_said (renumbered names h s))
 step_shift v names h (Begin line t call) told = tt
 step_shift v names h (Finish line t answer) told = tt
 step_shift v names h (Effect t answer) told = tt
-step_shift v names h (At host d) told = host_step_shift v names h host d told
+step_shift v names h (At host d) told = deed_shift v names h host d told
 
 said_shifts : (v : Version) (names : Names) (xs : List TcpEntry) → AllTold v xs → TellShifts v (steps_said (all_renumbered names xs))
 said_shifts v names [] told = tt

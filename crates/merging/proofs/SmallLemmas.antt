@@ -14,21 +14,21 @@ use Rattle.verdict.specs.declared.rule.Rule.{Rule}
 use Rattle.verdict.specs.declared.rule.Rule.TheVariants as rules
 use Rattle.verdict.specs.Rules.{first_broken}
 use Rattle.spec_network.specs.Tables.{Both, gone_out, on, other, pick, unsent, waiting, with_host}
-use Rattle.spec_network.specs.Hosts.{HostStep, Does, Expires, Makes, Sends, Gets, Hears, Takes, Drops, Answers, Begin}
+use Rattle.spec_network.specs.Hosts.{Deed, Does, Expires, Makes, Sends, Gets, Hears, Takes, Drops, Answers, Begin}
 use Rattle.spec_network.specs.Hosts.{Finish, Effect, At, HostState, World, Turn, Idle, Called, Answered, turn_of}
-use Rattle.spec_network.specs.HostRules.{Permitted, aim_of, host_step_rules, just}
-use Rattle.spec_network.specs.HostSteps.{act_made, call_after, host_step_after, effect_after, makes, start}
+use Rattle.spec_network.specs.HostRules.{Permitted, aim_of, deed_rules, just}
+use Rattle.spec_network.specs.HostSteps.{act_made, call_after, deed_after, effect_after, makes, start}
 use Rattle.spec_network.proofs.Entries.{lookup_insert}
 use Rattle.spec_tcp.specs.declared.endpoint.Emission.{Emission}
 use Rattle.spec_tcp.specs.Machine.{tcp, tcp_shape}
 use Rattle.spec_tcp.specs.HostTcp.{HostTcp}
-use Rattle.spec_merge.specs.Books.{Item, Do, Bring, FitsItem, Flying, HostRun, bring, host_step_line, item_line, next, next_item}
+use Rattle.spec_merge.specs.Books.{Item, Do, Bring, FitsItem, Flying, HostRun, bring, deed_line, item_line, next, next_item}
 use Rattle.spec_merge.specs.Keys.{Numbered}
 use Rattle.spec_merge.specs.Recordings.{IsKept, TcpEntry}
 use Rattle.spec_merge.proofs.Rename.{on_passes}
 use Rattle.stack_core.specs.Entries.{item_steps, steps_in}
 use Rattle.merging.specs.Naming.{AllNamed, NamedItem, line_keys}
-use Rattle.merging.specs.Numbers.{AllSmall, IsSmall, IsSmallHostStep, IsSmallItem, takes_line}
+use Rattle.merging.specs.Numbers.{AllSmall, IsSmall, IsSmallDeed, IsSmallItem, takes_line}
 use Rattle.merging.proofs.JoinLemmas.{Front, front}
 
 -- ---- tables whose numbers are small
@@ -64,30 +64,30 @@ record IsBounded (s : HostState tcp_shape) (far : List (ℕ × Emission)) : Type
   inbox : AreSmall s.inbox
   heard : AreSmall far
 
--- what a host's step names, and what is there then
-record Keeps (s : HostState tcp_shape) (far : List (ℕ × Emission)) (d : HostStep tcp_shape) : Type 0 where
-  small : IsSmallHostStep d
+-- what a deed names, and what is there then
+record Keeps (s : HostState tcp_shape) (far : List (ℕ × Emission)) (d : Deed tcp_shape) : Type 0 where
+  small : IsSmallDeed d
   bounded : IsBounded s far
 
 module _ (h : Header) (me : Host) (moment fresh : ℕ) (far : List (ℕ × Emission)) (s : HostState tcp_shape) (b : IsBounded s far) where
-  abbrev done : HostStep tcp_shape → HostState tcp_shape
-  done d = host_step_after (tcp h) me moment fresh far s d
+  abbrev done : Deed tcp_shape → HostState tcp_shape
+  done d = deed_after (tcp h) me moment fresh far s d
 
-  abbrev May : HostStep tcp_shape → Type 0
-  May d = first_broken (host_step_rules (tcp h) me moment far s d) ≡ None
+  abbrev May : Deed tcp_shape → Type 0
+  May d = first_broken (deed_rules (tcp h) me moment far s d) ≡ None
 
   -- what waits under a line that may be taken, dropped or answered
   waits : (n : ℕ) (f : Emission → List (Rule × Bool)) → first_broken (on (waiting n s.inbox) (just rules.Inbox true) f) ≡ None → IsSmall n
   waits n f may = let w = on_passes (waiting n s.inbox) rules.Inbox f may in there n s.inbox w.0 b.inbox w.1
 
-  host_step_keeps : (d : HostStep tcp_shape) → May d → ((makes (tcp h) d ≡ true) → IsSmall fresh) → IsSmallHostStep d → Keeps (done d) far d
-  host_step_keeps (Does x) may new small = record { small = small; bounded = record { made = b.made; inbox = b.inbox; heard = b.heard } }
-  host_step_keeps (Expires line x) may new small = record { small = small; bounded = record { made = b.made; inbox = b.inbox; heard = b.heard } }
-  host_step_keeps (Makes plan) may new small = record {
+  deed_keeps : (d : Deed tcp_shape) → May d → ((makes (tcp h) d ≡ true) → IsSmall fresh) → IsSmallDeed d → Keeps (done d) far d
+  deed_keeps (Does x) may new small = record { small = small; bounded = record { made = b.made; inbox = b.inbox; heard = b.heard } }
+  deed_keeps (Expires line x) may new small = record { small = small; bounded = record { made = b.made; inbox = b.inbox; heard = b.heard } }
+  deed_keeps (Makes plan) may new small = record {
     small = small;
     bounded = record { made = small_changed s.made fresh _ unsent b.made (λ y is. new refl); inbox = b.inbox; heard = b.heard };
   }
-  host_step_keeps (Sends line number wire) may new small = record {
+  deed_keeps (Sends line number wire) may new small = record {
     small = small;
     bounded =
         record {
@@ -97,7 +97,7 @@ module _ (h : Header) (me : Host) (moment fresh : ℕ) (far : List (ℕ × Emiss
           heard = b.heard;
         };
   }
-  host_step_keeps (Gets line copied wire) may new small = record {
+  deed_keeps (Gets line copied wire) may new small = record {
     small = small;
     bounded =
         record {
@@ -107,19 +107,19 @@ module _ (h : Header) (me : Host) (moment fresh : ℕ) (far : List (ℕ × Emiss
           heard = b.heard;
         };
   }
-  host_step_keeps (Hears line wire) may new small = record {
+  deed_keeps (Hears line wire) may new small = record {
     small = small;
     bounded = record { made = b.made; inbox = small_insert s.inbox line (Some ((tcp h).heard moment wire)) b.inbox small; heard = b.heard };
   }
-  host_step_keeps (Takes line choice) may new small = record {
+  deed_keeps (Takes line choice) may new small = record {
     small = small;
     bounded = record { made = b.made; inbox = small_changed s.inbox line (waiting line s.inbox) (λ e. None) b.inbox (λ y is. small); heard = b.heard };
   }
-  host_step_keeps (Drops line) may new small = record {
+  deed_keeps (Drops line) may new small = record {
     small = small;
     bounded = record { made = b.made; inbox = small_changed s.inbox line (waiting line s.inbox) (λ e. None) b.inbox (λ y is. small); heard = b.heard };
   }
-  host_step_keeps (Answers line) may new small = record {
+  deed_keeps (Answers line) may new small = record {
     small = small;
     bounded =
         record {
@@ -133,29 +133,27 @@ module _ (h : Header) (me : Host) (moment fresh : ℕ) (far : List (ℕ × Emiss
       answered None = b.made
       answered (Some e) = small_changed s.made fresh ((tcp h).act_makes me moment s.body ((tcp h).answers e)) unsent b.made (λ y is. new refl)
 
-  -- the numbers that a permitted step of a host names
-  host_step_small : (d : HostStep tcp_shape) → May d → ((line : ℕ) → host_step_line (tcp h) d ≡ Some line → IsSmall line) → IsSmallHostStep d
-  host_step_small (Does x) may own = tt
-  host_step_small (Expires line x) may own = own line refl
-  host_step_small (Makes plan) may own = tt
-  host_step_small (Sends line number wire) may own = let w =
-      on_passes (lookup (nat_eq number) s.made) rules.NotMade _ may in (own line refl, b.made number w.0 w.1)
-  host_step_small (Gets line copied wire) may own = let w =
-      on_passes (lookup (nat_eq copied) far) rules.NoEmission _ may in (own line refl, b.heard copied w.0 w.1)
-  host_step_small (Hears line wire) may own = own line refl
-  host_step_small (Takes line choice) may own = waits line _ may
-  host_step_small (Drops line) may own = waits line _ may
-  host_step_small (Answers line) may own = waits line _ may
+  -- the numbers that a permitted deed names
+  deed_small : (d : Deed tcp_shape) → May d → ((line : ℕ) → deed_line (tcp h) d ≡ Some line → IsSmall line) → IsSmallDeed d
+  deed_small (Does x) may own = tt
+  deed_small (Expires line x) may own = own line refl
+  deed_small (Makes plan) may own = tt
+  deed_small (Sends line number wire) may own = let w = on_passes (lookup (nat_eq number) s.made) rules.NotMade _ may in (own line refl, b.made number w.0 w.1)
+  deed_small (Gets line copied wire) may own = let w = on_passes (lookup (nat_eq copied) far) rules.NoEmission _ may in (own line refl, b.heard copied w.0 w.1)
+  deed_small (Hears line wire) may own = own line refl
+  deed_small (Takes line choice) may own = waits line _ may
+  deed_small (Drops line) may own = waits line _ may
+  deed_small (Answers line) may own = waits line _ may
 
 -- ---- the world of a host alone
 
 abbrev IsBoundedAt : Host → Both (HostState tcp_shape) → Type 0
 IsBoundedAt me hosts = IsBounded (pick hosts me) (pick hosts (other me)).wire
 
-host_step_at : (me : Host) (hosts : Both (HostState tcp_shape)) (s : HostState tcp_shape)
+deed_at : (me : Host) (hosts : Both (HostState tcp_shape)) (s : HostState tcp_shape)
     → IsBounded s (pick hosts (other me)).wire → IsBoundedAt me (with_host hosts me s)
-host_step_at Zero hosts s b = b
-host_step_at One hosts s b = b
+deed_at Zero hosts s b = b
+deed_at One hosts s b = b
 
 body_at : (me host : Host) (hosts : Both (HostState tcp_shape)) (body : HostTcp) → IsBoundedAt me hosts
     → IsBoundedAt me (with_host hosts host (record (pick hosts host) { body = body }))
@@ -216,9 +214,9 @@ goes h me moment w (Do (At host d)) b fits own new brought =
     subst (λ (g : Host). Goes me (Do (At g d)) (next_item (tcp h) me moment w (Do (At g d))) (w.count + 1)) (sym fits.1)
     (let may = subst (λ (g : Host). Permitted (tcp h) moment w (At g d)) fits.1 fits.0 in
     let fresh : IsSmall (suc w.count) = omega (arith, new) in
-    let named = host_step_small h me moment (suc w.count) (pick w.hosts (other me)).wire (pick w.hosts me) b d may own in
-    let kept = host_step_keeps h me moment (suc w.count) (pick w.hosts (other me)).wire (pick w.hosts me) b d may (λ is. fresh) named in
-    record { small = named; bounded = host_step_at me w.hosts _ kept.bounded; count = let le = if_more (makes (tcp h) d) w.count in omega (arith, le) })
+    let named = deed_small h me moment (suc w.count) (pick w.hosts (other me)).wire (pick w.hosts me) b d may own in
+    let kept = deed_keeps h me moment (suc w.count) (pick w.hosts (other me)).wire (pick w.hosts me) b d may (λ is. fresh) named in
+    record { small = named; bounded = deed_at me w.hosts _ kept.bounded; count = let le = if_more (makes (tcp h) d) w.count in omega (arith, le) })
 
 abbrev AllBroughtSmall : List TcpEntry → Type 0
 AllBroughtSmall [] = Unit {0}

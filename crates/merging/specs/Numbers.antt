@@ -3,39 +3,39 @@ use Rattle.std.specs.Prelude.{◌≤◌, ℕ, ◌+◌, ◌-◌, nat_lt, Bool, tr
 use Rattle.std.specs.Prelude.{List, [], ◌∷◌, ◌++◌, length, slice_get, unwrap_or}
 use Rattle.case_forms.specs.declared.calls.Host.{Host}
 use Rattle.case_forms.specs.declared.calls.Host.TheVariants.{Zero, One}
-use Rattle.spec_network.specs.Hosts.{HostStep, Expires, Makes, Sends, Gets, Hears, Takes, Drops, Answers, Step, Begin}
+use Rattle.spec_network.specs.Hosts.{Deed, Expires, Makes, Sends, Gets, Hears, Takes, Drops, Answers, Step, Begin}
 use Rattle.spec_network.specs.Hosts.{Finish, Effect, At}
 use Rattle.spec_tcp.specs.Machine.{tcp_shape}
 use Rattle.spec_merge.specs.Books.{Item, Do, Bring}
 use Rattle.spec_merge.specs.Merging.{Names}
 use Rattle.spec_merge.specs.Recordings.{TcpEntry}
 
--- whether a host's step takes a line, and a step, and an item
-abbrev pub host_step_takes : HostStep tcp_shape → Bool
-host_step_takes (Expires line x) = true
-host_step_takes (Sends line number wire) = true
-host_step_takes (Gets line copied wire) = true
-host_step_takes (Hears line wire) = true
-host_step_takes host_step = false
+-- whether a deed takes a line, and a step, and an item
+abbrev pub deed_takes : Deed tcp_shape → Bool
+deed_takes (Expires line x) = true
+deed_takes (Sends line number wire) = true
+deed_takes (Gets line copied wire) = true
+deed_takes (Hears line wire) = true
+deed_takes deed = false
 
 abbrev pub step_takes : Step tcp_shape → Bool
 step_takes (Begin line t call) = true
 step_takes (Finish line t answer) = true
 step_takes (Effect t answer) = false
-step_takes (At host host_step) = host_step_takes host_step
+step_takes (At host deed) = deed_takes deed
 
 abbrev pub takes_line : Item tcp_shape → Bool
 takes_line (Do step) = step_takes step
 takes_line (Bring f) = false
 
 -- whether it makes a segment
-abbrev pub host_step_makes : HostStep tcp_shape → Bool
-host_step_makes (Makes plan) = true
-host_step_makes (Answers line) = true
-host_step_makes host_step = false
+abbrev pub deed_makes : Deed tcp_shape → Bool
+deed_makes (Makes plan) = true
+deed_makes (Answers line) = true
+deed_makes deed = false
 
 abbrev pub step_makes : Step tcp_shape → Bool
-step_makes (At host host_step) = host_step_makes host_step
+step_makes (At host deed) = deed_makes deed
 step_makes step = false
 
 abbrev pub makes_segment : Item tcp_shape → Bool
@@ -104,22 +104,22 @@ names_by lines mades = names_in (record { lines = lines; mades = mades })
 abbrev pub IsSmall : ℕ → Type 0
 IsSmall n = n ≤ 2147483647
 
--- the numbers that a host's step names are small, those that a step names, those of an item, and of each entry
-abbrev pub IsSmallHostStep : HostStep tcp_shape → Type 0
-IsSmallHostStep (Expires line x) = IsSmall line
-IsSmallHostStep (Sends line number wire) = IsSmall line × IsSmall number
-IsSmallHostStep (Gets line copied wire) = IsSmall line × IsSmall copied
-IsSmallHostStep (Hears line wire) = IsSmall line
-IsSmallHostStep (Takes line choice) = IsSmall line
-IsSmallHostStep (Drops line) = IsSmall line
-IsSmallHostStep (Answers line) = IsSmall line
-IsSmallHostStep host_step = Unit {0}
+-- the numbers that a deed names are small, those that a step names, those of an item, and of each entry
+abbrev pub IsSmallDeed : Deed tcp_shape → Type 0
+IsSmallDeed (Expires line x) = IsSmall line
+IsSmallDeed (Sends line number wire) = IsSmall line × IsSmall number
+IsSmallDeed (Gets line copied wire) = IsSmall line × IsSmall copied
+IsSmallDeed (Hears line wire) = IsSmall line
+IsSmallDeed (Takes line choice) = IsSmall line
+IsSmallDeed (Drops line) = IsSmall line
+IsSmallDeed (Answers line) = IsSmall line
+IsSmallDeed deed = Unit {0}
 
 abbrev pub IsSmallStep : Step tcp_shape → Type 0
 IsSmallStep (Begin line t call) = IsSmall line
 IsSmallStep (Finish line t answer) = IsSmall line
 IsSmallStep (Effect t answer) = Unit {0}
-IsSmallStep (At host host_step) = IsSmallHostStep host_step
+IsSmallStep (At host deed) = IsSmallDeed deed
 
 abbrev pub IsSmallItem : Item tcp_shape → Type 0
 IsSmallItem (Do step) = IsSmallStep step

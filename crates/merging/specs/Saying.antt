@@ -16,8 +16,7 @@ use Rattle.case_forms.specs.declared.trace.Event.{Event}
 use Rattle.case_forms.specs.declared.trace.Event.TheVariants as events
 use Rattle.case_forms.specs.declared.trace.Line.{Line}
 use Rattle.spec_network.specs.Tables.{on, other}
-use Rattle.spec_network.specs.Hosts.{HostStep, Does, Expires, Makes, Sends, Gets, Hears, Takes, Drops, Answers, Step}
-use Rattle.spec_network.specs.Hosts.{Begin}
+use Rattle.spec_network.specs.Hosts.{Deed, Does, Expires, Makes, Sends, Gets, Hears, Takes, Drops, Answers, Step, Begin}
 use Rattle.spec_network.specs.Hosts.{Finish, Effect, At, Stamped}
 use Rattle.spec_tcp.specs.Machine.{tcp_shape}
 use Rattle.spec_merge.specs.Books.{Item, Do, Bring, Key}
@@ -33,22 +32,20 @@ abbrev pub said : ℕ → ℕ → ℕ → Event → Line
 said line moment thread event =
     record { number = line; moment = moment; thread = thread; event = event; span = nowhere }
 
-abbrev pub host_step_line_said : ℕ → Host → HostStep tcp_shape → Option Line
-host_step_line_said moment host (Expires line x) =
+abbrev pub deed_line_said : ℕ → Host → Deed tcp_shape → Option Line
+deed_line_said moment host (Expires line x) =
     Some (said line moment (6 + rank host) (events.Expired host x.lport x.rport (timer_of x.expired)))
-host_step_line_said moment host (Sends line number wire) =
-    Some (said line moment (8 + rank host) (events.Sent host wire))
-host_step_line_said moment host (Gets line copied wire) =
-    Some (said line moment (4 + rank host) (events.Came host wire))
-host_step_line_said moment host (Hears line wire) = Some (said line moment (4 + rank host) (events.Came host wire))
-host_step_line_said moment host host_step = None
+deed_line_said moment host (Sends line number wire) = Some (said line moment (8 + rank host) (events.Sent host wire))
+deed_line_said moment host (Gets line copied wire) = Some (said line moment (4 + rank host) (events.Came host wire))
+deed_line_said moment host (Hears line wire) = Some (said line moment (4 + rank host) (events.Came host wire))
+deed_line_said moment host deed = None
 
 -- the line that a step at this moment takes
 abbrev pub line_said : ℕ → Step tcp_shape → Option Line
 line_said moment (Begin line t call) = Some (said line moment t (events.CallBegin call))
 line_said moment (Finish line t answer) = Some (said line moment t (events.CallEnd answer))
 line_said moment (Effect t answer) = None
-line_said moment (At host host_step) = host_step_line_said moment host host_step
+line_said moment (At host deed) = deed_line_said moment host deed
 
 -- the label for a retransmission timer's line carries both windows, and that for another timer's line nothing
 abbrev pub growth_said : Expired → Extras
@@ -58,23 +55,23 @@ growth_said x = extras.Bare
 abbrev pub names : ℕ → Extras → Label NamedLine
 names line x = labels.L (record { number = line; extras = x })
 
-abbrev pub host_step_said : Host → HostStep tcp_shape → Label NamedLine
-host_step_said host (Does x) = labels.F host x
-host_step_said host (Expires line x) = names line (growth_said x.expired)
-host_step_said host (Makes plan) = labels.M host plan
-host_step_said host (Sends line number wire) = names line (extras.One number)
-host_step_said host (Gets line copied wire) = names line (extras.One copied)
-host_step_said host (Hears line wire) = names line extras.Bare
-host_step_said host (Takes line choice) = labels.T host line choice
-host_step_said host (Drops line) = labels.K host line
-host_step_said host (Answers line) = labels.R host line
+abbrev pub deed_said : Host → Deed tcp_shape → Label NamedLine
+deed_said host (Does x) = labels.F host x
+deed_said host (Expires line x) = names line (growth_said x.expired)
+deed_said host (Makes plan) = labels.M host plan
+deed_said host (Sends line number wire) = names line (extras.One number)
+deed_said host (Gets line copied wire) = names line (extras.One copied)
+deed_said host (Hears line wire) = names line extras.Bare
+deed_said host (Takes line choice) = labels.T host line choice
+deed_said host (Drops line) = labels.K host line
+deed_said host (Answers line) = labels.R host line
 
 -- the label of a step
 abbrev pub label_said : Step tcp_shape → Label NamedLine
 label_said (Begin line t call) = names line extras.Bare
 label_said (Finish line t answer) = names line extras.Bare
 label_said (Effect t answer) = labels.D t answer
-label_said (At host host_step) = host_step_said host host_step
+label_said (At host deed) = deed_said host deed
 
 -- the same for a line that a step takes: its number in its host's recording, its thread, its event, and what its step
 -- adds
@@ -120,23 +117,23 @@ step_said x = record { moment = x.moment; label = label_said x.step; span = nowh
 abbrev pub steps_said : List (Stamped tcp_shape) → List witness.Step
 steps_said xs = map step_said xs
 
--- a step of host h alone under new numbers, and any step; whatever the header says
-abbrev pub host_step_renumbered : Names → Host → HostStep tcp_shape → HostStep tcp_shape
-host_step_renumbered names h (Does x) = Does x
-host_step_renumbered names h (Expires line x) = Expires (names.line h line) x
-host_step_renumbered names h (Makes plan) = Makes plan
-host_step_renumbered names h (Sends line number wire) = Sends (names.line h line) (names.made h number) wire
-host_step_renumbered names h (Gets line copied wire) = Gets (names.line h line) (names.line (other h) copied) wire
-host_step_renumbered names h (Hears line wire) = Hears (names.line h line) wire
-host_step_renumbered names h (Takes line choice) = Takes (names.line h line) choice
-host_step_renumbered names h (Drops line) = Drops (names.line h line)
-host_step_renumbered names h (Answers line) = Answers (names.line h line)
+-- a deed of host h under new numbers, and a step; whatever the header says
+abbrev pub deed_renumbered : Names → Host → Deed tcp_shape → Deed tcp_shape
+deed_renumbered names h (Does x) = Does x
+deed_renumbered names h (Expires line x) = Expires (names.line h line) x
+deed_renumbered names h (Makes plan) = Makes plan
+deed_renumbered names h (Sends line number wire) = Sends (names.line h line) (names.made h number) wire
+deed_renumbered names h (Gets line copied wire) = Gets (names.line h line) (names.line (other h) copied) wire
+deed_renumbered names h (Hears line wire) = Hears (names.line h line) wire
+deed_renumbered names h (Takes line choice) = Takes (names.line h line) choice
+deed_renumbered names h (Drops line) = Drops (names.line h line)
+deed_renumbered names h (Answers line) = Answers (names.line h line)
 
 abbrev pub renumbered : Names → Host → Step tcp_shape → Step tcp_shape
 renumbered names h (Begin line t call) = Begin (names.line h line) t call
 renumbered names h (Finish line t answer) = Finish (names.line h line) t answer
 renumbered names h (Effect t answer) = Effect t answer
-renumbered names h (At host host_step) = At host (host_step_renumbered names h host_step)
+renumbered names h (At host deed) = At host (deed_renumbered names h deed)
 
 -- the steps of entries under new numbers
 abbrev pub with_renumbered : Names → Key → Item tcp_shape → List (Stamped tcp_shape) → List (Stamped tcp_shape)

@@ -29,7 +29,7 @@ step_add : (s : Step tcp_shape) (n : ℕ) → step_ends s n ≡ step_ends s 0 + 
 step_add (Begin line t call) n = omega arith
 step_add (Finish line t answer) n = omega arith
 step_add (Effect t answer) n = omega arith
-step_add (At host host_step) n = omega arith
+step_add (At host deed) n = omega arith
 
 item_add : (i : Item tcp_shape) (n : ℕ) → item_ends i n ≡ item_ends i 0 + n
 item_add (Do s) n = step_add s n

@@ -12,7 +12,7 @@ abbrev pub step_ends : Step tcp_shape → ℕ → ℕ
 step_ends (Begin line t call) n = n
 step_ends (Finish line t answer) n = suc n
 step_ends (Effect t answer) n = n
-step_ends (At host host_step) n = n
+step_ends (At host deed) n = n
 
 abbrev pub item_ends : Item tcp_shape → ℕ → ℕ
 item_ends (Do step) n = step_ends step n

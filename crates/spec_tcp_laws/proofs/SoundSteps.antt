@@ -17,10 +17,10 @@ use Rattle.verdict.specs.Rules.{first_broken}
 use Rattle.verdict.proofs.RuleLemmas.{none_all}
 use Rattle.streams.specs.Lists.{modify}
 use Rattle.spec_network.specs.Tables.{pick, other, with_host, waiting}
-use Rattle.spec_network.specs.Hosts.{HostState, Turn, Idle, Called, Answered, World, HostStep, Does, Expires, Makes, Sends}
+use Rattle.spec_network.specs.Hosts.{HostState, Turn, Idle, Called, Answered, World, Deed, Does, Expires, Makes, Sends}
 use Rattle.spec_network.specs.Hosts.{Gets, Hears, Takes, Drops, Answers, Step, Begin, Finish, Effect, At, turn_of}
 use Rattle.spec_network.specs.HostRules.{aim_of, fresh_rules, effect_rules, Permitted}
-use Rattle.spec_network.specs.HostSteps.{host_step_after, call_after, effect_after, after}
+use Rattle.spec_network.specs.HostSteps.{deed_after, call_after, effect_after, after}
 use Rattle.window_rules.specs.declared.control.Profile.{Profile}
 use Rattle.spec_tcp.specs.Signals.{profile_of}
 use Rattle.spec_tcp.specs.declared.endpoint.Endpoint.{Endpoint}
@@ -304,24 +304,24 @@ keeps_call p b call answer g new = keeps_same b (gives call answer) g
 
 -- 3. steps
 
-keeps_host_step : (h : Header) (s : ℕ) (w : World tcp_shape) (host : Host) (d : HostStep tcp_shape)
+keeps_deed : (h : Header) (s : ℕ) (w : World tcp_shape) (host : Host) (d : Deed tcp_shape)
     → Sound (pick w.hosts host).body
     → Keeps (pick w.hosts host).body
-    (host_step_after (tcp h) host s (suc w.count) (pick w.hosts (other host)).wire (pick w.hosts host) d).body None
-keeps_host_step h s w host (Does x) g =
+    (deed_after (tcp h) host s (suc w.count) (pick w.hosts (other host)).wire (pick w.hosts host) d).body None
+keeps_deed h s w host (Does x) g =
     keeps_at_ports (pick w.hosts host).body x.lport x.rport (λ e. after_recovery e x.cwnd x.ssthresh s) g (λ e. record { listener = refl; late = λ y. y })
-keeps_host_step h s w host (Expires line x) g =
+keeps_deed h s w host (Expires line x) g =
     keeps_at_ports (pick w.hosts host).body x.lport x.rport (λ e. after_expiry e x.expired s) g
     (λ e. stays_expiry e x.expired s)
-keeps_host_step h s w host (Makes m) g = keeps_at_ports (pick w.hosts host).body m.lport m.rport (λ e. after_making e m s) g (λ e. stays_making e m s)
-keeps_host_step h s w host (Sends line number wire) g = keeps_not (pick w.hosts host).body g
-keeps_host_step h s w host (Gets line copied wire) g = keeps_not (pick w.hosts host).body g
-keeps_host_step h s w host (Hears line wire) g = keeps_not (pick w.hosts host).body g
-keeps_host_step h s w host (Takes line how) g = let k = pick w.hosts host in
+keeps_deed h s w host (Makes m) g = keeps_at_ports (pick w.hosts host).body m.lport m.rport (λ e. after_making e m s) g (λ e. stays_making e m s)
+keeps_deed h s w host (Sends line number wire) g = keeps_not (pick w.hosts host).body g
+keeps_deed h s w host (Gets line copied wire) g = keeps_not (pick w.hosts host).body g
+keeps_deed h s w host (Hears line wire) g = keeps_not (pick w.hosts host).body g
+keeps_deed h s w host (Takes line how) g = let k = pick w.hosts host in
     on_cases (λ (b : HostTcp). Keeps k.body b None) (waiting line k.inbox) k.body _ (keeps_not k.body g)
     (λ m e. keeps_taking h k.body how m s g)
-keeps_host_step h s w host (Drops line) g = keeps_not (pick w.hosts host).body g
-keeps_host_step h s w host (Answers line) g = let k = pick w.hosts host in
+keeps_deed h s w host (Drops line) g = keeps_not (pick w.hosts host).body g
+keeps_deed h s w host (Answers line) g = let k = pick w.hosts host in
     on_cases (λ (b : HostTcp). Keeps k.body b None) (waiting line k.inbox) k.body _ (keeps_not k.body g)
     (λ m e. keeps_not k.body g)
 
@@ -394,5 +394,5 @@ sound_step h s w (Begin line t call) g apart may = sound_not w.hosts g apart
 sound_step h s w (Finish line t answer) g apart may = sound_not w.hosts g apart
 sound_step h s w (Effect t answer) g apart may = sound_effect h s w t answer g apart may
 sound_step h s w (At host d) g apart may =
-    sound_host w.hosts host (host_step_after (tcp h) host s (suc w.count) (pick w.hosts (other host)).wire
-    (pick w.hosts host) d) None g apart (λ n e. absurd (none-some n e)) (keeps_host_step h s w host d (g host))
+    sound_host w.hosts host (deed_after (tcp h) host s (suc w.count) (pick w.hosts (other host)).wire
+    (pick w.hosts host) d) None g apart (λ n e. absurd (none-some n e)) (keeps_deed h s w host d (g host))

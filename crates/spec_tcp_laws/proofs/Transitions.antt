@@ -27,11 +27,11 @@ use Rattle.streams.specs.Transmissions.{made, mark, once}
 use Rattle.streams.specs.Received.{is_ended}
 use Rattle.streams.proofs.Places.{get_append, all_push, all_modify}
 use Rattle.spec_network.specs.Tables.{pick, other, with_host, waiting}
-use Rattle.spec_network.specs.Hosts.{HostState, Turn, Idle, Called, Answered, World, HostStep, Does, Expires, Makes, Sends}
+use Rattle.spec_network.specs.Hosts.{HostState, Turn, Idle, Called, Answered, World, Deed, Does, Expires, Makes, Sends}
 use Rattle.spec_network.specs.Hosts.{Gets, Hears, Takes, Drops, Answers, Step, Begin, Finish, Effect, At, Stamped}
 use Rattle.spec_network.specs.Hosts.{turn_of}
 use Rattle.spec_network.specs.HostRules.{aim_of, Permitted}
-use Rattle.spec_network.specs.HostSteps.{host_step_after, call_after, effect_after, after, start, Lawful}
+use Rattle.spec_network.specs.HostSteps.{deed_after, call_after, effect_after, after, start, Lawful}
 use Rattle.window_rules.specs.declared.control.Profile.{Profile}
 use Rattle.spec_tcp.specs.Signals.{profile_of}
 use Rattle.spec_tcp.specs.declared.endpoint.EndpointId.{EndpointId}
@@ -378,26 +378,25 @@ gone_taking h s w host line how m waits = go (taker (pick w.hosts host).body m) 
         taking_goes h w (At host (Takes line how)) (name host i) x how m (as_read h.version e m) s (same_reset h e m)
         (line, how, refl, waits, is ∙ ap (λ (y : Endpoint). AtEndpoint i y) one))
 
-gone_host_step : (h : Header) (s : ℕ) (w : World tcp_shape) (host : Host) (d : HostStep tcp_shape)
+gone_deed : (h : Header) (s : ℕ) (w : World tcp_shape) (host : Host) (d : Deed tcp_shape)
     → Gone w (At host d) host (pick w.hosts host).body.endpoints
-    (host_step_after (tcp h) host s (suc w.count) (pick w.hosts (other host)).wire (pick w.hosts host) d).body.endpoints
-gone_host_step h s w host (Does x) =
-    gone_at_ports w (At host (Does x)) host (pick w.hosts host).body x.lport x.rport (λ e. after_recovery e x.cwnd x.ssthresh s)
+    (deed_after (tcp h) host s (suc w.count) (pick w.hosts (other host)).wire (pick w.hosts host) d).body.endpoints
+gone_deed h s w host (Does x) = gone_at_ports w (At host (Does x)) host (pick w.hosts host).body x.lport x.rport (λ e. after_recovery e x.cwnd x.ssthresh s)
     (λ i e at. stays w (At host (Does x)) (name host i) e (after_recovery e x.cwnd x.ssthresh s) refl (level e) refl)
-gone_host_step h s w host (Expires line x) =
+gone_deed h s w host (Expires line x) =
     gone_at_ports w (At host (Expires line x)) host (pick w.hosts host).body x.lport x.rport
     (λ e. after_expiry e x.expired s)
     (λ i e at. expiry_goes w s host line x i e at)
-gone_host_step h s w host (Makes m) = gone_at_ports w (At host (Makes m)) host (pick w.hosts host).body m.lport m.rport (λ e. after_making e m s)
+gone_deed h s w host (Makes m) = gone_at_ports w (At host (Makes m)) host (pick w.hosts host).body m.lport m.rport (λ e. after_making e m s)
     (λ i e at. making_goes w s host m i e at)
-gone_host_step h s w host (Sends line number wire) = gone_not w (At host (Sends line number wire)) host (pick w.hosts host).body.endpoints
-gone_host_step h s w host (Gets line copied wire) = gone_not w (At host (Gets line copied wire)) host (pick w.hosts host).body.endpoints
-gone_host_step h s w host (Hears line wire) = gone_not w (At host (Hears line wire)) host (pick w.hosts host).body.endpoints
-gone_host_step h s w host (Takes line how) = let k = pick w.hosts host in let step : Step tcp_shape = At host (Takes line how) in
+gone_deed h s w host (Sends line number wire) = gone_not w (At host (Sends line number wire)) host (pick w.hosts host).body.endpoints
+gone_deed h s w host (Gets line copied wire) = gone_not w (At host (Gets line copied wire)) host (pick w.hosts host).body.endpoints
+gone_deed h s w host (Hears line wire) = gone_not w (At host (Hears line wire)) host (pick w.hosts host).body.endpoints
+gone_deed h s w host (Takes line how) = let k = pick w.hosts host in let step : Step tcp_shape = At host (Takes line how) in
     on_cases (λ (b : HostTcp). Gone w step host k.body.endpoints b.endpoints) (waiting line k.inbox) k.body _
     (gone_not w step host k.body.endpoints) (λ m e. gone_taking h s w host line how m e)
-gone_host_step h s w host (Drops line) = gone_not w (At host (Drops line)) host (pick w.hosts host).body.endpoints
-gone_host_step h s w host (Answers line) = let k = pick w.hosts host in let step : Step tcp_shape = At host (Answers line) in
+gone_deed h s w host (Drops line) = gone_not w (At host (Drops line)) host (pick w.hosts host).body.endpoints
+gone_deed h s w host (Answers line) = let k = pick w.hosts host in let step : Step tcp_shape = At host (Answers line) in
     on_cases (λ (b : HostTcp). Gone w step host k.body.endpoints b.endpoints) (waiting line k.inbox) k.body _
     (gone_not w step host k.body.endpoints) (λ m e. gone_not w step host k.body.endpoints)
 
@@ -548,8 +547,8 @@ both_step h s w (Effect t answer) = go (turn_of t w.threads) refl
     go (Called call) is = by call (aim_of (tcp h) w.hosts (aim call)) is
     go (Answered x) is = both_not w (Effect t answer)
 both_step h s w (At host d) =
-    both_host w (At host d) host (host_step_after (tcp h) host s (suc w.count) (pick w.hosts (other host)).wire
-    (pick w.hosts host) d) (gone_host_step h s w host d)
+    both_host w (At host d) host (deed_after (tcp h) host s (suc w.count) (pick w.hosts (other host)).wire
+    (pick w.hosts host) d) (gone_deed h s w host d)
 
 -- from TIME-WAIT no arrow leads but to CLOSED
 from_time_wait : (w : World tcp_shape) (step : Step tcp_shape) (me : EndpointId) (e : Endpoint) (t : State)

@@ -25,10 +25,10 @@ use Rattle.window_rules.proofs.ControlLemmas.{chosen_cwnd, kept_ssthresh, same_p
 use Rattle.streams.specs.Lists.{modify}
 use Rattle.streams.proofs.Places.{get_append, all_push, all_modify}
 use Rattle.spec_network.specs.Tables.{pick, other, with_host, waiting, on}
-use Rattle.spec_network.specs.Hosts.{HostState, Turn, Idle, Called, Answered, World, HostStep, Does, Expires, Makes, Sends}
+use Rattle.spec_network.specs.Hosts.{HostState, Turn, Idle, Called, Answered, World, Deed, Does, Expires, Makes, Sends}
 use Rattle.spec_network.specs.Hosts.{Gets, Hears, Takes, Drops, Answers, Step, Begin, Finish, Effect, At, turn_of}
 use Rattle.spec_network.specs.HostRules.{aim_of, Permitted}
-use Rattle.spec_network.specs.HostSteps.{host_step_after, call_after, effect_after, after}
+use Rattle.spec_network.specs.HostSteps.{deed_after, call_after, effect_after, after}
 use Rattle.spec_tcp.specs.declared.endpoint.EndpointId.{EndpointId}
 use Rattle.spec_tcp.specs.declared.endpoint.Endpoint.{Endpoint}
 use Rattle.spec_tcp.specs.declared.endpoint.Emission.{Emission}
@@ -202,34 +202,34 @@ follows_taking h s w host line how m waits may = go (taker (pick w.hosts host).b
         let one : e ≡ x = same_Some e x (sym (taker_there b m i e is) ∙ there) in
         taken m (line, how, refl, waits, is ∙ ap (λ (y : Endpoint). AtEndpoint i y) one) (chosen h x how (as_read h.version e m) s).2)
 
-follows_host_step : (h : Header) (s : ℕ) (w : World tcp_shape) (host : Host) (d : HostStep tcp_shape) → Permitted (tcp h) s w (At host d)
+follows_deed : (h : Header) (s : ℕ) (w : World tcp_shape) (host : Host) (d : Deed tcp_shape) → Permitted (tcp h) s w (At host d)
     → Follows (profile_of h) w (At host d) host (pick w.hosts host).body.endpoints
-    (host_step_after (tcp h) host s (suc w.count) (pick w.hosts (other host)).wire (pick w.hosts host) d).body.endpoints
-follows_host_step h s w host (Does x) may = let b = (pick w.hosts host).body in
+    (deed_after (tcp h) host s (suc w.count) (pick w.hosts (other host)).wire (pick w.hosts host) d).body.endpoints
+follows_deed h s w host (Does x) may = let b = (pick w.hosts host).body in
     follows_at_ports (profile_of h) w (At host (Does x)) host b x.lport x.rport (λ e. after_recovery e x.cwnd x.ssthresh s)
     (λ i e at there. recovered (x, refl, at) (same_profile e.control (recovery_signal e x.ssthresh) (at_moment e s) x.cwnd x.ssthresh))
-follows_host_step h s w host (Expires line x) may = let b = (pick w.hosts host).body in
+follows_deed h s w host (Expires line x) may = let b = (pick w.hosts host).body in
     follows_at_ports (profile_of h) w (At host (Expires line x)) host b x.lport x.rport (λ e. after_expiry e x.expired s)
     (λ i e at there. expiry_moves w s host line x i e at)
-follows_host_step h s w host (Makes m) may = let b = (pick w.hosts host).body in
+follows_deed h s w host (Makes m) may = let b = (pick w.hosts host).body in
     follows_at_ports (profile_of h) w (At host (Makes m)) host b m.lport m.rport (λ e. after_making e m s)
     (λ i e at there. unmoved w (At host (Makes m)) (name host i) e (after_making e m s)
     (either_windows m.flags.rst (record (shut_down (endpoint_made e m s)) { reset_due = false })
     (endpoint_made e m s) e refl refl))
-follows_host_step h s w host (Sends line number wire) may =
+follows_deed h s w host (Sends line number wire) may =
     follows_not (profile_of h) w (At host (Sends line number wire)) host (pick w.hosts host).body.endpoints
-follows_host_step h s w host (Gets line copied wire) may =
+follows_deed h s w host (Gets line copied wire) may =
     follows_not (profile_of h) w (At host (Gets line copied wire)) host (pick w.hosts host).body.endpoints
-follows_host_step h s w host (Hears line wire) may = follows_not (profile_of h) w (At host (Hears line wire)) host (pick w.hosts host).body.endpoints
-follows_host_step h s w host (Takes line how) may = let k = pick w.hosts host in let step : Step tcp_shape = At host (Takes line how) in
+follows_deed h s w host (Hears line wire) may = follows_not (profile_of h) w (At host (Hears line wire)) host (pick w.hosts host).body.endpoints
+follows_deed h s w host (Takes line how) may = let k = pick w.hosts host in let step : Step tcp_shape = At host (Takes line how) in
     on_cases (λ (b : HostTcp). Follows (profile_of h) w step host k.body.endpoints b.endpoints)
     (waiting line k.inbox) k.body _ (follows_not (profile_of h) w step host k.body.endpoints)
     (λ m e.
     let t = on_passes (waiting line k.inbox) rules.Inbox (λ x. taker_rules h host k.body how x s (taker k.body x)) may in
     let one : t.0 ≡ m = same_Some t.0 m (sym t.1 ∙ e) in
     follows_taking h s w host line how m e (subst (λ (x : Emission). first_broken (taker_rules h host k.body how x s (taker k.body x)) ≡ None) one t.2))
-follows_host_step h s w host (Drops line) may = follows_not (profile_of h) w (At host (Drops line)) host (pick w.hosts host).body.endpoints
-follows_host_step h s w host (Answers line) may = let k = pick w.hosts host in let step : Step tcp_shape = At host (Answers line) in
+follows_deed h s w host (Drops line) may = follows_not (profile_of h) w (At host (Drops line)) host (pick w.hosts host).body.endpoints
+follows_deed h s w host (Answers line) may = let k = pick w.hosts host in let step : Step tcp_shape = At host (Answers line) in
     on_cases (λ (b : HostTcp). Follows (profile_of h) w step host k.body.endpoints b.endpoints)
     (waiting line k.inbox) k.body _ (follows_not (profile_of h) w step host k.body.endpoints)
     (λ m e. follows_not (profile_of h) w step host k.body.endpoints)
@@ -329,8 +329,8 @@ both_step h s w (Effect t answer) may = go (turn_of t w.threads)
     go (Answered x) = both_not (profile_of h) w (Effect t answer)
 both_step h s w (At host d) may =
     both_host (profile_of h) w (At host d) host
-    (host_step_after (tcp h) host s (suc w.count) (pick w.hosts (other host)).wire (pick w.hosts host) d)
-    (follows_host_step h s w host d may)
+    (deed_after (tcp h) host s (suc w.count) (pick w.hosts (other host)).wire (pick w.hosts host) d)
+    (follows_deed h s w host d may)
 
 -- 4. what the steps that may change windows leave
 
@@ -410,7 +410,7 @@ taking_leaves h s w host line how m i e may waits is =
 
     left : find (after (tcp h) s w (At host (Takes line how))).hosts (name host i) ≡ Some (endpoint_taken h e how r s)
     left = ap (λ (x : HostState tcp_shape). slice_get x.body.endpoints i)
-        (pick_with w.hosts host (host_step_after (tcp h) host s (suc w.count) (pick w.hosts (other host)).wire k
+        (pick_with w.hosts host (deed_after (tcp h) host s (suc w.count) (pick w.hosts (other host)).wire k
         (Takes line how)))
         ∙ (ap (λ (o : Option Emission). slice_get (on o b (λ y. after_taking h b how y s (taker b y))).endpoints i) waits ∙ here)
 

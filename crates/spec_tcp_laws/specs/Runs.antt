@@ -68,7 +68,7 @@ abbrev pub of_effect : {X : Type 0} → Header → World tcp_shape → Step tcp_
 of_effect h w (Begin line t call) none f = none
 of_effect h w (Finish line t answer) none f = none
 of_effect h w (Effect t answer) none f = of_turn (turn_of t w.threads) none (λ call. f call answer)
-of_effect h w (At host host_step) none f = none
+of_effect h w (At host deed) none f = none
 
 -- the bytes that the steps from this world on returned to the reads on a socket number, in order
 abbrev pub told_from : Header → ℕ → World tcp_shape → List (Stamped tcp_shape) → List ℕ

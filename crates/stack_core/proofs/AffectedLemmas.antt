@@ -15,10 +15,10 @@ use Rattle.case_forms.specs.declared.steps.TakeChoice.{TakeChoice}
 use Rattle.case_forms.specs.declared.trace.Header.{Header}
 use Rattle.streams.specs.Lists.{modify}
 use Rattle.spec_network.specs.Tables.{Both, on, other, pick, waiting, with_host}
-use Rattle.spec_network.specs.Hosts.{HostState, HostStep, Does, Expires, Makes, Sends, Gets, Hears, Takes, Drops, Answers}
+use Rattle.spec_network.specs.Hosts.{HostState, Deed, Does, Expires, Makes, Sends, Gets, Hears, Takes, Drops, Answers}
 use Rattle.spec_network.specs.Hosts.{Turn, Idle, Called, Answered, World, Step, Begin, Finish, Effect, At, turn_of}
 use Rattle.spec_network.specs.HostRules.{aim_of}
-use Rattle.spec_network.specs.HostSteps.{after, call_after, host_step_after, effect_after, start}
+use Rattle.spec_network.specs.HostSteps.{after, call_after, deed_after, effect_after, start}
 use Rattle.window_rules.specs.declared.control.Profile.{Profile}
 use Rattle.spec_tcp.specs.Signals.{profile_of}
 use Rattle.spec_tcp.specs.declared.endpoint.Emission.{Emission}
@@ -42,8 +42,7 @@ use Rattle.stack_core.specs.declared.deadline_queue.Affected.TheVariants as kind
 use Rattle.stack_core.specs.DeadlineQueues.{Leaves}
 use Rattle.stack_core.specs.ArrivalEvents.{IsHeld}
 use Rattle.stack_core.specs.Cores.{Core, own_body, world}
-use Rattle.stack_core.specs.Affected.{affected_by_accept, affected_by_call, affected_by_host_step, affected_by_end, affected_in_queue, affected_target}
-use Rattle.stack_core.specs.Affected.{affected_at}
+use Rattle.stack_core.specs.Affected.{affected_by_accept, affected_by_call, affected_by_deed, affected_by_end, affected_in_queue, affected_target, affected_at}
 use Rattle.stack_core.specs.Affected.{affected_by}
 
 -- 1. lists
@@ -90,7 +89,7 @@ map_length (e ∷ es) f = ap suc (map_length es f)
 leaves_map : (es : List Endpoint) (f : Endpoint → Endpoint) → Leaves kinds.All es (map f es)
 leaves_map es f = record { back = λ i x less at. inl tt; count = let same = map_length es f in omega arith }
 
--- 2. steps of a host
+-- 2. deeds
 
 at_leaves : (b : HostTcp) (l r : ℕ) (f : Endpoint → Endpoint) → Leaves (affected_at (place_of b l r)) b.endpoints (at_ports b l r f).endpoints
 at_leaves b l r f = by (place_of b l r)
@@ -128,24 +127,24 @@ taking_leaves h b how m moment = by (place_of b m.rport m.lport)
     by None = at_listener kinds.Nobody (listener_on b m.rport)
     by (Some i) = at_place i (slice_get b.endpoints i)
 
-host_step_leaves : (h : Header) (me : Host) (moment fresh : ℕ) (far : List (ℕ × Emission)) (s : HostState tcp_shape)
-    (d : HostStep tcp_shape) → Leaves (affected_by_host_step s d) s.body.endpoints
-    (host_step_after (tcp h) me moment fresh far s d).body.endpoints
-host_step_leaves h me moment fresh far s (Does x) = at_leaves s.body x.lport x.rport _
-host_step_leaves h me moment fresh far s (Expires line x) = at_leaves s.body x.lport x.rport _
-host_step_leaves h me moment fresh far s (Makes plan) = at_leaves s.body plan.lport plan.rport _
-host_step_leaves h me moment fresh far s (Sends line number wire) = leaves_same kinds.Nobody s.body.endpoints
-host_step_leaves h me moment fresh far s (Gets line copied wire) = leaves_same kinds.Nobody s.body.endpoints
-host_step_leaves h me moment fresh far s (Hears line wire) = leaves_same kinds.Nobody s.body.endpoints
-host_step_leaves h me moment fresh far s (Takes line how) = by (waiting line s.inbox)
+deed_leaves : (h : Header) (me : Host) (moment fresh : ℕ) (far : List (ℕ × Emission)) (s : HostState tcp_shape)
+    (d : Deed tcp_shape) → Leaves (affected_by_deed s d) s.body.endpoints
+    (deed_after (tcp h) me moment fresh far s d).body.endpoints
+deed_leaves h me moment fresh far s (Does x) = at_leaves s.body x.lport x.rport _
+deed_leaves h me moment fresh far s (Expires line x) = at_leaves s.body x.lport x.rport _
+deed_leaves h me moment fresh far s (Makes plan) = at_leaves s.body plan.lport plan.rport _
+deed_leaves h me moment fresh far s (Sends line number wire) = leaves_same kinds.Nobody s.body.endpoints
+deed_leaves h me moment fresh far s (Gets line copied wire) = leaves_same kinds.Nobody s.body.endpoints
+deed_leaves h me moment fresh far s (Hears line wire) = leaves_same kinds.Nobody s.body.endpoints
+deed_leaves h me moment fresh far s (Takes line how) = by (waiting line s.inbox)
   where
     by : (o : Option Emission)
         → Leaves (on o kinds.Nobody (λ m. affected_at (place_of s.body m.rport m.lport))) s.body.endpoints
         (on o s.body (λ m. after_taking h s.body how m moment (taker s.body m))).endpoints
     by None = leaves_same kinds.Nobody s.body.endpoints
     by (Some m) = taking_leaves h s.body how m moment
-host_step_leaves h me moment fresh far s (Drops line) = leaves_same kinds.Nobody s.body.endpoints
-host_step_leaves h me moment fresh far s (Answers line) = by (waiting line s.inbox)
+deed_leaves h me moment fresh far s (Drops line) = leaves_same kinds.Nobody s.body.endpoints
+deed_leaves h me moment fresh far s (Answers line) = by (waiting line s.inbox)
   where
     by : (o : Option Emission) → Leaves kinds.Nobody s.body.endpoints (on o s.body (λ m. s.body)).endpoints
     by None = leaves_same kinds.Nobody s.body.endpoints
@@ -212,10 +211,10 @@ call_at p Zero One hosts call answer = leaves_same _ hosts.zero.body.endpoints
 call_at p One Zero hosts call answer = leaves_same _ hosts.one.body.endpoints
 call_at p One One hosts call answer = call_leaves p hosts.one.body call answer
 
-host_step_at : (h : Header) (me : Host) (moment : ℕ) (w : World tcp_shape) (d : HostStep tcp_shape)
-    → Leaves (affected_by_host_step (pick w.hosts me) d) (ends me w) (ends me (after (tcp h) moment w (At me d)))
-host_step_at h Zero moment w d = host_step_leaves h Zero moment (suc w.count) w.hosts.one.wire w.hosts.zero d
-host_step_at h One moment w d = host_step_leaves h One moment (suc w.count) w.hosts.zero.wire w.hosts.one d
+deed_at : (h : Header) (me : Host) (moment : ℕ) (w : World tcp_shape) (d : Deed tcp_shape)
+    → Leaves (affected_by_deed (pick w.hosts me) d) (ends me w) (ends me (after (tcp h) moment w (At me d)))
+deed_at h Zero moment w d = deed_leaves h Zero moment (suc w.count) w.hosts.one.wire w.hosts.zero d
+deed_at h One moment w d = deed_leaves h One moment (suc w.count) w.hosts.zero.wire w.hosts.one d
 
 module _ (h : Header) (me : Host) (moment : ℕ) (w : World tcp_shape) where
   effect_leaves : (t : ℕ) (answer : Answer) (u : Turn tcp_shape)
@@ -231,14 +230,14 @@ module _ (h : Header) (me : Host) (moment : ℕ) (w : World tcp_shape) where
       by None = leaves_same _ (ends me w)
       by (Some host) = call_at (profile_of h) me host w.hosts call answer
 
-  pub step_leaves : (step : Step tcp_shape) → ((host : Host) (d : HostStep tcp_shape) → step ≡ At host d → host ≡ me)
+  pub step_leaves : (step : Step tcp_shape) → ((host : Host) (d : Deed tcp_shape) → step ≡ At host d → host ≡ me)
       → Leaves (affected_by me w step) (ends me w) (ends me (after (tcp h) moment w step))
   step_leaves (Begin line t call) own = leaves_same kinds.Nobody (ends me w)
   step_leaves (Finish line t answer) own = leaves_same kinds.Nobody (ends me w)
   step_leaves (Effect t answer) own = effect_leaves t answer (turn_of t w.threads)
   step_leaves (At host d) own =
-      subst (λ (x : Host). Leaves (affected_by_host_step (pick w.hosts me) d) (ends me w)
-      (ends me (after (tcp h) moment w (At x d)))) (sym (own host d refl)) (host_step_at h me moment w d)
+      subst (λ (x : Host). Leaves (affected_by_deed (pick w.hosts me) d) (ends me w)
+      (ends me (after (tcp h) moment w (At x d)))) (sym (own host d refl)) (deed_at h me moment w d)
 
 pub bring_leaves : (h : Header) (me : Host) (f : Flying tcp_shape) (w : World tcp_shape) → ends me (bring (tcp h) (other me) f w) ≡ ends me w
 bring_leaves h Zero f w = refl

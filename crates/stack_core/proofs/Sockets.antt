@@ -12,8 +12,8 @@ use Rattle.case_forms.specs.declared.calls.Call.TheVariants as calls
 use Rattle.case_forms.specs.declared.steps.TakeChoice.{TakeChoice}
 use Rattle.case_forms.specs.declared.trace.Header.{Header}
 use Rattle.spec_network.specs.Tables.{waiting}
-use Rattle.spec_network.specs.Hosts.{HostState, HostStep, Does, Expires, Makes, Sends, Gets, Hears, Takes, Drops, Answers}
-use Rattle.spec_network.specs.HostSteps.{host_step_after}
+use Rattle.spec_network.specs.Hosts.{HostState, Deed, Does, Expires, Makes, Sends, Gets, Hears, Takes, Drops, Answers}
+use Rattle.spec_network.specs.HostSteps.{deed_after}
 use Rattle.window_rules.specs.declared.control.Profile.{Profile}
 use Rattle.spec_tcp.specs.declared.endpoint.Emission.{Emission}
 use Rattle.spec_tcp.specs.declared.endpoint.Endpoint.{Endpoint}
@@ -43,20 +43,19 @@ taking_sockets h b how m moment Nobody = refl
 taking_sockets h b how m moment (AtListener l) = refl
 taking_sockets h b how m moment (AtEndpoint i e) = refl
 
-pub host_step_sockets : (h : Header) (me : Host) (moment fresh : ℕ) (far : List (ℕ × Emission)) (s : HostState tcp_shape)
-    (d : HostStep tcp_shape) → (host_step_after (tcp h) me moment fresh far s d).body.sockets ≡ s.body.sockets
-host_step_sockets h me moment fresh far s (Does x) = at_sockets s.body x.lport x.rport _
-host_step_sockets h me moment fresh far s (Expires line x) = at_sockets s.body x.lport x.rport _
-host_step_sockets h me moment fresh far s (Makes plan) = at_sockets s.body plan.lport plan.rport _
-host_step_sockets h me moment fresh far s (Sends line number wire) = refl
-host_step_sockets h me moment fresh far s (Gets line copied wire) = refl
-host_step_sockets h me moment fresh far s (Hears line wire) = refl
-host_step_sockets h me moment fresh far s (Takes line how) =
+pub deed_sockets : (h : Header) (me : Host) (moment fresh : ℕ) (far : List (ℕ × Emission)) (s : HostState tcp_shape)
+    (d : Deed tcp_shape) → (deed_after (tcp h) me moment fresh far s d).body.sockets ≡ s.body.sockets
+deed_sockets h me moment fresh far s (Does x) = at_sockets s.body x.lport x.rport _
+deed_sockets h me moment fresh far s (Expires line x) = at_sockets s.body x.lport x.rport _
+deed_sockets h me moment fresh far s (Makes plan) = at_sockets s.body plan.lport plan.rport _
+deed_sockets h me moment fresh far s (Sends line number wire) = refl
+deed_sockets h me moment fresh far s (Gets line copied wire) = refl
+deed_sockets h me moment fresh far s (Hears line wire) = refl
+deed_sockets h me moment fresh far s (Takes line how) =
     on_cases (λ (b : HostTcp). b.sockets ≡ s.body.sockets) (waiting line s.inbox) s.body _ refl
     (λ m e. taking_sockets h s.body how m moment (taker s.body m))
-host_step_sockets h me moment fresh far s (Drops line) = refl
-host_step_sockets h me moment fresh far s (Answers line) =
-    on_cases (λ (b : HostTcp). b.sockets ≡ s.body.sockets) (waiting line s.inbox) s.body _ refl (λ m e. refl)
+deed_sockets h me moment fresh far s (Drops line) = refl
+deed_sockets h me moment fresh far s (Answers line) = on_cases (λ (b : HostTcp). b.sockets ≡ s.body.sockets) (waiting line s.inbox) s.body _ refl (λ m e. refl)
 
 -- 2. what calls do
 

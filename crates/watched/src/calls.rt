@@ -12,14 +12,13 @@ ghost use Rattle.spec_network.specs.Tables.{on, pick};
 ghost use Rattle.spec_tcp.specs.Bounds.{most_steps};
 ghost use Rattle.spec_tcp.specs.HostTcp.{given, queue_of};
 ghost use Rattle.spec_tcp.specs.Machine.{aim, tcp, tcp_shape};
-ghost use Rattle.spec_duties.specs.Observations.{observe_accept, accepting, observe_call, observe_close, is_done};
-ghost use Rattle.spec_duties.specs.Observations.{on_thing};
-ghost use Rattle.spec_duties.specs.Observations.{observe_opened, observe_other, observe_pending, observe, unseen};
+ghost use Rattle.spec_duties.specs.Sights.{accept_sight, accepting, call_sight, close_sight, is_done, on_thing};
+ghost use Rattle.spec_duties.specs.Sights.{opened_sight, other_sight, pending_sight, sight, unseen};
 
-use crate::observations::{at_next, at_place, touching, unseen};
+use crate::sights::{at_next, at_place, touching, unseen};
 use case_forms::{Answer, Call, Host};
 use endpoint_state::{HostTcp, World};
-use spec_duties::{Event, Observation, Queueing};
+use spec_duties::{Event, Queueing, Sight};
 use spec_tcp::SocketTarget;
 
 fn is_done(answer: &Answer) -> bool
@@ -53,14 +52,14 @@ fn accepting(host: Host, b: &HostTcp, place: u32) -> Queueing
 }
 
 #[inline(always)]
-fn observe_accept(host: Host, b: &HostTcp, answer: &Answer, thing: SocketTarget) -> Observation
-    ensures { result ≡ observe_accept host b.now answer.now thing }
+fn accept_sight(host: Host, b: &HostTcp, answer: &Answer, thing: SocketTarget) -> Sight
+    ensures { result ≡ accept_sight host b.now answer.now thing }
 {
     let SocketTarget::ListenerAt(place) = thing else {
         return unseen();
     };
     match answer {
-        Answer::Given(_) => Observation {
+        Answer::Given(_) => Sight {
             queueing: accepting(host, b, place),
             ..unseen()
         },
@@ -80,14 +79,8 @@ fn observe_accept(host: Host, b: &HostTcp, answer: &Answer, thing: SocketTarget)
 }
 
 #[inline(always)]
-fn observe_close(
-    host: Host,
-    b: &HostTcp,
-    aborts: bool,
-    answer: &Answer,
-    thing: SocketTarget,
-) -> Observation
-    ensures { result ≡ observe_close host b.now aborts answer.now thing }
+fn close_sight(host: Host, b: &HostTcp, aborts: bool, answer: &Answer, thing: SocketTarget) -> Sight
+    ensures { result ≡ close_sight host b.now aborts answer.now thing }
 {
     match thing {
         SocketTarget::EndpointAt(place) => {
@@ -95,7 +88,7 @@ fn observe_close(
         }
         SocketTarget::ListenerAt(listener) => {
             if is_done(answer) {
-                Observation {
+                Sight {
                     queueing: Queueing::Closes { host, listener },
                     ..unseen()
                 }
@@ -107,8 +100,8 @@ fn observe_close(
 }
 
 #[inline(always)]
-fn observe_other(host: Host, b: &HostTcp, thing: SocketTarget) -> Observation
-    ensures { result ≡ observe_other host b.now thing }
+fn other_sight(host: Host, b: &HostTcp, thing: SocketTarget) -> Sight
+    ensures { result ≡ other_sight host b.now thing }
 {
     match thing {
         SocketTarget::EndpointAt(place) => {
@@ -119,9 +112,9 @@ fn observe_other(host: Host, b: &HostTcp, thing: SocketTarget) -> Observation
 }
 
 #[inline(always)]
-fn observe_opened(host: Host, b: &HostTcp, answer: &Answer) -> Observation
+fn opened_sight(host: Host, b: &HostTcp, answer: &Answer) -> Sight
     requires { length b.now.endpoints < 2 ^ 32 }
-    ensures { result ≡ observe_opened host b.now answer.now }
+    ensures { result ≡ opened_sight host b.now answer.now }
 {
     match answer {
         Answer::Given(_) => touching(at_next(host, b, Event::Opens)),
@@ -142,26 +135,26 @@ fn observe_opened(host: Host, b: &HostTcp, answer: &Answer) -> Observation
 
 // A call with this answer, at the host that it applies to.
 #[inline(always)]
-fn observe_call(host: Host, b: &HostTcp, call: &Call, answer: &Answer) -> Observation
+fn call_sight(host: Host, b: &HostTcp, call: &Call, answer: &Answer) -> Sight
     requires { length b.now.endpoints < 2 ^ 32 }
-    ensures { result ≡ observe_call host b.now call.now answer.now }
+    ensures { result ≡ call_sight host b.now call.now answer.now }
 {
     match call {
-        Call::Connect(_, _, _) => observe_opened(host, b, answer),
+        Call::Connect(_, _, _) => opened_sight(host, b, answer),
         Call::Accept(number) => match b.thing(*number) {
-            Some(thing) => observe_accept(host, b, answer, thing),
+            Some(thing) => accept_sight(host, b, answer, thing),
             None => unseen(),
         },
         Call::Send(number, _) | Call::Shut(number) => match b.thing(*number) {
-            Some(thing) => observe_other(host, b, thing),
+            Some(thing) => other_sight(host, b, thing),
             None => unseen(),
         },
         Call::Close(number) => match b.thing(*number) {
-            Some(thing) => observe_close(host, b, false, answer, thing),
+            Some(thing) => close_sight(host, b, false, answer, thing),
             None => unseen(),
         },
         Call::Abort(number) => match b.thing(*number) {
-            Some(thing) => observe_close(host, b, is_done(answer), answer, thing),
+            Some(thing) => close_sight(host, b, is_done(answer), answer, thing),
             None => unseen(),
         },
         Call::Listen(_, _, _) | Call::Await(_) | Call::Recv(_, _) | Call::Status(_) => unseen(),
@@ -183,10 +176,10 @@ fn giver(world: &World, number: u32) -> Option<Host>
 }
 
 // Whether duties see nothing of the effect of a call, whatever its answer is.
-#[tactic(auto, using(crate::proofs::CallLemmas::observe_no))]
+#[tactic(auto, using(crate::proofs::CallLemmas::no_sight))]
 fn is_unwatched(call: &Call) -> bool
     ensures { IsTrue result → (h : Header) (w : network.World tcp_shape) (answer : Answer)
-        → observe_pending h w answer call.now ≡ unseen }
+        → pending_sight h w answer call.now ≡ unseen }
 {
     match call {
         Call::Listen(_, _, _) | Call::Await(_) | Call::Recv(_, _) | Call::Status(_) => true,
@@ -220,9 +213,9 @@ fn meant(world: &World, call: &Call) -> Option<Host>
 // An open call with this answer, at the host that it applies to.
 #[tactic(auto, using(crate::proofs::PlaceLemmas::places_fit))]
 #[inline(always)]
-fn observe_pending(world: &World, call: &Call, answer: &Answer) -> Observation
+fn pending_sight(world: &World, call: &Call, answer: &Answer) -> Sight
     requires { world.now.steps < most_steps }
-    ensures { (h : Header) → result ≡ observe_pending h world.now.world answer.now call.now }
+    ensures { (h : Header) → result ≡ pending_sight h world.now.world answer.now call.now }
 {
     if is_unwatched(call) {
         return unseen();
@@ -231,23 +224,18 @@ fn observe_pending(world: &World, call: &Call, answer: &Answer) -> Observation
         return unseen();
     };
     world.is_kept();
-    observe_call(host, world.body(host), call, answer)
+    call_sight(host, world.body(host), call, answer)
 }
 
 /// What duties read of the world at the effect of a thread's open call, with this answer.
 #[tactic(auto, using(crate::proofs::CallLemmas::effect_is))]
 #[inline(always)]
-pub(crate) fn observe_effect(
-    world: &World,
-    moment: u64,
-    thread: u32,
-    answer: &Answer,
-) -> Observation
+pub(crate) fn sight_of_effect(world: &World, moment: u64, thread: u32, answer: &Answer) -> Sight
     requires { world.now.steps < most_steps }
-    ensures { result ≡ observe world.now.header moment world.now.world (Effect thread answer.now) }
+    ensures { result ≡ sight world.now.header moment world.now.world (Effect thread answer.now) }
 {
     match world.pending_call(thread) {
-        Some(call) => observe_pending(world, call, answer),
+        Some(call) => pending_sight(world, call, answer),
         None => unseen(),
     }
 }

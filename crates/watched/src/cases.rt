@@ -11,18 +11,18 @@ ghost use Rattle.spec_tcp.specs.Bounds.{most_steps};
 ghost use Rattle.spec_duties.specs.Cases.{after, asked_after, asked_rules, broken_by, judged_rules, late_at_end};
 ghost use Rattle.spec_duties.specs.Cases.{noted_by};
 ghost use Rattle.spec_duties.specs.Cases.{start};
-ghost use Rattle.spec_duties.specs.Observations.{observe};
+ghost use Rattle.spec_duties.specs.Sights.{sight};
 ghost use Rattle.watched.specs.Watched.{IsPlain, case_of, noted};
 
-use crate::calls::observe_effect;
+use crate::calls::sight_of_effect;
 use crate::ending;
-use crate::observations::{
-    observe_hidden, observe_line, observe_making, observe_sending, observe_taking, view_in,
+use crate::sights::{
+    sight_of_hidden, sight_of_line, sight_of_making, sight_of_sending, sight_of_taking, view_in,
 };
 use case_forms::{Event, Extras, Header, Line, TakenLine};
 use duties::{Duties, judged_slack};
 use endpoint_state::{StepFault, World};
-use spec_duties::Observation;
+use spec_duties::Sight;
 use spec_step::{Hidden, ModelStep};
 use std::alloc::Global;
 use std::marker::Model;
@@ -103,17 +103,17 @@ impl Case {
 
 // Judges a step that the model did, and notes it if no duty refuses it.
 #[inline(always)]
-fn watch(world: &World, duties: &mut Duties, moment: u64, seen: &Observation) -> Result<(), StepFault>
-    ensures ok { OnOk result (case_of world.now duties.new ≡ noted moment seen.now (case_of world.now duties.old)) }
-    ensures admitted { OnOk result (first_broken (judged_rules world.now.header moment duties.old seen.now) ≡ None) }
+fn watch(world: &World, duties: &mut Duties, moment: u64, sight: &Sight) -> Result<(), StepFault>
+    ensures ok { OnOk result (case_of world.now duties.new ≡ noted moment sight.now (case_of world.now duties.old)) }
+    ensures admitted { OnOk result (first_broken (judged_rules world.now.header moment duties.old sight.now) ≡ None) }
     ensures broken { IfErr result (λ fault. IfBroken fault
-        (λ rule. first_broken (judged_rules world.now.header moment duties.old seen.now) ≡ Some rule)) }
+        (λ rule. first_broken (judged_rules world.now.header moment duties.old sight.now) ≡ Some rule)) }
 {
     let Some(slack) = judged_slack(world.header()) else {
         return Ok(());
     };
-    duties.admits(world.header(), slack, moment, seen)?;
-    duties.note(moment, seen, &view_in(world, &seen.touched))?;
+    duties.admits(world.header(), slack, moment, sight)?;
+    duties.note(moment, sight, &view_in(world, &sight.touched))?;
     Ok(())
 }
 
@@ -125,11 +125,11 @@ fn watch_step<S: ModelStep>(
     duties: &mut Duties,
     moment: u64,
     step: S,
-    seen: &Observation,
+    seen: &Sight,
 ) -> Result<(), StepFault>
     requires steps { world.old.steps < most_steps }
     requires small { S.is_small step }
-    requires seen { seen.now ≡ observe world.old.header moment world.old.world (S.step step) }
+    requires seen { seen.now ≡ sight world.old.header moment world.old.world (S.step step) }
     ensures ok { OnOk result
         (case_of world.new duties.new ≡ after (case_of world.old duties.old) moment (S.step step)) }
     ensures admitted { OnOk result (broken_by (case_of world.old duties.old) moment (S.step step) ≡ None) }
@@ -180,16 +180,16 @@ fn judge_line(
     };
     match taken {
         TakenLine::Sent { host, made, .. } => {
-            let seen = observe_sending(world, host, made);
-            watch_step(world, duties, moment, taken, &seen)
+            let sight = sight_of_sending(world, host, made);
+            watch_step(world, duties, moment, taken, &sight)
         }
         TakenLine::CallBegin { .. }
         | TakenLine::CallEnd { .. }
         | TakenLine::Came { .. }
         | TakenLine::Heard { .. }
         | TakenLine::Expired { .. } => {
-            let seen = observe_line(world, moment, &taken);
-            watch_step(world, duties, moment, taken, &seen)
+            let sight = sight_of_line(world, moment, &taken);
+            watch_step(world, duties, moment, taken, &sight)
         }
     }
 }
@@ -212,20 +212,20 @@ fn judge_hidden(
 {
     match *step {
         Hidden::Effect { thread, answer } => {
-            let seen = observe_effect(world, moment, thread, answer);
-            watch_step(world, duties, moment, *step, &seen)
+            let sight = sight_of_effect(world, moment, thread, answer);
+            watch_step(world, duties, moment, *step, &sight)
         }
         Hidden::Build { host, plan } => {
-            let seen = observe_making(world, host, plan, moment);
-            watch_step(world, duties, moment, *step, &seen)
+            let sight = sight_of_making(world, host, plan, moment);
+            watch_step(world, duties, moment, *step, &sight)
         }
         Hidden::Process { host, line, choice } => {
-            let seen = observe_taking(world, host, line, choice, moment);
-            watch_step(world, duties, moment, *step, &seen)
+            let sight = sight_of_taking(world, host, line, choice, moment);
+            watch_step(world, duties, moment, *step, &sight)
         }
         Hidden::Drop { .. } | Hidden::Reset { .. } | Hidden::Recover { .. } => {
-            let seen = observe_hidden(world, moment, step);
-            watch_step(world, duties, moment, *step, &seen)
+            let sight = sight_of_hidden(world, moment, step);
+            watch_step(world, duties, moment, *step, &sight)
         }
     }
 }

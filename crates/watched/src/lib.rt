@@ -6,8 +6,8 @@
 //! would copy.
 //!
 //! - `cases`: a case with its duties: each step, and the comparison at the end
-//! - `observations`: what a step shows of the world; `calls`: the same for the effect of a call; `dropped`: for a
-//!   segment that is dropped
+//! - `sights`: what a step shows of the world; `calls`: the same for the effect of a call; `dropped`: for a segment
+//!   that is dropped
 //! - `ending`: what is late at the end; `laws`: what duties read of the world and of the header
 #![tactic(auto)]
 
@@ -16,7 +16,7 @@ mod cases;
 mod dropped;
 mod ending;
 mod laws;
-mod observations;
+mod sights;
 
 pub use cases::{Case, apply_hidden, take_line};
 pub use ending::late_at_end;
@@ -24,4 +24,4 @@ pub use laws::{
     case_judged_alike, case_rules_ascend, less_judged_shows_the_same, nothing_discarded_is_seen,
     slack_is_not_read,
 };
-pub use observations::{observe_hidden, observe_line, view_in};
+pub use sights::{sight_of_hidden, sight_of_line, view_in};

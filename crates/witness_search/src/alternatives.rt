@@ -3,7 +3,7 @@
 use crate::candidates::{Candidates, Done};
 use crate::together::Kind;
 use case_forms::{Event, Line, OutOfMemory, Timer};
-use forward_pass::{Action, Attempt, EndpointKey, Failure, Fate, Findings, Remedy, Unseen};
+use forward_pass::{Attempt, Deed, EndpointKey, Failure, Fate, Findings, Remedy, Unseen};
 use segment::Flag;
 use verdict::Rule;
 
@@ -122,10 +122,10 @@ impl<'t> Known<'t> {
             [Fate::NotKept, Fate::Dropped]
         };
         for fate in fates {
-            out.push(place, Action::Fate(fate))?;
+            out.push(place, Deed::Fate(fate))?;
         }
         if !is_far && self.is_timed() {
-            out.push(place, Action::Fate(Fate::Unmeasured))?;
+            out.push(place, Deed::Fate(Fate::Unmeasured))?;
         }
         self.wait_until(out, spot)
     }
@@ -154,7 +154,7 @@ impl<'t> Known<'t> {
         };
         for after in lines {
             if place < after && self.may_wait(place, after) {
-                out.push(place, Action::WaitUntil(after))?;
+                out.push(place, Deed::WaitUntil(after))?;
             }
         }
         Ok(())
@@ -176,13 +176,13 @@ impl<'t> Known<'t> {
             return Ok(());
         }
         if self.failure.rule != Rule::BytesDiffer {
-            out.push(place, Action::Before(at, Remedy::Recovery))?;
-            out.push(place, Action::Before(at, Remedy::Persist))?;
-            out.push(place, Action::Before(at, Remedy::Rto))?;
-            out.push(place, Action::Before(at, Remedy::TimeWaitOver))?;
+            out.push(place, Deed::Before(at, Remedy::Recovery))?;
+            out.push(place, Deed::Before(at, Remedy::Persist))?;
+            out.push(place, Deed::Before(at, Remedy::Rto))?;
+            out.push(place, Deed::Before(at, Remedy::TimeWaitOver))?;
         }
         for after in (place.saturating_sub(NEAR)..place).rev() {
-            out.push(after, Action::Build(place))?;
+            out.push(after, Deed::Build(place))?;
         }
         Ok(())
     }
@@ -218,7 +218,7 @@ impl<'t> Known<'t> {
 // After a line, an endpoint built one of these.
 fn push_unseen(out: &mut Candidates, after: usize, at: EndpointKey, kinds: [Unseen; 2]) -> Done {
     for unseen in kinds {
-        out.push(after, Action::BuildUnseen(at, unseen))?;
+        out.push(after, Deed::BuildUnseen(at, unseen))?;
     }
     Ok(())
 }

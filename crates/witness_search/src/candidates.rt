@@ -1,7 +1,7 @@
 //! Candidates for other choices.
 
 use case_forms::OutOfMemory;
-use forward_pass::{Action, Choice};
+use forward_pass::{Choice, Deed};
 use std::alloc::Global;
 
 /// Done, or memory ran out.
@@ -52,14 +52,14 @@ impl Candidates {
     }
 
     /// Adds a candidate of one choice.
-    pub(crate) fn push(&mut self, place: usize, action: Action) -> Done {
-        self.add(place, action)?;
+    pub(crate) fn push(&mut self, place: usize, deed: Deed) -> Done {
+        self.add(place, deed)?;
         self.end()
     }
 
     /// Adds a choice to the candidate that ends next.
-    pub(crate) fn add(&mut self, place: usize, action: Action) -> Done {
-        self.choices.push(Choice { place, action })?;
+    pub(crate) fn add(&mut self, place: usize, deed: Deed) -> Done {
+        self.choices.push(Choice { place, deed })?;
         Ok(())
     }
 

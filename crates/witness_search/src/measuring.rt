@@ -7,7 +7,7 @@ use crate::alternatives::{Known, REACH};
 use crate::candidates::{Candidates, Done};
 use crate::together::{HALF, Kind, end_of};
 use case_forms::{Event, Line, Wire};
-use forward_pass::{Action, EndpointKey, Fate};
+use forward_pass::{Deed, EndpointKey, Fate};
 use segment::Flag;
 
 // What a host measures that measures one round trip at a time.
@@ -80,7 +80,7 @@ impl Known<'_> {
         for place in first..self.failure.place {
             let line = self.lines.get(place);
             if line.is_some_and(|line| timing.passes(line, at)) {
-                out.add(place, Action::Fate(Fate::Unmeasured))?;
+                out.add(place, Deed::Fate(Fate::Unmeasured))?;
             }
         }
         out.end()?;

@@ -3,7 +3,7 @@
 use crate::alternatives::{Known, NEAR, REACH};
 use crate::candidates::{Candidates, Done};
 use case_forms::{Event, Wire};
-use forward_pass::{Action, EndpointKey, Fate, Remedy};
+use forward_pass::{Deed, EndpointKey, Fate, Remedy};
 use segment::Flag;
 use verdict::Rule;
 
@@ -97,7 +97,7 @@ impl Known<'_> {
         let places = self.findings.late.iter().rev().take(REACH);
         let places = places.filter(|place| self.is_at_failing_endpoint(**place));
         for place in places.take(TOGETHER) {
-            out.add(*place, Action::Fate(Fate::Prompt))?;
+            out.add(*place, Deed::Fate(Fate::Prompt))?;
         }
         out.end()
     }
@@ -107,7 +107,7 @@ impl Known<'_> {
         let places = self.findings.beyond.iter().rev().take(REACH);
         let places = places.filter(|place| self.is_at_failing_endpoint(**place));
         for place in places.take(NEAR) {
-            out.push(*place, Action::Fate(Fate::Widened))?;
+            out.push(*place, Deed::Fate(Fate::Widened))?;
         }
         Ok(())
     }
@@ -133,7 +133,7 @@ impl Known<'_> {
             };
             match end {
                 Some(end) if HALF <= wire.seg.seq.0.wrapping_sub(end) => {
-                    out.add(place, Action::Before(at, Remedy::Rto))?
+                    out.add(place, Deed::Before(at, Remedy::Rto))?
                 }
                 _ => end = Some(end_of(wire)),
             }
@@ -155,7 +155,7 @@ impl Known<'_> {
         let places = (1..=REACH).map_while(|distance| self.place_at(Side::Before, distance));
         let near = places.take_while(|place| first <= self.moment_at(*place));
         match near.last() {
-            Some(place) => out.push(place, Action::Before(at, remedy)),
+            Some(place) => out.push(place, Deed::Before(at, remedy)),
             None => Ok(()),
         }
     }
@@ -180,7 +180,7 @@ impl Known<'_> {
         let places = (1..=REACH).map_while(|distance| self.place_at(side, distance));
         let places = places.filter(|place| self.is_arrival_of(*place, kind));
         for place in places.take(TOGETHER) {
-            out.add(place, Action::Fate(fate))?;
+            out.add(place, Deed::Fate(fate))?;
         }
         Ok(())
     }

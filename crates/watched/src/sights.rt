@@ -10,35 +10,32 @@ ghost use Rattle.spec_tcp.specs.Bounds.{most_steps};
 ghost use Rattle.spec_tcp.specs.Steps.{line_step};
 ghost use Rattle.spec_step.specs.Acts.{step_hidden};
 ghost use Rattle.spec_duties.specs.Dropped.{has_content};
-ghost use Rattle.spec_duties.specs.Observations.{at_drop, at_next, at_place, at_ports, at_sender, at_target};
-ghost use Rattle.spec_duties.specs.Observations.{processing_of};
-ghost use Rattle.spec_duties.specs.Observations.{sending_of, observe, touching, unseen, view_in};
+ghost use Rattle.spec_duties.specs.Sights.{at_drop, at_next, at_place, at_ports, at_sender, at_target, processing_of};
+ghost use Rattle.spec_duties.specs.Sights.{sending_of, sight, touching, unseen, view_in};
 ghost use Rattle.spec_duties.specs.Views as views;
-ghost use Rattle.spec_duties.specs.declared.observations.BuiltChange.TheVariants as built_change;
-ghost use Rattle.spec_duties.specs.declared.observations.InboxChange.TheVariants as inbox_change;
+ghost use Rattle.spec_duties.specs.declared.sights.Post.TheVariants as post;
+ghost use Rattle.spec_duties.specs.declared.sights.Mail.TheVariants as mail;
 ghost use Rattle.watched.specs.Targets.{taker_at};
 
-use crate::calls::observe_effect;
-use crate::dropped::{admits_answering, admits_processing, discards_at, droppable_by, target_of};
+use crate::calls::sight_of_effect;
+use crate::dropped::{admits_answering, admits_processing, discards_at, spared_by, target_of};
 use case_forms::{Host, Ports, SegmentPlan, TakeChoice, TakenLine};
 use duties::{Target, asks, dropping_of, has_content, processing_place, unborn, view_of};
 use endpoint_state::{HostTcp, World};
-use spec_duties::{
-    BuiltChange, Event, InboxChange, Observation, Queueing, Sending, TouchedEndpoint, View,
-};
+use spec_duties::{Event, Mail, Post, Queueing, Sending, Sight, Touched, View};
 use spec_step::Hidden;
 use spec_tcp::Emission;
 use verdict::Rule;
 
 /// Nothing that duties watch.
 #[inline(always)]
-pub(crate) fn unseen() -> Observation
+pub(crate) fn unseen() -> Sight
     ensures { result ≡ unseen }
 {
-    Observation {
+    Sight {
         touched: None,
-        inbox_change: InboxChange::Nothing,
-        built_change: BuiltChange::Nothing,
+        mail: Mail::Nothing,
+        post: Post::Nothing,
         queueing: Queueing::Nothing,
         dropping: None,
         discards: false,
@@ -46,10 +43,10 @@ pub(crate) fn unseen() -> Observation
 }
 
 #[inline(always)]
-pub(crate) fn touching(touched: Option<TouchedEndpoint>) -> Observation
+pub(crate) fn touching(touched: Option<Touched>) -> Sight
     ensures { result ≡ touching touched }
 {
-    Observation {
+    Sight {
         touched,
         ..unseen()
     }
@@ -57,11 +54,11 @@ pub(crate) fn touching(touched: Option<TouchedEndpoint>) -> Observation
 
 /// A step touches the endpoint at a place.
 #[inline(always)]
-pub(crate) fn at_place(host: Host, b: &HostTcp, event: Event, place: u32) -> Option<TouchedEndpoint>
+pub(crate) fn at_place(host: Host, b: &HostTcp, event: Event, place: u32) -> Option<Touched>
     ensures { result ≡ at_place host b.now event place }
 {
     match b.endpoint_at(place) {
-        Some(endpoint) => Some(TouchedEndpoint {
+        Some(endpoint) => Some(Touched {
             host,
             place,
             event,
@@ -72,7 +69,7 @@ pub(crate) fn at_place(host: Host, b: &HostTcp, event: Event, place: u32) -> Opt
 }
 
 #[inline(always)]
-fn at_ports(host: Host, b: &HostTcp, event: Event, lport: u16, rport: u16) -> Option<TouchedEndpoint>
+fn at_ports(host: Host, b: &HostTcp, event: Event, lport: u16, rport: u16) -> Option<Touched>
     ensures { result ≡ at_ports host b.now event lport rport }
 {
     match b.place_of(lport, rport) {
@@ -83,7 +80,7 @@ fn at_ports(host: Host, b: &HostTcp, event: Event, lport: u16, rport: u16) -> Op
 
 /// A new endpoint, in the next place.
 #[inline(always)]
-pub(crate) fn at_next(host: Host, b: &HostTcp, event: Event) -> Option<TouchedEndpoint>
+pub(crate) fn at_next(host: Host, b: &HostTcp, event: Event) -> Option<Touched>
     requires { length b.now.endpoints < 2 ^ 32 }
     ensures { result ≡ at_next host b.now event }
 {
@@ -92,10 +89,10 @@ pub(crate) fn at_next(host: Host, b: &HostTcp, event: Event) -> Option<TouchedEn
 
 // A step creates the endpoint at a place.
 #[inline(always)]
-fn born_at(host: Host, event: Event, place: u32) -> TouchedEndpoint
+fn born_at(host: Host, event: Event, place: u32) -> Touched
     ensures { result ≡ record { host = host; place = place; event = event; before = views.unborn } }
 {
-    TouchedEndpoint {
+    Touched {
         host,
         place,
         event,
@@ -115,7 +112,7 @@ fn sending_of(m: &Emission) -> Event
 }
 
 #[inline(always)]
-fn at_sender(host: Host, b: &HostTcp, m: &Emission) -> Option<TouchedEndpoint>
+fn at_sender(host: Host, b: &HostTcp, m: &Emission) -> Option<Touched>
     ensures { result ≡ at_sender host b.now m.now }
 {
     if m.is_reset_reply {
@@ -136,7 +133,7 @@ fn processing_of(m: &Emission) -> Event
 }
 
 #[inline(always)]
-fn at_target(host: Host, b: &HostTcp, m: &Emission, target: Target) -> Option<TouchedEndpoint>
+fn at_target(host: Host, b: &HostTcp, m: &Emission, target: Target) -> Option<Touched>
     requires { length b.now.endpoints < 2 ^ 32 }
     ensures { result ≡ at_target host b.now m.now (taker_at b.now target) }
 {
@@ -154,7 +151,7 @@ fn at_drop(
     m: &Emission,
     processing: Result<(), Rule>,
     target: Target,
-) -> Option<TouchedEndpoint>
+) -> Option<Touched>
     ensures { result ≡ at_drop host b.now m.now (result_err processing) (taker_at b.now target) }
 {
     let Target::Endpoint(place) = target else {
@@ -172,8 +169,8 @@ fn at_drop(
 
 // A host drops what waits under this line.
 #[inline(always)]
-fn observe_drop(world: &World, host: Host, line: u64, moment: u64) -> Observation
-    ensures { result ≡ observe world.now.header moment world.now.world (network.At host (network.Drops line)) }
+fn sight_of_drop(world: &World, host: Host, line: u64, moment: u64) -> Sight
+    ensures { result ≡ sight world.now.header moment world.now.world (network.At host (network.Drops line)) }
 {
     let Some(m) = world.waiting(host, line) else {
         return unseen();
@@ -182,11 +179,11 @@ fn observe_drop(world: &World, host: Host, line: u64, moment: u64) -> Observatio
     let processing = admits_processing(world, moment, host, line);
     let answering = admits_answering(world, host, line);
     let target = target_of(body, m);
-    let droppable = droppable_by(body, m, target);
-    Observation {
+    let spared = spared_by(body, m, target);
+    Sight {
         touched: at_drop(host, body, m, processing, target),
-        inbox_change: InboxChange::Leaves(line),
-        dropping: Some(dropping_of(host, processing, answering, droppable)),
+        mail: Mail::Leaves(line),
+        dropping: Some(dropping_of(host, processing, answering, spared)),
         ..unseen()
     }
 }
@@ -194,15 +191,15 @@ fn observe_drop(world: &World, host: Host, line: u64, moment: u64) -> Observatio
 /// A host processes what waits under this line.
 #[tactic(auto, using(crate::proofs::PlaceLemmas::places_fit, endpoint_state::proofs::Readable::kept_reads))]
 #[inline(always)]
-pub(crate) fn observe_taking(
+pub(crate) fn sight_of_taking(
     world: &World,
     host: Host,
     line: u64,
     how: TakeChoice,
     moment: u64,
-) -> Observation
+) -> Sight
     requires { world.now.steps < most_steps }
-    ensures { result ≡ observe world.now.header moment world.now.world (network.At host (network.Takes line how)) }
+    ensures { result ≡ sight world.now.header moment world.now.world (network.At host (network.Takes line how)) }
 {
     let Some(m) = world.waiting(host, line) else {
         return unseen();
@@ -210,9 +207,9 @@ pub(crate) fn observe_taking(
     world.is_kept();
     let body = world.body(host);
     let target = target_of(body, m);
-    Observation {
+    Sight {
         touched: at_target(host, body, m, target),
-        inbox_change: InboxChange::Leaves(line),
+        mail: Mail::Leaves(line),
         discards: discards_at(world.header().version, body, how, m, target),
         ..unseen()
     }
@@ -220,27 +217,27 @@ pub(crate) fn observe_taking(
 
 /// A host builds a segment.
 #[inline(always)]
-pub(crate) fn observe_making(world: &World, host: Host, plan: &SegmentPlan, moment: u64) -> Observation
+pub(crate) fn sight_of_making(world: &World, host: Host, plan: &SegmentPlan, moment: u64) -> Sight
     requires { world.now.steps < most_steps }
-    ensures { result ≡ observe world.now.header moment world.now.world (network.At host (network.Makes plan.now)) }
+    ensures { result ≡ sight world.now.header moment world.now.world (network.At host (network.Makes plan.now)) }
 {
     let event = Event::Builds(*plan);
-    Observation {
+    Sight {
         touched: at_ports(host, world.body(host), event, plan.lport, plan.rport),
-        built_change: BuiltChange::Builds(fresh(world)),
+        post: Post::Builds(fresh(world)),
         ..unseen()
     }
 }
 
 // A host answers by a reset what waits under this line.
 #[inline(always)]
-fn observe_reset(world: &World, host: Host, line: u64, moment: u64) -> Observation
+fn sight_of_reset(world: &World, host: Host, line: u64, moment: u64) -> Sight
     requires { world.now.steps < most_steps }
-    ensures { result ≡ observe world.now.header moment world.now.world (network.At host (network.Answers line)) }
+    ensures { result ≡ sight world.now.header moment world.now.world (network.At host (network.Answers line)) }
 {
-    Observation {
-        inbox_change: InboxChange::Leaves(line),
-        built_change: BuiltChange::Builds(fresh(world)),
+    Sight {
+        mail: Mail::Leaves(line),
+        post: Post::Builds(fresh(world)),
         ..unseen()
     }
 }
@@ -258,17 +255,17 @@ fn fresh(world: &World) -> u32
 
 /// A host sends the segment that it built under this number.
 #[inline(always)]
-pub(crate) fn observe_sending(world: &World, host: Host, number: u32) -> Observation
+pub(crate) fn sight_of_sending(world: &World, host: Host, number: u32) -> Sight
     ensures { result ≡ on (lookup (nat_eq number) (pick world.now.world.hosts host).made) unseen
         (λ m. record unseen {
           touched = at_sender host (pick world.now.world.hosts host).body m.emission;
-          built_change = built_change.Sends number;
+          post = post.Sends number;
         }) }
 {
     match world.made(host, number) {
-        Some(made) => Observation {
+        Some(made) => Sight {
             touched: at_sender(host, world.body(host), made.emission()),
-            built_change: BuiltChange::Sends(number),
+            post: Post::Sends(number),
             ..unseen()
         },
         None => unseen(),
@@ -276,65 +273,65 @@ pub(crate) fn observe_sending(world: &World, host: Host, number: u32) -> Observa
 }
 
 #[inline(always)]
-fn observe_arrival(line: u64) -> Observation
-    ensures { result ≡ record unseen { inbox_change = inbox_change.Enters line } }
+fn sight_of_arrival(line: u64) -> Sight
+    ensures { result ≡ record unseen { mail = mail.Enters line } }
 {
-    Observation {
-        inbox_change: InboxChange::Enters(line),
+    Sight {
+        mail: Mail::Enters(line),
         ..unseen()
     }
 }
 
 #[inline(always)]
-fn observe_at_ports(world: &World, host: Host, event: Event, ports: Ports) -> Observation
+fn sight_at_ports(world: &World, host: Host, event: Event, ports: Ports) -> Sight
     ensures { result ≡ touching (at_ports host (pick world.now.world.hosts host).body event ports.lport ports.rport) }
 {
     touching(at_ports(host, world.body(host), event, ports.lport, ports.rport))
 }
 
 /// What duties read of the world at a step that takes a line.
-pub fn observe_line(world: &World, moment: u64, line: &TakenLine) -> Observation
-    ensures { result ≡ observe world.now.header moment world.now.world (line_step line.now) }
+pub fn sight_of_line(world: &World, moment: u64, line: &TakenLine) -> Sight
+    ensures { result ≡ sight world.now.header moment world.now.world (line_step line.now) }
 {
     match line {
         TakenLine::CallBegin { .. } | TakenLine::CallEnd { .. } => unseen(),
-        TakenLine::Sent { host, made, .. } => observe_sending(world, *host, *made),
-        TakenLine::Came { line, .. } | TakenLine::Heard { line, .. } => observe_arrival(*line),
+        TakenLine::Sent { host, made, .. } => sight_of_sending(world, *host, *made),
+        TakenLine::Came { line, .. } | TakenLine::Heard { line, .. } => sight_of_arrival(*line),
         TakenLine::Expired {
             host,
             ports,
             expired,
             ..
-        } => observe_at_ports(world, *host, Event::Expires(expired.timer()), *ports),
+        } => sight_at_ports(world, *host, Event::Expires(expired.timer()), *ports),
     }
 }
 
 /// What duties read of the world at a step that takes none.
-pub fn observe_hidden(world: &World, moment: u64, step: &Hidden<'_>) -> Observation
+pub fn sight_of_hidden(world: &World, moment: u64, step: &Hidden<'_>) -> Sight
     requires { world.now.steps < most_steps }
-    ensures { result ≡ observe world.now.header moment world.now.world (step_hidden step.now) }
+    ensures { result ≡ sight world.now.header moment world.now.world (step_hidden step.now) }
 {
     match *step {
-        Hidden::Effect { thread, answer } => observe_effect(world, moment, thread, answer),
-        Hidden::Build { host, plan } => observe_making(world, host, plan, moment),
+        Hidden::Effect { thread, answer } => sight_of_effect(world, moment, thread, answer),
+        Hidden::Build { host, plan } => sight_of_making(world, host, plan, moment),
         Hidden::Process { host, line, choice } => {
-            observe_taking(world, host, line, choice, moment)
+            sight_of_taking(world, host, line, choice, moment)
         }
-        Hidden::Drop { host, line } => observe_drop(world, host, line, moment),
-        Hidden::Reset { host, line } => observe_reset(world, host, line, moment),
+        Hidden::Drop { host, line } => sight_of_drop(world, host, line, moment),
+        Hidden::Reset { host, line } => sight_of_reset(world, host, line, moment),
         Hidden::Recover { host, recovery } => {
             let ports = Ports {
                 lport: recovery.lport,
                 rport: recovery.rport,
             };
-            observe_at_ports(world, host, Event::Recovers, ports)
+            sight_at_ports(world, host, Event::Recovers, ports)
         }
     }
 }
 
 /// The endpoint that a step touched, as it is in this world.
 #[inline(always)]
-pub fn view_in(world: &World, touched: &Option<TouchedEndpoint>) -> View
+pub fn view_in(world: &World, touched: &Option<Touched>) -> View
     ensures { result ≡ view_in world.now.world touched.now }
 {
     match touched {

@@ -25,7 +25,7 @@ use Rattle.window_rules.specs.declared.control.Profile.{Profile}
 use Rattle.window_rules.proofs.Judging.{allows_more}
 use Rattle.spec_network.specs.HostRules.{aim_of, just}
 use Rattle.spec_network.specs.Hosts as network
-use Rattle.spec_network.specs.Hosts.{Answered, Called, HostStep, HostState, Idle, Step, Turn, World, turn_of}
+use Rattle.spec_network.specs.Hosts.{Answered, Called, Deed, HostState, Idle, Step, Turn, World, turn_of}
 use Rattle.spec_network.specs.Tables.{Made, on, pick, waiting}
 use Rattle.spec_tcp.specs.Arrives.{AtEndpoint, AtListener, Nobody, Taker, taker, taker_rules}
 use Rattle.spec_tcp.specs.Arrives.OtherStates.{connected_rules}
@@ -46,22 +46,21 @@ use Rattle.spec_tcp_laws.proofs.JudgedActs.{MayJudgeAll, nothing_same, taker_by,
 use Rattle.spec_tcp_laws.proofs.JudgedBodies.{place_by}
 use Rattle.spec_tcp_laws.proofs.JudgedRules.{MayJudge}
 use Rattle.spec_tcp_laws.proofs.JudgedWorlds.{aim_same, may_judge}
-use Rattle.spec_duties.specs.Dropped.{answering_breaks, bare, discards_at, droppable_by, taking_breaks}
-use Rattle.spec_duties.specs.Observations.{observe_accept, accepting, at_drop, at_next, at_place, at_ports, at_sender, at_target, observe_call, observe_close}
-use Rattle.spec_duties.specs.Observations.{observe_host_step, observe_dropping, observe_effect, is_done, on_thing, observe_opened, observe_other}
-use Rattle.spec_duties.specs.Observations.{observe_pending, processing_of}
-use Rattle.spec_duties.specs.Observations.{sending_of, observe, observe_taking, unseen, view_in}
+use Rattle.spec_duties.specs.Dropped.{answering_breaks, bare, discards_at, spared_by, taking_breaks}
+use Rattle.spec_duties.specs.Sights.{accept_sight, accepting, at_drop, at_next, at_place, at_ports, at_sender, at_target, call_sight, close_sight}
+use Rattle.spec_duties.specs.Sights.{deed_sight, dropping_sight, effect_sight, is_done, on_thing, opened_sight, other_sight, pending_sight, processing_of}
+use Rattle.spec_duties.specs.Sights.{sending_of, sight, taking_sight, unseen, view_in}
 use Rattle.spec_duties.specs.Views.{unborn, view_of}
 use Rattle.spec_duties.specs.declared.events.Event.{Event}
-use Rattle.spec_duties.specs.declared.observations.BuiltChange.TheVariants.{Sends}
-use Rattle.spec_duties.specs.declared.observations.Queueing.{Queueing}
-use Rattle.spec_duties.specs.declared.observations.Queueing.TheVariants as queueing
-use Rattle.spec_duties.specs.declared.observations.Observation.{Observation}
-use Rattle.spec_duties.specs.declared.observations.TouchedEndpoint.{TouchedEndpoint}
+use Rattle.spec_duties.specs.declared.sights.Post.TheVariants.{Sends}
+use Rattle.spec_duties.specs.declared.sights.Queueing.{Queueing}
+use Rattle.spec_duties.specs.declared.sights.Queueing.TheVariants as queueing
+use Rattle.spec_duties.specs.declared.sights.Sight.{Sight}
+use Rattle.spec_duties.specs.declared.sights.Touched.{Touched}
 use Rattle.watched.specs.Levels.{EndsBelow, LessJudgedShowsTheSame, ShowsHigher, touched_with, view_with}
 
 -- one touched endpoint is another but for its congestion edge, which isn't lower
-abbrev Higher : Option TouchedEndpoint → Option TouchedEndpoint → Type 0
+abbrev Higher : Option Touched → Option Touched → Type 0
 Higher s t = (edge : ℕ) × (t ≡ option_map (touched_with edge) s) × EndsBelow edge s
 
 -- nothing is touched
@@ -72,7 +71,7 @@ place_seen : (p : Profile) (host : Host) (b : HostTcp) (event : Event) (i : ℕ)
     → Higher (at_place host b event i) (at_place host (body_by p b) event i)
 place_seen p host b event i may = rw (slice_get-map (endpoint_by p) b.endpoints i) (by (slice_get b.endpoints i) (may i))
   where
-    see : Endpoint → TouchedEndpoint
+    see : Endpoint → Touched
     see e = record { host = host; place = i; event = event; before = view_of e }
 
     by : (o : Option Endpoint) → ((e : Endpoint) → o ≡ Some e → MayJudge p e) → Higher (option_map see o) (option_map see (option_map (endpoint_by p) o))
@@ -94,7 +93,7 @@ ports_seen p host b event lport rport may = rw (place_by p b lport rport) (by (p
 next_seen : (p : Profile) (host : Host) (b : HostTcp) (event : Event) → Higher (at_next host b event) (at_next host (body_by p b) event)
 next_seen p host b event = (0, ap (λ n. at n) (length-map b.endpoints (endpoint_by p)), let zero : 0 ≤ 0 = omega arith in zero)
   where
-    at : ℕ → Option TouchedEndpoint
+    at : ℕ → Option Touched
     at n = Some (record { host = host; place = n; event = event; before = unborn })
 
 target_seen : (p : Profile) (host : Host) (b : HostTcp) (m : Emission) (t : Taker) → MayJudgeAll p b
@@ -178,10 +177,10 @@ answering_breaks_same : (p : Profile) (j : Judged) (h : Header) (w : World tcp_s
 answering_breaks_same p j h w Zero line = ap first_broken (answer_same p w.hosts.zero line)
 answering_breaks_same p j h w One line = ap first_broken (answer_same p w.hosts.one line)
 
-droppable_same : (p : Profile) (b : HostTcp) (m : Emission) (t : Taker) → droppable_by (body_by p b) m (taker_by p t) ≡ droppable_by b m t
-droppable_same p b m Nobody = refl
-droppable_same p b m (AtListener l) = refl
-droppable_same p b m (AtEndpoint i e) = refl
+spared_same : (p : Profile) (b : HostTcp) (m : Emission) (t : Taker) → spared_by (body_by p b) m (taker_by p t) ≡ spared_by b m t
+spared_same p b m Nobody = refl
+spared_same p b m (AtListener l) = refl
+spared_same p b m (AtEndpoint i e) = refl
 
 discards_same : (p : Profile) (h : Header) (how : TakeChoice) (m : Emission) (t : Taker)
     → discards_at h.version how m (taker_by p t) ≡ discards_at h.version how m t
@@ -192,51 +191,51 @@ discards_same p h how m (AtEndpoint i e) = refl
 -- ---- acts of a host
 
 -- from what is touched to what is shown
-shown : (s : Observation) (o : Option TouchedEndpoint) → Higher s.touched o → ShowsHigher s (record s { touched = o })
-shown s o higher = (higher.0, ap (λ (o : Option TouchedEndpoint). record s { touched = o }) higher.1, higher.2)
+shown : (s : Sight) (o : Option Touched) → Higher s.touched o → ShowsHigher s (record s { touched = o })
+shown s o higher = (higher.0, ap (λ (o : Option Touched). record s { touched = o }) higher.1, higher.2)
 
 -- a step that touches no endpoint shows the same
-shows_same : (s : Observation) → s.touched ≡ None → ShowsHigher s s
+shows_same : (s : Sight) → s.touched ≡ None → ShowsHigher s s
 shows_same s none = (
   0,
-  ap (λ (o : Option TouchedEndpoint). record s { touched = o }) (none ∙ sym (ap (option_map (touched_with 0)) none)),
+  ap (λ (o : Option Touched). record s { touched = o }) (none ∙ sym (ap (option_map (touched_with 0)) none)),
   rw none tt,
 )
 
-host_step_seen : (p : Profile) (j : Judged) (h : Header) (moment : ℕ) (w : World tcp_shape) (fresh : ℕ) (host : Host) (s : HostState tcp_shape)
-    (d : HostStep tcp_shape) → MayJudgeAll p s.body
-    → ShowsHigher (observe_host_step h moment w fresh host s d) (observe_host_step (header_by j h) moment (world_by p w) fresh host (host_by p s) d)
-host_step_seen p j h moment w fresh host s (network.Does x) may =
-    shown (observe_host_step h moment w fresh host s (network.Does x)) _ (ports_seen p host s.body _ x.lport x.rport may)
-host_step_seen p j h moment w fresh host s (network.Expires line x) may =
-    shown (observe_host_step h moment w fresh host s (network.Expires line x)) _ (ports_seen p host s.body _ x.lport x.rport may)
-host_step_seen p j h moment w fresh host s (network.Makes m) may =
-    shown (observe_host_step h moment w fresh host s (network.Makes m)) _ (ports_seen p host s.body _ m.lport m.rport may)
-host_step_seen p j h moment w fresh host s (network.Sends line number wire) may = by (lookup (nat_eq number) s.made)
+deed_seen : (p : Profile) (j : Judged) (h : Header) (moment : ℕ) (w : World tcp_shape) (fresh : ℕ) (host : Host) (s : HostState tcp_shape)
+    (d : Deed tcp_shape) → MayJudgeAll p s.body
+    → ShowsHigher (deed_sight h moment w fresh host s d) (deed_sight (header_by j h) moment (world_by p w) fresh host (host_by p s) d)
+deed_seen p j h moment w fresh host s (network.Does x) may =
+    shown (deed_sight h moment w fresh host s (network.Does x)) _ (ports_seen p host s.body _ x.lport x.rport may)
+deed_seen p j h moment w fresh host s (network.Expires line x) may =
+    shown (deed_sight h moment w fresh host s (network.Expires line x)) _ (ports_seen p host s.body _ x.lport x.rport may)
+deed_seen p j h moment w fresh host s (network.Makes m) may =
+    shown (deed_sight h moment w fresh host s (network.Makes m)) _ (ports_seen p host s.body _ m.lport m.rport may)
+deed_seen p j h moment w fresh host s (network.Sends line number wire) may = by (lookup (nat_eq number) s.made)
   where
-    see : Option TouchedEndpoint → Observation
-    see t = record unseen { touched = t; built_change = Sends number }
+    see : Option Touched → Sight
+    see t = record unseen { touched = t; post = Sends number }
 
     by : (o : Option (Made Emission))
         → ShowsHigher (on o unseen (λ m. see (at_sender host s.body m.emission))) (on o unseen (λ m. see (at_sender host (body_by p s.body) m.emission)))
     by None = shows_same unseen refl
     by (Some m) = shown (see (at_sender host s.body m.emission)) _ (sender_seen p host s.body m.emission may)
-host_step_seen p j h moment w fresh host s (network.Gets line copied wire) may =
-    shows_same (observe_host_step h moment w fresh host s (network.Gets line copied wire)) refl
-host_step_seen p j h moment w fresh host s (network.Hears line wire) may = shows_same (observe_host_step h moment w fresh host s (network.Hears line wire)) refl
-host_step_seen p j h moment w fresh host s (network.Takes line how) may = by (waiting line s.inbox)
+deed_seen p j h moment w fresh host s (network.Gets line copied wire) may =
+    shows_same (deed_sight h moment w fresh host s (network.Gets line copied wire)) refl
+deed_seen p j h moment w fresh host s (network.Hears line wire) may = shows_same (deed_sight h moment w fresh host s (network.Hears line wire)) refl
+deed_seen p j h moment w fresh host s (network.Takes line how) may = by (waiting line s.inbox)
   where
-    see : HostTcp → Emission → Taker → Observation
-    see b m t = observe_taking h host b line how m t
+    see : HostTcp → Emission → Taker → Sight
+    see b m t = taking_sight h host b line how m t
 
     by : (o : Option Emission)
         → ShowsHigher (on o unseen (λ m. see s.body m (taker s.body m)))
-        (on o unseen (λ m. observe_taking (header_by j h) host (body_by p s.body) line how m (taker (body_by p s.body) m)))
+        (on o unseen (λ m. taking_sight (header_by j h) host (body_by p s.body) line how m (taker (body_by p s.body) m)))
     by None = shows_same unseen refl
     by (Some m) =
         rw (taker_is p s.body m, discards_same p h how m (taker s.body m))
         (shown (see s.body m (taker s.body m)) _ (target_seen p host s.body m (taker s.body m) may))
-host_step_seen p j h moment w fresh host s (network.Drops line) may =
+deed_seen p j h moment w fresh host s (network.Drops line) may =
     rw (taking_breaks_same p j h moment w host line, answering_breaks_same p j h w host line) (by (waiting line s.inbox))
   where
     taking : Option Rule
@@ -246,13 +245,13 @@ host_step_seen p j h moment w fresh host s (network.Drops line) may =
     answering = answering_breaks h w host line
 
     by : (o : Option Emission)
-        → ShowsHigher (on o unseen (λ m. observe_dropping host s.body line taking answering m (taker s.body m)))
-        (on o unseen (λ m. observe_dropping host (body_by p s.body) line taking answering m (taker (body_by p s.body) m)))
+        → ShowsHigher (on o unseen (λ m. dropping_sight host s.body line taking answering m (taker s.body m)))
+        (on o unseen (λ m. dropping_sight host (body_by p s.body) line taking answering m (taker (body_by p s.body) m)))
     by None = shows_same unseen refl
     by (Some m) =
-        rw (taker_is p s.body m, droppable_same p s.body m (taker s.body m))
-        (shown (observe_dropping host s.body line taking answering m (taker s.body m)) _ (drop_seen p host s.body m taking (taker s.body m) may))
-host_step_seen p j h moment w fresh host s (network.Answers line) may = shows_same (observe_host_step h moment w fresh host s (network.Answers line)) refl
+        rw (taker_is p s.body m, spared_same p s.body m (taker s.body m))
+        (shown (dropping_sight host s.body line taking answering m (taker s.body m)) _ (drop_seen p host s.body m taking (taker s.body m) may))
+deed_seen p j h moment w fresh host s (network.Answers line) may = shows_same (deed_sight h moment w fresh host s (network.Answers line)) refl
 
 -- ---- effects of calls
 
@@ -268,13 +267,13 @@ accepting_same p host b l (child ∷ queue) = rw (slice_get-map (endpoint_by p) 
     by (Some e) = refl
 
 accept_seen : (p : Profile) (host : Host) (b : HostTcp) (answer : Answer) (t : SocketTarget)
-    → ShowsHigher (observe_accept host b answer t) (observe_accept host (body_by p b) answer t)
+    → ShowsHigher (accept_sight host b answer t) (accept_sight host (body_by p b) answer t)
 accept_seen p host b (answers.Given n) (ListenerAt l) =
     rw (accepting_same p host b l (queue_of b l)) (shows_same (record unseen { queueing = accepting host b l (queue_of b l) }) refl)
 accept_seen p host b _ _ = shows_same unseen refl
 
 close_seen : (p : Profile) (host : Host) (b : HostTcp) (aborts : Bool) (answer : Answer) (t : SocketTarget) → MayJudgeAll p b
-    → ShowsHigher (observe_close host b aborts answer t) (observe_close host (body_by p b) aborts answer t)
+    → ShowsHigher (close_sight host b aborts answer t) (close_sight host (body_by p b) aborts answer t)
 close_seen p host b aborts answer (ListenerAt l) may = by (is_done answer)
   where
     by : (done : Bool)
@@ -282,19 +281,18 @@ close_seen p host b aborts answer (ListenerAt l) may = by (is_done answer)
         (if done then record unseen { queueing = queueing.Closes host l } else unseen)
     by true = shows_same (record unseen { queueing = queueing.Closes host l }) refl
     by false = shows_same unseen refl
-close_seen p host b aborts answer (EndpointAt i) may = shown (observe_close host b aborts answer (EndpointAt i)) _ (place_seen p host b _ i may)
+close_seen p host b aborts answer (EndpointAt i) may = shown (close_sight host b aborts answer (EndpointAt i)) _ (place_seen p host b _ i may)
 
 other_seen : (p : Profile) (host : Host) (b : HostTcp) (t : SocketTarget) → MayJudgeAll p b
-    → ShowsHigher (observe_other host b t) (observe_other host (body_by p b) t)
+    → ShowsHigher (other_sight host b t) (other_sight host (body_by p b) t)
 other_seen p host b (ListenerAt l) may = shows_same unseen refl
-other_seen p host b (EndpointAt i) may = shown (observe_other host b (EndpointAt i)) _ (place_seen p host b _ i may)
+other_seen p host b (EndpointAt i) may = shown (other_sight host b (EndpointAt i)) _ (place_seen p host b _ i may)
 
-opened_seen : (p : Profile) (host : Host) (b : HostTcp) (answer : Answer)
-    → ShowsHigher (observe_opened host b answer) (observe_opened host (body_by p b) answer)
-opened_seen p host b (answers.Given n) = shown (observe_opened host b (answers.Given n)) _ (next_seen p host b _)
+opened_seen : (p : Profile) (host : Host) (b : HostTcp) (answer : Answer) → ShowsHigher (opened_sight host b answer) (opened_sight host (body_by p b) answer)
+opened_seen p host b (answers.Given n) = shown (opened_sight host b (answers.Given n)) _ (next_seen p host b _)
 opened_seen p host b _ = shows_same unseen refl
 
-thing_seen : (p : Profile) (b : HostTcp) (n : ℕ) (f g : SocketTarget → Observation) → ((t : SocketTarget) → ShowsHigher (f t) (g t))
+thing_seen : (p : Profile) (b : HostTcp) (n : ℕ) (f g : SocketTarget → Sight) → ((t : SocketTarget) → ShowsHigher (f t) (g t))
     → ShowsHigher (on_thing b n f) (on_thing (body_by p b) n g)
 thing_seen p b n f g same = by (thing_of b n)
   where
@@ -303,7 +301,7 @@ thing_seen p b n f g same = by (thing_of b n)
     by (Some t) = same t
 
 call_seen : (p : Profile) (host : Host) (b : HostTcp) (call : Call) (answer : Answer) → MayJudgeAll p b
-    → ShowsHigher (observe_call host b call answer) (observe_call host (body_by p b) call answer)
+    → ShowsHigher (call_sight host b call answer) (call_sight host (body_by p b) call answer)
 call_seen p host b (calls.Connect x lport rport) answer may = opened_seen p host b answer
 call_seen p host b (calls.Accept n) answer may = thing_seen p b n _ _ (accept_seen p host b answer)
 call_seen p host b (calls.Send n bytes) answer may = thing_seen p b n _ _ (λ t. other_seen p host b t may)
@@ -314,34 +312,34 @@ call_seen p host b _ answer may = shows_same unseen refl
 
 pending_seen : (p : Profile) (j : Judged) (h : Header) (w : World tcp_shape) (answer : Answer) (call : Call)
     → ((host : Host) → MayJudgeAll p (pick w.hosts host).body)
-    → ShowsHigher (observe_pending h w answer call) (observe_pending (header_by j h) (world_by p w) answer call)
+    → ShowsHigher (pending_sight h w answer call) (pending_sight (header_by j h) (world_by p w) answer call)
 pending_seen p j h w answer call may = rw (aim_same p j h w.hosts (aim call)) (by (aim_of (tcp h) w.hosts (aim call)))
   where
     by : (o : Option Host)
-        → ShowsHigher (on o unseen (λ host. observe_call host (pick w.hosts host).body call answer))
-        (on o unseen (λ host. observe_call host (pick (world_by p w).hosts host).body call answer))
+        → ShowsHigher (on o unseen (λ host. call_sight host (pick w.hosts host).body call answer))
+        (on o unseen (λ host. call_sight host (pick (world_by p w).hosts host).body call answer))
     by None = shows_same unseen refl
     by (Some Zero) = call_seen p Zero w.hosts.zero.body call answer (may Zero)
     by (Some One) = call_seen p One w.hosts.one.body call answer (may One)
 
 effect_seen : (p : Profile) (j : Judged) (h : Header) (w : World tcp_shape) (answer : Answer) (u : Turn tcp_shape)
     → ((host : Host) → MayJudgeAll p (pick w.hosts host).body)
-    → ShowsHigher (observe_effect h w answer u) (observe_effect (header_by j h) (world_by p w) answer u)
+    → ShowsHigher (effect_sight h w answer u) (effect_sight (header_by j h) (world_by p w) answer u)
 effect_seen p j h w answer Idle may = shows_same unseen refl
 effect_seen p j h w answer (Called call) may = pending_seen p j h w answer call may
 effect_seen p j h w answer (Answered given) may = shows_same unseen refl
 
-observed_seen : (p : Profile) (j : Judged) (h : Header) (moment : ℕ) (w : World tcp_shape) (step : Step tcp_shape)
+sight_seen : (p : Profile) (j : Judged) (h : Header) (moment : ℕ) (w : World tcp_shape) (step : Step tcp_shape)
     → ((host : Host) → MayJudgeAll p (pick w.hosts host).body)
-    → ShowsHigher (observe h moment w step) (observe (header_by j h) moment (world_by p w) step)
-observed_seen p j h moment w (network.Begin line t call) may = shows_same unseen refl
-observed_seen p j h moment w (network.Finish line t answer) may = shows_same unseen refl
-observed_seen p j h moment w (network.Effect t answer) may = effect_seen p j h w answer (turn_of t w.threads) may
-observed_seen p j h moment w (network.At Zero d) may = host_step_seen p j h moment w (suc w.count) Zero w.hosts.zero d (may Zero)
-observed_seen p j h moment w (network.At One d) may = host_step_seen p j h moment w (suc w.count) One w.hosts.one d (may One)
+    → ShowsHigher (sight h moment w step) (sight (header_by j h) moment (world_by p w) step)
+sight_seen p j h moment w (network.Begin line t call) may = shows_same unseen refl
+sight_seen p j h moment w (network.Finish line t answer) may = shows_same unseen refl
+sight_seen p j h moment w (network.Effect t answer) may = effect_seen p j h w answer (turn_of t w.threads) may
+sight_seen p j h moment w (network.At Zero d) may = deed_seen p j h moment w (suc w.count) Zero w.hosts.zero d (may Zero)
+sight_seen p j h moment w (network.At One d) may = deed_seen p j h moment w (suc w.count) One w.hosts.one d (may One)
 
 pub shows_the_same : (j : Judged) (h : Header) → LessJudgedShowsTheSame j h
-shows_the_same j h moment w step le is = observed_seen (profile_of (header_by j h)) j h moment w step (may_judge j h w le is)
+shows_the_same j h moment w step le is = sight_seen (profile_of (header_by j h)) j h moment w step (may_judge j h w le is)
 
 -- ---- the touched endpoint after the step
 
@@ -355,7 +353,7 @@ view_at p es i = rw (slice_get-map (endpoint_by p) es i) (by (slice_get es i))
     by None = (0, refl)
     by (Some e) = (control_edge e.stream.snd_una (with_profile p e.control), refl)
 
-pub view_seen : (p : Profile) (w : World tcp_shape) (before : ℕ) (o : Option TouchedEndpoint)
+pub view_seen : (p : Profile) (w : World tcp_shape) (before : ℕ) (o : Option Touched)
     → (edge : ℕ) × (view_in (world_by p w) (option_map (touched_with before) o) ≡ view_with edge (view_in w o))
 view_seen p w before None = (0, refl)
 view_seen p w before (Some t) = by t.host

@@ -16,9 +16,8 @@ use Rattle.case_forms.specs.declared.trace.Wire.{Wire}
 use Rattle.verdict.specs.declared.rule.Rule.TheVariants as rules
 use Rattle.verdict.proofs.RuleLemmas.{none_all, none_both}
 use Rattle.spec_network.specs.HostRules.{Permitted, aim_of, just}
-use Rattle.spec_network.specs.HostSteps.{act_made, after, call_after, host_step_after, effect_after, inbox_settled, made_gone_out}
-use Rattle.spec_network.specs.Hosts.{World, HostState, HostStep, Does, Expires, Makes, Sends, Gets, Hears, Takes, Drops, Answers, Step, Begin, Finish, Effect}
-use Rattle.spec_network.specs.Hosts.{At}
+use Rattle.spec_network.specs.HostSteps.{act_made, after, call_after, deed_after, effect_after, inbox_settled, made_gone_out}
+use Rattle.spec_network.specs.Hosts.{World, HostState, Deed, Does, Expires, Makes, Sends, Gets, Hears, Takes, Drops, Answers, Step, Begin, Finish, Effect, At}
 use Rattle.spec_network.specs.Hosts.{Turn, Idle, Called, Answered, turn_of}
 use Rattle.spec_network.specs.Tables.{Made, gone_out, on, other, pick, settled, unsent, waiting}
 use Rattle.spec_network.proofs.Entries.{lookup_insert}
@@ -28,14 +27,14 @@ use Rattle.spec_tcp.specs.Machine.{Act, Calls, act_after, act_makes, tcp, tcp_sh
 use Rattle.spec_tcp.specs.declared.endpoint.Emission.{Emission}
 use Rattle.spec_tcp.specs.declared.endpoint.SocketTarget.{SocketTarget}
 use Rattle.spec_tcp.specs.declared.endpoint.SocketTarget.TheVariants.{ListenerAt, EndpointAt}
-use Rattle.spec_duties.specs.Observations.{unseen, observe, observe_call, observe_effect, observe_accept, observe_close, observe_other, is_done}
-use Rattle.spec_duties.specs.Observations.{at_sender}
-use Rattle.spec_duties.specs.declared.observations.InboxChange.{InboxChange}
-use Rattle.spec_duties.specs.declared.observations.InboxChange.TheVariants as inbox_change
-use Rattle.spec_duties.specs.declared.observations.BuiltChange.{BuiltChange}
-use Rattle.spec_duties.specs.declared.observations.BuiltChange.TheVariants as built_change
-use Rattle.spec_duties.specs.declared.observations.Queueing.TheVariants as queueing
-use Rattle.spec_duties.specs.declared.observations.Observation.{Observation}
+use Rattle.spec_duties.specs.Sights.{unseen, sight, call_sight, effect_sight, accept_sight, close_sight, other_sight, is_done}
+use Rattle.spec_duties.specs.Sights.{at_sender}
+use Rattle.spec_duties.specs.declared.sights.Mail.{Mail}
+use Rattle.spec_duties.specs.declared.sights.Mail.TheVariants as mail
+use Rattle.spec_duties.specs.declared.sights.Post.{Post}
+use Rattle.spec_duties.specs.declared.sights.Post.TheVariants as post
+use Rattle.spec_duties.specs.declared.sights.Queueing.TheVariants as queueing
+use Rattle.spec_duties.specs.declared.sights.Sight.{Sight}
 use Rattle.spec_tcp_laws.proofs.Moves.{with_cases}
 use Rattle.spec_tcp_laws.proofs.Rules.{on_cases, on_passes}
 
@@ -61,113 +60,106 @@ sends (At host (Sends line number wire)) = Some (host, number)
 sends step = None
 
 -- a call shows nothing of them
-pub record Quiet (s : Observation) : Type 0 where
-  pub inbox_change : s.inbox_change ≡ inbox_change.Nothing
-  pub built_change : s.built_change ≡ built_change.Nothing
+pub record Quiet (s : Sight) : Type 0 where
+  pub mail : s.mail ≡ mail.Nothing
+  pub post : s.post ≡ post.Nothing
 
-quiet_on : {A : Type 0} (o : Option A) (f : A → Observation) → ((x : A) → Quiet (f x)) → Quiet (on o unseen f)
-quiet_on None f each = record { inbox_change = refl; built_change = refl }
+quiet_on : {A : Type 0} (o : Option A) (f : A → Sight) → ((x : A) → Quiet (f x)) → Quiet (on o unseen f)
+quiet_on None f each = record { mail = refl; post = refl }
 quiet_on (Some x) f each = each x
 
-quiet_close : (host : Host) (b : HostTcp) (aborts : Bool) (answer : Answer) (thing : SocketTarget) → Quiet (observe_close host b aborts answer thing)
+quiet_close : (host : Host) (b : HostTcp) (aborts : Bool) (answer : Answer) (thing : SocketTarget) → Quiet (close_sight host b aborts answer thing)
 quiet_close host b aborts answer (ListenerAt l) = by (is_done answer)
   where
     by : (d : Bool) → Quiet (if d then record unseen { queueing = queueing.Closes host l } else unseen)
-    by true = record { inbox_change = refl; built_change = refl }
-    by false = record { inbox_change = refl; built_change = refl }
-quiet_close host b aborts answer (EndpointAt i) = record { inbox_change = refl; built_change = refl }
+    by true = record { mail = refl; post = refl }
+    by false = record { mail = refl; post = refl }
+quiet_close host b aborts answer (EndpointAt i) = record { mail = refl; post = refl }
 
-quiet_other : (host : Host) (b : HostTcp) (thing : SocketTarget) → Quiet (observe_other host b thing)
-quiet_other host b (ListenerAt l) = record { inbox_change = refl; built_change = refl }
-quiet_other host b (EndpointAt i) = record { inbox_change = refl; built_change = refl }
+quiet_other : (host : Host) (b : HostTcp) (thing : SocketTarget) → Quiet (other_sight host b thing)
+quiet_other host b (ListenerAt l) = record { mail = refl; post = refl }
+quiet_other host b (EndpointAt i) = record { mail = refl; post = refl }
 
-quiet_accept : (host : Host) (b : HostTcp) (answer : Answer) (thing : SocketTarget) → Quiet (observe_accept host b answer thing)
-quiet_accept host b (answers.Given n) (ListenerAt l) = record { inbox_change = refl; built_change = refl }
-quiet_accept host b answer thing = record { inbox_change = refl; built_change = refl }
+quiet_accept : (host : Host) (b : HostTcp) (answer : Answer) (thing : SocketTarget) → Quiet (accept_sight host b answer thing)
+quiet_accept host b (answers.Given n) (ListenerAt l) = record { mail = refl; post = refl }
+quiet_accept host b answer thing = record { mail = refl; post = refl }
 
-quiet_call : (host : Host) (b : HostTcp) (call : Call) (answer : Answer) → Quiet (observe_call host b call answer)
-quiet_call host b (calls.Connect x lport rport) (answers.Given n) = record { inbox_change = refl; built_change = refl }
-quiet_call host b (calls.Connect x lport rport) answer = record { inbox_change = refl; built_change = refl }
-quiet_call host b (calls.Accept n) answer = quiet_on (thing_of b n) (observe_accept host b answer) (quiet_accept host b answer)
-quiet_call host b (calls.Send n bytes) answer = quiet_on (thing_of b n) (observe_other host b) (quiet_other host b)
-quiet_call host b (calls.Shut n) answer = quiet_on (thing_of b n) (observe_other host b) (quiet_other host b)
-quiet_call host b (calls.Close n) answer = quiet_on (thing_of b n) (observe_close host b false answer) (quiet_close host b false answer)
-quiet_call host b (calls.Abort n) answer = quiet_on (thing_of b n) (observe_close host b (is_done answer) answer) (quiet_close host b (is_done answer) answer)
-quiet_call host b call answer = record { inbox_change = refl; built_change = refl }
+quiet_call : (host : Host) (b : HostTcp) (call : Call) (answer : Answer) → Quiet (call_sight host b call answer)
+quiet_call host b (calls.Connect x lport rport) (answers.Given n) = record { mail = refl; post = refl }
+quiet_call host b (calls.Connect x lport rport) answer = record { mail = refl; post = refl }
+quiet_call host b (calls.Accept n) answer = quiet_on (thing_of b n) (accept_sight host b answer) (quiet_accept host b answer)
+quiet_call host b (calls.Send n bytes) answer = quiet_on (thing_of b n) (other_sight host b) (quiet_other host b)
+quiet_call host b (calls.Shut n) answer = quiet_on (thing_of b n) (other_sight host b) (quiet_other host b)
+quiet_call host b (calls.Close n) answer = quiet_on (thing_of b n) (close_sight host b false answer) (quiet_close host b false answer)
+quiet_call host b (calls.Abort n) answer = quiet_on (thing_of b n) (close_sight host b (is_done answer) answer) (quiet_close host b (is_done answer) answer)
+quiet_call host b call answer = record { mail = refl; post = refl }
 
-quiet_effect : (h : Header) (w : World tcp_shape) (answer : Answer) (u : Turn tcp_shape) → Quiet (observe_effect h w answer u)
-quiet_effect h w answer Idle = record { inbox_change = refl; built_change = refl }
+quiet_effect : (h : Header) (w : World tcp_shape) (answer : Answer) (u : Turn tcp_shape) → Quiet (effect_sight h w answer u)
+quiet_effect h w answer Idle = record { mail = refl; post = refl }
 quiet_effect h w answer (Called call) =
-    quiet_on (aim_of (tcp h) w.hosts (aim call)) (λ host. observe_call host (pick w.hosts host).body call answer)
+    quiet_on (aim_of (tcp h) w.hosts (aim call)) (λ host. call_sight host (pick w.hosts host).body call answer)
     (λ host. quiet_call host (pick w.hosts host).body call answer)
-quiet_effect h w answer (Answered given) = record { inbox_change = refl; built_change = refl }
+quiet_effect h w answer (Answered given) = record { mail = refl; post = refl }
 
 -- ---- from what a step shows to the step
 
-abbrev pub InboxChangeOf : InboxChange → Step tcp_shape → Type 0
-InboxChangeOf inbox_change.Nothing step = Unit {0}
-InboxChangeOf (inbox_change.Enters line) step = (host : Host) × (enters step ≡ Some (host, line))
-InboxChangeOf (inbox_change.Leaves line) step = (host : Host) × (leaves step ≡ Some (host, line))
+abbrev pub MailOf : Mail → Step tcp_shape → Type 0
+MailOf mail.Nothing step = Unit {0}
+MailOf (mail.Enters line) step = (host : Host) × (enters step ≡ Some (host, line))
+MailOf (mail.Leaves line) step = (host : Host) × (leaves step ≡ Some (host, line))
 
-pub inbox_change_of : (h : Header) (moment : ℕ) (w : World tcp_shape) (step : Step tcp_shape) → InboxChangeOf (observe h moment w step).inbox_change step
-inbox_change_of h moment w (Begin line thread call) = tt
-inbox_change_of h moment w (Finish line thread answer) = tt
-inbox_change_of h moment w (Effect thread answer) =
-    subst (λ m. InboxChangeOf m (Effect thread answer)) (sym (quiet_effect h w answer (turn_of thread w.threads)).inbox_change) tt
-inbox_change_of h moment w (At host (Does x)) = tt
-inbox_change_of h moment w (At host (Expires line x)) = tt
-inbox_change_of h moment w (At host (Makes m)) = tt
-inbox_change_of h moment w (At host (Sends line number wire)) =
-    on_cases (λ (s : Observation). InboxChangeOf s.inbox_change (At host (Sends line number wire)))
-    (lookup (nat_eq number) (pick w.hosts host).made) unseen _ tt (λ m is. tt)
-inbox_change_of h moment w (At host (Gets line copied wire)) = (host, refl)
-inbox_change_of h moment w (At host (Hears line wire)) = (host, refl)
-inbox_change_of h moment w (At host (Takes line how)) =
-    on_cases (λ (s : Observation). InboxChangeOf s.inbox_change (At host (Takes line how))) (waiting line (pick w.hosts host).inbox) unseen _ tt
-    (λ m is. (host, refl))
-inbox_change_of h moment w (At host (Drops line)) =
-    on_cases (λ (s : Observation). InboxChangeOf s.inbox_change (At host (Drops line))) (waiting line (pick w.hosts host).inbox) unseen _ tt
-    (λ m is. (host, refl))
-inbox_change_of h moment w (At host (Answers line)) = (host, refl)
+pub mail_of : (h : Header) (moment : ℕ) (w : World tcp_shape) (step : Step tcp_shape) → MailOf (sight h moment w step).mail step
+mail_of h moment w (Begin line thread call) = tt
+mail_of h moment w (Finish line thread answer) = tt
+mail_of h moment w (Effect thread answer) =
+    subst (λ m. MailOf m (Effect thread answer)) (sym (quiet_effect h w answer (turn_of thread w.threads)).mail) tt
+mail_of h moment w (At host (Does x)) = tt
+mail_of h moment w (At host (Expires line x)) = tt
+mail_of h moment w (At host (Makes m)) = tt
+mail_of h moment w (At host (Sends line number wire)) =
+    on_cases (λ (s : Sight). MailOf s.mail (At host (Sends line number wire))) (lookup (nat_eq number) (pick w.hosts host).made) unseen _ tt (λ m is. tt)
+mail_of h moment w (At host (Gets line copied wire)) = (host, refl)
+mail_of h moment w (At host (Hears line wire)) = (host, refl)
+mail_of h moment w (At host (Takes line how)) =
+    on_cases (λ (s : Sight). MailOf s.mail (At host (Takes line how))) (waiting line (pick w.hosts host).inbox) unseen _ tt (λ m is. (host, refl))
+mail_of h moment w (At host (Drops line)) =
+    on_cases (λ (s : Sight). MailOf s.mail (At host (Drops line))) (waiting line (pick w.hosts host).inbox) unseen _ tt (λ m is. (host, refl))
+mail_of h moment w (At host (Answers line)) = (host, refl)
 
-abbrev pub BuiltChangeOf : (count : ℕ) → BuiltChange → Step tcp_shape → Type 0
-BuiltChangeOf count built_change.Nothing step = Unit {0}
-BuiltChangeOf count (built_change.Builds number) step = (number ≡ suc count) × (host : Host) × (builds step ≡ Some host)
-BuiltChangeOf count (built_change.Sends number) step = (host : Host) × (sends step ≡ Some (host, number))
+abbrev pub PostOf : (count : ℕ) → Post → Step tcp_shape → Type 0
+PostOf count post.Nothing step = Unit {0}
+PostOf count (post.Builds number) step = (number ≡ suc count) × (host : Host) × (builds step ≡ Some host)
+PostOf count (post.Sends number) step = (host : Host) × (sends step ≡ Some (host, number))
 
-pub built_change_of : (h : Header) (moment : ℕ) (w : World tcp_shape) (step : Step tcp_shape)
-    → BuiltChangeOf w.count (observe h moment w step).built_change step
-built_change_of h moment w (Begin line thread call) = tt
-built_change_of h moment w (Finish line thread answer) = tt
-built_change_of h moment w (Effect thread answer) =
-    subst (λ p. BuiltChangeOf w.count p (Effect thread answer)) (sym (quiet_effect h w answer (turn_of thread w.threads)).built_change) tt
-built_change_of h moment w (At host (Does x)) = tt
-built_change_of h moment w (At host (Expires line x)) = tt
-built_change_of h moment w (At host (Makes m)) = (refl, host, refl)
-built_change_of h moment w (At host (Sends line number wire)) =
-    on_cases (λ (s : Observation). BuiltChangeOf w.count s.built_change (At host (Sends line number wire)))
-    (lookup (nat_eq number) (pick w.hosts host).made) unseen _ tt
+pub post_of : (h : Header) (moment : ℕ) (w : World tcp_shape) (step : Step tcp_shape) → PostOf w.count (sight h moment w step).post step
+post_of h moment w (Begin line thread call) = tt
+post_of h moment w (Finish line thread answer) = tt
+post_of h moment w (Effect thread answer) =
+    subst (λ p. PostOf w.count p (Effect thread answer)) (sym (quiet_effect h w answer (turn_of thread w.threads)).post) tt
+post_of h moment w (At host (Does x)) = tt
+post_of h moment w (At host (Expires line x)) = tt
+post_of h moment w (At host (Makes m)) = (refl, host, refl)
+post_of h moment w (At host (Sends line number wire)) =
+    on_cases (λ (s : Sight). PostOf w.count s.post (At host (Sends line number wire))) (lookup (nat_eq number) (pick w.hosts host).made) unseen _ tt
     (λ m is. (host, refl))
-built_change_of h moment w (At host (Gets line copied wire)) = tt
-built_change_of h moment w (At host (Hears line wire)) = tt
-built_change_of h moment w (At host (Takes line how)) =
-    on_cases (λ (s : Observation). BuiltChangeOf w.count s.built_change (At host (Takes line how))) (waiting line (pick w.hosts host).inbox) unseen _ tt
-    (λ m is. tt)
-built_change_of h moment w (At host (Drops line)) =
-    on_cases (λ (s : Observation). BuiltChangeOf w.count s.built_change (At host (Drops line))) (waiting line (pick w.hosts host).inbox) unseen _ tt
-    (λ m is. tt)
-built_change_of h moment w (At host (Answers line)) = (refl, host, refl)
+post_of h moment w (At host (Gets line copied wire)) = tt
+post_of h moment w (At host (Hears line wire)) = tt
+post_of h moment w (At host (Takes line how)) =
+    on_cases (λ (s : Sight). PostOf w.count s.post (At host (Takes line how))) (waiting line (pick w.hosts host).inbox) unseen _ tt (λ m is. tt)
+post_of h moment w (At host (Drops line)) =
+    on_cases (λ (s : Sight). PostOf w.count s.post (At host (Drops line))) (waiting line (pick w.hosts host).inbox) unseen _ tt (λ m is. tt)
+post_of h moment w (At host (Answers line)) = (refl, host, refl)
 
 -- ---- from the step to what it shows
 
 pair_right : (a b : Host) (m n : ℕ) → ◌≡◌ {A = Option (Host × ℕ)} (Some (a, m)) (Some (b, n)) → m ≡ n
 pair_right a b m n e = (some_pair_parts a b m n e).1
 
-pub inbox_change_enters : (h : Header) (moment : ℕ) (w : World tcp_shape) (step : Step tcp_shape) (host : Host) (line : ℕ)
-    → enters step ≡ Some (host, line) → (observe h moment w step).inbox_change ≡ inbox_change.Enters line
-inbox_change_enters h moment w (At g (Gets k copied wire)) host line e = ap inbox_change.Enters (pair_right g host k line e)
-inbox_change_enters h moment w (At g (Hears k wire)) host line e = ap inbox_change.Enters (pair_right g host k line e)
-inbox_change_enters h moment w step host line e = absurd (none-some (host, line) e)
+pub mail_enters : (h : Header) (moment : ℕ) (w : World tcp_shape) (step : Step tcp_shape) (host : Host) (line : ℕ)
+    → enters step ≡ Some (host, line) → (sight h moment w step).mail ≡ mail.Enters line
+mail_enters h moment w (At g (Gets k copied wire)) host line e = ap mail.Enters (pair_right g host k line e)
+mail_enters h moment w (At g (Hears k wire)) host line e = ap mail.Enters (pair_right g host k line e)
+mail_enters h moment w step host line e = absurd (none-some (host, line) e)
 
 waits_there : {P : Emission → Type 0} (w : World tcp_shape) (g : Host) (k : ℕ) (host : Host) (line : ℕ)
     → ◌≡◌ {A = Option (Host × ℕ)} (Some (g, k)) (Some (host, line))
@@ -188,11 +180,11 @@ leaves_waits h moment w (At g (Drops k)) host line may e = waits_there w g k hos
 leaves_waits h moment w (At g (Answers k)) host line may e = waits_there w g k host line e (on_passes (waiting k (pick w.hosts g).inbox) rules.Inbox _ may)
 leaves_waits h moment w step host line may e = absurd (none-some (host, line) e)
 
-pub built_change_builds : (h : Header) (moment : ℕ) (w : World tcp_shape) (step : Step tcp_shape) (host : Host)
-    → builds step ≡ Some host → (observe h moment w step).built_change ≡ built_change.Builds (suc w.count)
-built_change_builds h moment w (At g (Makes m)) host e = refl
-built_change_builds h moment w (At g (Answers k)) host e = refl
-built_change_builds h moment w step host e = absurd (none-some host e)
+pub post_builds : (h : Header) (moment : ℕ) (w : World tcp_shape) (step : Step tcp_shape) (host : Host)
+    → builds step ≡ Some host → (sight h moment w step).post ≡ post.Builds (suc w.count)
+post_builds h moment w (At g (Makes m)) host e = refl
+post_builds h moment w (At g (Answers k)) host e = refl
+post_builds h moment w step host e = absurd (none-some host e)
 
 -- a segment that is sent was built, and not sent before
 pub record Unsent (w : World tcp_shape) (host : Host) (number : ℕ) : Type 0 where
@@ -200,21 +192,21 @@ pub record Unsent (w : World tcp_shape) (host : Host) (number : ℕ) : Type 0 wh
   pub there : lookup (nat_eq number) (pick w.hosts host).made ≡ Some made
   pub unsent : made.sent ≡ false
 
-pub built_change_sends : (h : Header) (moment : ℕ) (w : World tcp_shape) (step : Step tcp_shape) (host : Host) (number : ℕ)
+pub post_sends : (h : Header) (moment : ℕ) (w : World tcp_shape) (step : Step tcp_shape) (host : Host) (number : ℕ)
     → Permitted (tcp h) moment w step → sends step ≡ Some (host, number)
-    → ((observe h moment w step).built_change ≡ built_change.Sends number) × Unsent w host number
-built_change_sends h moment w (At g (Sends line n wire)) host number may e =
+    → ((sight h moment w step).post ≡ post.Sends number) × Unsent w host number
+post_sends h moment w (At g (Sends line n wire)) host number may e =
     let p = on_passes (lookup (nat_eq n) (pick w.hosts g).made) rules.NotMade _ may in
     let both = none_both ((tcp h).out_rules wire p.0.emission) (just rules.NotMade p.0.sent) p.2 in
     let same = some_pair_parts g host n number e in (
       ap (λ o. (on o unseen (λ (m : Made Emission). record unseen {
         touched = at_sender g (pick w.hosts g).body m.emission;
-        built_change = built_change.Sends n;
-      })).built_change) p.1 ∙ ap built_change.Sends same.1,
+        post = post.Sends n;
+      })).post) p.1 ∙ ap post.Sends same.1,
       subst (λ (x : Host). Unsent w x number) same.0
           (subst (λ (x : ℕ). Unsent w g x) same.1 (record { made = p.0; there = p.1; unsent = (none_all (just rules.NotMade p.0.sent) both.1).0 })),
     )
-built_change_sends h moment w step host number may e = absurd (none-some (host, number) e)
+post_sends h moment w step host number may e = absurd (none-some (host, number) e)
 
 -- ---- the model's tables
 
@@ -285,26 +277,25 @@ inbox_from h moment w (Begin line thread call) host q m is = inr (m, is)
 inbox_from h moment w (Finish line thread answer) host q m is = inr (m, is)
 inbox_from h moment w (Effect thread answer) host q m is = inr (m, sym (effect_same (λ k. waiting q k.inbox) (λ k b. refl) h moment w thread answer host) ∙ is)
 inbox_from h moment w (At g d) host q m is =
-    with_cases w.hosts g (host_step_after (tcp h) g moment (suc w.count) (pick w.hosts (other g)).wire (pick w.hosts g) d)
-    (λ x k. waiting q k.inbox ≡ Some m → Waits w (At g d) x q) (host_step d) (λ at. inr (m, at)) host is
+    with_cases w.hosts g (deed_after (tcp h) g moment (suc w.count) (pick w.hosts (other g)).wire (pick w.hosts g) d)
+    (λ x k. waiting q k.inbox ≡ Some m → Waits w (At g d) x q) (deed d) (λ at. inr (m, at)) host is
   where
     s : HostState tcp_shape
     s = pick w.hosts g
 
-    host_step : (d : HostStep tcp_shape) → waiting q (host_step_after (tcp h) g moment (suc w.count) (pick w.hosts (other g)).wire s d).inbox ≡ Some m
-        → Waits w (At g d) g q
-    host_step (Does x) at = inr (m, at)
-    host_step (Expires line x) at = inr (m, at)
-    host_step (Makes x) at = inr (m, at)
-    host_step (Sends line number wire) at = inr (m, at)
-    host_step (Gets line copied wire) at =
+    deed : (d : Deed tcp_shape) → waiting q (deed_after (tcp h) g moment (suc w.count) (pick w.hosts (other g)).wire s d).inbox ≡ Some m → Waits w (At g d) g q
+    deed (Does x) at = inr (m, at)
+    deed (Expires line x) at = inr (m, at)
+    deed (Makes x) at = inr (m, at)
+    deed (Sends line number wire) at = inr (m, at)
+    deed (Gets line copied wire) at =
         on_cases (λ inbox. waiting q inbox ≡ Some m → Waits w (At g (Gets line copied wire)) g q) (lookup (nat_eq copied) (pick w.hosts (other g)).wire)
         s.inbox (λ e. insert_entry nat_eq s.inbox line (Some e)) (λ at. inr (m, at))
         (λ e there. waits_entered w (At g (Gets line copied wire)) g line q s.inbox e m refl (λ at. inr (m, at))) at
-    host_step (Hears line wire) at = waits_entered w (At g (Hears line wire)) g line q s.inbox _ m refl (λ at. inr (m, at)) at
-    host_step (Takes line how) at = waits_settled w (At g (Takes line how)) g line q s.inbox m (λ at. inr (m, at)) at
-    host_step (Drops line) at = waits_settled w (At g (Drops line)) g line q s.inbox m (λ at. inr (m, at)) at
-    host_step (Answers line) at = waits_settled w (At g (Answers line)) g line q s.inbox m (λ at. inr (m, at)) at
+    deed (Hears line wire) at = waits_entered w (At g (Hears line wire)) g line q s.inbox _ m refl (λ at. inr (m, at)) at
+    deed (Takes line how) at = waits_settled w (At g (Takes line how)) g line q s.inbox m (λ at. inr (m, at)) at
+    deed (Drops line) at = waits_settled w (At g (Drops line)) g line q s.inbox m (λ at. inr (m, at)) at
+    deed (Answers line) at = waits_settled w (At g (Answers line)) g line q s.inbox m (λ at. inr (m, at)) at
 
 -- the segment that a step builds
 abbrev pub made_by : World tcp_shape → Step tcp_shape → Option Emission
@@ -393,35 +384,34 @@ made_from h moment w (Effect thread answer) host n m is =
     made_still w (Effect thread answer) host n m (λ e. none-some _ e)
     (sym (effect_same (λ k. lookup (nat_eq n) k.made) (λ k b. refl) h moment w thread answer host) ∙ is)
 made_from h moment w (At g d) host n m is =
-    with_cases w.hosts g (host_step_after (tcp h) g moment (suc w.count) (pick w.hosts (other g)).wire (pick w.hosts g) d)
-    (λ x k. lookup (nat_eq n) k.made ≡ Some m → IsMade w (At g d) x n m) (host_step d) (elsewhere d) host is
+    with_cases w.hosts g (deed_after (tcp h) g moment (suc w.count) (pick w.hosts (other g)).wire (pick w.hosts g) d)
+    (λ x k. lookup (nat_eq n) k.made ≡ Some m → IsMade w (At g d) x n m) (deed d) (elsewhere d) host is
   where
-    elsewhere : (d : HostStep tcp_shape) → lookup (nat_eq n) (pick w.hosts (other g)).made ≡ Some m → IsMade w (At g d) (other g) n m
+    elsewhere : (d : Deed tcp_shape) → lookup (nat_eq n) (pick w.hosts (other g)).made ≡ Some m → IsMade w (At g d) (other g) n m
     elsewhere d at = made_still w (At g d) (other g) n m (λ e. apart g (sends_here d e)) at
       where
         apart : (x : Host) → x ≡ other x → ⊥
         apart Zero e = cc
         apart One e = cc
 
-        sends_here : (d : HostStep tcp_shape) → sends (At g d) ≡ Some (other g, n) → g ≡ other g
+        sends_here : (d : Deed tcp_shape) → sends (At g d) ≡ Some (other g, n) → g ≡ other g
         sends_here (Sends line number wire) e = (some_pair_parts g (other g) number n e).0
         sends_here d e = absurd (none-some (other g, n) e)
 
-    still : (d : HostStep tcp_shape) → (sends (At g d) ≡ Some (g, n) → ⊥) → lookup (nat_eq n) (pick w.hosts g).made ≡ Some m → IsMade w (At g d) g n m
+    still : (d : Deed tcp_shape) → (sends (At g d) ≡ Some (g, n) → ⊥) → lookup (nat_eq n) (pick w.hosts g).made ≡ Some m → IsMade w (At g d) g n m
     still d not at = made_still w (At g d) g n m not at
 
-    host_step : (d : HostStep tcp_shape)
-        → lookup (nat_eq n) (host_step_after (tcp h) g moment (suc w.count) (pick w.hosts (other g)).wire (pick w.hosts g) d).made ≡ Some m
+    deed : (d : Deed tcp_shape) → lookup (nat_eq n) (deed_after (tcp h) g moment (suc w.count) (pick w.hosts (other g)).wire (pick w.hosts g) d).made ≡ Some m
         → IsMade w (At g d) g n m
-    host_step (Does x) at = still (Does x) (λ e. none-some _ e) at
-    host_step (Expires line x) at = still (Expires line x) (λ e. none-some _ e) at
-    host_step (Makes x) at = made_new h moment w (At g (Makes x)) g ((tcp h).making x) n m refl refl (still (Makes x) (λ e. none-some _ e)) at
-    host_step (Sends line number wire) at = made_sent w g line number wire n m at
-    host_step (Gets line copied wire) at = still (Gets line copied wire) (λ e. none-some _ e) at
-    host_step (Hears line wire) at = still (Hears line wire) (λ e. none-some _ e) at
-    host_step (Takes line how) at = still (Takes line how) (λ e. none-some _ e) at
-    host_step (Drops line) at = still (Drops line) (λ e. none-some _ e) at
-    host_step (Answers line) at =
+    deed (Does x) at = still (Does x) (λ e. none-some _ e) at
+    deed (Expires line x) at = still (Expires line x) (λ e. none-some _ e) at
+    deed (Makes x) at = made_new h moment w (At g (Makes x)) g ((tcp h).making x) n m refl refl (still (Makes x) (λ e. none-some _ e)) at
+    deed (Sends line number wire) at = made_sent w g line number wire n m at
+    deed (Gets line copied wire) at = still (Gets line copied wire) (λ e. none-some _ e) at
+    deed (Hears line wire) at = still (Hears line wire) (λ e. none-some _ e) at
+    deed (Takes line how) at = still (Takes line how) (λ e. none-some _ e) at
+    deed (Drops line) at = still (Drops line) (λ e. none-some _ e) at
+    deed (Answers line) at =
         on_cases (λ es. lookup (nat_eq n) es ≡ Some m → IsMade w (At g (Answers line)) g n m) (waiting line (pick w.hosts g).inbox) (pick w.hosts g).made
         (λ e. act_made (tcp h) g moment (suc w.count) (pick w.hosts g) ((tcp h).answers e)) (still (Answers line) (λ e. none-some _ e))
         (λ e there. made_new h moment w (At g (Answers line)) g ((tcp h).answers e) n m refl

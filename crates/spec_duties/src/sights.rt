@@ -6,7 +6,7 @@ use case_forms::Host;
 
 /// What a step does to an inbox.
 #[derive(Clone, Copy)]
-pub enum InboxChange {
+pub enum Mail {
     Nothing,
     /// A segment enters it with this line.
     Enters(u64),
@@ -16,7 +16,7 @@ pub enum InboxChange {
 
 /// What a step does to the segments that were built.
 #[derive(Clone, Copy)]
-pub enum BuiltChange {
+pub enum Post {
     Nothing,
     /// A segment is built, under this number.
     Builds(u32),
@@ -36,7 +36,7 @@ pub enum Queueing {
 
 /// Whether a segment that could be processed need not be.
 #[derive(Clone, Copy)]
-pub enum Droppable {
+pub enum Spared {
     No,
     Yes,
     /// Only if the listener at this place has at least `backlog` children that are neither accepted nor CLOSED.
@@ -49,14 +49,14 @@ pub struct Dropping {
     pub host: Host,
     /// Whether the model permits processing it.
     pub takeable: bool,
-    pub droppable: Droppable,
+    pub spared: Spared,
     /// Whether it has to be answered with a reset.
     pub answerable: bool,
 }
 
 /// An endpoint that a step touches.
 #[derive(Clone, Copy)]
-pub struct TouchedEndpoint {
+pub struct Touched {
     pub host: Host,
     /// Its place in the order of creation.
     pub place: u32,
@@ -67,10 +67,10 @@ pub struct TouchedEndpoint {
 
 /// All that duties read of the world at a step.
 #[derive(Clone, Copy)]
-pub struct Observation {
-    pub touched: Option<TouchedEndpoint>,
-    pub inbox_change: InboxChange,
-    pub built_change: BuiltChange,
+pub struct Sight {
+    pub touched: Option<Touched>,
+    pub mail: Mail,
+    pub post: Post,
     pub queueing: Queueing,
     /// The segment that the step drops.
     pub dropping: Option<Dropping>,
