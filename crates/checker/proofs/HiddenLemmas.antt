@@ -30,7 +30,7 @@ hidden_label (K host line) step is = (refl, λ find. is)
 hidden_label (R host line) step is = (refl, λ find. is)
 hidden_label (F host recovery) step is = (refl, λ find. is)
 
-at_moment : ℕ → StepOf tcp_shape → Stamped tcp_shape
+abbrev at_moment : ℕ → StepOf tcp_shape → Stamped tcp_shape
 at_moment moment step = record { moment = moment; step = step }
 
 hidden_act : (o : Order) (s : Step) (step : StepOf tcp_shape) → hidden_step s.label ≡ Some step → held_act o s ≡ Some (at_moment s.moment step)

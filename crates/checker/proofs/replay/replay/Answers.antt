@@ -11,21 +11,21 @@ use Rattle.checker.proofs.replay.replay.Goals as goal
 
 pub returns-in-Err-clause-broken : goal.returns-in-Err-clause-broken
 returns-in-Err-clause-broken c =
-    refused_line c.args.world.now.header c.args.window.now c.args.world.now.world c.args.step.now c.in-Line.named c.in-Err.rule
+    refused_line c.args.world.now.header c.args.window.now c.args.world.now.world c.args.step.now c.in-Line.named.now c.in-Err.rule
     (rw c.in-Line.is at c.act_of.ensures.act)
     (rw c.count.ensures at c.in-Err.ensures.rule)
 
 pub returns-in-Ok-clause-broken : goal.returns-in-Ok-clause-broken
 returns-in-Ok-clause-broken c =
     subst (λ (broken : Option Rule). IfErr c.take_line.result (λ fault. IfBroken fault (λ rule. broken ≡ Some rule)))
-    (placed_line c.args.world.now c.args.window.now c.args.step.now c.in-Line.named c.in-Ok.line (rw c.in-Line.is at c.act_of.ensures.act)
+    (placed_line c.args.world.now c.args.window.now c.args.step.now c.in-Line.named.now c.in-Ok.line (rw c.in-Line.is at c.act_of.ensures.act)
     (rw c.count.ensures at c.in-Ok.ensures.rule) c.in-Ok.ensures.line)
     c.take_line.ensures.broken
 
 pub returns-in-Ok-clause-admitted : goal.returns-in-Ok-clause-admitted
 returns-in-Ok-clause-admitted c =
     subst (λ (broken : Option Rule). OnOk c.take_line.result (broken ≡ None))
-    (placed_line c.args.world.now c.args.window.now c.args.step.now c.in-Line.named c.in-Ok.line (rw c.in-Line.is at c.act_of.ensures.act)
+    (placed_line c.args.world.now c.args.window.now c.args.step.now c.in-Line.named.now c.in-Ok.line (rw c.in-Line.is at c.act_of.ensures.act)
     (rw c.count.ensures at c.in-Ok.ensures.rule) c.in-Ok.ensures.line)
     c.take_line.ensures.admitted
 

@@ -53,7 +53,7 @@ returns-in-Err-Broken-clause-tells g c = λ header t s begun.
     let next =
     subst (λ (item : Option Step). Yields (steps_left g.B.Read.remaining c.loop-item.steps) (steps_left g.B.Read.remaining c.read_step.new.steps) item)
     c.in-Some.is c.in_ok-read_step.ensures.next in
-    let after = rw c.in-Err-Broken.is at (c.in_ok-replay_next.ensures.after header t s _ _ so_far.0 so_far.1 here next) in
+    let after = rw (c.in-Err-Broken.is, c.in-Err-Broken.field-0-is) at (c.in_ok-replay_next.ensures.after header t s _ _ so_far.0 so_far.1 here next) in
     c.refuse.ensures.tells header t s (
       so_far.1,
       steps_left g.B.Read.remaining c.loop-item.steps,
