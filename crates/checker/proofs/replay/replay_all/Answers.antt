@@ -15,7 +15,7 @@ returns-in-Err-Broken c = λ lines offered.
     let broken =
     subst (λ (s : Step). kept_broken c.loop-place.world.header c.loop-place.window c.loop-place.world.world s ≡ Some c.in-Err-Broken.rule) at
     (rw (c.in-Err-Broken.is, c.in-Err-Broken.field-0-is) at c.replay.ensures.broken) in
-    rw (c.step_line.ensures, c.line_named.ensures)
+    rw (c.step_line.ensures, c.line_named.ensures, c.in-Err-Broken.field-0-is)
     (ap (λ (s : Step). No (c.loop-place.place + 2) (line_named s.label) c.in-Err-Broken.rule) at
     ∙ sym (turn_no c.args.world.now.header lines c.args.steps.now c.loop-place.place _ c.loop-place.window
     c.loop-place.world _ c.loop-place-test.true

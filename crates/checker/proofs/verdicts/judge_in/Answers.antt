@@ -62,7 +62,8 @@ returns-in-Err-Broken-clause-tells g c = λ header t s begun.
       so_far.2.done,
       next,
       after.1,
-      λ all whole rest. after.2 all whole rest ∙ ap (λ (n : ℕ). No (n + 2) (line_named c.in-Some.step.label) c.in-Err-Broken.rule) so_far.4,
+      λ all whole rest. rw c.in-Err-Broken.field-0-is
+          (after.2 all whole rest ∙ ap (λ (n : ℕ). No (n + 2) (line_named c.in-Some.step.label) c.in-Err-Broken.rule) so_far.4),
     )
 
 pub loop-item-preserved : goal.loop-item-preserved
