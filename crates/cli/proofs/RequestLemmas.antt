@@ -1,5 +1,5 @@
 -- Words have only one request.
-use Rattle.std.proofs.Common.{◌≡◌, ◌⊎◌, ℕ, Bool, true, false, List, [], Bor, Option, codes, get_or, drop, refl, sym, subst, ap, ◌∙◌, inl, inr}
+use Rattle.std.proofs.Common.{◌≡◌, ◌⊎◌, ℕ, true, false, List, [], Bor, Option, codes, get_or, drop, refl, sym, subst, ap, ◌∙◌, inl, inr}
 use Rattle.clap.specs.Words.{Text}
 use Rattle.two_hosts.specs.declared.plan.Plan.{Plan}
 use Rattle.cli.specs.CommandLine.{AsksCheck, AsksNothing, AsksSegment}
