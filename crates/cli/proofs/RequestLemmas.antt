@@ -1,5 +1,5 @@
 -- Words have only one request.
-use Rattle.std.proofs.Common.{◌≡◌, ◌⊎◌, ℕ, Bool, true, false, List, [], Bor, Option, codes, get_or, drop, refl, sym, subst, ap, ◌∙◌, inl, inr}
+use Rattle.std.proofs.Common.{◌≡◌, ◌⊎◌, ℕ, true, false, List, [], Bor, Option, codes, get_or, drop, refl, sym, subst, ap, ◌∙◌, inl, inr}
 use Rattle.clap.specs.Words.{Text}
 use Rattle.two_hosts.specs.declared.plan.Plan.{Plan}
 use Rattle.cli.specs.CommandLine.{AsksCheck, AsksNothing, AsksSegment}
@@ -9,7 +9,7 @@ use Rattle.cli.specs.HexText.{segment_in}
 use Rattle.cli.specs.ManyWords.{AsksMany}
 use Rattle.cli.specs.Output.{Ends}
 use Rattle.cli.specs.RecordWords.{AsksRecord}
-use Rattle.cli.specs.Requests.{IsRequested}
+use Rattle.cli.specs.Requests.{answers_many, is_command, reads_input, records, IsRequested}
 use Rattle.cli.specs.SegmentText.{segment_line, segment_status}
 use Rattle.cli.specs.declared.request.Request.{Request}
 use Rattle.cli.specs.declared.request.Request.TheVariants.{Help, Files, Command, Unknown}
@@ -114,10 +114,7 @@ segment_ends q words text input status old new is asked ends =
     subst (λ (t : Text). Ends (segment_status (segment_in t)) (segment_line (segment_in t)) status old new) segment.same
     (subst (λ (r : Request). EndsFor r input status old new) segment.is ends)
 
--- whether it is a command
-abbrev pub is_command : Request → Bool
-is_command (Command command) = true
-is_command _ = false
+-- ---- what isn't requested
 
 -- words that request nothing of these are no command
 pub none_only : (q : Request) (words : List Text) → IsRequested q words → AsksNothing words → ((n : ℕ) → ¬ AsksMany words n)
@@ -129,3 +126,30 @@ none_only (Command (Many n)) words is nothing no_many no_record = absurd (no_man
 none_only (Command (Record plan)) words is nothing no_many no_record = absurd (no_record plan is)
 none_only (Command (Segment text)) words is nothing no_many no_record = absurd (nothing.segment text.now is)
 none_only Unknown words is nothing no_many no_record = refl
+
+pub reads_none : (q : Request) (words : List Text) → IsRequested q words → ¬ AsksCheck words → ((n : ℕ) → ¬ AsksMany words n) → reads_input q ≡ false
+reads_none (Help topic) words is no_check no_many = refl
+reads_none (Files trace witness) words is no_check no_many = refl
+reads_none (Command Check) words is no_check no_many = absurd (no_check is)
+reads_none (Command (Many n)) words is no_check no_many = absurd (no_many n is)
+reads_none (Command (Record plan)) words is no_check no_many = refl
+reads_none (Command (Segment text)) words is no_check no_many = refl
+reads_none Unknown words is no_check no_many = refl
+
+pub records_none : (q : Request) (words : List Text) → IsRequested q words → ((plan : Plan) → ¬ AsksRecord words plan) → records q ≡ false
+records_none (Help topic) words is no_record = refl
+records_none (Files trace witness) words is no_record = refl
+records_none (Command Check) words is no_record = refl
+records_none (Command (Many n)) words is no_record = refl
+records_none (Command (Record plan)) words is no_record = absurd (no_record plan is)
+records_none (Command (Segment text)) words is no_record = refl
+records_none Unknown words is no_record = refl
+
+pub many_none : (q : Request) (words : List Text) → IsRequested q words → ((n : ℕ) → ¬ AsksMany words n) → answers_many q ≡ false
+many_none (Help topic) words is no_many = refl
+many_none (Files trace witness) words is no_many = refl
+many_none (Command Check) words is no_many = refl
+many_none (Command (Many n)) words is no_many = absurd (no_many n is)
+many_none (Command (Record plan)) words is no_many = refl
+many_none (Command (Segment text)) words is no_many = refl
+many_none Unknown words is no_many = refl

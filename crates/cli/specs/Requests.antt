@@ -36,6 +36,11 @@ abbrev pub asks_for_help : Request → Bool
 asks_for_help (Help topic) = true
 asks_for_help _ = false
 
+-- whether it is a command that opens no file
+abbrev pub is_command : Request → Bool
+is_command (Command command) = true
+is_command _ = false
+
 -- whether it reads the input
 abbrev pub reads_input : Request → Bool
 reads_input (Command Check) = true
@@ -47,11 +52,17 @@ abbrev pub answers_many : Request → Bool
 answers_many (Command (Many workers)) = true
 answers_many _ = false
 
+-- whether it is a recording
+abbrev pub records : Request → Bool
+records (Command (Record plan)) = true
+records _ = false
+
 -- whether it opens files or starts threads that it can't do without, which may be refused
 abbrev pub may_be_refused : Request → Bool
+may_be_refused (Help topic) = false
 may_be_refused (Files trace witness) = true
-may_be_refused (Command (Record plan)) = true
-may_be_refused _ = false
+may_be_refused (Command command) = records (Command command)
+may_be_refused Unknown = false
 
 -- if it is a recording, then of both hosts
 abbrev pub IsWhole : Request → Type 0

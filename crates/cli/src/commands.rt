@@ -10,15 +10,15 @@ ghost use Rattle.answer_lines.specs.Output.{line_of, status_of};
 ghost use Rattle.cli.specs.Endings.{EndsFor};
 ghost use Rattle.cli.specs.HexText.{segment_in};
 ghost use Rattle.cli.specs.Output.{Ends};
-ghost use Rattle.cli.specs.Requests.{answers_many, may_be_refused, reads_input, IsWhole};
+ghost use Rattle.cli.specs.Requests.{answers_many, is_command, reads_input, records, IsWhole};
 ghost use Rattle.cli.specs.SegmentText.{segment_line, segment_status};
 ghost use Rattle.cli.specs.declared.request.Request.{Request};
 
 use crate::argument::{ArgumentFault, read_segment};
 use crate::files::tell_case;
-use crate::lines::{answer_bad_memory, say};
+use crate::lines::{answer_bad_memory, answer_bad_usage, say};
 use crate::record::answer_record;
-use crate::request::Command;
+use crate::request::{Command, Request};
 use crate::segment_line::{segment_line, segment_status};
 use answer_stream::answer_cases;
 use checker::{CaseFault, check_reader};
@@ -42,7 +42,7 @@ pub(crate) fn run_command<R: BufRead + Send, W: Write + Send, H: Threads + Wait 
     ensures ends { result ≢ 5 → EndsFor (Request.Command command.entry) (left_of R.remaining r.old) result
         (left_of W.contents w.old) (left_of W.contents w.new) }
     ensures unread { reads_input (Request.Command command.entry) ≡ false → r.new ≡ r.old }
-    ensures device { may_be_refused (Request.Command command.entry) ≡ false → result ≡ 5 →
+    ensures device { records (Request.Command command.entry) ≡ false → result ≡ 5 →
         (failures_of r.old < failures_of r.new) ⊎ (failures_of w.old < failures_of w.new) }
     ensures told { answers_many (Request.Command command.entry) ≡ false → result ≡ 5 →
         failures_of w.new ≡ failures_of w.old →
@@ -58,6 +58,36 @@ pub(crate) fn run_command<R: BufRead + Send, W: Write + Send, H: Threads + Wait 
         Command::Many(workers) => answer_cases(rt, alloc, workers, r, w),
         Command::Record(plan) => answer_record(rt, alloc, plan, w),
         Command::Segment(text) => show(alloc, text, w),
+    }
+}
+
+/// Does what is requested if it is a command, as `run_command`; all else is bad usage here.
+pub(crate) fn run_if_command<R: BufRead + Send, W: Write + Send, H: Threads + Wait + Sync>(
+    rt: &H,
+    alloc: Global,
+    request: Request<'_>,
+    r: &mut Counted<R>,
+    w: &mut Counted<W>,
+) -> u8
+    requires few { (failures_of r.old < 2 ^ 50) × (failures_of w.old < 2 ^ 50) }
+    requires whole { IsWhole request }
+    ensures ends { is_command request.entry ≡ true → result ≢ 5 →
+        EndsFor request.entry (left_of R.remaining r.old) result (left_of W.contents w.old) (left_of W.contents w.new) }
+    ensures usage { is_command request.entry ≡ false → result ≢ 5 →
+        Ends 3 (codes "bad usage\n") result (left_of W.contents w.old) (left_of W.contents w.new) }
+    ensures unread { reads_input request.entry ≡ false → r.new ≡ r.old }
+    ensures device { records request.entry ≡ false → result ≡ 5 →
+        (failures_of r.old < failures_of r.new) ⊎ (failures_of w.old < failures_of w.new) }
+    ensures told { answers_many request.entry ≡ false → result ≡ 5 → failures_of w.new ≡ failures_of w.old →
+        Appends (left_of W.contents w.old) (left_of W.contents w.new) (codes "bad device\n") }
+    ensures told_many { answers_many request.entry ≡ true → result ≡ 5 → failures_of w.new ≡ failures_of w.old →
+        ∥ TellsBefore (left_of R.remaining r.old) (codes "bad device\n") (left_of W.contents w.old)
+        (left_of W.contents w.new) ∥₁ }
+    ensures quiet { result ≢ 5 → (failures_of r.new ≡ failures_of r.old) × (failures_of w.new ≡ failures_of w.old) }
+{
+    match request {
+        Request::Command(command) => run_command(rt, alloc, command, r, w),
+        Request::Help(_) | Request::Files(..) | Request::Unknown => answer_bad_usage(w),
     }
 }
 

@@ -17,7 +17,7 @@ ghost use Rattle.cli.specs.Requests.{answers_many, may_be_refused, reads_input, 
 ghost use Rattle.cli.specs.SegmentText.{segment_line, segment_status};
 ghost use Rattle.two_hosts.specs.declared.plan.Plan.{Plan};
 
-use crate::commands::{check, run_command, show};
+use crate::commands::{check, run_command, run_if_command, show};
 use crate::files::check_files;
 use crate::lines::{answer_bad_memory, answer_bad_usage};
 use crate::request::{Command, Request, request_of};
@@ -124,8 +124,7 @@ pub fn run<R: BufRead, W: Write>(
 /// Does what the words after the program's name request. For `many`, the cases of the input are checked by so many
 /// threads while it is read, a line is written for each in their order, and the result is the greatest of their
 /// statuses, or 0 if there are none. For `record`, two hosts talk, and what was recorded is written as a case; the
-/// status is 0 if all rounds ended, and 1 if a limit was met. All other words do what they do in `run`. Both
-/// counts of
+/// status is 0 if all rounds ended, and 1 if a limit was met. All other words do what they do in `run`. Both counts of
 /// failures must be below 2^50 before the call; those of new ends are.
 pub fn run_all<R: BufRead + Send, W: Write + Send, H: Threads + Wait + Sync>(
     rt: &H,
@@ -169,8 +168,7 @@ pub fn run_all<R: BufRead + Send, W: Write + Send, H: Threads + Wait + Sync>(
     ensures quiet { result ≢ 5 → (failures_of r.new ≡ failures_of r.old) × (failures_of w.new ≡ failures_of w.old) }
 {
     match request_of(alloc, words) {
-        Ok(Request::Command(command)) => run_command(rt, alloc, command, r, w),
-        Ok(Request::Help(_) | Request::Files(..) | Request::Unknown) => answer_bad_usage(w),
+        Ok(request) => run_if_command(rt, alloc, request, r, w),
         Err(_) => answer_bad_memory(w),
     }
 }
