@@ -114,10 +114,10 @@ impl<L: Site> Caller<L> {
 
     /// The number in the last call's answer.
     pub(crate) fn number(&self) -> Result<u32, Halt> {
-        let Some(Answer::Given(number)) = self.answer() else {
-            return Err(Halt::Refused);
-        };
-        Ok(*number)
+        match self.answer() {
+            Some(Answer::Given(number)) => Ok(*number),
+            _ => Err(Halt::Refused),
+        }
     }
 
     /// Makes a call that is answered `ok`.
@@ -133,9 +133,9 @@ impl<L: Site> Caller<L> {
         ensures thread { self.new.seat.thread ≡ self.old.seat.thread }
     {
         self.ask(rt, recorder, call)?;
-        let Some(Answer::Done) = self.answer() else {
-            return Err(Halt::Refused);
-        };
-        Ok(())
+        match self.answer() {
+            Some(Answer::Done) => Ok(()),
+            _ => Err(Halt::Refused),
+        }
     }
 }

@@ -71,10 +71,10 @@ fn receive_round<L: Site, R: Wait>(
             break;
         }
         caller.ask(rt, recorder, Call::Recv(socket, most_of(left)))?;
-        let Some(Answer::Bytes(bytes)) = caller.answer() else {
-            return Err(Halt::Refused);
-        };
-        left = left.saturating_sub(bytes.len());
+        match caller.answer() {
+            Some(Answer::Bytes(bytes)) => left = left.saturating_sub(bytes.len()),
+            _ => return Err(Halt::Refused),
+        }
     }
     Ok(())
 }
@@ -135,9 +135,10 @@ fn talk_as_server<L: Site, R: Wait>(
         receive_round(rt, recorder, caller, socket)?;
     }
     caller.ask(rt, recorder, Call::Recv(socket, 1))?;
-    let Some(Answer::Eof) = caller.answer() else {
-        return Err(Halt::Refused);
-    };
+    match caller.answer() {
+        Some(Answer::Eof) => {}
+        _ => return Err(Halt::Refused),
+    }
     caller.done(rt, recorder, Call::Close(socket))
 }
 
