@@ -78,20 +78,8 @@ pub fn matches_sent(header: &Header, wire: &Wire, m: &Emission) -> bool
 }
 
 /// The built segment after it was sent, at a moment in microseconds: with its bytes, and the MSS and the shift in its
-/// options. The error means that memory ran out.
-pub fn sent(moment: u64, wire: &Wire, m: &Emission) -> Result<Emission, OutOfMemory>
-    ensures sent { IfOk result (λ x. x ≡ sent moment wire.now m.now) }
-    ensures small { IsSmallEmission m.now → IfOk result IsSmallEmission }
-{
-    let payload = m.payload.copy()?;
-    let bytes = wire.bytes.copy()?;
-    let told = (wire.seg.mss, wire.seg.scale);
-    Ok(with_bytes(m, payload, bytes, told, moment))
-}
-
-/// Like `sent`, for an owned wire that has the payload of the built segment: its parts are moved, and nothing is
-/// copied.
-pub fn sent_owned(moment: u64, wire: Wire, m: &Emission) -> Emission
+/// options. The wire has the payload of the built segment: its parts are moved, and nothing is copied.
+pub fn sent(moment: u64, wire: Wire, m: &Emission) -> Emission
     requires { wire.seg.payload ≡ m.now.payload }
     ensures sent { result ≡ sent moment wire m.now }
     ensures small { IsSmallEmission m.now → IsSmallEmission result }
@@ -100,9 +88,9 @@ pub fn sent_owned(moment: u64, wire: Wire, m: &Emission) -> Emission
     with_bytes(m, seg.payload, bytes, (seg.mss, seg.scale), moment)
 }
 
-/// An equal segment, from an owned wire that has its bytes: they are moved, and so is the payload if the segment has
-/// the same. The error means that memory ran out.
-pub fn copy_owned(wire: Wire, m: &Emission) -> Result<Emission, OutOfMemory>
+/// A copy of a segment, as it arrives on a wire that has its bytes: they are moved, and so is the payload if the
+/// segment has the same. The error means that memory ran out.
+pub fn copy(wire: Wire, m: &Emission) -> Result<Emission, OutOfMemory>
     requires { wire.bytes ≡ m.now.bytes }
     ensures { IfOk result (λ x. x ≡ m.now) }
 {

@@ -28,11 +28,11 @@ ghost use Rattle.endpoint_state.specs.Kinds.{recovering_rules, taking_rules};
 use crate::arriving::{Arrival, admitted_arrival, consume_arrival, waiting};
 use crate::fault::StepFault;
 use crate::host_tcp::HostTcp;
-use crate::made::{Made, admitted_sending, send, send_owned};
+use crate::made::{Made, admitted_sending, mark};
 use case_forms::{
     Answer, Call, Expired, Header, Host, Ports, Recovery, SegmentPlan, TakeChoice, Wire,
 };
-use endpoint::reset_of;
+use endpoint::{reset_of, sent};
 use segment::OutOfMemory;
 use spec_tcp::{Emission, EndpointId};
 use std::alloc::Global;
@@ -92,34 +92,9 @@ pub(crate) fn make(
     Ok(())
 }
 
-/// The segment of this number is sent with this line. The error is the first broken rule, or that memory ran out;
-/// nothing is changed then.
+/// The segment of this number is sent with this line, at a moment: it is marked, and put on the wire as it was seen
+/// there. The error is the first broken rule, or that memory ran out; nothing is changed then.
 pub(crate) fn send_made(
-    header: &Header,
-    host: &mut HostState,
-    line: u64,
-    number: u32,
-    wire: &Wire,
-    moment: u64,
-) -> Result<(), StepFault>
-    ensures fault { fault_rule result ≡ first_broken
-        (sending_rules (out_rules header.now) host.old.made number wire.now) }
-    ensures ok { OnOk result (host.new ≡ sent_one moment line number wire.now host.old) }
-    ensures err { OnErr result (host.new ≡ host.old) }
-{
-    send(
-        header,
-        &mut host.made,
-        &mut host.wire,
-        line,
-        number,
-        wire,
-        moment,
-    )
-}
-
-/// Like `send_made`, but consumes the wire instead of copying it.
-pub(crate) fn send_made_owned(
     header: &Header,
     host: &mut HostState,
     line: u64,
@@ -132,15 +107,10 @@ pub(crate) fn send_made_owned(
     ensures ok { OnOk result (host.new ≡ sent_one moment line number wire host.old) }
     ensures err { OnErr result (host.new ≡ host.old) }
 {
-    send_owned(
-        header,
-        &mut host.made,
-        &mut host.wire,
-        line,
-        number,
-        wire,
-        moment,
-    )
+    let m = admitted_sending(header, &host.made, number, &wire)?;
+    host.wire.insert(line, sent(moment, wire, m.emission()))?;
+    mark(&mut host.made, number);
+    Ok(())
 }
 
 /// A segment joins the inbox with this line. If memory runs out, nothing is changed.

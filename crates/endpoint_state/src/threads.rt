@@ -126,22 +126,7 @@ pub(crate) fn given_answer(threads: &Table<Turn>, thread: u32) -> Option<&Answer
 }
 
 /// A thread begins a call. The error is the broken rule, or that memory ran out; nothing is changed then.
-pub(crate) fn begin(threads: &mut Table<Turn>, thread: u32, call: &Call) -> Result<(), StepFault>
-    ensures fault { fault_rule result ≡ first_broken (begin_rules (turn_of thread threads.old.entries)) }
-    ensures ok { OnOk result (threads.new.entries ≡ insert_entry nat_eq threads.old.entries thread (Called call.now)) }
-    ensures err { OnErr result (threads.new.entries ≡ threads.old.entries) }
-{
-    admits_begin(threads, thread)?;
-    put(threads, thread, Place::Called(call.copy()?))?;
-    Ok(())
-}
-
-/// Like `begin`, but keeps the call itself instead of a copy.
-pub(crate) fn begin_owned(
-    threads: &mut Table<Turn>,
-    thread: u32,
-    call: Call,
-) -> Result<(), StepFault>
+pub(crate) fn begin(threads: &mut Table<Turn>, thread: u32, call: Call) -> Result<(), StepFault>
     ensures fault { fault_rule result ≡ first_broken (begin_rules (turn_of thread threads.old.entries)) }
     ensures ok { OnOk result (threads.new.entries ≡ insert_entry nat_eq threads.old.entries thread (Called call)) }
     ensures err { OnErr result (threads.new.entries ≡ threads.old.entries) }

@@ -22,11 +22,11 @@ use crate::host;
 use crate::host_pair::Hosts;
 use crate::host_tcp::HostTcp;
 use crate::made::Made;
-use crate::threads::{Turn, admits_begin, admits_end, begin, begin_owned, finish, pending_call};
+use crate::threads::{Turn, admits_begin, admits_end, begin, finish, pending_call};
 use case_forms::{
     Answer, Call, Expired, Header, Host, Ports, Recovery, SegmentPlan, TakeChoice, Wire,
 };
-use endpoint::{admits_hearing, copy_owned, heard};
+use endpoint::{admits_hearing, heard};
 use segment::OutOfMemory;
 use spec_tcp::Emission;
 use std::alloc::Global;
@@ -272,27 +272,14 @@ impl World {
     }
 
     /// A thread begins a call. The error is the broken rule, or that memory ran out; the world is then as it was.
-    pub fn begin(&mut self, thread: u32, call: &Call) -> Result<(), StepFault>
-        requires { self.old.steps < most_steps }
-        ensures fault { fault_rule result ≡ first_broken
-            (step_rules (tcp self.old.header) 0 self.old.world (Begin 0 thread call.now)) }
-        ensures ok { OnOk result (self.new ≡ after self.old 0 (Begin 0 thread call.now)) }
-        ensures err { OnErr result (self.new ≡ self.old) }
-    {
-        begin(&mut self.threads, thread, call)?;
-        self.steps += 1;
-        Ok(())
-    }
-
-    /// Like `begin`, but consumes the call instead of copying it.
-    pub fn begin_owned(&mut self, thread: u32, call: Call) -> Result<(), StepFault>
+    pub fn begin(&mut self, thread: u32, call: Call) -> Result<(), StepFault>
         requires { self.old.steps < most_steps }
         ensures fault { fault_rule result ≡ first_broken
             (step_rules (tcp self.old.header) 0 self.old.world (Begin 0 thread call)) }
         ensures ok { OnOk result (self.new ≡ after self.old 0 (Begin 0 thread call)) }
         ensures err { OnErr result (self.new ≡ self.old) }
     {
-        begin_owned(&mut self.threads, thread, call)?;
+        begin(&mut self.threads, thread, call)?;
         self.steps += 1;
         Ok(())
     }
@@ -334,33 +321,6 @@ impl World {
         host: Host,
         line: u64,
         number: u32,
-        wire: &Wire,
-        moment: u64,
-    ) -> Result<(), StepFault>
-        requires { self.old.steps < most_steps }
-        ensures fault { fault_rule result ≡ first_broken
-            (step_rules (tcp self.old.header) moment self.old.world (At host (Sends line number wire.now))) }
-        ensures ok { OnOk result (self.new ≡ after self.old moment (At host (Sends line number wire.now))) }
-        ensures err { OnErr result (self.new ≡ self.old) }
-    {
-        host::send_made(
-            &self.header,
-            self.hosts.side(host),
-            line,
-            number,
-            wire,
-            moment,
-        )?;
-        self.steps += 1;
-        Ok(())
-    }
-
-    /// Like `send`, but consumes the wire instead of copying it.
-    pub fn send_owned(
-        &mut self,
-        host: Host,
-        line: u64,
-        number: u32,
         wire: Wire,
         moment: u64,
     ) -> Result<(), StepFault>
@@ -370,7 +330,7 @@ impl World {
         ensures ok { OnOk result (self.new ≡ after self.old moment (At host (Sends line number wire))) }
         ensures err { OnErr result (self.new ≡ self.old) }
     {
-        host::send_made_owned(
+        host::send_made(
             &self.header,
             self.hosts.side(host),
             line,
@@ -389,31 +349,6 @@ impl World {
         host: Host,
         line: u64,
         copied: u64,
-        wire: &Wire,
-        moment: u64,
-    ) -> Result<(), StepFault>
-        requires { self.old.steps < most_steps }
-        ensures fault { fault_rule result ≡ first_broken
-            (step_rules (tcp self.old.header) moment self.old.world (At host (Gets line copied wire.now))) }
-        ensures ok { OnOk result (self.new ≡ after self.old moment (At host (Gets line copied wire.now))) }
-        ensures err { OnErr result (self.new ≡ self.old) }
-    {
-        let copy = self
-            .hosts
-            .far(host)
-            .admitted_arrival(&self.header, moment, copied, wire)?
-            .copy()?;
-        host::arrive(self.alloc, self.hosts.side(host), line, copy)?;
-        self.steps += 1;
-        Ok(())
-    }
-
-    /// Like `arrive`, but consumes the wire instead of copying it.
-    pub fn arrive_owned(
-        &mut self,
-        host: Host,
-        line: u64,
-        copied: u64,
         wire: Wire,
         moment: u64,
     ) -> Result<(), StepFault>
@@ -427,7 +362,7 @@ impl World {
             .hosts
             .far(host)
             .admitted_arrival(&self.header, moment, copied, &wire)?;
-        let copy = copy_owned(wire, m)?;
+        let copy = endpoint::copy(wire, m)?;
         host::arrive(self.alloc, self.hosts.side(host), line, copy)?;
         self.steps += 1;
         Ok(())

@@ -330,7 +330,7 @@ impl Progress {
     /// The current line begins a call.
     pub(crate) fn begin(&mut self, thread: u32, call: &Call) -> Result<u64, Stop> {
         has_room(&self.world)?;
-        let done = self.world.begin(thread, call);
+        let done = self.world.begin(thread, call.copy()?);
         self.log.push_current(Extras::Bare, done)
     }
 
@@ -345,9 +345,9 @@ impl Progress {
     pub(crate) fn send(&mut self, host: Host, made: u32, wire: &Wire) -> Result<u64, Stop> {
         has_room(&self.world)?;
         let (line, moment) = (self.log.number, self.log.moment);
+        let wire = wire.copy()?;
         let done = match self.slack {
             Some(slack) => {
-                let wire = wire.copy()?;
                 self.watch_line(
                     slack,
                     TakenLine::Sent {
@@ -382,9 +382,9 @@ impl Progress {
     pub(crate) fn arrive(&mut self, host: Host, copied: u64, wire: &Wire) -> Result<u64, Stop> {
         has_room(&self.world)?;
         let (line, moment) = (self.log.number, self.log.moment);
+        let wire = wire.copy()?;
         let done = match self.slack {
             Some(slack) => {
-                let wire = wire.copy()?;
                 self.watch_line(
                     slack,
                     TakenLine::Came {

@@ -14,45 +14,6 @@ use case_forms::{Event, Extras, Line, TakenLine};
 use endpoint_state::{StepFault, World};
 use verdict::Rule;
 
-/// Does a step that takes a line, as `apply` does any step.
-#[tactic(auto, using(crate::proofs::FaultLemmas::admitted, crate::proofs::FaultLemmas::broken, crate::proofs::FaultLemmas::memory))]
-pub fn apply_line(world: &mut World, moment: u64, line: &TakenLine) -> Result<(), StepFault>
-    requires { world.old.steps < most_steps }
-    ensures ok { OnOk result (world.new ≡ after world.old moment (line_step line.now)) }
-    ensures admitted { OnOk result (broken_by world.old moment (line_step line.now) ≡ None) }
-    ensures broken { IfErr result (λ fault. IfBroken fault (λ rule. broken_by world.old moment (line_step line.now)
-        ≡ Some rule)) }
-    ensures memory { result ≡ Err StepFault.OutOfMemory → broken_by world.old moment (line_step line.now) ≡ None }
-    ensures err { OnErr result (world.new ≡ world.old) }
-{
-    match line {
-        TakenLine::CallBegin { thread, call, .. } => world.begin(*thread, call),
-        TakenLine::CallEnd { thread, answer, .. } => world.finish(*thread, answer),
-        TakenLine::Sent {
-            line,
-            host,
-            made,
-            wire,
-        } => world.send(*host, *line, *made, wire, moment),
-        TakenLine::Came {
-            line,
-            host,
-            copied,
-            wire,
-        } => world.arrive(*host, *line, *copied, wire, moment),
-        TakenLine::Heard { line, host, wire } => world.hear(*host, *line, wire, moment),
-        TakenLine::Expired {
-            host,
-            ports,
-            expired,
-            ..
-        } => {
-            world.expire(*host, *ports, *expired, moment)?;
-            Ok(())
-        }
-    }
-}
-
 impl ModelStep for TakenLine {
     ghost step = { line_step };
 
@@ -88,20 +49,20 @@ impl ModelStep for TakenLine {
     #[tactic(auto, using(crate::proofs::FaultLemmas::admitted, crate::proofs::FaultLemmas::broken, crate::proofs::FaultLemmas::memory))]
     fn apply(self, world: &mut World, moment: u64) -> Result<(), StepFault> {
         match self {
-            TakenLine::CallBegin { thread, call, .. } => world.begin_owned(thread, call),
+            TakenLine::CallBegin { thread, call, .. } => world.begin(thread, call),
             TakenLine::CallEnd { thread, answer, .. } => world.finish(thread, &answer),
             TakenLine::Sent {
                 line,
                 host,
                 made,
                 wire,
-            } => world.send_owned(host, line, made, wire, moment),
+            } => world.send(host, line, made, wire, moment),
             TakenLine::Came {
                 line,
                 host,
                 copied,
                 wire,
-            } => world.arrive_owned(host, line, copied, wire, moment),
+            } => world.arrive(host, line, copied, wire, moment),
             TakenLine::Heard { line, host, wire } => world.hear(host, line, &wire, moment),
             TakenLine::Expired {
                 host,
@@ -137,13 +98,13 @@ pub fn take_line(
     ensures err { OnErr result (world.new ≡ world.old) }
 {
     match (line.event, extras) {
-        (Event::CallBegin(call), Extras::Bare) => world.begin_owned(line.thread, call),
+        (Event::CallBegin(call), Extras::Bare) => world.begin(line.thread, call),
         (Event::CallEnd(answer), Extras::Bare) => world.finish(line.thread, &answer),
         (Event::Sent(host, wire), Extras::One(made)) => {
-            world.send_owned(host, line.number, made, wire, moment)
+            world.send(host, line.number, made, wire, moment)
         }
         (Event::Came(host, wire), Extras::One(copied)) => {
-            world.arrive_owned(host, line.number, u64::from(copied), wire, moment)
+            world.arrive(host, line.number, u64::from(copied), wire, moment)
         }
         (Event::Came(host, wire), Extras::Bare) => world.hear(host, line.number, &wire, moment),
         (event, extras) => take_other(

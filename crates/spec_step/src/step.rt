@@ -13,8 +13,7 @@ ghost use Rattle.spec_step.specs.Asked.{broken_by};
 ghost use Rattle.spec_step.specs.Faults.{IfBroken};
 
 use crate::hidden::Hidden;
-use crate::line::apply_line;
-use case_forms::TakenLine;
+use case_forms::{TakenLine, Takes};
 use endpoint_state::{StepFault, World};
 use verdict::Rule;
 
@@ -114,7 +113,11 @@ pub fn apply(world: &mut World, moment: u64, label: &Label) -> Result<(), StepFa
     ensures err { OnErr result (world.new ≡ world.old) }
 {
     match act_of(label) {
-        Act::Line(line) => apply_line(world, moment, line),
+        Act::Line(line) => {
+            // Memory may run out only if no rule is broken.
+            line.admits(world, moment)?;
+            line.copy()?.apply(world, moment)
+        }
         Act::Hidden(hidden) => hidden.apply(world, moment),
     }
 }

@@ -26,6 +26,7 @@ use Rattle.spec_tcp.specs.Machine as acts
 use Rattle.spec_tcp.specs.Makes.{emission_of, making_rules}
 use Rattle.spec_tcp.specs.Wire.{matches_sent, out_rules, sent}
 use Rattle.spec_merge.specs.Books.{Flying}
+use Rattle.endpoint_state.proofs.Wired.{payload_sent}
 use Rattle.stack_core.specs.Cores.{Core, Fits, line_to_come, with_step, world}
 use Rattle.stack_core.specs.Outgoing.{GoesOut, MayGo, WaitsToGo, greatest_payload}
 use Rattle.stack_core.proofs.Cores.{leads}
@@ -87,6 +88,11 @@ made_waits c d m may short is = subst (λ (x : Core). WaitsToGo x (world x).coun
     })
 
 -- 2. sent
+
+-- a copy of a segment that shows a made one has its payload
+pub shown_payload : (h : Header) (wire copy : Wire) (e : Emission) → ((k : Header) → matches_sent k wire e ≡ true) → copy ≡ wire
+    → copy.seg.payload ≡ e.payload
+shown_payload h wire copy e shown is = ap (λ (w : Wire). w.seg.payload) is ∙ payload_sent h wire e (shown h)
 
 goes : (h : Header) (o : Option (Made Emission)) (wire : Wire) (e : Emission) → o ≡ Some (unsent e)
     → matches_sent h wire e ≡ true

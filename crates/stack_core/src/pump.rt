@@ -188,7 +188,7 @@ impl HostCore {
             host: self.me(),
             tick,
             line: self.line(),
-            emission: sent(tick.moment, &wire, m)?,
+            emission: sent(tick.moment, wire.copy()?, m),
             wire: wire.copy()?,
         };
         Ok(Outgoing { wire, flying })
