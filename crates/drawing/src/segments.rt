@@ -107,7 +107,7 @@ impl SegmentLabels {
         said: Said,
     ) -> Result<usize, OutOfMemory> {
         let (first, length) = (self.numbers.position(host, seg), seg.payload.len());
-        let end = first.wrapping_add(length as u32);
+        let end = first.wrapping_add(u32::try_from(length).unwrap_or(u32::MAX));
         if seg.has(Flag::Syn) {
             write!(words, "{first} ")?;
         }
