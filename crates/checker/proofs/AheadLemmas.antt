@@ -101,6 +101,13 @@ module _ {A : Type 0} where
   err_before (Some l) None items f p fails = absurd p
   err_before (Some l) (Some r) items f p fails = p ∙ ap (λ (s : Result (List A) TextFault). s >>= λ more. Ok (items ++ more)) fails
 
+  -- and where what is left has none, the whole has none
+  pub ok_before : (a b : Option (Result (List A) TextFault)) (items : List A) → Passes a b items
+      → IfSome b (λ read. (all : List A) × (read ≡ Ok all)) → IfSome a (λ read. (all : List A) × (read ≡ Ok all))
+  ok_before None b items p ok = tt
+  ok_before (Some l) None items p ok = absurd p
+  ok_before (Some l) (Some r) items p ok = (items ++ ok.0, whole_of_rest (Some l) (Some r) items ok.0 p ok.1)
+
   pub trace_fails_before : (a b : Option (Result (List A) TextFault)) (items : List A) (e : CaseFault) → Passes a b items → TraceFails e b → TraceFails e a
   trace_fails_before a b items (faults.Trace f) p fails = err_before a b items f p fails
   trace_fails_before a b items (faults.Witness f) p fails = absurd fails

@@ -20,11 +20,11 @@ use Rattle.checker.specs.declared.case.CaseFault.{CaseFault}
 use Rattle.checker.specs.declared.case.CaseFault.TheVariants as faults
 use Rattle.checker.specs.declared.turns.StepCounts.{StepCounts}
 use Rattle.checker.specs.Verdicts.{takes_line, verdict_left}
-use Rattle.checker.specs.Ahead.{left_with, IsInStep, IsAll, TraceFails, WitnessFails}
+use Rattle.checker.specs.Ahead.{left_with, Passes, IsInStep, IsAll, TraceFails, WitnessFails}
 use Rattle.checker.specs.Streaming.{SoFar, Tallied, Ends, CaseFails, verdict_on, first_of_both}
 use Rattle.checker.specs.Turns.{IsBroken, counted_with}
 use Rattle.checker.proofs.CheckLemmas.{begun}
-use Rattle.checker.proofs.AheadLemmas.{none_passed, one_passed, all_passed, whole_of_rest, trace_fails_before, witness_fails_before}
+use Rattle.checker.proofs.AheadLemmas.{err_before, ok_before, none_passed, one_passed, all_passed, whole_of_rest, trace_fails_before, witness_fails_before}
 use Rattle.checker.proofs.TurnLemmas.{trace_first}
 use Rattle.checker.proofs.StreamTurns.{all_done}
 
@@ -126,6 +126,17 @@ ends_when header (Some l) (Some r) (Some s) ahead next o p offered earlier items
   where
     f_told : verdict_on header (offered ++ items) [] (earlier ++ []) ≡ verdict_on header (offered ++ items) [] earlier
     f_told = ap (verdict_on header (offered ++ items) []) (append-nil earlier)
+
+-- ---- a fault, after lines and steps without one
+
+pub case_fails_before : (lines left : Option (Result (List Line) TextFault)) (steps ahead : Option (Result (List Step) TextFault))
+    (offered : List Line) (earlier : List Step) (e : CaseFault) → Passes lines left offered → Passes steps ahead earlier
+    → CaseFails e left ahead → CaseFails e lines steps
+case_fails_before lines left steps ahead offered earlier (faults.Trace f) p d fails = err_before lines left offered f p fails
+case_fails_before lines left steps ahead offered earlier (faults.Witness f) p d fails =
+    (ok_before lines left offered p fails.0, err_before steps ahead earlier f d fails.1)
+case_fails_before lines left steps ahead offered earlier faults.Read p d fails = tt
+case_fails_before lines left steps ahead offered earlier faults.OutOfMemory p d fails = tt
 
 -- ---- a step that was refused
 

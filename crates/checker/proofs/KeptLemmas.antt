@@ -142,11 +142,11 @@ next_steps p (Some act) = omega arith
 pub refused_line : (header : Header) (o : Order) (w : Known) (s : Step) (named : NamedLine) (rule : Rule)
     → s.label ≡ L named
     → Some rule ≡ first_broken (order_rules o (taking s.moment named.number (extras_count named.extras)))
-    → Some rule ≡ kept_broken header o w s
+    → kept_broken header o w s ≡ Some rule
 refused_line header o w s named rule is broken =
-    subst (λ (label : Label NamedLine). Some rule ≡ kept_broken header o w (record s { label = label })) (sym is)
-    (sym (first_broken-append_some (order_rules o (taking s.moment named.number (extras_count named.extras)))
-    (option_map_or (act_rules header w) (held_act o (record s { label = L named })) []) rule (sym broken)))
+    subst (λ (label : Label NamedLine). kept_broken header o w (record s { label = label }) ≡ Some rule) (sym is)
+    (first_broken-append_some (order_rules o (taking s.moment named.number (extras_count named.extras)))
+    (option_map_or (act_rules header w) (held_act o (record s { label = L named })) []) rule (sym broken))
 
 -- where it breaks none, what its line breaks in the machine is the least
 pub placed_line : (p : Progress) (o : Order) (s : Step) (named : NamedLine) (line : Line) → s.label ≡ L named

@@ -27,7 +27,8 @@
 //! - `two_texts`: a case in two texts, judged while they are read
 //! - `ahead`: a trace that is read one line ahead
 //! - `offering`: the lines that a step's moment reaches, and a line that a step names before it is reached
-//! - `turns`: one turn for each step, up to the first that is refused
+//! - `turns`: what a turn does: it reads a step, does it, and says no if it is refused
+//! - `verdicts`: the loop with a turn for each step, and the verdict at the end of the witness
 //! - `steps`: the rest of a witness, which is read only for its faults
 //! - `replay`: the replay of a witness that is all in memory; what one step does
 //! - `printed`: a trace and its witness as one text
@@ -47,6 +48,7 @@ mod replay;
 mod steps;
 mod turns;
 mod two_texts;
+mod verdicts;
 
 pub use case::{CaseFault, check_case};
 pub use laws::{

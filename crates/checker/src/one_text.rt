@@ -26,7 +26,7 @@ ghost use Rattle.checker.specs.Streaming.{Tells};
 use crate::ahead::Ahead;
 use crate::case::{CaseFault, trace_fault, witness_fault};
 use crate::laws::{explained_follows, receives_begin_sends};
-use crate::two_texts::judge;
+use crate::verdicts::judge;
 use case_forms::Header;
 use counted::Counted;
 use kept_lines::KeptLines;

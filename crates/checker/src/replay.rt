@@ -3,18 +3,17 @@
 //! Memory grows with the trace, since all its lines are offered at the start. A step takes time logarithmic in the
 //! number of lines that wait.
 
-ghost use Rattle.std.specs.Prelude.{◌≡◌, ◌↔◌, ◌<◌, ◌≤◌, ◌++◌, List, [], length, IfOk, IfNone, None};
+ghost use Rattle.std.specs.Prelude.{◌≡◌, ◌↔◌, ◌<◌, ◌≤◌, ◌++◌, List, [], length, IfOk, IfErr, OnOk, None, Some};
 ghost use Rattle.case_forms.specs.declared.trace.Line.{Line};
 ghost use Rattle.std.specs.List.{All};
-ghost use Rattle.std.specs.Option.{option_map};
-ghost use Rattle.case_forms.specs.TakenLines.{taken_of};
 ghost use Rattle.case_forms.specs.Traces.{first_event_line, IsRecorded, IsTrace};
 ghost use Rattle.case_forms.specs.Witnesses.{IsWithinLimits, IsWitness};
 ghost use Rattle.interval_order.specs.Orders.{passing, order_of, order_after};
 ghost use Rattle.interval_order.specs.OrderRules.{order_rules};
 ghost use Rattle.verdict.specs.Rules.{first_broken};
 ghost use Rattle.spec_tcp.specs.Bounds.{most_steps};
-ghost use Rattle.spec_tcp.specs.Steps.{hidden_step, line_step};
+ghost use Rattle.spec_step.specs.Faults.{IfBroken};
+ghost use Rattle.spec_tcp.specs.Steps.{hidden_step};
 ghost use Rattle.spec_duties.specs.Cases.{late_at_end, start, asked_rules, asked_after, first_known};
 ghost use Rattle.checker.specs.Seen.{move_of};
 ghost use Rattle.checker.specs.Verdicts.{verdict, verdict_from, verdict_left, takes_line, line_named};
@@ -28,12 +27,12 @@ ghost use Rattle.checker.specs.Consequences.{AllStatesFollow, NoPositionFalls};
 
 use crate::laws::{explained_follows, receives_begin_sends};
 use answers::step_line;
-use case_forms::{Extras, Header, Label, Line, NamedLine, OutOfMemory, Step, Trace, Witness};
+use case_forms::{Header, Label, Line, NamedLine, OutOfMemory, Step, Trace, Witness};
 use endpoint_state::StepFault;
 use interval_order::{Window, left_over};
 use std::alloc::{AllocError, Global};
-use verdict::{Rule, Verdict};
-use watched::{Case, apply_hidden};
+use verdict::Verdict;
+use watched::{Case, apply_hidden, take_line};
 
 /// The verdict on a witness for a trace of its version, if both have texts.
 ///
@@ -111,12 +110,16 @@ fn replay_all(window: &mut Window, world: &mut Case, steps: &[Step]) -> Result<V
         v ≡ verdict_from world.old.header lines [] (first_known world.old.header) steps.now) }
 {
     for (place, step) in steps.iter().enumerate() {
-        if let Some(rule) = replay(window, world, step)? {
-            return Ok(Verdict::No {
-                witness_line: step_line(place as u64),
-                trace_line: line_named(&step.label),
-                rule,
-            });
+        match replay(window, world, step) {
+            Ok(()) => {}
+            Err(StepFault::Broken(rule)) => {
+                return Ok(Verdict::No {
+                    witness_line: step_line(place as u64),
+                    trace_line: line_named(&step.label),
+                    rule,
+                });
+            }
+            Err(StepFault::OutOfMemory) => return Err(AllocError),
         }
     }
     Ok(match window.first_left() {
@@ -153,22 +156,20 @@ fn offer_all(alloc: Global, header: &Header, lines: &[Line]) -> Result<Window, O
     Ok(window)
 }
 
-/// Does a step, or says which rule it breaks.
-pub(crate) fn replay(
-    window: &mut Window,
-    world: &mut Case,
-    step: &Step,
-) -> Result<Option<Rule>, OutOfMemory>
+/// Does a step. The error is the least rule that it breaks, or that memory ran out.
+pub(crate) fn replay(window: &mut Window, world: &mut Case, step: &Step) -> Result<(), StepFault>
     requires steps { world.old.steps < most_steps }
     requires label { IsWithinLimits step.now.label }
-    ensures rule { IfOk result (λ r. r ≡ kept_broken world.old.header window.old world.old.world step.now) }
-    ensures order { IfOk result (λ r. IfNone r (window.new ≡ order_after window.old (move_of step.now))) }
-    ensures world { IfOk result (λ r. IfNone r (world.new ≡ kept_progress window.old world.old step.now)) }
+    ensures order { OnOk result (window.new ≡ order_after window.old (move_of step.now)) }
+    ensures world { OnOk result (world.new ≡ kept_progress window.old world.old step.now) }
+    ensures admitted { OnOk result (kept_broken world.old.header window.old world.old.world step.now ≡ None) }
+    ensures broken { IfErr result (λ fault. IfBroken fault
+        (λ rule. kept_broken world.old.header window.old world.old.world step.now ≡ Some rule)) }
 {
     match &step.label {
         Label::L(named) => match window.place(named.number, named.extras.count(), step.moment) {
             Ok(line) => take_line(world, step.moment, line, named.extras),
-            Err(rule) => Ok(Some(rule)),
+            Err(rule) => Err(StepFault::Broken(rule)),
         },
         Label::D { .. }
         | Label::M { .. }
@@ -179,49 +180,25 @@ pub(crate) fn replay(
     }
 }
 
-// Takes a line in the model, or says which of its rules is broken.
-#[inline(always)]
-fn take_line(
-    world: &mut Case,
-    moment: u64,
-    line: Line,
-    extras: Extras,
-) -> Result<Option<Rule>, OutOfMemory>
-    requires { world.old.steps < most_steps }
-    ensures rule { IfOk result (λ r. r ≡ first_broken
-        (asked_rules world.old moment (option_map line_step (taken_of extras line)))) }
-    ensures after { IfOk result (λ r. IfNone r
-        (world.new ≡ asked_after world.old moment (option_map line_step (taken_of extras line)))) }
-{
-    match watched::take_line(world, moment, line, extras) {
-        Ok(()) => Ok(None),
-        Err(StepFault::Broken(rule)) => Ok(Some(rule)),
-        Err(StepFault::OutOfMemory) => Err(AllocError),
-    }
-}
-
-// Does a hidden step, or says which rule it breaks.
+// Does a hidden step in the same way.
 fn pass(
     window: &mut Window,
     world: &mut Case,
     moment: u64,
     label: &Label<NamedLine>,
-) -> Result<Option<Rule>, OutOfMemory>
+) -> Result<(), StepFault>
     requires steps { world.old.steps < most_steps }
     requires label { IsWithinLimits label.now }
-    ensures rule { IfOk result (λ r. r ≡ first_broken (order_rules window.old (passing moment)
-        ++ asked_rules world.old moment (hidden_step label.now))) }
-    ensures order { IfOk result (λ r. IfNone r (window.new ≡ order_after window.old (passing moment))) }
-    ensures world { IfOk result (λ r. IfNone r (world.new ≡ asked_after world.old moment (hidden_step label.now))) }
+    ensures order { OnOk result (window.new ≡ order_after window.old (passing moment)) }
+    ensures world { OnOk result (world.new ≡ asked_after world.old moment (hidden_step label.now)) }
+    ensures admitted { OnOk result (first_broken (order_rules window.old (passing moment)
+        ++ asked_rules world.old moment (hidden_step label.now)) ≡ None) }
+    ensures broken { IfErr result (λ fault. IfBroken fault (λ rule.
+        first_broken (order_rules window.old (passing moment) ++ asked_rules world.old moment (hidden_step label.now))
+        ≡ Some rule)) }
 {
-    if let Err(rule) = window.pass(moment) {
-        return Ok(Some(rule));
-    }
-    match apply_hidden(world, moment, label) {
-        Ok(()) => Ok(None),
-        Err(StepFault::Broken(rule)) => Ok(Some(rule)),
-        Err(StepFault::OutOfMemory) => Err(AllocError),
-    }
+    window.pass(moment)?;
+    apply_hidden(world, moment, label)
 }
 
 // Yes, with the number of steps that take a line and of those that are hidden.

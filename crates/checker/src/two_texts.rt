@@ -1,45 +1,26 @@
 //! A case in two texts, judged while they are read.
-//!
-//! Of the trace, the lines that are reached and not yet placed are kept, and one more; of the witness, one step. The
-//! world keeps what endpoints have outstanding, and each segment that was made or sent, since later steps may name it.
 
-ghost use Rattle.std.specs.Prelude.{◌≡◌, ◌≢◌, ◌↔◌, ◌≤◌, List, [], Err, IfOk, IfSome, None, Option, Result};
-ghost use Rattle.case_forms.specs.declared.trace.Header.{Header};
-ghost use Rattle.case_forms.specs.declared.trace.Line.{Line};
+ghost use Rattle.std.specs.Prelude.{◌≡◌, ◌≢◌, ◌↔◌, Err, IfOk};
 ghost use Rattle.case_forms.specs.declared.trace.Trace.{Trace};
-ghost use Rattle.case_forms.specs.declared.steps.Step.{Step};
 ghost use Rattle.case_forms.specs.declared.steps.Witness.{Witness};
-ghost use Rattle.case_forms.specs.Traces.{first_event_line};
-ghost use Rattle.counted.specs.Counting.{left_of, failures_of, one_more};
-ghost use Rattle.line_fields.specs.declared.fault.TextFault.{TextFault};
-ghost use Rattle.line_fields.specs.Left.{Yields};
-ghost use Rattle.witness.specs.StepsLeft.{steps_left, fault_of, number_of, reader_failures};
-ghost use Rattle.spec_duties.specs.Cases.{late_at_end};
-ghost use Rattle.spec_tcp.specs.Bounds.{most_steps};
-ghost use Rattle.checker.specs.Verdicts.{verdict_left};
+ghost use Rattle.counted.specs.Counting.{left_of, failures_of};
 ghost use Rattle.checker.specs.Explains.{Explains, IsYes};
 ghost use Rattle.checker.specs.Judges.{Says};
 ghost use Rattle.checker.specs.Headline.{ReceivesBeginSends};
 ghost use Rattle.checker.specs.Consequences.{AreBothRecorded, ReadsBeginWhatWasSent, EndsAreWhole};
 ghost use Rattle.checker.specs.Consequences.{AllAcknowledgedWasTaken, AllReadsWereCarried, AllKeepWindows};
 ghost use Rattle.checker.specs.Consequences.{AllStatesFollow, NoPositionFalls};
-ghost use Rattle.checker.specs.Ahead.{source_ahead, line_ahead, left_ahead, IsAhead, IsInStep};
-ghost use Rattle.checker.specs.Streaming.{OneFailed, SoFar, Tallied, Tells, first_of_both};
+ghost use Rattle.checker.specs.Streaming.{OneFailed};
 ghost use Rattle.checker.specs.Texts.{GivesTexts, AreOf};
 
 use crate::ahead::Ahead;
 use crate::case::CaseFault;
 use crate::laws::{explained_follows, receives_begin_sends};
-use crate::steps::drain_steps;
-use crate::turns::{ReplayOutcome, StepCounts, replay_steps};
-use answers::step_line;
-use case_forms::Header;
+use crate::verdicts::judge;
 use counted::Counted;
-use interval_order::{Window, left_over};
 use std::alloc::Global;
 use std::io::BufRead;
 use verdict::Verdict;
-use watched::Case;
 use witness::StepReader;
 
 /// The trace's fault, else the witness's, else the verdict on the case, however the bytes of both come in pieces. The
@@ -116,131 +97,5 @@ fn judge_texts<A: BufRead, B: BufRead>(
             (answer, lines.into_source(), steps.into_source())
         }
         Err(fault) => (Err(fault), lines.into_source(), b),
-    }
-}
-
-/// The verdict on a trace whose header was read and on its witness, before any of its steps was read; or the first
-/// fault of both.
-pub(crate) fn judge<A: BufRead, B: BufRead>(
-    alloc: Global,
-    header: &Header,
-    lines: &mut Ahead<A>,
-    steps: &mut StepReader<B>,
-) -> Result<Verdict, CaseFault>
-    requires ahead { IsAhead lines.old }
-    requires first_line { IfSome (line_ahead lines.old) (λ line. line.number ≡ first_event_line header.now) }
-    requires working { fault_of steps.old ≡ None }
-    requires first_step { number_of steps.old ≡ 2 }
-    ensures tells { Tells header.now (left_ahead A.remaining lines.old) (steps_left B.remaining steps.old) result }
-    ensures read { result ≡ Err CaseFault.Read →
-        OneFailed (failures_of (source_ahead lines.old)) (reader_failures steps.old)
-        (failures_of (source_ahead lines.new)) (reader_failures steps.new) }
-    ensures same_lines { result ≢ Err CaseFault.Read
-        → failures_of (source_ahead lines.new) ≡ failures_of (source_ahead lines.old) }
-    ensures same_steps { result ≢ Err CaseFault.Read → reader_failures steps.new ≡ reader_failures steps.old }
-{
-    let mut window = Window::new(alloc, header);
-    let mut world = Case::start(alloc, header);
-    let verdict = judge_in(alloc, &mut window, &mut world, lines, steps);
-    drop(world);
-    drop(window);
-    verdict
-}
-
-// The same, if no line was offered to the window and the world is that before the first step.
-fn judge_in<A: BufRead, B: BufRead>(
-    alloc: Global,
-    window: &mut Window,
-    world: &mut Case,
-    lines: &mut Ahead<A>,
-    steps: &mut StepReader<B>,
-) -> Result<Verdict, CaseFault>
-    requires ahead { IsAhead lines.old }
-    requires in_step { IsInStep window.old (line_ahead lines.old) }
-    requires working { fault_of steps.old ≡ None }
-    requires begun { world.old.steps ≡ 0 }
-    requires first { number_of steps.old ≡ 2 }
-    ensures tells { (header : Header) (t : Option (Result (List Line) TextFault))
-        (s : Option (Result (List Step) TextFault))
-        → SoFar header t (left_ahead A.remaining lines.old) s
-        (steps_left B.remaining steps.old) window.old world.old [] []
-        → Tells header t s result }
-    ensures read { result ≡ Err CaseFault.Read →
-        OneFailed (failures_of (source_ahead lines.old)) (reader_failures steps.old)
-        (failures_of (source_ahead lines.new)) (reader_failures steps.new) }
-    ensures same_lines { result ≢ Err CaseFault.Read
-        → failures_of (source_ahead lines.new) ≡ failures_of (source_ahead lines.old) }
-    ensures same_steps { result ≢ Err CaseFault.Read → reader_failures steps.new ≡ reader_failures steps.old }
-{
-    match replay_steps(alloc, window, world, lines, steps)? {
-        ReplayOutcome::All(tally) => end_of_witness(window, world, lines, tally),
-        ReplayOutcome::Refused(place, named, rule) => {
-            lines.drain()?;
-            drain_steps(steps)?;
-            Ok(Verdict::No {
-                witness_line: step_line(place),
-                trace_line: named,
-                rule,
-            })
-        }
-    }
-}
-
-// The verdict if each step is done; a fault of a remaining line comes before it.
-fn end_of_witness<A: BufRead>(
-    window: &Window,
-    world: &Case,
-    lines: &mut Ahead<A>,
-    tally: StepCounts,
-) -> Result<Verdict, CaseFault>
-    requires few { world.now.steps ≤ most_steps }
-    requires ahead { IsAhead lines.old }
-    requires in_step { IsInStep window.now (line_ahead lines.old) }
-    ensures tells { (header : Header) (t : Option (Result (List Line) TextFault))
-        (s : Option (Result (List Step) TextFault))
-        (offered : List Line) (earlier : List Step) (ahead next : Option (Result (List Step) TextFault))
-        → SoFar header t (left_ahead A.remaining lines.old) s ahead window.now world.now offered earlier
-        → Yields ahead next None
-        → Tallied earlier tally.lines tally.hidden
-        → Tells header t s result }
-    ensures read { result ≡ Err CaseFault.Read
-        → failures_of (source_ahead lines.new) ≡ one_more (failures_of (source_ahead lines.old)) }
-    ensures same { result ≢ Err CaseFault.Read
-        → failures_of (source_ahead lines.new) ≡ failures_of (source_ahead lines.old) }
-{
-    let left = first_left(window, lines);
-    lines.drain()?;
-    Ok(match left {
-        Some(number) => left_over(number),
-        None => at_end(world, window.last_moment(), tally),
-    })
-}
-
-// The verdict if no line is left over: no if a duty is late by the moment of the last step, else yes.
-fn at_end(world: &Case, last: u64, tally: StepCounts) -> Verdict
-    requires { world.now.steps ≤ most_steps }
-    ensures { (steps : List Step) → Tallied steps tally.lines tally.hidden
-        → result ≡ verdict_left [] (late_at_end world.now.header last world.now.world) steps }
-{
-    match world.late_at_end(last) {
-        Some((trace_line, rule)) => Verdict::No {
-            witness_line: 0,
-            trace_line,
-            rule,
-        },
-        None => Verdict::Yes {
-            lines: tally.lines,
-            hidden: tally.hidden,
-        },
-    }
-}
-
-// The number of the first line that is not placed, offered or not.
-fn first_left<A>(window: &Window, lines: &Ahead<A>) -> Option<u64>
-    ensures { result ≡ first_of_both window.now.held (line_ahead lines.now) }
-{
-    match window.first_left() {
-        Some(number) => Some(number),
-        None => lines.next_number(),
     }
 }

@@ -4,7 +4,7 @@ use Rattle.spec_duties.specs.Cases.{late_at_end}
 use Rattle.checker.specs.Ahead.{left_ahead, line_ahead}
 use Rattle.checker.specs.Verdicts.{verdict_left}
 use Rattle.checker.proofs.EndLemmas.{ends_when, some_left, none_left, next_number}
-use Rattle.checker.proofs.two_texts.end_of_witness.Goals as goal
+use Rattle.checker.proofs.verdicts.end_of_witness.Goals as goal
 
 pub returns-in-Some-clause-tells : goal.returns-in-Some-clause-tells
 returns-in-Some-clause-tells g c = λ header t s offered earlier ahead next f y counts.

@@ -7,7 +7,7 @@ use Rattle.line_fields.specs.declared.fault.TextFault.{TextFault}
 use Rattle.witness.specs.StepsLeft.{steps_left, fault_of, number_of, reader_failures}
 use Rattle.checker.specs.Ahead.{source_ahead, left_ahead, line_ahead, IsAhead, IsInStep}
 use Rattle.checker.specs.Streaming.{SoFar, Tallied}
-use Rattle.checker.proofs.turns.replay_steps.Given as goal
+use Rattle.checker.proofs.verdicts.judge_in.Given as goal
 
 -- so many steps were done
 abbrev pub invariant-loop-item : goal.invariant-loop-item

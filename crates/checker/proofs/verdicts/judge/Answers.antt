@@ -1,7 +1,7 @@
 use Rattle.checker.specs.Ahead.{left_ahead}
 use Rattle.witness.specs.StepsLeft.{steps_left}
 use Rattle.checker.proofs.EndLemmas.{starts}
-use Rattle.checker.proofs.two_texts.judge.Goals as goal
+use Rattle.checker.proofs.verdicts.judge.Goals as goal
 
 pub returns-clause-tells : goal.returns-clause-tells
 returns-clause-tells g c =
