@@ -2,7 +2,6 @@ pub mod YesLemmas
 pub mod KeptLemmas
 pub mod CheckLemmas
 pub mod JudgeLemmas
-pub mod OfferLemmas
 pub mod CaseLemmas
 pub mod ConsequenceLemmas
 pub mod PeerLemmas
@@ -11,6 +10,7 @@ pub mod SpanLemmas
 pub mod CountLemmas
 pub mod LateLemmas
 pub mod AheadLemmas
+pub mod LineLemmas
 pub mod StreamTurns
 pub mod TurnLemmas
 pub mod EndLemmas

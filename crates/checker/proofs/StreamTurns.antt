@@ -2,9 +2,7 @@
 use Rattle.std.proofs.Common.{inl, inr, ◌≡◌, ℕ, ◌+◌, ◌<◌, ◌≤◌, List, [], ◌∷◌, ◌++◌, length, refl, sym, ap, subst, ◌∙◌}
 use Rattle.std.proofs.Common.{arith, Option, Some, None, Result, Ok, Err, IfSome, append_assoc, length-append}
 use Rattle.std.proofs.Common.{append-nil}
-use Rattle.std.specs.Option.{option_map}
-use Rattle.std.specs.List.{enumerate_from}
-use Rattle.case_forms.specs.declared.version.Version.{Version}
+use Rattle.std.specs.List.{AllByRecursion, enumerate_from}
 use Rattle.case_forms.specs.declared.trace.Header.{Header}
 use Rattle.case_forms.specs.declared.trace.Line.{Line}
 use Rattle.case_forms.specs.declared.trace.Span.{Span}
@@ -26,18 +24,8 @@ use Rattle.watched.proofs.ForgetLemmas.{late-forget}
 use Rattle.checker.specs.Seen.{move_of, moves}
 use Rattle.checker.specs.Kept.{kept_broken, kept_progress}
 use Rattle.checker.specs.Verdicts.{broken, late_after, next_world, line_named, verdict_from, verdict_left, refused_or}
-use Rattle.counted.specs.Counting.{left_of}
-use Rattle.case_forms.specs.Traces.{IsRecorded}
-use Rattle.line_fields.specs.Folding.{read_lines}
-use Rattle.line_fields.proofs.Loop.{spelled_takes}
-use Rattle.line_fields.specs.Rows.{rows_of}
-use Rattle.trace_reader.specs.EventLines.{Place, behind, line_of, IsEventLine}
-use Rattle.trace_text.specs.TextLeft.{rows_left}
-use Rattle.trace_reader.specs.declared.stream.TraceReader.{TraceReader}
-use Rattle.trace_reader.specs.TraceLeft.{lines_left, place_of, version_of, kept_of, lines_after, AreAt, StandsAt}
-use Rattle.trace_reader.proofs.EventLineLaw.{reads_line}
-use Rattle.trace_reader.proofs.TraceLaw.{are_recorded}
 use Rattle.checker.specs.declared.ahead.Ahead.{Ahead}
+use Rattle.checker.specs.Sources.{LinesLeft, AreFrom}
 use Rattle.checker.specs.Ahead.{Passes, left_with, left_ahead, line_ahead, IsAhead}
 use Rattle.checker.specs.Streaming.{NamesBelow, HasCome, whole, verdict_on, AllLater, IsWhole, SoFar, IsDone, IsRefused}
 use Rattle.checker.proofs.AheadLemmas.{passed_on, rest_of_whole}
@@ -193,12 +181,11 @@ module _ (header : Header) (lines : Option (Result (List Line) TextFault)) (step
 
 -- ---- lines that are not reached
 
-not_before : (number before : ℕ) (lines : List Line) → IsRecorded number before lines → (moment : ℕ) → moment < before → AreLater moment lines
-not_before number before [] r moment lt = tt
-not_before number before (line ∷ lines) r moment lt =
-    let rises : before ≤ line.moment = r.1 in
-    let late : moment < line.moment = omega (arith, rises, lt) in
-    (late, not_before (number + 1) line.moment lines r.2 moment late)
+after_from : (moment from : ℕ) (lines : List Line) → moment < from → AllByRecursion (λ line. from ≤ line.moment) lines → AreLater moment lines
+after_from moment from [] lt all = tt
+after_from moment from (line ∷ lines) lt all =
+    let first : from ≤ line.moment = all.0 in
+    (omega (arith, first, lt), after_from moment from lines lt all.1)
 
 later_with : (moment : ℕ) (ahead : Option Line) (left : Option (Result (List Line) TextFault)) → IfSome ahead (λ line. moment < line.moment)
     → ((line : Line) (rest : List Line) → ahead ≡ Some line → left ≡ Some (Ok rest) → AreLater moment rest) → AllLater moment (left_with ahead left)
@@ -207,40 +194,15 @@ later_with moment (Some line) None late rest = tt
 later_with moment (Some line) (Some (Err e)) late rest = tt
 later_with moment (Some line) (Some (Ok more)) late rest = (late, rest line more refl refl)
 
-left_recorded : (v : Version) (place : Place) (rows : Option (List (List ℕ))) (rest : List Line)
-    → option_map (read_lines (line_of v) behind place) rows ≡ Some (Ok rest) → IsRecorded place.1 place.0 rest
-left_recorded v place None rest is = absurd cc
-left_recorded v place (Some raws) rest is =
-    let read : read_lines (line_of v) behind place raws ≡ Ok rest = cc in
-    are_recorded v place rest raws (spelled_takes (line_of v) behind (IsEventLine v) (reads_line v) place raws rest read)
-
--- so do lines that were kept, and those of the text after them
-one_more_recorded : (place : Place) (line : Line) (left : Option (Result (List Line) TextFault)) (rest : List Line) → StandsAt place line
-    → ((more : List Line) → left ≡ Some (Ok more) → IsRecorded (place.1 + 1) line.moment more)
-    → option_map (in_front line) left ≡ Some (Ok rest) → IsRecorded place.1 place.0 rest
-one_more_recorded place line None rest at others is = absurd cc
-one_more_recorded place line (Some (Err e)) rest at others is = absurd cc
-one_more_recorded place line (Some (Ok more)) rest at others is =
-    let whole : line ∷ more ≡ rest = cc in
-    subst (λ (lines : List Line). IsRecorded place.1 place.0 lines) whole (at.number, at.rises, others more refl)
-
-all_recorded : {A : Type 0} (known : A → Option (List ℕ)) (r : TraceReader A) (place : Place) (kept rest : List Line)
-    → AreAt place kept → lines_after known r place kept ≡ Some (Ok rest) → IsRecorded place.1 place.0 rest
-all_recorded known r place [] rest at is = left_recorded (version_of r) place (rows_left known r.text) rest is
-all_recorded known r place (line ∷ kept) rest at is =
-    one_more_recorded place line (lines_after known r (behind place line) kept) rest at.0
-    (λ more same. all_recorded known r (behind place line) kept more at.1 same) is
-
 -- where the line that was read ahead is not reached, none is that is left
-pub left_later : {A : Type 0} (known : A → Option (List ℕ)) (s : Ahead A) (moment : ℕ) → IsAhead s
-    → IfSome (line_ahead s) (λ line. moment < line.moment) → AllLater moment (left_ahead known s)
-left_later known s moment h late = later_with moment (line_ahead s) (lines_left known s.reader) late (λ line rest at is.
-    let place = subst (λ (l : Option Line). IfSome l (λ line. (place_of s.reader ≡ (line.moment, line.number + 1)) × (line.number ≤ 10000000))) at h.place in
+pub left_later : {S : Type 0} (ready : S → Type 0) (view : S → LinesLeft) (s : Ahead S) (moment : ℕ) → IsAhead ready view s
+    → IfSome (line_ahead s) (λ line. moment < line.moment) → AllLater moment (left_ahead view s)
+left_later ready view s moment h late = later_with moment (line_ahead s) (view s.source).lines late (λ line rest at is.
+    let place = subst (λ (l : Option Line). IfSome l (λ line. ((view s.source).before ≡ line.moment)
+    × ((view s.source).number ≡ line.number + 1) × (line.number + 1 < 2 ^ 64)
+    × AreFrom line.moment (view s.source).lines)) at h.place in
     let not_reached = subst (λ (l : Option Line). IfSome l (λ line. moment < line.moment)) at late in
-    let since : (place_of s.reader).0 ≡ line.moment = ap (λ (p : Place). p.0) place.0 in
-    not_before (place_of s.reader).1 (place_of s.reader).0 rest
-    (all_recorded known s.reader (place_of s.reader) (kept_of s.reader) rest (h.begun h.working).1 is)
-    moment (omega (arith, since, not_reached)))
+    after_from moment line.moment rest not_reached (subst (AreFrom line.moment) is place.3))
 
 -- ---- a whole turn
 

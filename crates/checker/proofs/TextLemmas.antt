@@ -26,6 +26,7 @@ use Rattle.checker.specs.declared.case.CaseFault.{CaseFault}
 use Rattle.checker.specs.declared.case.CaseFault.TheVariants as faults
 use Rattle.checker.specs.Cases.{judged, witness_behind}
 use Rattle.checker.specs.Verdicts.{verdict}
+use Rattle.trace_reader.specs.declared.stream.TraceReader.{TraceReader}
 use Rattle.checker.specs.Ahead.{TraceFails, IsUnread, source_ahead, trace_ahead}
 use Rattle.checker.specs.declared.ahead.Ahead.{Ahead}
 use Rattle.checker.specs.Streaming.{Tells}
@@ -98,7 +99,7 @@ whole_rows : (a : Option (List (List ℕ))) → option_map (trace_rows ends.Sour
 whole_rows None = refl
 whole_rows (Some raws) = refl
 
-pub fresh_trace : {A : Type 0} (known : A → Option (List ℕ)) (s : Ahead A) (a : Counted A) → source_ahead s ≡ a
+pub fresh_trace : {A : Type 0} (known : A → Option (List ℕ)) (s : Ahead (TraceReader A)) (a : Counted A) → source_ahead s ≡ a
     → IsUnread s → trace_ahead known s ≡ option_map trace_of (left_of known a)
 fresh_trace known s a is unread =
     ap (λ (end : TextEnd). option_map trace_in (option_map (trace_rows end) (rows_of (left_of known (source_ahead s))))) unread.whole

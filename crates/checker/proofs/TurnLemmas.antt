@@ -19,6 +19,7 @@ use Rattle.endpoint_state.specs.declared.fault.StepFault.TheVariants.{Broken, Ou
 use Rattle.spec_step.specs.Faults.{IfBroken}
 use Rattle.checker.specs.Seen.{move_of}
 use Rattle.checker.specs.Kept.{held_act, kept_progress}
+use Rattle.checker.specs.Sources.{LinesLeft}
 use Rattle.checker.specs.Ahead.{left_ahead, line_ahead, IsAhead, IsInStep, Passes, TraceFails}
 use Rattle.checker.specs.Streaming.{SoFar, CaseFails, IsDone, IsRefused}
 use Rattle.checker.specs.Turns.{AfterStep}
@@ -37,35 +38,36 @@ trace_first faults.OutOfMemory lines steps fails = tt
 
 -- ---- a turn that is done or refused
 
-pub turn_is : {A : Type 0} (known : A → Option (List ℕ)) (header : Header) (t : Option (Result (List Line) TextFault))
+pub turn_is : {S : Type 0} (ready : S → Type 0) (view : S → LinesLeft) (header : Header) (t : Option (Result (List Line) TextFault))
     (s : Option (Result (List Step) TextFault)) (offered : List Line) (earlier : List Step)
-    (a c d : Ahead A) (ahead next : Option (Result (List Step) TextFault)) (o n m : Order) (p q : Progress)
+    (a c d : Ahead S) (ahead next : Option (Result (List Step) TextFault)) (o n m : Order) (p q : Progress)
     (more : List Line) (step : Step) (r : Result (Result (Unit {0}) StepFault) CaseFault)
-    → SoFar header t (left_ahead known a) s ahead o p offered earlier → Yields ahead next (Some step)
-    → Passes (left_ahead known a) (left_ahead known c) more → n ≡ with_lines o more → IsAhead c → IfSome (line_ahead c) (λ line. step.moment < line.moment)
+    → SoFar header t (left_ahead view a) s ahead o p offered earlier → Yields ahead next (Some step)
+    → Passes (left_ahead view a) (left_ahead view c) more → n ≡ with_lines o more → IsAhead ready view c
+    → IfSome (line_ahead c) (λ line. step.moment < line.moment)
     → IfOk r (λ r. OnOk r (IsDone n m p q step × (d ≡ c)))
-    → IfOk r (λ r. IfErr r (λ fault. IfBroken fault (IsRefused n p step (left_ahead known c) (left_ahead known d))))
-    → IfOk r (AfterStep header t (left_ahead known d) s next m q offered earlier step)
-turn_is known header t s offered earlier a c d ahead next o n m p q more step (Ok (Ok u)) f took passed is h late done refused = (
+    → IfOk r (λ r. IfErr r (λ fault. IfBroken fault (IsRefused n p step (left_ahead view c) (left_ahead view d))))
+    → IfOk r (AfterStep header t (left_ahead view d) s next m q offered earlier step)
+turn_is ready view header t s offered earlier a c d ahead next o n m p q more step (Ok (Ok u)) f took passed is h late done refused = (
   more,
-  subst (λ (e : Ahead _). SoFar header t (left_ahead known e) s next m q (offered ++ more) (earlier ++ step ∷ [])) (sym done.1)
-      (turn_goes header t s (left_ahead known a)
-      (left_ahead known c) ahead next o n p offered more earlier step f passed is
-      (left_later known c step.moment h late) m q took done.0),
+  subst (λ (e : Ahead _). SoFar header t (left_ahead view e) s next m q (offered ++ more) (earlier ++ step ∷ [])) (sym done.1)
+      (turn_goes header t s (left_ahead view a)
+      (left_ahead view c) ahead next o n p offered more earlier step f passed is
+      (left_later ready view c step.moment h late) m q took done.0),
 )
-turn_is known header t s offered earlier a c d ahead next o n m p q more step (Ok (Err (Broken rule))) f took passed is h late done refused =
+turn_is ready view header t s offered earlier a c d ahead next o n m p q more step (Ok (Err (Broken rule))) f took passed is h late done refused =
     let through =
-    turn_passes header t s (left_ahead known a)
-    (left_ahead known c) ahead next o n p offered more earlier step f passed is
-    (left_later known c step.moment h late) (left_ahead known d) rule refused in (
+    turn_passes header t s (left_ahead view a)
+    (left_ahead view c) ahead next o n p offered more earlier step f passed is
+    (left_later ready view c step.moment h late) (left_ahead view d) rule refused in (
       through.0,
       through.1,
-      turn_refuses header t s (left_ahead known a)
-          (left_ahead known c) ahead next o n p offered more earlier step f passed is
-          (left_later known c step.moment h late) (left_ahead known d) rule refused,
+      turn_refuses header t s (left_ahead view a)
+          (left_ahead view c) ahead next o n p offered more earlier step f passed is
+          (left_later ready view c step.moment h late) (left_ahead view d) rule refused,
     )
-turn_is known header t s offered earlier a c d ahead next o n m p q more step (Ok (Err OutOfMemory)) f took passed is h late done refused = tt
-turn_is known header t s offered earlier a c d ahead next o n m p q more step (Err e) f took passed is h late done refused = tt
+turn_is ready view header t s offered earlier a c d ahead next o n m p q more step (Ok (Err OutOfMemory)) f took passed is h late done refused = tt
+turn_is ready view header t s offered earlier a c d ahead next o n m p q more step (Err e) f took passed is h late done refused = tt
 
 -- ---- what is kept where a step is done
 
@@ -77,7 +79,7 @@ step_kept o n mv (Some line) step is = subst (λ (q : Order). IsInStep q (Some l
     by_take None = step.1
     by_take (Some t) = All-filter (λ e. not (t.number == e.0)) (λ (e : ℕ × Line). e.1.moment ≤ line.moment) o.held step.1
 
-pub more_in_step : {A : Type 0} (c d : Ahead A) (n m : Order) (p q : Progress) (step : Step)
+pub more_in_step : {S : Type 0} (c d : Ahead S) (n m : Order) (p q : Progress) (step : Step)
     (r : Result (Result (Unit {0}) StepFault) CaseFault) → IsInStep n (line_ahead c)
     → IfOk r (λ r. OnOk r (IsDone n m p q step × (d ≡ c))) → IfOk r (λ r. OnOk r (IsInStep m (line_ahead d)))
 more_in_step c d n m p q step (Ok (Ok u)) before done =
@@ -86,7 +88,7 @@ more_in_step c d n m p q step (Ok (Ok u)) before done =
 more_in_step c d n m p q step (Ok (Err fault)) before done = tt
 more_in_step c d n m p q step (Err e) before done = tt
 
-pub more_steps : {A : Type 0} (c d : Ahead A) (n m : Order) (p q : Progress) (step : Step)
+pub more_steps : {S : Type 0} (c d : Ahead S) (n m : Order) (p q : Progress) (step : Step)
     (r : Result (Result (Unit {0}) StepFault) CaseFault)
     → IfOk r (λ r. OnOk r (IsDone n m p q step × (d ≡ c))) → IfOk r (λ r. OnOk r (q.steps ≤ p.steps + 1))
 more_steps c d n m p q step (Ok (Ok u)) done =

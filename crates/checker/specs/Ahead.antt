@@ -1,6 +1,6 @@
 -- A trace that is read one line ahead.
-use Rattle.std.specs.Prelude.{◌≡◌, ◌≤◌, ◌+◌, ◌-◌, ℕ, Bool, true, false, List, [], ◌++◌, Option, None, Some, IfSome}
-use Rattle.std.specs.Prelude.{Result, Ok, Err, All}
+use Rattle.std.specs.Prelude.{◌≡◌, ◌≤◌, ◌<◌, ◌+◌, ◌-◌, ◌^◌, ℕ, Bool, true, false, List, [], ◌++◌, Option}
+use Rattle.std.specs.Prelude.{None, Some, IfSome, Result, Ok, Err, All}
 use Rattle.std.specs.Option.{option_map}
 use Rattle.case_forms.specs.declared.trace.Line.{Line}
 use Rattle.case_forms.specs.declared.trace.Trace.{Trace}
@@ -8,21 +8,22 @@ use Rattle.counted.specs.declared.ends.Counted.{Counted}
 use Rattle.line_fields.specs.declared.fault.TextFault.{TextFault}
 use Rattle.line_fields.specs.Reading.{◌>>=◌}
 use Rattle.line_fields.specs.Left.{in_front, Yields}
-use Rattle.trace_reader.specs.TraceLeft.{source_of, place_of, fault_of, end_of_text, trace_left, lines_left}
-use Rattle.trace_reader.specs.TraceLeft.{IsFresh, IsBegun}
+use Rattle.trace_reader.specs.declared.stream.TraceReader.{TraceReader}
+use Rattle.trace_reader.specs.TraceLeft.{source_of, fault_of, end_of_text, trace_left, IsFresh}
 use Rattle.trace_text.specs.declared.text_lines.TextEnd.TheVariants as ends
 use Rattle.interval_order.specs.Orders.{Order}
 use Rattle.checker.specs.declared.case.CaseFault.{CaseFault}
 use Rattle.checker.specs.declared.case.CaseFault.TheVariants as faults
 use Rattle.checker.specs.declared.ahead.Ahead.{Ahead}
-
--- where it reads
-abbrev pub source_ahead : {A : Type 0} → Ahead A → Counted A
-source_ahead s = source_of s.reader
+use Rattle.checker.specs.Sources.{LinesLeft, AreFrom}
 
 -- the line that was read ahead
-abbrev pub line_ahead : {A : Type 0} → Ahead A → Option Line
+abbrev pub line_ahead : {S : Type 0} → Ahead S → Option Line
 line_ahead s = s.line
+
+-- how many reads failed
+abbrev pub failures_ahead : {S : Type 0} → (S → LinesLeft) → Ahead S → ℕ
+failures_ahead view s = (view s.source).failures
 
 -- what is left, with the item that was read ahead if there is one
 abbrev pub left_with : {A : Type 0} → Option A → Option (Result (List A) TextFault) → Option (Result (List A) TextFault)
@@ -30,24 +31,29 @@ left_with None left = Some (Ok [])
 left_with (Some item) left = option_map (in_front item) left
 
 -- the event lines that are left, including the one that was read ahead
-abbrev pub left_ahead : {A : Type 0} → (A → Option (List ℕ)) → Ahead A → Option (Result (List Line) TextFault)
-left_ahead known s = left_with s.line (lines_left known s.reader)
+abbrev pub left_ahead : {S : Type 0} → (S → LinesLeft) → Ahead S → Option (Result (List Line) TextFault)
+left_ahead view s = left_with s.line (view s.source).lines
+
+-- where a text is read
+abbrev pub source_ahead : {A : Type 0} → Ahead (TraceReader A) → Counted A
+source_ahead s = source_of s.source
 
 -- what the whole text gives before any of it is read
-abbrev pub trace_ahead : {A : Type 0} → (A → Option (List ℕ)) → Ahead A → Option (Result Trace TextFault)
-trace_ahead known s = trace_left known s.reader
+abbrev pub trace_ahead : {A : Type 0} → (A → Option (List ℕ)) → Ahead (TraceReader A) → Option (Result Trace TextFault)
+trace_ahead known s = trace_left known s.source
 
 -- nothing was read of a text, which ends with its source
-pub record IsUnread {A : Type 0} (s : Ahead A) : Type 0 where
-  pub whole : end_of_text s.reader ≡ ends.Source
-  pub working : fault_of s.reader ≡ None
-  pub fresh : IsFresh s.reader
+pub record IsUnread {A : Type 0} (s : Ahead (TraceReader A)) : Type 0 where
+  pub whole : end_of_text s.source ≡ ends.Source
+  pub working : fault_of s.source ≡ None
+  pub fresh : IsFresh s.source
 
--- the reader has met no fault, and is just after the line that was read ahead
-pub record IsAhead {A : Type 0} (s : Ahead A) : Type 0 where
-  pub working : fault_of s.reader ≡ None
-  pub begun : IsBegun s.reader
-  pub place : IfSome s.line (λ line. (place_of s.reader ≡ (line.moment, line.number + 1)) × (line.number ≤ 10000000))
+-- no fault was met, and the source is just after the line that was read ahead
+pub record IsAhead {S : Type 0} (ready : S → Type 0) (view : S → LinesLeft) (s : Ahead S) : Type 0 where
+  pub working : ready s.source
+  pub place : IfSome s.line (λ line. ((view s.source).before ≡ line.moment)
+      × ((view s.source).number ≡ line.number + 1) × (line.number + 1 < 2 ^ 64)
+      × AreFrom line.moment (view s.source).lines)
 
 -- the items of what was left, and what is left now
 abbrev pub Passes : {A : Type 0} → Option (Result (List A) TextFault) → Option (Result (List A) TextFault) → List A
@@ -91,4 +97,4 @@ IsInStep o ahead = IfSome ahead (λ line. (line.number ≡ o.next) × All (λ e.
 -- how many lines may be left
 abbrev pub lines_after : Option Line → ℕ
 lines_after None = 0
-lines_after (Some line) = 10000001 - line.number
+lines_after (Some line) = 2 ^ 64 - line.number

@@ -7,6 +7,7 @@ pub mod Cases
 pub mod Consequences
 pub mod Peers
 pub mod Again
+pub mod Sources
 pub mod Ahead
 pub mod Streaming
 pub mod Turns

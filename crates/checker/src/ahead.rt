@@ -1,23 +1,22 @@
-//! A trace that is read one line ahead, so that the checker knows when the next line is reached.
+//! The lines of a trace, one line ahead, so that the checker knows when the next line is reached.
 
-ghost use Rattle.std.specs.Prelude.{◌≡◌, ◌≢◌, ◌≤◌, ◌+◌, ℕ, List, Err, Ok, Some, IfOk, IfErr, IfSome, IsSome, OnOk};
-ghost use Rattle.std.specs.Prelude.{None, nat_le, true};
-ghost use Rattle.std.specs.Prelude.{false};
+ghost use Rattle.std.specs.Prelude.{◌≡◌, ◌≢◌, ℕ, List, Err, Ok, Some, IfOk, IfErr, IfSome, IsSome, OnOk, nat_le, false};
+ghost use Rattle.std.specs.Prelude.{None};
 ghost use Rattle.std.specs.Option.{option_map, option_map_or};
 ghost use Rattle.case_forms.specs.declared.trace.Line.{Line};
 ghost use Rattle.case_forms.specs.Traces.{first_event_line};
 ghost use Rattle.counted.specs.Counting.{failures_of, one_more};
-ghost use Rattle.line_fields.specs.Left.{Yields};
-ghost use Rattle.trace_reader.specs.EventLines.{behind};
-ghost use Rattle.trace_reader.specs.TraceLeft.{place_of, fault_of, reader_failures, IsBegun, lines_left};
-ghost use Rattle.trace_reader.specs.TraceLeft.{AreAt, Begins, StandsAt};
+ghost use Rattle.line_fields.specs.Left.{Remains, Yields};
+ghost use Rattle.trace_reader.specs.TraceLeft.{AreAt, Begins};
 ghost use Rattle.trace_reader.specs.TraceText.{first_place};
-ghost use Rattle.std.specs.Borrow.{Bor};
-ghost use Rattle.checker.specs.Ahead.{source_ahead, line_ahead, left_ahead, trace_ahead, IsUnread, IsAhead, Skips};
 ghost use Rattle.interval_order.specs.Orders.{with_line};
-ghost use Rattle.checker.specs.Ahead.{IsAll, IsInStep, TraceFails, Follows};
+ghost use Rattle.std.specs.Borrow.{Bor};
+ghost use Rattle.checker.specs.Sources.{IsInLines, text_lines};
+ghost use Rattle.checker.specs.Ahead.{source_ahead, line_ahead, left_ahead, failures_ahead, trace_ahead, IsUnread};
+ghost use Rattle.checker.specs.Ahead.{IsAhead, IsAll, IsInStep, TraceFails, Follows};
 
 use crate::case::{CaseFault, trace_fault};
+use crate::sources::LineSource;
 use case_forms::{Header, Line};
 use counted::Counted;
 use interval_order::{Window, is_reached};
@@ -29,20 +28,20 @@ use trace_reader::TraceReader;
 
 /// A trace, and its next line.
 #[derive(Drop)]
-pub(crate) struct Ahead<A> {
-    reader: TraceReader<A>,
+pub(crate) struct Ahead<S> {
+    source: S,
     // None before the header is read, and at the end.
     line: Option<Line>,
 }
 
-impl<A> Ahead<A> {
-    /// A trace, before anything is read.
-    pub(crate) fn new(alloc: Global, source: Counted<A>) -> Ahead<A>
+impl<A> Ahead<TraceReader<A>> {
+    /// A trace in a text, before anything is read.
+    pub(crate) fn new(alloc: Global, source: Counted<A>) -> Ahead<TraceReader<A>>
         ensures source { source_ahead result ≡ source }
         ensures unread { IsUnread result }
     {
         Ahead {
-            reader: TraceReader::new(alloc, source),
+            source: TraceReader::new(alloc, source),
             line: None,
         }
     }
@@ -51,9 +50,72 @@ impl<A> Ahead<A> {
     pub(crate) fn into_source(self) -> Counted<A>
         ensures { result ≡ source_ahead self }
     {
-        self.reader.into_source()
+        self.source.into_source()
     }
+}
 
+impl<A: BufRead> Ahead<TraceReader<A>> {
+    /// The header, which is read before any line, and the first line after it.
+    pub(crate) fn begin(&mut self) -> Result<Header, CaseFault>
+        requires { IsUnread self.old }
+        ensures ahead { IfOk result (λ header. IsAhead IsInLines (text_lines A.remaining) self.new) }
+        ensures begins { IfOk result
+            (Begins (trace_ahead A.remaining self.old) (left_ahead (text_lines A.remaining) self.new)) }
+        ensures first { IfOk result (λ header. IfSome (line_ahead self.new) (λ line. line.number
+            ≡ first_event_line header)) }
+        ensures fault { IfErr result (λ e. TraceFails e (trace_ahead A.remaining self.old)) }
+        ensures read { result ≡ Err CaseFault.Read
+            → failures_of (source_ahead self.new) ≡ one_more (failures_of (source_ahead self.old)) }
+        ensures same { result ≢ Err CaseFault.Read
+            → failures_of (source_ahead self.new) ≡ failures_of (source_ahead self.old) }
+    {
+        match self.source.header() {
+            Ok(header) => {
+                self.source.next_line(&mut self.line)?;
+                Ok(header)
+            }
+            Err(SourceFault::Text(fault)) => Err(trace_fault(fault)),
+            Err(SourceFault::Read) => Err(CaseFault::Read),
+        }
+    }
+}
+
+impl Ahead<TraceReader<&'static [u8]>> {
+    /// A trace whose lines were read before, after this header.
+    pub(crate) fn of_lines(
+        alloc: Global,
+        header: &Header,
+        lines: KeptLines,
+    ) -> Result<Ahead<TraceReader<&'static [u8]>>, CaseFault>
+        requires { AreAt (first_place header.now) lines }
+        ensures ahead { IfOk result
+            (IsAhead IsInLines (text_lines (λ (text : Bor (List ℕ)). Some text.now))) }
+        ensures left { IfOk result (λ ahead. left_ahead (text_lines (λ (text : Bor (List ℕ)). Some text.now)) ahead
+            ≡ Some (Ok lines)) }
+        ensures first { IfOk result (λ ahead. IfSome (line_ahead ahead) (λ line. line.number
+            ≡ first_event_line header.now)) }
+    {
+        Ahead::begun(TraceReader::of_lines(alloc, header, lines))
+    }
+}
+
+impl<S: LineSource + Drop> Ahead<S> {
+    /// The lines of this source, of which the next one is read.
+    pub(crate) fn begun(source: S) -> Result<Ahead<S>, CaseFault>
+        requires { S.ready source }
+        ensures ahead { IfOk result (IsAhead S.ready S.view) }
+        ensures left { IfOk result (λ ahead. Remains (S.view source).lines (left_ahead S.view ahead)) }
+        ensures first { IfOk result (λ ahead. IfSome (line_ahead ahead) (λ line. line.number
+            ≡ (S.view source).number)) }
+    {
+        let mut source = source;
+        let mut line = None;
+        source.next_line(&mut line)?;
+        Ok(Ahead { source, line })
+    }
+}
+
+impl<S: LineSource> Ahead<S> {
     /// Whether the next line's moment is reached.
     pub(crate) fn is_reached(&self, moment: u64) -> bool
         ensures { result ≡ option_map_or (λ line. nat_le line.moment moment) (line_ahead self.now) false }
@@ -70,170 +132,65 @@ impl<A> Ahead<A> {
     {
         self.line.as_ref().map(|line| line.number)
     }
-}
-
-impl Ahead<&'static [u8]> {
-    /// A trace whose lines were read before, after this header.
-    pub(crate) fn of_lines(
-        alloc: Global,
-        header: &Header,
-        lines: KeptLines,
-    ) -> Result<Ahead<&'static [u8]>, CaseFault>
-        requires { AreAt (first_place header.now) lines }
-        ensures ahead { IfOk result IsAhead }
-        ensures left { IfOk result (λ ahead. left_ahead (λ (text : Bor (List ℕ)). Some text.now) ahead
-            ≡ Some (Ok lines)) }
-        ensures first { IfOk result (λ ahead. IfSome (line_ahead ahead) (λ line. line.number
-            ≡ first_event_line header.now)) }
-    {
-        let mut reader = TraceReader::of_lines(alloc, header, lines);
-        let mut line = None;
-        read_next(&mut reader, &mut line)?;
-        Ok(Ahead { reader, line })
-    }
-}
-
-impl<A: BufRead> Ahead<A> {
-    /// The header, which is read before any line, and the first line after it.
-    pub(crate) fn begin(&mut self) -> Result<Header, CaseFault>
-        requires { IsUnread self.old }
-        ensures ahead { IfOk result (λ header. IsAhead self.new) }
-        ensures begins { IfOk result (Begins (trace_ahead A.remaining self.old) (left_ahead A.remaining self.new)) }
-        ensures first { IfOk result (λ header. IfSome (line_ahead self.new) (λ line. line.number
-            ≡ first_event_line header)) }
-        ensures fault { IfErr result (λ e. TraceFails e (trace_ahead A.remaining self.old)) }
-        ensures read { result ≡ Err CaseFault.Read
-            → failures_of (source_ahead self.new) ≡ one_more (failures_of (source_ahead self.old)) }
-        ensures same { result ≢ Err CaseFault.Read
-            → failures_of (source_ahead self.new) ≡ failures_of (source_ahead self.old) }
-    {
-        match self.reader.header() {
-            Ok(header) => {
-                read_next(&mut self.reader, &mut self.line)?;
-                Ok(header)
-            }
-            Err(SourceFault::Text(fault)) => Err(trace_fault(fault)),
-            Err(SourceFault::Read) => Err(CaseFault::Read),
-        }
-    }
 
     /// Takes the line that was read ahead, and reads the next one.
     #[inline(always)]
     pub(crate) fn next(&mut self) -> Result<Option<Line>, CaseFault>
-        requires { IsAhead self.old }
-        ensures ahead { IfOk result (λ item. IsAhead self.new) }
+        requires { IsAhead S.ready S.view self.old }
+        ensures ahead { IfOk result (λ item. IsAhead S.ready S.view self.new) }
         ensures item { IfOk result (λ item. item ≡ line_ahead self.old) }
-        ensures next { IfOk result (Yields (left_ahead A.remaining self.old) (left_ahead A.remaining self.new)) }
+        ensures next { IfOk result (Yields (left_ahead S.view self.old) (left_ahead S.view self.new)) }
         ensures follows { IfOk result (λ item. IfSome item (λ line. IfSome (line_ahead self.new) (Follows line))) }
-        ensures fault { IfErr result (λ e. TraceFails e (left_ahead A.remaining self.old)) }
+        ensures fault { IfErr result (λ e. TraceFails e (left_ahead S.view self.old)) }
         ensures read { result ≡ Err CaseFault.Read
-            → failures_of (source_ahead self.new) ≡ one_more (failures_of (source_ahead self.old)) }
+            → failures_ahead S.view self.new ≡ one_more (failures_ahead S.view self.old) }
         ensures same { result ≢ Err CaseFault.Read
-            → failures_of (source_ahead self.new) ≡ failures_of (source_ahead self.old) }
+            → failures_ahead S.view self.new ≡ failures_ahead S.view self.old }
     {
         if self.line.is_none() {
             return Ok(None);
         }
         let item = self.line.take();
-        read_next(&mut self.reader, &mut self.line)?;
+        self.source.next_line(&mut self.line)?;
         Ok(item)
     }
 
     /// Offers the line that was read ahead, and reads the next one.
     #[inline(always)]
     pub(crate) fn offer_to(&mut self, window: &mut Window) -> Result<(), CaseFault>
-        requires ahead { IsAhead self.old }
+        requires ahead { IsAhead S.ready S.view self.old }
         requires step { IsInStep window.old (line_ahead self.old) }
         requires some { IsSome (line_ahead self.old) }
-        ensures ahead { OnOk result (IsAhead self.new) }
+        ensures ahead { OnOk result (IsAhead S.ready S.view self.new) }
         ensures offered { OnOk result (IfSome (line_ahead self.old) (λ line. window.new
             ≡ with_line window.old line)) }
-        ensures next { OnOk result (Yields (left_ahead A.remaining self.old) (left_ahead A.remaining self.new)
+        ensures next { OnOk result (Yields (left_ahead S.view self.old) (left_ahead S.view self.new)
             (line_ahead self.old)) }
         ensures follows { OnOk result (IfSome (line_ahead self.old) (λ line. IfSome (line_ahead self.new)
             (Follows line))) }
-        ensures fault { IfErr result (λ e. TraceFails e (left_ahead A.remaining self.old)) }
+        ensures fault { IfErr result (λ e. TraceFails e (left_ahead S.view self.old)) }
         ensures read { result ≡ Err CaseFault.Read
-            → failures_of (source_ahead self.new) ≡ one_more (failures_of (source_ahead self.old)) }
+            → failures_ahead S.view self.new ≡ one_more (failures_ahead S.view self.old) }
         ensures same { result ≢ Err CaseFault.Read
-            → failures_of (source_ahead self.new) ≡ failures_of (source_ahead self.old) }
+            → failures_ahead S.view self.new ≡ failures_ahead S.view self.old }
     {
         window.offer_from(&mut self.line)?;
-        read_next(&mut self.reader, &mut self.line)
+        self.source.next_line(&mut self.line)
     }
 
     /// Reads on to the end of the trace.
     pub(crate) fn drain(&mut self) -> Result<(), CaseFault>
-        requires { IsAhead self.old }
-        ensures all { IfOk result (λ u. (items : List Line) × IsAll (left_ahead A.remaining self.old) items) }
-        ensures fault { IfErr result (λ e. TraceFails e (left_ahead A.remaining self.old)) }
+        requires { IsAhead S.ready S.view self.old }
+        ensures all { IfOk result (λ u. (items : List Line) × IsAll (left_ahead S.view self.old) items) }
+        ensures fault { IfErr result (λ e. TraceFails e (left_ahead S.view self.old)) }
         ensures read { result ≡ Err CaseFault.Read
-            → failures_of (source_ahead self.new) ≡ one_more (failures_of (source_ahead self.old)) }
+            → failures_ahead S.view self.new ≡ one_more (failures_ahead S.view self.old) }
         ensures same { result ≢ Err CaseFault.Read
-            → failures_of (source_ahead self.new) ≡ failures_of (source_ahead self.old) }
+            → failures_ahead S.view self.new ≡ failures_ahead S.view self.old }
     {
         match &self.line {
-            Some(_) => drain_lines(&mut self.reader),
+            Some(_) => self.source.drain(),
             None => Ok(()),
         }
-    }
-}
-
-// Makes the next event line of a trace whose header was read the item.
-#[inline(always)]
-fn read_next<A: BufRead>(
-    reader: &mut TraceReader<A>,
-    item: &mut Option<Line>,
-) -> Result<(), CaseFault>
-    requires working { fault_of reader.old ≡ None }
-    requires begun { IsBegun reader.old }
-    ensures next { OnOk result
-        (Yields (lines_left A.remaining reader.old) (lines_left A.remaining reader.new) item.new) }
-    ensures place { OnOk result (IfSome item.new (λ line. StandsAt (place_of reader.old) line ×
-        (place_of reader.new ≡ behind (place_of reader.old) line))) }
-    ensures working { OnOk result (fault_of reader.new ≡ None) }
-    ensures begun { IsBegun reader.new }
-    ensures fault { IfErr result (λ e. TraceFails e (lines_left A.remaining reader.old)) }
-    ensures read { result ≡ Err CaseFault.Read → reader_failures reader.new ≡ one_more (reader_failures reader.old) }
-    ensures same { result ≢ Err CaseFault.Read → reader_failures reader.new ≡ reader_failures reader.old }
-{
-    match reader.next_into(item) {
-        Ok(()) => Ok(()),
-        Err(SourceFault::Text(fault)) => Err(trace_fault(fault)),
-        Err(SourceFault::Read) => Err(CaseFault::Read),
-    }
-}
-
-// Reads on to the end of a trace whose header was read.
-fn drain_lines<A: BufRead>(reader: &mut TraceReader<A>) -> Result<(), CaseFault>
-    requires working { fault_of reader.old ≡ None }
-    requires begun { IsBegun reader.old }
-    ensures all { IfOk result (λ u. (items : List Line) × IsAll (lines_left A.remaining reader.old) items) }
-    ensures fault { IfErr result (λ e. TraceFails e (lines_left A.remaining reader.old)) }
-    ensures read { result ≡ Err CaseFault.Read → reader_failures reader.new ≡ one_more (reader_failures reader.old) }
-    ensures same { result ≢ Err CaseFault.Read → reader_failures reader.new ≡ reader_failures reader.old }
-{
-    while skip_line(reader)? {}
-    Ok(())
-}
-
-// Skips an event line. False if there is none.
-fn skip_line<A: BufRead>(reader: &mut TraceReader<A>) -> Result<bool, CaseFault>
-    requires working { fault_of reader.old ≡ None }
-    requires begun { IsBegun reader.old }
-    ensures next { IfOk result (λ more. Skips more (lines_left A.remaining reader.old)
-        (lines_left A.remaining reader.new)) }
-    ensures place { result ≡ Ok true → ((place_of reader.new).1 ≡ (place_of reader.old).1 + 1)
-        × ((place_of reader.old).1 ≤ 10000000) }
-    ensures working { IfOk result (λ more. fault_of reader.new ≡ None) }
-    ensures begun { IsBegun reader.new }
-    ensures fault { IfErr result (λ e. TraceFails e (lines_left A.remaining reader.old)) }
-    ensures read { result ≡ Err CaseFault.Read → reader_failures reader.new ≡ one_more (reader_failures reader.old) }
-    ensures same { result ≢ Err CaseFault.Read → reader_failures reader.new ≡ reader_failures reader.old }
-{
-    match reader.skip() {
-        Ok(more) => Ok(more),
-        Err(SourceFault::Text(fault)) => Err(trace_fault(fault)),
-        Err(SourceFault::Read) => Err(CaseFault::Read),
     }
 }

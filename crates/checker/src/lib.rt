@@ -25,12 +25,12 @@
 //! - `case`: a case in one text, which is split and then judged as in `two_texts`
 //! - `one_text`: a case in one text, judged while it is read
 //! - `two_texts`: a case in two texts, judged while they are read
-//! - `ahead`: a trace that is read one line ahead
+//! - `ahead`: the lines of a trace, one line ahead
 //! - `offering`: the lines that a step's moment reaches, and a line that a step names before it is reached
 //! - `turns`: what a turn does: it reads a step, does it, and says no if it is refused
 //! - `verdicts`: the loop with a turn for each step, and the verdict at the end of the witness
-//! - `steps`: the rest of a witness, which is read only for its faults
-//! - `replay`: the replay of a witness that is all in memory; what one step does
+//! - `replay`: what one step does
+//! - `sources`: where lines and steps come from: `lines` and `steps` of a text, `lists` in memory
 //! - `printed`: a trace and its witness as one text
 //! - `laws`: when the verdict is yes and what it counts; that a yes stays one if less is judged; which line is taken
 //!   first; that receives return a prefix of what the peer's sends accepted; what else follows for streams, windows and
@@ -41,10 +41,13 @@
 mod ahead;
 mod case;
 mod laws;
+mod lines;
+mod lists;
 mod offering;
 mod one_text;
 mod printed;
 mod replay;
+mod sources;
 mod steps;
 mod turns;
 mod two_texts;
@@ -57,7 +60,7 @@ pub use laws::{
     streams_at_each_moment, two_witnesses_of_one_trace, verdict_when_read_again,
     yes_counts_all_lines,
 };
+pub use lists::check;
 pub use one_text::check_reader;
 pub use printed::print_case;
-pub use replay::check;
 pub use two_texts::check_streams;

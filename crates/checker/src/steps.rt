@@ -1,18 +1,40 @@
-//! The rest of a witness, which is read only for its faults.
+//! The steps of a witness in a text.
 
 ghost use Rattle.std.specs.Prelude.{◌≡◌, ◌≢◌, ◌≤◌, ◌+◌, List, Err, IfOk, IfErr, None, true};
 ghost use Rattle.case_forms.specs.declared.steps.Step.{Step};
 ghost use Rattle.counted.specs.Counting.{one_more};
 ghost use Rattle.witness.specs.StepsLeft.{steps_left, fault_of, number_of, reader_failures};
 ghost use Rattle.checker.specs.Ahead.{Skips, IsAll, WitnessFails};
+ghost use Rattle.checker.specs.Sources.{IsInSteps, text_steps};
 
 use crate::case::{CaseFault, witness_fault};
+use crate::sources::StepSource;
+use case_forms::Step;
 use line_fields::SourceFault;
 use std::io::BufRead;
 use witness::StepReader;
 
-/// Reads on to the end of the witness.
-pub(crate) fn drain_steps<B: BufRead>(steps: &mut StepReader<B>) -> Result<(), CaseFault>
+impl<B: BufRead> StepSource for StepReader<B> {
+    ghost view = { λ r. text_steps B.remaining r };
+
+    ghost ready = { λ r. IsInSteps r };
+
+    #[inline(always)]
+    fn next_step(&mut self, item: &mut Option<Step>) -> Result<(), CaseFault> {
+        match self.next_into(item) {
+            Ok(()) => Ok(()),
+            Err(SourceFault::Text(fault)) => Err(witness_fault(fault)),
+            Err(SourceFault::Read) => Err(CaseFault::Read),
+        }
+    }
+
+    fn drain(&mut self) -> Result<(), CaseFault> {
+        drain_steps(self)
+    }
+}
+
+// Reads on to the end of the witness.
+fn drain_steps<B: BufRead>(steps: &mut StepReader<B>) -> Result<(), CaseFault>
     requires { fault_of steps.old ≡ None }
     ensures all { IfOk result (λ u. (items : List Step) × IsAll (steps_left B.remaining steps.old) items) }
     ensures fault { IfErr result (λ e. WitnessFails e (steps_left B.remaining steps.old)) }

@@ -8,48 +8,46 @@ ghost use Rattle.case_forms.specs.declared.trace.Header.{Header};
 ghost use Rattle.case_forms.specs.declared.trace.Line.{Line};
 ghost use Rattle.case_forms.specs.declared.steps.Step.{Step};
 ghost use Rattle.case_forms.specs.Traces.{first_event_line};
-ghost use Rattle.counted.specs.Counting.{failures_of, one_more};
+ghost use Rattle.counted.specs.Counting.{one_more};
 ghost use Rattle.line_fields.specs.declared.fault.TextFault.{TextFault};
 ghost use Rattle.line_fields.specs.Left.{Yields};
-ghost use Rattle.witness.specs.StepsLeft.{steps_left, fault_of, number_of, reader_failures};
 ghost use Rattle.spec_duties.specs.Cases.{late_at_end};
 ghost use Rattle.spec_tcp.specs.Bounds.{most_steps};
 ghost use Rattle.checker.specs.Verdicts.{verdict_left};
-ghost use Rattle.checker.specs.Ahead.{source_ahead, line_ahead, left_ahead, IsAhead, IsInStep};
+ghost use Rattle.checker.specs.Ahead.{failures_ahead, line_ahead, left_ahead, IsAhead, IsInStep};
 ghost use Rattle.checker.specs.Streaming.{OneFailed, SoFar, Tallied, Tells, first_of_both};
 
 use crate::ahead::Ahead;
 use crate::case::CaseFault;
 use crate::replay::takes_line;
+use crate::sources::{LineSource, StepSource};
 use crate::turns::{StepCounts, read_step, refuse, replay_next};
 use case_forms::Header;
 use endpoint_state::StepFault;
 use interval_order::{Window, left_over};
 use std::alloc::Global;
-use std::io::BufRead;
 use verdict::Verdict;
 use watched::Case;
-use witness::StepReader;
 
 /// The verdict on a trace whose header was read and on its witness, before any of its steps was read; or the first
 /// fault of both.
-pub(crate) fn judge<A: BufRead, B: BufRead>(
+pub(crate) fn judge<L: LineSource, S: StepSource>(
     alloc: Global,
     header: &Header,
-    lines: &mut Ahead<A>,
-    steps: &mut StepReader<B>,
+    lines: &mut Ahead<L>,
+    steps: &mut S,
 ) -> Result<Verdict, CaseFault>
-    requires ahead { IsAhead lines.old }
+    requires ahead { IsAhead L.ready L.view lines.old }
     requires first_line { IfSome (line_ahead lines.old) (λ line. line.number ≡ first_event_line header.now) }
-    requires working { fault_of steps.old ≡ None }
-    requires first_step { number_of steps.old ≡ 2 }
-    ensures tells { Tells header.now (left_ahead A.remaining lines.old) (steps_left B.remaining steps.old) result }
+    requires working { S.ready steps.old }
+    requires first_step { (S.view steps.old).number ≡ 2 }
+    ensures tells { Tells header.now (left_ahead L.view lines.old) (S.view steps.old).steps result }
     ensures read { result ≡ Err CaseFault.Read →
-        OneFailed (failures_of (source_ahead lines.old)) (reader_failures steps.old)
-        (failures_of (source_ahead lines.new)) (reader_failures steps.new) }
+        OneFailed (failures_ahead L.view lines.old) ((S.view steps.old).failures)
+        (failures_ahead L.view lines.new) ((S.view steps.new).failures) }
     ensures same_lines { result ≢ Err CaseFault.Read
-        → failures_of (source_ahead lines.new) ≡ failures_of (source_ahead lines.old) }
-    ensures same_steps { result ≢ Err CaseFault.Read → reader_failures steps.new ≡ reader_failures steps.old }
+        → failures_ahead L.view lines.new ≡ failures_ahead L.view lines.old }
+    ensures same_steps { result ≢ Err CaseFault.Read → (S.view steps.new).failures ≡ (S.view steps.old).failures }
 {
     let mut window = Window::new(alloc, header);
     let mut world = Case::start(alloc, header);
@@ -61,29 +59,29 @@ pub(crate) fn judge<A: BufRead, B: BufRead>(
 
 // The same, if no line was offered to the window and the world is that before the first step. Each step has one turn,
 // up to the first that is refused.
-fn judge_in<A: BufRead, B: BufRead>(
+fn judge_in<L: LineSource, S: StepSource>(
     alloc: Global,
     window: &mut Window,
     world: &mut Case,
-    lines: &mut Ahead<A>,
-    steps: &mut StepReader<B>,
+    lines: &mut Ahead<L>,
+    steps: &mut S,
 ) -> Result<Verdict, CaseFault>
-    requires ahead { IsAhead lines.old }
+    requires ahead { IsAhead L.ready L.view lines.old }
     requires in_step { IsInStep window.old (line_ahead lines.old) }
-    requires working { fault_of steps.old ≡ None }
+    requires working { S.ready steps.old }
     requires begun { world.old.steps ≡ 0 }
-    requires first { number_of steps.old ≡ 2 }
+    requires first { (S.view steps.old).number ≡ 2 }
     ensures tells { (header : Header) (t : Option (Result (List Line) TextFault))
         (s : Option (Result (List Step) TextFault))
-        → SoFar header t (left_ahead A.remaining lines.old) s
-        (steps_left B.remaining steps.old) window.old world.old [] []
+        → SoFar header t (left_ahead L.view lines.old) s
+        (S.view steps.old).steps window.old world.old [] []
         → Tells header t s result }
     ensures read { result ≡ Err CaseFault.Read →
-        OneFailed (failures_of (source_ahead lines.old)) (reader_failures steps.old)
-        (failures_of (source_ahead lines.new)) (reader_failures steps.new) }
+        OneFailed (failures_ahead L.view lines.old) ((S.view steps.old).failures)
+        (failures_ahead L.view lines.new) ((S.view steps.new).failures) }
     ensures same_lines { result ≢ Err CaseFault.Read
-        → failures_of (source_ahead lines.new) ≡ failures_of (source_ahead lines.old) }
-    ensures same_steps { result ≢ Err CaseFault.Read → reader_failures steps.new ≡ reader_failures steps.old }
+        → failures_ahead L.view lines.new ≡ failures_ahead L.view lines.old }
+    ensures same_steps { result ≢ Err CaseFault.Read → (S.view steps.new).failures ≡ (S.view steps.old).failures }
 {
     let mut tally = StepCounts {
         lines: 0,
@@ -106,26 +104,26 @@ fn judge_in<A: BufRead, B: BufRead>(
 }
 
 // The verdict if each step is done; a fault of a remaining line comes before it.
-fn end_of_witness<A: BufRead>(
+fn end_of_witness<L: LineSource>(
     window: &Window,
     world: &Case,
-    lines: &mut Ahead<A>,
+    lines: &mut Ahead<L>,
     tally: StepCounts,
 ) -> Result<Verdict, CaseFault>
     requires few { world.now.steps ≤ most_steps }
-    requires ahead { IsAhead lines.old }
+    requires ahead { IsAhead L.ready L.view lines.old }
     requires in_step { IsInStep window.now (line_ahead lines.old) }
     ensures tells { (header : Header) (t : Option (Result (List Line) TextFault))
         (s : Option (Result (List Step) TextFault))
         (offered : List Line) (earlier : List Step) (ahead next : Option (Result (List Step) TextFault))
-        → SoFar header t (left_ahead A.remaining lines.old) s ahead window.now world.now offered earlier
+        → SoFar header t (left_ahead L.view lines.old) s ahead window.now world.now offered earlier
         → Yields ahead next None
         → Tallied earlier tally.lines tally.hidden
         → Tells header t s result }
     ensures read { result ≡ Err CaseFault.Read
-        → failures_of (source_ahead lines.new) ≡ one_more (failures_of (source_ahead lines.old)) }
+        → failures_ahead L.view lines.new ≡ one_more (failures_ahead L.view lines.old) }
     ensures same { result ≢ Err CaseFault.Read
-        → failures_of (source_ahead lines.new) ≡ failures_of (source_ahead lines.old) }
+        → failures_ahead L.view lines.new ≡ failures_ahead L.view lines.old }
 {
     let left = first_left(window, lines);
     lines.drain()?;
@@ -155,7 +153,7 @@ fn at_end(world: &Case, last: u64, tally: StepCounts) -> Verdict
 }
 
 // The number of the first line that is not placed, offered or not.
-fn first_left<A>(window: &Window, lines: &Ahead<A>) -> Option<u64>
+fn first_left<L: LineSource>(window: &Window, lines: &Ahead<L>) -> Option<u64>
     ensures { result ≡ first_of_both window.now.held (line_ahead lines.now) }
 {
     match window.first_left() {

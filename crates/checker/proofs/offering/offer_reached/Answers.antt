@@ -15,8 +15,8 @@ loop-lines-preserved g c =
     c.in_ok-offer_to.ensures.offered in
     let next =
     subst (λ (ahead : Option Line).
-    Yields (left_ahead g.A.Read.remaining c.loop-lines.lines)
-    (left_ahead g.A.Read.remaining c.offer_to.new.self) ahead)
+    Yields (left_ahead g.L.LineSource.view c.loop-lines.lines)
+    (left_ahead g.L.LineSource.view c.offer_to.new.self) ahead)
     reached.1 c.in_ok-offer_to.ensures.next in
     let follows = subst (λ (ahead : Option Line). IfSome ahead (λ line. IfSome (line_ahead c.offer_to.new.self) (Follows line))) reached.1
     c.in_ok-offer_to.ensures.follows in

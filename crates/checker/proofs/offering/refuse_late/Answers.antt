@@ -25,13 +25,13 @@ returns-then-line-number-clause-rule g c =
     let so_far = c.loop-threads.invariant.so_far in
     let here : line_ahead c.loop-threads.lines ≡ Some c.in-Some.line = sym c.in_ok-line.ensures.item ∙ c.in-Some.is in
     let so_far_here =
-    subst (λ (l : Option Line). Between c.args.window.now (left_ahead g.A.Read.remaining c.args.lines.now)
-    (left_ahead g.A.Read.remaining c.loop-threads.lines) l
+    subst (λ (l : Option Line). Between c.args.window.now (left_ahead g.L.LineSource.view c.args.lines.now)
+    (left_ahead g.L.LineSource.view c.loop-threads.lines) l
     (λ t. contains nat_cmp c.loop-threads.threads t) c.args.number c.args.moment so_far.0) here so_far.1 in
     let next =
     subst (λ (item : Option Line).
-    Yields (left_ahead g.A.Read.remaining c.loop-threads.lines)
-    (left_ahead g.A.Read.remaining c.next.new.self) item) c.in-Some.is c.in_ok-line.ensures.next in
+    Yields (left_ahead g.L.LineSource.view c.loop-threads.lines)
+    (left_ahead g.L.LineSource.view c.next.new.self) item) c.in-Some.is c.in_ok-line.ensures.next in
     late_found c.args.window.now _ _ _ c.in-Some.line
     (λ t. contains nat_cmp c.loop-threads.threads t) c.args.number c.args.extras c.args.moment so_far.0
     c.late_rule.result so_far_here next c.if-line-number.true
@@ -42,13 +42,13 @@ loop-threads-preserved g c =
     let so_far = c.loop-threads.invariant.so_far in
     let here : line_ahead c.loop-threads.lines ≡ Some c.in-Some.line = sym c.in_ok-line.ensures.item ∙ c.in-Some.is in
     let so_far_here =
-    subst (λ (l : Option Line). Between c.args.window.now (left_ahead g.A.Read.remaining c.args.lines.now)
-    (left_ahead g.A.Read.remaining c.loop-threads.lines) l
+    subst (λ (l : Option Line). Between c.args.window.now (left_ahead g.L.LineSource.view c.args.lines.now)
+    (left_ahead g.L.LineSource.view c.loop-threads.lines) l
     (λ t. contains nat_cmp c.loop-threads.threads t) c.args.number c.args.moment so_far.0) here so_far.1 in
     let next =
     subst (λ (item : Option Line).
-    Yields (left_ahead g.A.Read.remaining c.loop-threads.lines)
-    (left_ahead g.A.Read.remaining c.next.new.self) item) c.in-Some.is c.in_ok-line.ensures.next in
+    Yields (left_ahead g.L.LineSource.view c.loop-threads.lines)
+    (left_ahead g.L.LineSource.view c.next.new.self) item) c.in-Some.is c.in_ok-line.ensures.next in
     record {
       ahead = c.in_ok-line.ensures.ahead;
       so_far = (

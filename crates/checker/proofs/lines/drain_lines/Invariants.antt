@@ -2,7 +2,7 @@ use Rattle.std.proofs.Common.{◌≡◌, ◌-◌, List, None}
 use Rattle.case_forms.specs.declared.trace.Line.{Line}
 use Rattle.trace_reader.specs.TraceLeft.{place_of, fault_of, reader_failures, IsBegun, lines_left}
 use Rattle.checker.specs.Ahead.{Passes}
-use Rattle.checker.proofs.ahead.drain_lines.Given as goal
+use Rattle.checker.proofs.lines.drain_lines.Given as goal
 
 -- the lines so far were passed
 abbrev pub invariant-loop : goal.invariant-loop

@@ -2,7 +2,7 @@ use Rattle.std.proofs.Common.{Bool, subst, rules}
 use Rattle.trace_reader.specs.TraceLeft.{lines_left}
 use Rattle.checker.specs.Ahead.{Skips}
 use Rattle.checker.proofs.AheadLemmas.{skipped}
-use Rattle.checker.proofs.ahead.drain_lines.Goals as goal
+use Rattle.checker.proofs.lines.drain_lines.Goals as goal
 
 pub loop-preserved : goal.loop-preserved
 loop-preserved g c =

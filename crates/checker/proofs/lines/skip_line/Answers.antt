@@ -1,6 +1,6 @@
 use Rattle.std.proofs.Common.{Ok, ap, ◌∙◌}
 use Rattle.checker.proofs.AheadLemmas.{skips}
-use Rattle.checker.proofs.ahead.skip_line.Goals as goal
+use Rattle.checker.proofs.lines.skip_line.Goals as goal
 
 pub returns-in-Ok-clause-next : goal.returns-in-Ok-clause-next
 returns-in-Ok-clause-next g c =

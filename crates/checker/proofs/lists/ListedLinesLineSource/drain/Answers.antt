@@ -1,0 +1,5 @@
+use Rattle.std.proofs.Common.{refl}
+use Rattle.checker.proofs.lists.ListedLinesLineSource.drain.Goals as goal
+
+pub returns-clause-all : goal.returns-clause-all
+returns-clause-all c = (c.args.self.now.rest.now, refl)
