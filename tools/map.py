@@ -21,19 +21,18 @@ WINGS = (
         """seqno segment streams tables window_rules timer_rules spec_network spec_tcp spec_duties spec_tcp_laws
         spec_merge endpoint endpoint_state spec_step duties watched""",
     ),
-    ("Texts", "#36c", 178, "counted case_forms line_fields kept_lines case_stream trace_text trace_reader witness"),
+    ("Texts", "#36c", 178, "counted case_forms line_fields case_lines case_stream trace_reader witness"),
     (
         "Verdict",
         "#73a",
         196,
-        """verdict answers interval_order checker kept_duties answer_lines parallel_check answer_stream help cli
-        tcpwit""",
+        """verdict answers interval_order checker kept_duties parallel_check answer_stream cli tcpwit""",
     ),
     (
         "Around it",
         "#c60",
         300,
-        """recording_parts stack_core merging recorder two_hosts forward_pass witness_search plain_words
+        """help recording_parts stack_core recorder two_hosts witness_search plain_words
         replayed why judging drawing remarks tcpwit_lab c_answers tcpwit_c test_runs test_cases bench_jobs""",
     ),
 )

@@ -1,6 +1,6 @@
 #!/usr/bin/python3
 """Tests tools/wrong_bodies without the prover: each edit can be applied, its clause exists, each promise has an edit,
-and proving.md lists the edits."""
+and --list has a row for each edit."""
 import os
 import re
 import sys
@@ -51,11 +51,16 @@ class Bodies(unittest.TestCase):
         self.assertIn("checker::check", promises)
         self.assertIn("parallel_check::check_many_plain", promises)
 
-    def test_the_page_has_the_table(self):
-        page = run.read(f"{TOP}/docs/design/proving.md")
-        for row in run.rows(run.edits_of([])):
-            with self.subTest(row):
-                self.assertIn(f"{row}\n", page)
+    def test_each_edit_has_a_row(self):
+        edits = run.edits_of([])
+        head, *rows = run.rows(edits)
+        self.assertEqual(len(set(rows)), len(edits))
+        for edit in edits:
+            with self.subTest(edit.name):
+                words = edit.name.split(".", 1)[1].replace("_", " ")
+                row = f"| `{edit.promise}` | {words} | `{edit.crate}::{edit.function}`: {edit.clause} |"
+                self.assertIn(row, rows)
+                self.assertEqual(row.count(" | "), head.count(" | "))
 
     def test_laws_need_none(self):
         self.assertFalse(run.has_result("checker::explained_is_yes"))

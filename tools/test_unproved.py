@@ -14,7 +14,7 @@ TOP = os.path.dirname(os.path.dirname(os.path.abspath(__file__)))
 NO_PROGRAM = 127
 # The files of a repository that the scripts need.
 FOLDERS = ("importer/tcpwit_importer", "stacks/tcpwit_stacks")
-FILES = ("tcpwit", "tcpwit_lab", "tools/unproved.py", "importer/tcpwit-import", "stacks/run",
+FILES = ("tcpwit", "tcpwit_lab", "tools/unproved.py", "tools/both.main", "importer/tcpwit-import", "stacks/run",
          "stacks/scenarios/data-bulk.scenario")
 # A program that answers `judge` without input as tcpwit_lab does, and prints its name for everything else.
 PROGRAM = """#!/bin/sh
@@ -45,6 +45,33 @@ esac
 COPIER = """#!/bin/sh
 while [ "$2" != -o ]; do shift; done
 cp "$1" "$3"
+"""
+# The root file of a program, and what is made of it as a module of the program `both`.
+MAIN = """//! A program.
+#![tactic(auto)]
+
+mod words;
+
+use crate::words::run;
+
+fn main(rt: HostRuntime) -> ExitCode {
+    ExitCode::from(run_process(&rt))
+}
+
+pub(crate) fn run_process<H>(rt: &H) -> u8 {
+    run(rt)
+}
+"""
+MODULE = """//! A program.
+
+mod words;
+
+use crate::tcpwit::words::run;
+
+
+pub(crate) fn run_process<H>(rt: &H) -> u8 {
+    run(rt)
+}
 """
 # A library that exports one function, and what is made of a test that calls it.
 LIBRARY = '#![tactic(auto)]\n\nmod ends;\n'
@@ -138,10 +165,28 @@ class Clone(unittest.TestCase):
         found, error = self.found("importer")
         self.assertEqual(found, [f"{self.top}/.built/tcpwit_lab"])
         self.assertIn("tcpwit_lab: building it without proofs, once", error)
-        found, error = self.found("stacks")
-        self.assertEqual(found, [f"{self.top}/.built/tcpwit", f"{self.top}/.built/tcpwit_lab"])
+        self.assertIn("and tcpwit with it", error)
+        self.assertEqual(self.found("stacks"), ([f"{self.top}/.built/tcpwit", f"{self.top}/.built/tcpwit_lab"], ""))
+        self.write("clone/crates/tcpwit/src/main.rt", "")
+        error = self.found("stacks")[1]
         self.assertIn("tcpwit: building it", error)
         self.assertNotIn("tcpwit_lab: building it", error)
+
+    def test_both_programs_are_one(self):
+        for name in ("tcpwit", "tcpwit_lab"):
+            self.write(f"clone/crates/{name}/src/main.rt", MAIN)
+            self.write(f"clone/crates/{name}/src/words.rt", "use crate::Words;\n")
+        self.write("clone/crates.txt", "low:\ntcpwit may_wait=2: low cli\ntcpwit_lab: cli\n")
+        code = "import sys; sys.path.insert(0, 'tools'); import unproved; unproved.copy_with_both('copy')"
+        self.assertEqual(self.run_in_clone(sys.executable, "-c", code), (0, "", ""))
+        root = f"{self.top}/copy/crates/both/src"
+        self.assertEqual(sorted(os.listdir(root)), ["main.rt", "tcpwit", "tcpwit.rt", "tcpwit_lab", "tcpwit_lab.rt"])
+        for path, text in ((f"{root}/tcpwit.rt", MODULE),
+                           (f"{root}/tcpwit_lab/words.rt", "use crate::tcpwit_lab::Words;\n")):
+            with open(path, encoding="ascii") as file:
+                self.assertEqual(file.read(), text)
+        with open(f"{self.top}/copy/crates.txt", encoding="ascii") as file:
+            self.assertEqual(file.read().splitlines()[-1], "both: cli low")
 
     def test_a_build_reports_its_progress(self):
         self.toolchain()
@@ -181,7 +226,7 @@ class Clone(unittest.TestCase):
         status, out, error = self.run_in_clone("tools/unproved.py", "--keep", "tcpwit_lab", SUDO_UID=str(owner.pw_uid))
         self.assertEqual((status, out), (0, f"{self.top}/.built/tcpwit_lab\n"), error)
         self.assertEqual({os.stat(f"{self.top}/.built/{name}").st_uid
-                          for name in ("", "tcpwit_lab", "tcpwit_lab.lock")}, {owner.pw_uid})
+                          for name in ("", "tcpwit_lab", "tcpwit", "both.lock")}, {owner.pw_uid})
 
     def test_scripts_without_the_toolchain(self):
         for words in (["importer/tcpwit-import", "--capture", "0", "none.pcap", "--calls", "0", "none.log", "--out",

@@ -7,8 +7,9 @@
 
 NAME is a crate with a `main`, OUT the file of the program. With --object, NAME is a static library, CALLS a file of
 tests that call each function that it exports, and OUT an object file with these functions. With --keep, the program of
-each crate is built as `./tcpwit` builds it, unless a current one exists, and its path is printed. The status is 127 if
-there is no program and none can be built.
+each crate is built as `./tcpwit` builds it, unless a current one exists, and its path is printed. Since `tcpwit` and
+`tcpwit_lab` share most of their code, --keep builds both as one program, which has two names and chooses by its name.
+The status is 127 if there is no program and none can be built.
 
 `rt try` builds a module of the whole program, compiles and runs it, and keeps nothing. This script takes the module
 that `rt try` passes to its compiler, and compiles and links it with the toolchain's own tools. The module has a
@@ -35,7 +36,10 @@ PERIOD = 15
 NO_PROGRAM = 127
 INSTALL = ("  Without the toolchain, install the Debian package, which contains the proved programs "
            "(packaging/README.md).\n"
-           "  With it, add its folder `bin` to PATH. sudo may use another PATH, so run ./{name} once without sudo.")
+           "  With the toolchain, add its folder `bin` to PATH. sudo may use another PATH, so run ./{name} once "
+           "without sudo.")
+# The programs that are built as one.
+TWINS = ("tcpwit", "tcpwit_lab")
 # Saves the module of the whole program, and stops `rt try` there. The first module that `rt try` compiles is a small
 # one.
 KEEPER = """#!/bin/sh
@@ -127,10 +131,41 @@ def module_of(name, folder, *words, top=TOP):
     return kept
 
 
-def copy_with_tests(name, calls, top):
-    """Copies the crates' sources to the repository `top`, and adds these tests to one of them."""
+def copy_sources(top):
+    """Copies the crates' sources to the repository `top`."""
     shutil.copytree(f"{TOP}/crates", f"{top}/crates", ignore=shutil.ignore_patterns("data", "must-fail", "out"))
     shutil.copy(f"{TOP}/crates.txt", top)
+
+
+def as_module(path, name):
+    """Makes the root file of a program a module of that name: without its `main`, and with the paths of its new
+    place."""
+    with open(path, encoding="utf-8") as file:
+        text = file.read().replace("#![tactic(auto)]\n", "").replace("crate::", f"crate::{name}::")
+    text = re.sub(r"(?ms)^fn main\(.*?^}\n", "", text)
+    with open(path, "w", encoding="utf-8") as file:
+        file.write(text)
+
+
+def copy_with_both(top):
+    """Copies the crates' sources to the repository `top`, and adds the crate `both` with the two programs."""
+    copy_sources(top)
+    root = f"{top}/crates/both/src"
+    os.makedirs(root)
+    shutil.copy(f"{TOP}/tools/both.main", f"{root}/main.rt")
+    for name in TWINS:
+        shutil.copytree(f"{top}/crates/{name}/src", f"{root}/{name}")
+        for path in glob.glob(f"{root}/{name}/**/*.rt", recursive=True):
+            as_module(path, name)
+        shutil.move(f"{root}/{name}/main.rt", f"{root}/{name}.rt")
+    libraries = sorted({name for twin in TWINS for name in libraries_of()[twin]})
+    with open(f"{top}/crates.txt", "a", encoding="utf-8") as file:
+        file.write(f"both: {' '.join(libraries)}\n")
+
+
+def copy_with_tests(name, calls, top):
+    """Copies the crates' sources to the repository `top`, and adds these tests to one of them."""
+    copy_sources(top)
     shutil.copy(calls, f"{top}/crates/{name}/src/tests.rt")
     with open(f"{top}/crates/{name}/src/lib.rt", "a", encoding="utf-8") as file:
         file.write("\n#[cfg(test)]\nmod tests;\n")
@@ -200,11 +235,16 @@ def build(name, out, level="-O1", top=TOP):
         os.replace(beside, out)
 
 
-def crates_of(name):
-    """The crate and the crates of the repository that it depends on."""
+def libraries_of():
+    """The libraries of each crate of the repository."""
     with open(f"{TOP}/crates.txt", encoding="utf-8") as file:
         rows = [line.split(":") for line in file if ":" in line and not line.startswith("#")]
-    below = {words.split()[0]: names.split() for words, names in rows}
+    return {words.split()[0]: names.split() for words, names in rows}
+
+
+def crates_of(name):
+    """The crate and the crates of the repository that it depends on."""
+    below = libraries_of()
     found, left = set(), [name]
     while left:
         crate = left.pop()
@@ -240,14 +280,32 @@ def kept(name):
     return unproved
 
 
+def build_both():
+    """Builds the two programs as one, with two names."""
+    with tempfile.TemporaryDirectory() as folder:
+        copy_with_both(f"{folder}/copy")
+        build("both", f"{TOP}/.built/both", top=f"{folder}/copy")
+    for name in TWINS:
+        beside = f"{TOP}/.built/{name}.{os.getpid()}"
+        os.link(f"{TOP}/.built/both", beside)
+        os.replace(beside, f"{TOP}/.built/{name}")
+    os.remove(f"{TOP}/.built/both")
+
+
 def build_once(name, program):
     """Builds a program, unless another process has built it by then."""
     os.makedirs(os.path.dirname(program), exist_ok=True)
-    with open(f"{program}.lock", "w", encoding="utf-8") as lock:
-        fcntl.flock(lock, fcntl.LOCK_EX)
-        if not is_current(program, name):
-            print(f"{name}: building it without proofs, once, as {program}; this takes about four minutes of one "
-                  "processor", file=sys.stderr, flush=True)
+    lock = f"{TOP}/.built/both.lock" if name in TWINS else f"{program}.lock"
+    with open(lock, "w", encoding="utf-8") as file:
+        fcntl.flock(file, fcntl.LOCK_EX)
+        if is_current(program, name):
+            return
+        also = f", and {' and '.join(twin for twin in TWINS if twin != name)} with it" if name in TWINS else ""
+        print(f"{name}: building it without proofs, once, as {program}{also}; this takes about four minutes of one "
+              "processor", file=sys.stderr, flush=True)
+        if name in TWINS:
+            build_both()
+        else:
             build(name, program)
 
 

@@ -11,8 +11,8 @@ the clause of it that refuses the body (`result` if its only `ensures` has no na
 The script copies the crates, with what earlier checks kept in `out`, and checks that the functions are proved. Then it
 applies one edit after the other, checks the function, prints the clause and puts the file back. It fails if a body is
 proved, can't be applied or compiled, or isn't refused by its clause, or if a promise has no edit. Names, of crates or
-edits, select a part; --list only prints the rows for the table in docs/design/proving.md. What isn't proved yet is
-proved first, which takes long: run `rt check` in the crate before.
+edits, select a part; --list only prints a table of them. What isn't proved yet is proved first, which takes long: run
+`rt check` in the crate before.
 """
 import glob
 import os
@@ -138,12 +138,13 @@ def untried(edits):
 
 
 def rows(edits):
-    """The rows of the table in proving.md: promise, wrong body, and the function and clause that refuse it."""
+    """The lines of a table: its head, and a row for each edit, in the order of the promises."""
     order = promises()
     told = sorted(edits, key=lambda edit: order.index(edit.promise))
     bodies = [edit.name.split(".", 1)[1].replace("_", " ") for edit in told]
-    return [f"| `{edit.promise}` | {body} | `{edit.crate}::{edit.function}`: {edit.clause} |"
-            for edit, body in zip(told, bodies)]
+    return ["| promise | wrong body | function and clause that refuse it |",
+            *(f"| `{edit.promise}` | {body} | `{edit.crate}::{edit.function}`: {edit.clause} |"
+              for edit, body in zip(told, bodies))]
 
 
 def linked(source, target):

@@ -6,7 +6,7 @@ use Rattle.verdict.specs.declared.report.Verdict.{Verdict}
 use Rattle.checker.specs.declared.case.CaseFault.{CaseFault}
 use Rattle.checker.specs.declared.case.CaseFault.TheVariants.{OutOfMemory}
 use Rattle.parallel_check.specs.Answers.{AnswersEach, IsAnswer}
-use Rattle.answer_lines.specs.Output.{line_of, status_of}
+use Rattle.answers.specs.Output.{line_of, status_of}
 use Rattle.answer_stream.specs.Told.{greatest_status, lines_of_all}
 
 abbrev pub Answers : Type 0

@@ -15,7 +15,7 @@ use Rattle.checker.specs.declared.case.CaseFault.{CaseFault}
 use Rattle.checker.specs.declared.case.CaseFault.TheVariants as faults
 use Rattle.checker.specs.Cases.{case_result, judged}
 use Rattle.parallel_check.specs.Answers.{AnswersEach, IsAnswer}
-use Rattle.answer_lines.specs.Output.{status_of}
+use Rattle.answers.specs.Output.{status_of}
 use Rattle.case_stream.specs.Cases.{cases_of}
 use Rattle.answer_stream.specs.Endings.{EndsMany, TellsBefore}
 use Rattle.answer_stream.specs.Outcomes.{TellsAll, TellsSome}

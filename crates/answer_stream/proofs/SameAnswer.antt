@@ -18,9 +18,9 @@ use Rattle.line_fields.specs.Folding.{read_lines}
 use Rattle.line_fields.specs.Lines.{expect_line, is_ended, line_rest, line_text, next_raw, text_in}
 use Rattle.line_fields.specs.Reading.{◌>>=◌}
 use Rattle.line_fields.specs.Word.{Rest}
-use Rattle.trace_text.specs.CaseLines.{before_witness, behind_witness}
-use Rattle.trace_text.specs.FirstLine.{first_words, version_named}
-use Rattle.trace_text.proofs.CaseLinesLaw.{and_both, short}
+use Rattle.case_lines.specs.CaseLines.{before_witness, behind_witness}
+use Rattle.case_lines.specs.FirstLine.{first_words, version_named}
+use Rattle.case_lines.proofs.CaseLinesLaw.{and_both, short}
 use Rattle.trace_reader.specs.EventLines.{line_of}
 use Rattle.trace_reader.specs.Headers.{first_line, first_version, header_of, judged_lines, last_line, late_lines}
 use Rattle.trace_reader.specs.Headers.{named_rest, next_value, value_line}

@@ -11,7 +11,7 @@ use Rattle.verdict.specs.declared.report.Verdict.{Verdict}
 use Rattle.checker.specs.declared.case.CaseFault.{CaseFault}
 use Rattle.checker.specs.declared.case.CaseFault.TheVariants.{OutOfMemory}
 use Rattle.parallel_check.specs.Answers.{IsAnswer}
-use Rattle.answer_lines.specs.Output.{line_of, status_of}
+use Rattle.answers.specs.Output.{line_of, status_of}
 use Rattle.case_stream.specs.Cases.{cases_of}
 use Rattle.answer_stream.specs.Left.{HasNone, IsCaseAt}
 use Rattle.answer_stream.specs.Outcomes.{AreAll, TellsAll, TellsSome}

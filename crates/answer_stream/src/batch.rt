@@ -2,15 +2,14 @@
 
 ghost use Rattle.std.specs.Prelude.{◌≡◌, ◌++◌, OnErr, OnOk, max};
 ghost use Rattle.std.specs.Option.{ForSome};
-ghost use Rattle.answer_lines.specs.Output.{line_of, status_of};
+ghost use Rattle.answers.specs.Output.{line_of, status_of};
 ghost use Rattle.answer_stream.specs.Left.{IsHeldAt};
 ghost use Rattle.answer_stream.specs.Told.{Continues, Gathers};
 
 use crate::long::check_held;
 use crate::source::Source;
-use crate::stream::{Done, Stream};
-use answer_lines::{MEMORY, append_line, status_of};
-use answers::Gathered;
+use crate::stream::{NumberedAnswer, Stream};
+use answers::{Gathered, MEMORY, append_line, status_of};
 use parallel_check::CaseResult;
 use std::alloc::{AllocError, Global};
 use std::io::BufRead;
@@ -66,9 +65,9 @@ impl<S: Stream> TakenCase<S> {
     }
 
     // The answer to the case.
-    fn check(&self, alloc: Global) -> Option<Done<S>> {
+    fn check(&self, alloc: Global) -> Option<NumberedAnswer<S>> {
         let number = self.number?;
-        Some(Done {
+        Some(NumberedAnswer {
             number,
             answer: check_held(alloc, self.text.as_slice(), self.long),
             of: PhantomData,
@@ -177,13 +176,13 @@ impl<S: Stream> Batch<S> {
     }
 
     // Adds the next answer. Returns whether it could be added; if it could not, it is missing.
-    fn add(&mut self, done: Option<Done<S>>) -> bool {
+    fn add(&mut self, done: Option<NumberedAnswer<S>>) -> bool {
         self.is_cut = self.try_add(done).is_none();
         !self.is_cut
     }
 
     // Adds the next answer. `None`: it isn't the next, or there is no memory for it.
-    fn try_add(&mut self, done: Option<Done<S>>) -> Option<()> {
+    fn try_add(&mut self, done: Option<NumberedAnswer<S>>) -> Option<()> {
         let done = done?;
         let next = self.next.checked_add(1)?;
         if done.number != self.next

@@ -28,19 +28,24 @@ pub(crate) fn write_lines<W: Write>(w: &mut Counted<W>, lines: &[u8], status: u8
     Some(status)
 }
 
-/// The writer, with the number of the answers that were printed.
+/// The writer, and what was printed. Answers are printed in the order of their cases. After a failed write, or once an
+/// answer is lost, no further one is.
 #[derive(Drop)]
 pub(crate) struct Printer<'a, W: Write, S: Stream> {
     pub at: &'a mut Counted<W>,
+    /// The number of the case whose answer is printed next, so the count of those that were printed.
     pub next: u64,
+    /// The greatest status of the printed answers, which is the program's status if all cases were answered; 0 if there
+    /// are none.
     pub greatest: u8,
     // Answers that wait for an earlier one.
     waiting: Vec<Batch<S>>,
     // How many these are.
     count: u64,
-    // A write failed.
+    /// A write failed, so nobody knows how much of the last lines was written.
     pub failed: bool,
-    // An answer was lost, since there was no memory for its line, or for it to wait.
+    // An answer was lost, since there was no memory for its line, or for it to wait. So none after it is in order, and
+    // the run ends.
     lost: bool,
     pub ghost same: { at.ghost_name ≡ S.writer },
     pub ghost told: { failed ≡ false → ∥ TellsFirst S.input next greatest S.contents
@@ -83,6 +88,7 @@ impl<'a, W: Write, S: Stream> Printer<'a, W, S> {
     /// Prints answers and those that waited for them; or keeps them, if an earlier one is missing.
     pub fn take(&mut self, batch: Batch<S>) {
         if self.is_stopped() {
+            // The worker that gave them asks `is_stopped`, and ends.
             return;
         }
         if batch.first == self.next {
@@ -98,6 +104,7 @@ impl<'a, W: Write, S: Stream> Printer<'a, W, S> {
     fn print_due(&mut self) {
         for _ in 0..self.waiting.len() {
             let Some(place) = self.find_next() else {
+                // The next answers are still to come.
                 return;
             };
             let batch = self.waiting.swap_remove(place);
@@ -118,9 +125,10 @@ impl<'a, W: Write, S: Stream> Printer<'a, W, S> {
         None
     }
 
-    // Prints the next answers.
+    // Prints the next answers. If a write fails, `failed` says so.
     fn print(&mut self, batch: &Batch<S>) {
         if self.failed || batch.first != self.next {
+            // Nothing may follow a failed write, and both callers give the next answers.
             return;
         }
         match write_lines(
@@ -131,6 +139,7 @@ impl<'a, W: Write, S: Stream> Printer<'a, W, S> {
             Some(status) => {
                 self.next = batch.next;
                 self.greatest = self.greatest.max(status);
+                // The first case without an answer comes after these.
                 self.lost = batch.is_cut || self.lost;
             }
             None => self.failed = true,

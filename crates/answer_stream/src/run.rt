@@ -7,7 +7,7 @@ ghost use Rattle.answer_stream.specs.Endings.{EndsMany, TellsBefore};
 
 use crate::printer::write_lines;
 use crate::work::{Outcome, answer_all};
-use answer_lines::{DEVICE, MEMORY};
+use answers::{DEVICE, MEMORY};
 use counted::Counted;
 use std::alloc::Global;
 use std::io::{BufRead, Write};

@@ -60,7 +60,7 @@ impl<'a, X> Lent<'a, X> {
 
 /// The answer to a case, with the number of the case, from 0.
 #[derive(Drop)]
-pub(crate) struct Done<S: Stream> {
+pub(crate) struct NumberedAnswer<S: Stream> {
     pub number: u64,
     pub answer: CaseResult,
     pub of: PhantomData<S>,

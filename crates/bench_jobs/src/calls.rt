@@ -8,7 +8,7 @@ use std::alloc::Global;
 
 // What a thread does in a round.
 #[derive(Clone, Copy)]
-enum Deed {
+enum Action {
     // It listens, and gets this socket number.
     Listen(u64),
     // It asks for the state of its listener.
@@ -31,18 +31,18 @@ pub fn calls(
     rounds: u64,
 ) -> Result<(), OutOfMemory> {
     case.begin((threads as u64).wrapping_mul(4))?;
-    let mut deeds = Vec::new(alloc);
+    let mut actions = Vec::new(alloc);
     let mut order = Vec::new(alloc);
     let mut sockets = 4;
     for thread in 0..threads {
-        deeds.push(Deed::Unknown)?;
+        actions.push(Action::Unknown)?;
         order.push(thread)?;
     }
     for round in 0..rounds {
-        for deed in deeds.iter_mut() {
-            *deed = next_deed(*deed, draws, &mut sockets);
+        for action in actions.iter_mut() {
+            *action = next_action(*action, draws, &mut sockets);
         }
-        one_round(case, deeds.as_slice(), order.as_slice())?;
+        one_round(case, actions.as_slice(), order.as_slice())?;
         if round % 2 == 0 {
             draws.shuffle(order.as_mut_slice());
         } else {
@@ -53,31 +53,31 @@ pub fn calls(
 }
 
 // What a thread does after a round in which it did this.
-fn next_deed(last: Deed, draws: &mut Draws, sockets: &mut u64) -> Deed {
+fn next_action(last: Action, draws: &mut Draws, sockets: &mut u64) -> Action {
     let choice = draws.below(8);
     match last {
-        Deed::Unknown | Deed::Close(_) => {
+        Action::Unknown | Action::Close(_) => {
             if choice < 2 {
-                return Deed::Unknown;
+                return Action::Unknown;
             }
             *sockets = sockets.wrapping_add(1) % (1 << 32);
-            Deed::Listen(*sockets)
+            Action::Listen(*sockets)
         }
-        Deed::Listen(socket) | Deed::State(socket) | Deed::Accept(socket) => match choice {
-            0 => Deed::Close(socket),
-            1 | 2 => Deed::Accept(socket),
-            _ => Deed::State(socket),
+        Action::Listen(socket) | Action::State(socket) | Action::Accept(socket) => match choice {
+            0 => Action::Close(socket),
+            1 | 2 => Action::Accept(socket),
+            _ => Action::State(socket),
         },
     }
 }
 
 // All threads begin, all calls have their effect, and all end. The lines of each half wait until all of that half
 // exist.
-fn one_round(case: &mut CaseText, deeds: &[Deed], order: &[usize]) -> Result<(), OutOfMemory> {
+fn one_round(case: &mut CaseText, actions: &[Action], order: &[usize]) -> Result<(), OutOfMemory> {
     let mut first = 0;
-    for (thread, deed) in deeds.iter().enumerate() {
+    for (thread, action) in actions.iter().enumerate() {
         case.pass(1);
-        let line = begin(case, thread as u64, *deed)?;
+        let line = begin(case, thread as u64, *action)?;
         if thread == 0 {
             first = line;
         }
@@ -87,13 +87,13 @@ fn one_round(case: &mut CaseText, deeds: &[Deed], order: &[usize]) -> Result<(),
         case.take_line(line, &[])?;
     }
     for thread in order {
-        if let Some(deed) = deeds.get(*thread) {
-            effect(case, *thread as u64, *deed)?;
+        if let Some(action) = actions.get(*thread) {
+            effect(case, *thread as u64, *action)?;
         }
     }
-    for (thread, deed) in deeds.iter().enumerate() {
+    for (thread, action) in actions.iter().enumerate() {
         case.pass(1);
-        let line = end(case, thread as u64, *deed)?;
+        let line = end(case, thread as u64, *action)?;
         if thread == 0 {
             first = line;
         }
@@ -110,36 +110,36 @@ fn port_of(thread: u64) -> u64 {
     1 + thread / 2 % 65_535
 }
 
-fn begin(case: &mut CaseText, thread: u64, deed: Deed) -> Result<u64, OutOfMemory> {
-    match deed {
-        Deed::Listen(_) => {
+fn begin(case: &mut CaseText, thread: u64, action: Action) -> Result<u64, OutOfMemory> {
+    match action {
+        Action::Listen(_) => {
             let host = Number(thread % 2);
             let port = Number(port_of(thread));
             case.line(thread, &[Text("B listen"), host, port, Number(4)])
         }
-        Deed::State(socket) => case.line(thread, &[Text("B status"), Number(socket)]),
-        Deed::Accept(socket) => case.line(thread, &[Text("B accept"), Number(socket)]),
-        Deed::Close(socket) => case.line(thread, &[Text("B close"), Number(socket)]),
-        Deed::Unknown => case.line(thread, &[Text("B status"), Number(1)]),
+        Action::State(socket) => case.line(thread, &[Text("B status"), Number(socket)]),
+        Action::Accept(socket) => case.line(thread, &[Text("B accept"), Number(socket)]),
+        Action::Close(socket) => case.line(thread, &[Text("B close"), Number(socket)]),
+        Action::Unknown => case.line(thread, &[Text("B status"), Number(1)]),
     }
 }
 
-fn effect(case: &mut CaseText, thread: u64, deed: Deed) -> Result<(), OutOfMemory> {
-    match deed {
-        Deed::Listen(socket) => case.effect(thread, &[Text("ok"), Number(socket)]),
-        Deed::State(_) => case.effect(thread, &[Text("state LISTEN")]),
-        Deed::Accept(_) => case.effect(thread, &[Text("again")]),
-        Deed::Close(_) => case.effect(thread, &[Text("ok")]),
-        Deed::Unknown => case.effect(thread, &[Text("badsocket")]),
+fn effect(case: &mut CaseText, thread: u64, action: Action) -> Result<(), OutOfMemory> {
+    match action {
+        Action::Listen(socket) => case.effect(thread, &[Text("ok"), Number(socket)]),
+        Action::State(_) => case.effect(thread, &[Text("state LISTEN")]),
+        Action::Accept(_) => case.effect(thread, &[Text("again")]),
+        Action::Close(_) => case.effect(thread, &[Text("ok")]),
+        Action::Unknown => case.effect(thread, &[Text("badsocket")]),
     }
 }
 
-fn end(case: &mut CaseText, thread: u64, deed: Deed) -> Result<u64, OutOfMemory> {
-    match deed {
-        Deed::Listen(socket) => case.line(thread, &[Text("E ok"), Number(socket)]),
-        Deed::State(_) => case.line(thread, &[Text("E state LISTEN")]),
-        Deed::Accept(_) => case.line(thread, &[Text("E again")]),
-        Deed::Close(_) => case.line(thread, &[Text("E ok")]),
-        Deed::Unknown => case.line(thread, &[Text("E badsocket")]),
+fn end(case: &mut CaseText, thread: u64, action: Action) -> Result<u64, OutOfMemory> {
+    match action {
+        Action::Listen(socket) => case.line(thread, &[Text("E ok"), Number(socket)]),
+        Action::State(_) => case.line(thread, &[Text("E state LISTEN")]),
+        Action::Accept(_) => case.line(thread, &[Text("E again")]),
+        Action::Close(_) => case.line(thread, &[Text("E ok")]),
+        Action::Unknown => case.line(thread, &[Text("E badsocket")]),
     }
 }

@@ -125,9 +125,9 @@ fn judge_each(
 // The answer to the case that was written last.
 fn judge(source: &mut Source, job: Job, results: &mut Results) -> Result<(), OutOfMemory> {
     match job {
-        Job::Messages => streams(source, results),
-        Job::Witness => found(source, results),
-        Job::Text | Job::Duties => read(source, results),
+        Job::Messages => judge_streams(source, results),
+        Job::Witness => judge_found(source, results),
+        Job::Text | Job::Duties => judge_in_pieces(source, results),
         Job::Suite | Job::Transfer | Job::Calls | Job::Pieces | Job::Batch | Job::Tiny => {
             let text = source.case.joined()?;
             let answer = check_case(source.alloc, text);
@@ -137,7 +137,7 @@ fn judge(source: &mut Source, job: Job, results: &mut Results) -> Result<(), Out
 }
 
 // The answer to a case as one text that is read in pieces.
-fn read(source: &mut Source, results: &mut Results) -> Result<(), OutOfMemory> {
+fn judge_in_pieces(source: &mut Source, results: &mut Results) -> Result<(), OutOfMemory> {
     let alloc = source.alloc;
     let text = source.case.joined()?;
     let Ok(lines) = BufReader::with_capacity(alloc, INPUT_BYTES, text) else {
@@ -148,7 +148,7 @@ fn read(source: &mut Source, results: &mut Results) -> Result<(), OutOfMemory> {
 }
 
 // The answer to a case as two texts that are read in pieces.
-fn streams(source: &mut Source, results: &mut Results) -> Result<(), OutOfMemory> {
+fn judge_streams(source: &mut Source, results: &mut Results) -> Result<(), OutOfMemory> {
     let alloc = source.alloc;
     let trace = source.case.trace.as_slice();
     let witness = source.case.witness.as_slice();
@@ -163,7 +163,7 @@ fn streams(source: &mut Source, results: &mut Results) -> Result<(), OutOfMemory
 }
 
 // The answer to the case that is found for a trace.
-fn found(source: &mut Source, results: &mut Results) -> Result<(), OutOfMemory> {
+fn judge_found(source: &mut Source, results: &mut Results) -> Result<(), OutOfMemory> {
     let trace = source.case.trace.as_slice();
     match find(source.alloc, trace) {
         Ok(text) => {

@@ -39,12 +39,12 @@ pub fn write_pieces(
     connections: u16,
     count: usize,
 ) -> Result<(), OutOfMemory> {
-    let mut pieces = opened(alloc, draws, case, connections, count)?;
+    let mut pieces = open_pieces(alloc, draws, case, connections, count)?;
     pieces.write(draws, case, pool)
 }
 
 // Opens the connections.
-fn opened(
+fn open_pieces(
     alloc: Global,
     draws: &mut Draws,
     case: &mut CaseText,

@@ -252,7 +252,7 @@ impl Transfer {
         }
         self.window = match flight.threshold {
             Some(threshold) => threshold,
-            None => grown(self.window),
+            None => grow(self.window),
         };
         self.connection
             .carry(case, &answer, taken(self.window, flight.is_measured))?;
@@ -304,7 +304,7 @@ impl Transfer {
 }
 
 // The congestion window after a new acknowledgment: it grows as in congestion avoidance.
-fn grown(window: u64) -> u64 {
+fn grow(window: u64) -> u64 {
     let more = match window {
         0 => MSS,
         window => MSS * MSS / window,

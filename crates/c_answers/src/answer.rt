@@ -55,7 +55,7 @@ impl Answer {
     }
 
     /// The numbers of a result.
-    pub(crate) fn of(given: Result<Verdict, CaseFault>) -> Answer
+    pub(crate) fn from_result(given: Result<Verdict, CaseFault>) -> Answer
         ensures { result ≡ answer_of given }
     {
         match given {

@@ -19,7 +19,7 @@ pub fn answer_to_case(alloc: Global, text: &[u8]) -> Answer
     ensures means { (t : Trace) (w : Witness) → AreInCase text.now t w → Answers result (λ r. IfOk r (Means t w)) }
     ensures unread { result.kind ≤ 4 }
 {
-    Answer::of(check_case(alloc, text))
+    Answer::from_result(check_case(alloc, text))
 }
 
 /// The answer to a case whose trace and witness are two texts. The clauses are those of `checker::check_streams`.
@@ -32,7 +32,7 @@ pub fn answer_to_texts(alloc: Global, trace: &[u8], witness: &[u8]) -> Answer
     let (result, _, _) = check_streams(alloc, Counted::new(trace), Counted::new(witness));
     match result {
         // A read of a text in memory fails only after 2^50 others.
-        Err(CaseFault::Read) => Answer::of(Err(CaseFault::OutOfMemory)),
-        result => Answer::of(result),
+        Err(CaseFault::Read) => Answer::from_result(Err(CaseFault::OutOfMemory)),
+        result => Answer::from_result(result),
     }
 }

@@ -1,13 +1,13 @@
 //! Answers to a case in numbers, and strings in memory that C gives: what `tcpwit_c` exports, as a library.
 //!
-//! - `answer`: an answer to a case, in numbers (`specs/Answers`); `reading`: back from them
+//! - `answer`: an answer to a case, in numbers (`specs/Answers`); `numbers`: back from them
 //! - `checks`: the verdict on a case
 //! - `strings`: text in memory that C gives (`specs/Strings`)
 #![tactic(auto)]
 
 mod answer;
 mod checks;
-mod reading;
+mod numbers;
 mod strings;
 
 pub use answer::Answer;

@@ -6,13 +6,13 @@ ghost use Rattle.verdict.specs.declared.report.Verdict.{Verdict};
 ghost use Rattle.verdict.specs.Rules.{rule_name};
 ghost use Rattle.checker.specs.declared.case.CaseFault.{CaseFault};
 ghost use Rattle.spec_tcp_laws.specs.Ascending.{rule_number};
-ghost use Rattle.answer_lines.specs.Output.{line_of};
+ghost use Rattle.answers.specs.Output.{line_of};
 ghost use Rattle.c_answers.specs.Answers.{answer_of};
 ghost use Rattle.c_answers.specs.Strings.{Writes};
 
 use crate::answer::Answer;
-use crate::reading::{result_of, rule_numbered};
-use answer_lines::line_of;
+use crate::numbers::{result_of, rule_numbered};
+use answers::line_of;
 use std::alloc::Global;
 
 /// Writes the name of the rule with this number as a C string, as much of it as fits, and returns how many bytes it

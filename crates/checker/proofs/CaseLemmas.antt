@@ -8,7 +8,7 @@ use Rattle.bstr.proofs.lemmas.RestLemmas.{concat-lines_of}
 use Rattle.case_forms.specs.declared.trace.Trace.{Trace}
 use Rattle.case_forms.specs.declared.version.Version.{Version}
 use Rattle.line_fields.specs.declared.fault.TextFault.{TextFault}
-use Rattle.trace_text.specs.FirstLine.{version_named}
+use Rattle.case_lines.specs.FirstLine.{version_named}
 use Rattle.trace_reader.specs.TraceText.{IsTraceText, trace_of}
 use Rattle.trace_reader.proofs.TraceLaw.{trace_named, trace_takes}
 use Rattle.witness.specs.WitnessText.{witness_for}

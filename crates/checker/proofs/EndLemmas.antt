@@ -1,6 +1,7 @@
 -- The start and the end of the loop that replays a witness while the lines of the trace are read.
 use Rattle.std.proofs.Common.{◌≡◌, ◌+◌, ℕ, Bool, true, false, List, [], ◌∷◌, ◌++◌, Option, Some, None, Result, Ok, Err}
-use Rattle.std.proofs.Common.{IfSome, refl, sym, ap, ◌∙◌, arith, append_assoc, append-nil}
+use Rattle.std.proofs.Common.{IfSome, refl, sym, ap, ◌∙◌, subst, arith, append_assoc, append-nil}
+use Rattle.std.specs.Result.{IfOk}
 use Rattle.std.specs.Prelude.{count_by, not, cond}
 use Rattle.std.specs.List.{enumerate_from}
 use Rattle.std.proofs.lemmas.List.Sums.{sum_by-cons, sum_by-append}
@@ -14,14 +15,16 @@ use Rattle.verdict.specs.declared.report.Verdict.{Verdict}
 use Rattle.verdict.specs.declared.report.Verdict.TheVariants.{Yes, No}
 use Rattle.line_fields.specs.declared.fault.TextFault.{TextFault}
 use Rattle.line_fields.specs.Left.{Yields}
-use Rattle.interval_order.specs.Orders.{Order}
-use Rattle.spec_duties.specs.Cases.{Watched as Progress, late_at_end, start}
+use Rattle.trace_reader.specs.TraceLeft.{lines_left}
+use Rattle.interval_order.specs.Orders.{Order, order_of}
+use Rattle.spec_duties.specs.Cases.{Watched as Progress, late_at_end, start, first_known}
 use Rattle.checker.specs.declared.case.CaseFault.{CaseFault}
 use Rattle.checker.specs.declared.case.CaseFault.TheVariants as faults
 use Rattle.checker.specs.declared.turns.StepCounts.{StepCounts}
-use Rattle.checker.specs.Verdicts.{takes_line, verdict_left}
-use Rattle.checker.specs.Ahead.{left_with, Passes, IsInStep, IsAll, TraceFails, WitnessFails}
-use Rattle.checker.specs.Streaming.{SoFar, Tallied, Ends, CaseFails, verdict_on, first_of_both}
+use Rattle.checker.specs.declared.ahead.Ahead.{Ahead}
+use Rattle.checker.specs.Verdicts.{takes_line, verdict_left, verdict_from}
+use Rattle.checker.specs.Ahead.{left_with, left_ahead, line_ahead, Passes, IsInStep, IsAll, TraceFails, WitnessFails}
+use Rattle.checker.specs.Streaming.{SoFar, Tallied, Ends, CaseFails, Tells, verdict_on, first_of_both}
 use Rattle.checker.specs.Turns.{IsBroken, counted_with}
 use Rattle.checker.proofs.CheckLemmas.{begun}
 use Rattle.checker.proofs.AheadLemmas.{err_before, ok_before, none_passed, one_passed, all_passed, whole_of_rest, trace_fails_before, witness_fails_before}
@@ -39,6 +42,31 @@ starts header lines steps o p offered is = record {
   below = λ n le. refl;
   told = λ all whole rest. refl;
 }
+
+-- the same where all lines were offered before
+pub starts_offered : {A : Type 0} (known : A → Option (List ℕ)) (left : Ahead A) (header : Header) (lines : List Line)
+    (steps : Option (Result (List Step) TextFault)) (o : Order) (p : Progress)
+    → line_ahead left ≡ None → o ≡ order_of header lines [] → p ≡ start header
+    → SoFar header (Some (Ok lines)) (left_ahead known left) steps steps o p lines []
+starts_offered known left header lines steps o p end offered is =
+    subst (λ (line : Option Line). SoFar header (Some (Ok lines)) (left_with line (lines_left known left.reader)) steps steps o p lines [])
+    (sym end)
+    (record {
+      passed = ap (λ (ls : List Line). Ok ls) (sym (append-nil lines));
+      done = none_passed steps;
+      come = begun header lines o p offered is;
+      below = λ n le. refl;
+      told = λ all whole rest. refl;
+    })
+
+-- the verdict on lists, which have no fault
+pub listed_verdict : (header : Header) (lines : List Line) (steps : List Step) (r : Result Verdict CaseFault)
+    → Tells header (Some (Ok lines)) (Some (Ok steps)) r → IfOk r (λ v. v ≡ verdict_from header lines [] (first_known header) steps)
+listed_verdict header lines steps (Ok v) (all, done, whole, read, is) =
+    let lines_are : all ≡ lines = cc in
+    let steps_are : done ≡ steps = cc in
+    is ∙ ap (λ (ls : List Line). verdict_on header ls [] done) lines_are ∙ ap (verdict_on header lines []) steps_are
+listed_verdict header lines steps (Err e) tells = tt
 
 -- ---- one step more is counted
 

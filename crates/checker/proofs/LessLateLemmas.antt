@@ -27,7 +27,7 @@ use Rattle.spec_tcp_laws.specs.Ascending.{rule_number}
 use Rattle.spec_tcp_laws.proofs.Rules.{at_most_to, both_true}
 use Rattle.duties.proofs.SlackLemmas.{dutiful_any, late_any, nothing_judged}
 use Rattle.spec_duties.specs.Cases.{Dutiful, Known, first_known, known_after_all, late_at_end, watch_rules}
-use Rattle.spec_duties.specs.Sights.{sight}
+use Rattle.spec_duties.specs.Observations.{observe}
 use Rattle.spec_duties.specs.Slack.{AtMost, with_slack}
 use Rattle.watched.proofs.AscendLemmas.{rules_top, tops}
 use Rattle.watched.proofs.SlackRuns.{dutiful_with, end_with, lawful_with}
@@ -112,7 +112,7 @@ broken_top ((r, false) ∷ xs) rule top is = broken_top xs rule (both_true (nat_
 case_top : (h : Header) (k : Known) (o : Option (Stamped tcp_shape)) → h.slack ≡ None → tops (option_map_or (act_rules h k) o []) ≡ true
 case_top h k None any = refl
 case_top h k (Some x) any =
-    let none = nothing_judged h x.moment k.duties (sight h x.moment k.model x.step) any in
+    let none = nothing_judged h x.moment k.duties (observe h x.moment k.model x.step) any in
     tops_both (step_rules (tcp h) x.moment k.model x.step) (watch_rules h x.moment k x.step) (rules_top h x.moment k.model x.step) (ap tops none)
 
 all_top : (h : Header) (lines : List Line) (earlier : List Step) (k : Known) (s : Step) → h.slack ≡ None → tops (all_rules h lines earlier k s) ≡ true

@@ -13,6 +13,7 @@ pub mod CountLemmas
 pub mod LateLemmas
 pub mod AheadLemmas
 pub mod StreamTurns
+pub mod StepLemmas
 pub mod TurnLemmas
 pub mod EndLemmas
 pub mod TextLemmas

@@ -33,13 +33,13 @@ use Rattle.line_fields.specs.Rows.{rows_of}
 use Rattle.witness.specs.FirstLine.{first_text, begins_witness}
 use Rattle.witness.specs.StepsLeft.{steps_from, first_line}
 use Rattle.witness.proofs.StreamLaw.{first_read}
-use Rattle.trace_text.specs.FirstLine.{version_named}
+use Rattle.case_lines.specs.FirstLine.{version_named}
 use Rattle.trace_reader.specs.TraceText.{trace_of, trace_in}
-use Rattle.trace_text.specs.CaseLines.{before_witness, behind_witness, trace_rows, witness_rows, has_met, IsAtEnd}
-use Rattle.trace_text.specs.CaseLines.{KeepsWitness}
-use Rattle.trace_text.specs.declared.text_lines.TextEnd.{TextEnd}
-use Rattle.trace_text.specs.declared.text_lines.TextEnd.TheVariants as ends
-use Rattle.trace_text.proofs.CaseLinesLaw.{and_both, short}
+use Rattle.case_lines.specs.CaseLines.{before_witness, behind_witness, trace_rows, witness_rows, has_met, IsAtEnd}
+use Rattle.case_lines.specs.CaseLines.{KeepsWitness}
+use Rattle.case_lines.specs.declared.text_lines.TextEnd.{TextEnd}
+use Rattle.case_lines.specs.declared.text_lines.TextEnd.TheVariants as ends
+use Rattle.case_lines.proofs.CaseLinesLaw.{and_both, short}
 use Rattle.trace_reader.proofs.TraceLaw.{trace_named, trace_takes}
 use Rattle.verdict.specs.declared.report.Verdict.{Verdict}
 use Rattle.checker.specs.declared.case.CaseFault.{CaseFault}
@@ -53,7 +53,7 @@ use Rattle.checker.proofs.CaseLemmas.{concat_both}
 use Rattle.checker.proofs.TextLemmas.{trace_tells, texts_tell, verdict_of}
 use Rattle.trace_reader.specs.EventLines.{Place, behind}
 use Rattle.trace_reader.specs.TraceLeft.{StandsAt, AreAt, place_behind, source_of, end_of_text, rows_behind}
-use Rattle.trace_text.specs.TextLeft.{rows_left}
+use Rattle.case_lines.specs.TextLeft.{rows_left}
 use Rattle.trace_reader.specs.declared.stream.TraceReader.{TraceReader}
 use Rattle.counted.specs.declared.ends.Counted.{Counted}
 use Rattle.counted.specs.Counting.{left_of}

@@ -21,11 +21,11 @@ use Rattle.verdict.proofs.RuleLemmas.{none_all}
 use Rattle.streams.specs.Lists.{modify}
 use Rattle.streams.proofs.Places.{get_append, all_push, all_modify}
 use Rattle.spec_network.specs.Tables.{pick, other, with_host, waiting}
-use Rattle.spec_network.specs.Hosts.{HostState, Turn, Idle, Called, Answered, World, Deed, Does, Expires, Makes, Sends}
+use Rattle.spec_network.specs.Hosts.{HostState, Turn, Idle, Called, Answered, World, HostStep, Does, Expires, Makes, Sends}
 use Rattle.spec_network.specs.Hosts.{Gets, Hears, Takes, Drops, Answers, Step, Begin, Finish, Effect, At, Stamped}
 use Rattle.spec_network.specs.Hosts.{turn_of}
 use Rattle.spec_network.specs.HostRules.{aim_of, Permitted}
-use Rattle.spec_network.specs.HostSteps.{deed_after, call_after, effect_after, after, after_all, start, Lawful}
+use Rattle.spec_network.specs.HostSteps.{host_step_after, call_after, effect_after, after, after_all, start, Lawful}
 use Rattle.window_rules.specs.declared.control.Profile.{Profile}
 use Rattle.spec_tcp.specs.Signals.{profile_of}
 use Rattle.spec_tcp.specs.declared.endpoint.EndpointId.{EndpointId}
@@ -35,13 +35,13 @@ use Rattle.spec_tcp.specs.declared.endpoint.Emission.{Emission}
 use Rattle.spec_tcp.specs.declared.endpoint.SocketTarget.{SocketTarget}
 use Rattle.spec_tcp.specs.declared.endpoint.SocketTarget.TheVariants.{ListenerAt, EndpointAt}
 use Rattle.spec_tcp.specs.Endpoints.{new_endpoint}
-use Rattle.spec_tcp.specs.HostTcp.{HostTcp, place_of, at_ports, with_endpoint, thing_of, queue_of, dead}
+use Rattle.spec_tcp.specs.HostTcp.{HostTcp, place_of, at_ports, with_endpoint, socket_target, queue_of, dead}
 use Rattle.case_forms.specs.States.{is_syn_sent}
 use Rattle.spec_tcp.specs.Calls.Send.{after_send}
 use Rattle.spec_tcp.specs.Calls.Receive.{after_recv}
-use Rattle.spec_tcp.specs.Calls.Close.{shut_down, after_shut, after_close, after_abort, orphaned, thing_gone}
+use Rattle.spec_tcp.specs.Calls.Close.{shut_down, after_shut, after_close, after_abort, orphaned, target_gone}
 use Rattle.spec_tcp.specs.Calls.Accept.{accepted_from, after_accept}
-use Rattle.spec_tcp.specs.Calls.{change_thing, after_call}
+use Rattle.spec_tcp.specs.Calls.{change_target, after_call}
 use Rattle.spec_tcp.specs.Makes.{endpoint_made, after_making}
 use Rattle.case_forms.specs.declared.steps.TakeChoice.{TakeChoice}
 use Rattle.spec_tcp.specs.Heard.{as_read, read_at}
@@ -211,27 +211,27 @@ moves_taking h s w host line how m steady waits may = go (taker (pick w.hosts ho
         (steady.own host i x there).waits (read_maker h.version e m) (read_syn h.version e m)
         (subst (λ (y : Endpoint). first_broken (endpoint_rules h host b how r s i y) ≡ None) one may))
 
-moves_deed : (h : Header) (s : ℕ) (w : World tcp_shape) (host : Host) (d : Deed tcp_shape) → Steady w.hosts → Permitted (tcp h) s w (At host d)
+moves_host_step : (h : Header) (s : ℕ) (w : World tcp_shape) (host : Host) (d : HostStep tcp_shape) → Steady w.hosts → Permitted (tcp h) s w (At host d)
     → Moves w (At host d) host (pick w.hosts host).body.endpoints
-    (deed_after (tcp h) host s (suc w.count) (pick w.hosts (other host)).wire (pick w.hosts host) d).body.endpoints
-moves_deed h s w host (Does x) steady may =
+    (host_step_after (tcp h) host s (suc w.count) (pick w.hosts (other host)).wire (pick w.hosts host) d).body.endpoints
+moves_host_step h s w host (Does x) steady may =
     moves_at_ports w (At host (Does x)) host (pick w.hosts host).body x.lport x.rport (λ e. after_recovery e x.cwnd x.ssthresh s) (λ e. refl)
-moves_deed h s w host (Expires line x) steady may =
+moves_host_step h s w host (Expires line x) steady may =
     moves_at_ports w (At host (Expires line x)) host (pick w.hosts host).body x.lport x.rport
     (λ e. after_expiry e x.expired s) (λ e. expiry_stream x.expired e s)
-moves_deed h s w host (Makes m) steady may = moves_at_ports w (At host (Makes m)) host (pick w.hosts host).body m.lport m.rport (λ e. after_making e m s)
+moves_host_step h s w host (Makes m) steady may = moves_at_ports w (At host (Makes m)) host (pick w.hosts host).body m.lport m.rport (λ e. after_making e m s)
     (λ e. either_stream m.flags.rst (record (shut_down (endpoint_made e m s)) { reset_due = false }) (endpoint_made e m s) e.stream refl refl)
-moves_deed h s w host (Sends line number wire) steady may = moves_not w (At host (Sends line number wire)) host (pick w.hosts host).body.endpoints
-moves_deed h s w host (Gets line copied wire) steady may = moves_not w (At host (Gets line copied wire)) host (pick w.hosts host).body.endpoints
-moves_deed h s w host (Hears line wire) steady may = moves_not w (At host (Hears line wire)) host (pick w.hosts host).body.endpoints
-moves_deed h s w host (Takes line how) steady may = let k = pick w.hosts host in let step : Step tcp_shape = At host (Takes line how) in
+moves_host_step h s w host (Sends line number wire) steady may = moves_not w (At host (Sends line number wire)) host (pick w.hosts host).body.endpoints
+moves_host_step h s w host (Gets line copied wire) steady may = moves_not w (At host (Gets line copied wire)) host (pick w.hosts host).body.endpoints
+moves_host_step h s w host (Hears line wire) steady may = moves_not w (At host (Hears line wire)) host (pick w.hosts host).body.endpoints
+moves_host_step h s w host (Takes line how) steady may = let k = pick w.hosts host in let step : Step tcp_shape = At host (Takes line how) in
     on_cases (λ (b : HostTcp). Moves w step host k.body.endpoints b.endpoints) (waiting line k.inbox) k.body _ (moves_not w step host k.body.endpoints)
     (λ m e.
     let t = on_passes (waiting line k.inbox) rules.Inbox (λ x. taker_rules h host k.body how x s (taker k.body x)) may in
     let one : t.0 ≡ m = same_Some t.0 m (sym t.1 ∙ e) in
     moves_taking h s w host line how m steady e (subst (λ (x : Emission). first_broken (taker_rules h host k.body how x s (taker k.body x)) ≡ None) one t.2))
-moves_deed h s w host (Drops line) steady may = moves_not w (At host (Drops line)) host (pick w.hosts host).body.endpoints
-moves_deed h s w host (Answers line) steady may = let k = pick w.hosts host in let step : Step tcp_shape = At host (Answers line) in
+moves_host_step h s w host (Drops line) steady may = moves_not w (At host (Drops line)) host (pick w.hosts host).body.endpoints
+moves_host_step h s w host (Answers line) steady may = let k = pick w.hosts host in let step : Step tcp_shape = At host (Answers line) in
     on_cases (λ (b : HostTcp). Moves w step host k.body.endpoints b.endpoints) (waiting line k.inbox) k.body _
     (moves_not w step host k.body.endpoints) (λ m e. moves_not w step host k.body.endpoints)
 
@@ -244,32 +244,32 @@ moves_same w step host b i f same = moves_one w step host b.endpoints i f (λ e 
 
 moves_change : (w : World tcp_shape) (step : Step tcp_shape) (host : Host) (b : HostTcp) (n : ℕ)
     (f : Endpoint → Endpoint) → ((e : Endpoint) → (f e).stream.peer ≡ e.stream.peer)
-    → Moves w step host b.endpoints (option_map_or (change_thing b f) (thing_of b n) b).endpoints
+    → Moves w step host b.endpoints (option_map_or (change_target b f) (socket_target b n) b).endpoints
 moves_change w step host b n f same =
-    map_or_cases (λ (x : HostTcp). Moves w step host b.endpoints x.endpoints) (thing_of b n) b (change_thing b f)
-    (λ e. moves_not w step host b.endpoints) (λ thing e. go thing)
+    map_or_cases (λ (x : HostTcp). Moves w step host b.endpoints x.endpoints) (socket_target b n) b (change_target b f)
+    (λ e. moves_not w step host b.endpoints) (λ target e. go target)
   where
-    go : (thing : SocketTarget) → Moves w step host b.endpoints (change_thing b f thing).endpoints
+    go : (target : SocketTarget) → Moves w step host b.endpoints (change_target b f target).endpoints
     go (ListenerAt l) = moves_not w step host b.endpoints
     go (EndpointAt i) = moves_same w step host b i f same
 
 moves_gone : (w : World tcp_shape) (step : Step tcp_shape) (host : Host) (b : HostTcp) (n : ℕ) (f : Endpoint → Endpoint)
     → ((e : Endpoint) → (f e).stream.peer ≡ e.stream.peer)
-    → Moves w step host b.endpoints (option_map_or (λ thing. record (thing_gone b thing f) { sockets = dead b.sockets n }) (thing_of b n) b).endpoints
+    → Moves w step host b.endpoints (option_map_or (λ target. record (target_gone b target f) { sockets = dead b.sockets n }) (socket_target b n) b).endpoints
 moves_gone w step host b n f same =
-    map_or_cases (λ (x : HostTcp). Moves w step host b.endpoints x.endpoints) (thing_of b n) b
-    (λ thing. record (thing_gone b thing f) { sockets = dead b.sockets n }) (λ e. moves_not w step host b.endpoints)
-    (λ thing e. go thing)
+    map_or_cases (λ (x : HostTcp). Moves w step host b.endpoints x.endpoints) (socket_target b n) b
+    (λ target. record (target_gone b target f) { sockets = dead b.sockets n }) (λ e. moves_not w step host b.endpoints)
+    (λ target e. go target)
   where
-    go : (thing : SocketTarget) → Moves w step host b.endpoints (thing_gone b thing f).endpoints
+    go : (target : SocketTarget) → Moves w step host b.endpoints (target_gone b target f).endpoints
     go (ListenerAt l) =
         moves_map w step host b.endpoints (orphaned l)
         (λ e. either_stream (option_map_or (λ holder. holder == l) e.listener false)
         (after_abort e) e e.stream refl refl)
     go (EndpointAt i) = moves_same w step host b i f same
 
-moves_accept : (w : World tcp_shape) (step : Step tcp_shape) (host : Host) (b : HostTcp) (n : ℕ) (thing : SocketTarget)
-    → Moves w step host b.endpoints (after_accept b n thing).endpoints
+moves_accept : (w : World tcp_shape) (step : Step tcp_shape) (host : Host) (b : HostTcp) (n : ℕ) (target : SocketTarget)
+    → Moves w step host b.endpoints (after_accept b n target).endpoints
 moves_accept w step host b n (EndpointAt i) = moves_not w step host b.endpoints
 moves_accept w step host b n (ListenerAt l) = go (queue_of b l)
   where
@@ -283,8 +283,8 @@ moves_call p w step host b (calls.Listen at port backlog) (answers.Given n) = mo
 moves_call p w step host b (calls.Connect at lport rport) (answers.Given n) =
     moves_push w step host b.endpoints (new_endpoint lport rport None states.SynSent p) (λ j. inl refl)
 moves_call p w step host b (calls.Accept h) (answers.Given n) =
-    map_or_cases (λ (x : HostTcp). Moves w step host b.endpoints x.endpoints) (thing_of b h) b (after_accept b n)
-    (λ e. moves_not w step host b.endpoints) (λ thing e. moves_accept w step host b n thing)
+    map_or_cases (λ (x : HostTcp). Moves w step host b.endpoints x.endpoints) (socket_target b h) b (after_accept b n)
+    (λ e. moves_not w step host b.endpoints) (λ target e. moves_accept w step host b n target)
 moves_call p w step host b (calls.Send h bytes) (answers.Given n) = moves_change w step host b h (after_send bytes n) (λ e. refl)
 moves_call p w step host b (calls.Recv h most) (answers.Bytes bytes) = moves_change w step host b h (after_recv bytes) (λ e. refl)
 moves_call p w step host b (calls.Shut h) answers.Done = moves_change w step host b h after_shut (λ e. refl)
@@ -330,8 +330,8 @@ both_step h s w (Effect t answer) steady may = go (turn_of t w.threads)
     go (Called call) = by call (aim_of (tcp h) w.hosts (aim call))
     go (Answered x) = both_not w (Effect t answer)
 both_step h s w (At host d) steady may =
-    both_host w (At host d) host (deed_after (tcp h) host s (suc w.count) (pick w.hosts (other host)).wire
-    (pick w.hosts host) d) (moves_deed h s w host d steady may)
+    both_host w (At host d) host (host_step_after (tcp h) host s (suc w.count) (pick w.hosts (other host)).wire
+    (pick w.hosts host) d) (moves_host_step h s w host d steady may)
 
 abbrev peer_in : Option Endpoint → Option EndpointId
 peer_in o = option_map_or (λ e. e.stream.peer) o None

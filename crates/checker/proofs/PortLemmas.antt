@@ -24,9 +24,9 @@ use Rattle.verdict.proofs.RuleLemmas.{none_all}
 use Rattle.streams.specs.Lists.{modify}
 use Rattle.streams.proofs.Places.{get_append, all_push, all_modify}
 use Rattle.spec_network.specs.Tables.{pick, other, waiting}
-use Rattle.spec_network.specs.Hosts.{World, Deed, Does, Expires, Makes, Sends, Gets, Hears, Takes, Drops, Answers, At}
+use Rattle.spec_network.specs.Hosts.{World, HostStep, Does, Expires, Makes, Sends, Gets, Hears, Takes, Drops, Answers, At}
 use Rattle.spec_network.specs.HostRules.{Permitted}
-use Rattle.spec_network.specs.HostSteps.{deed_after}
+use Rattle.spec_network.specs.HostSteps.{host_step_after}
 use Rattle.spec_network.proofs.Entries.{lookup_insert}
 use Rattle.window_rules.specs.declared.control.Profile.{Profile}
 use Rattle.spec_tcp.specs.Signals.{profile_of}
@@ -39,12 +39,12 @@ use Rattle.spec_tcp.specs.declared.endpoint.SocketTarget.{SocketTarget}
 use Rattle.spec_tcp.specs.declared.endpoint.SocketTarget.TheVariants.{ListenerAt, EndpointAt}
 use Rattle.spec_tcp.specs.Endpoints.{new_endpoint}
 use Rattle.spec_tcp.specs.HostTcp.{HostTcp, has_ports, last_from, place_of, at_ports, listens_on, listener_on}
-use Rattle.spec_tcp.specs.HostTcp.{with_endpoint, with_socket, thing_of, if_live, queue_of, dead}
+use Rattle.spec_tcp.specs.HostTcp.{with_endpoint, with_socket, socket_target, if_live, queue_of, dead}
 use Rattle.spec_tcp.specs.Calls.Send.{after_send}
 use Rattle.spec_tcp.specs.Calls.Receive.{after_recv}
-use Rattle.spec_tcp.specs.Calls.Close.{shut_down, after_shut, after_close, after_abort, orphaned, thing_gone, after_gone, without_listener}
+use Rattle.spec_tcp.specs.Calls.Close.{shut_down, after_shut, after_close, after_abort, orphaned, target_gone, after_gone, without_listener}
 use Rattle.spec_tcp.specs.Calls.Accept.{accepted_from, after_accept}
-use Rattle.spec_tcp.specs.Calls.{change, change_thing, after_call}
+use Rattle.spec_tcp.specs.Calls.{change, change_target, after_call}
 use Rattle.spec_tcp.specs.Makes.{endpoint_made, after_making}
 use Rattle.spec_tcp.specs.Heard.{as_read}
 use Rattle.spec_tcp.specs.Arrives.OtherStates.Ack.{acknowledges_syn}
@@ -216,7 +216,7 @@ pub record Moved (all : List CallDone) (a : Hosts) (x : Host) (b c : HostTcp) : 
   pub born : (i : ℕ) (f : Endpoint) → slice_get c.endpoints i ≡ Some f → ((e : Endpoint) × (slice_get b.endpoints i ≡ Some e)) ⊎ Born a x c f
   pub listeners : (l port : ℕ) → port_at b.listeners l ≡ Some port → port_at c.listeners l ≡ Some port
   pub sockets : (n : ℕ) (s : Socket) → lookup (nat_eq n) c.sockets ≡ Some s
-      → ((t : Socket) × (lookup (nat_eq n) b.sockets ≡ Some t) × (t.thing ≡ s.thing)) ⊎ Names all x c n s.thing
+      → ((t : Socket) × (lookup (nat_eq n) b.sockets ≡ Some t) × (t.target ≡ s.target)) ⊎ Names all x c n s.target
 
 moved_not : (all : List CallDone) (a : Hosts) (x : Host) (b : HostTcp) → Moved all a x b b
 moved_not all a x b =
@@ -308,31 +308,31 @@ moved_taking all a h x b how m s from may = go (taker b m) refl may
           sockets = λ n t e. inl (t, e, refl);
         }
 
-pub moved_deed : (all : List CallDone) (h : Header) (s : ℕ) (w : World tcp_shape) (host : Host) (d : Deed tcp_shape)
+pub moved_host_step : (all : List CallDone) (h : Header) (s : ℕ) (w : World tcp_shape) (host : Host) (d : HostStep tcp_shape)
     → ((n : ℕ) (m : Emission) → waiting n (pick w.hosts host).inbox ≡ Some m → m.flags.syn ≡ true
     → (m.sender.host ≡ other host) × HasAt w.hosts m.sender m.lport m.rport) → Permitted (tcp h) s w (At host d)
-    → Moved all w.hosts host (pick w.hosts host).body (deed_after (tcp h) host s (suc w.count) (pick w.hosts (other host)).wire (pick w.hosts host) d).body
-moved_deed all h s w host (Does x) from may =
+    → Moved all w.hosts host (pick w.hosts host).body (host_step_after (tcp h) host s (suc w.count) (pick w.hosts (other host)).wire (pick w.hosts host) d).body
+moved_host_step all h s w host (Does x) from may =
     moved_at_ports all w.hosts host (pick w.hosts host).body x.lport x.rport (λ e. after_recovery e x.cwnd x.ssthresh s)
     (λ e. plain_end e (after_recovery e x.cwnd x.ssthresh s) refl refl refl)
-moved_deed all h s w host (Expires line x) from may =
+moved_host_step all h s w host (Expires line x) from may =
     moved_at_ports all w.hosts host (pick w.hosts host).body x.lport x.rport (λ e. after_expiry e x.expired s)
     (λ e. expiry_end e x.expired s)
-moved_deed all h s w host (Makes m) from may =
+moved_host_step all h s w host (Makes m) from may =
     moved_at_ports all w.hosts host (pick w.hosts host).body m.lport m.rport (λ e. after_making e m s)
     (λ e. making_end e m s)
-moved_deed all h s w host (Sends line number wire) from may = moved_not all w.hosts host (pick w.hosts host).body
-moved_deed all h s w host (Gets line copied wire) from may = moved_not all w.hosts host (pick w.hosts host).body
-moved_deed all h s w host (Hears line wire) from may = moved_not all w.hosts host (pick w.hosts host).body
-moved_deed all h s w host (Takes line how) from may = let k = pick w.hosts host in
+moved_host_step all h s w host (Sends line number wire) from may = moved_not all w.hosts host (pick w.hosts host).body
+moved_host_step all h s w host (Gets line copied wire) from may = moved_not all w.hosts host (pick w.hosts host).body
+moved_host_step all h s w host (Hears line wire) from may = moved_not all w.hosts host (pick w.hosts host).body
+moved_host_step all h s w host (Takes line how) from may = let k = pick w.hosts host in
     on_cases (λ (c : HostTcp). Moved all w.hosts host k.body c) (waiting line k.inbox) k.body _ (moved_not all w.hosts host k.body)
     (λ m e.
     let t = on_passes (waiting line k.inbox) rules.Inbox (λ x. taker_rules h host k.body how x s (taker k.body x)) may in
     let one : t.0 ≡ m = same_Some t.0 m (sym t.1 ∙ e) in
     moved_taking all w.hosts h host k.body how m s (from line m e)
     (subst (λ (x : Emission). first_broken (taker_rules h host k.body how x s (taker k.body x)) ≡ None) one t.2))
-moved_deed all h s w host (Drops line) from may = moved_not all w.hosts host (pick w.hosts host).body
-moved_deed all h s w host (Answers line) from may = let k = pick w.hosts host in
+moved_host_step all h s w host (Drops line) from may = moved_not all w.hosts host (pick w.hosts host).body
+moved_host_step all h s w host (Answers line) from may = let k = pick w.hosts host in
     on_cases (λ (c : HostTcp). Moved all w.hosts host k.body c) (waiting line k.inbox) k.body _
     (moved_not all w.hosts host k.body) (λ m e. moved_not all w.hosts host k.body)
 
@@ -349,73 +349,73 @@ socket_insert sockets n v m s e = go (nat_eq m n) refl (sym (lookup_insert m n v
     go false is e = inl e
 
 socket_dead : (b : HostTcp) (n m : ℕ) (s : Socket) → lookup (nat_eq m) (dead b.sockets n) ≡ Some s
-    → (t : Socket) × (lookup (nat_eq m) b.sockets ≡ Some t) × (t.thing ≡ s.thing)
+    → (t : Socket) × (lookup (nat_eq m) b.sockets ≡ Some t) × (t.target ≡ s.target)
 socket_dead b n m s = go (lookup (nat_eq n) b.sockets) refl
   where
     by : (v : Socket) → lookup (nat_eq n) b.sockets ≡ Some v
         → (lookup (nat_eq m) b.sockets ≡ Some s) ⊎ ((n ≡ m) × (record v { live = false } ≡ s))
-        → (t : Socket) × (lookup (nat_eq m) b.sockets ≡ Some t) × (t.thing ≡ s.thing)
+        → (t : Socket) × (lookup (nat_eq m) b.sockets ≡ Some t) × (t.target ≡ s.target)
     by v at (inl old) = (s, old, refl)
-    by v at (inr one) = (v, subst (λ k. lookup (nat_eq k) b.sockets ≡ Some v) one.0 at, ap (λ (x : Socket). x.thing) one.1)
+    by v at (inr one) = (v, subst (λ k. lookup (nat_eq k) b.sockets ≡ Some v) one.0 at, ap (λ (x : Socket). x.target) one.1)
 
     go : (o : Option Socket) → lookup (nat_eq n) b.sockets ≡ o
         → lookup (nat_eq m) (option_map_or
         (λ v. insert_entry nat_eq b.sockets n (record v { live = false })) o b.sockets) ≡ Some s
-        → (t : Socket) × (lookup (nat_eq m) b.sockets ≡ Some t) × (t.thing ≡ s.thing)
+        → (t : Socket) × (lookup (nat_eq m) b.sockets ≡ Some t) × (t.target ≡ s.target)
     go None at e = (s, e, refl)
     go (Some v) at e = by v at (socket_insert b.sockets n (record v { live = false }) m s e)
 
 -- what a live number names
-thing_here : (b : HostTcp) (n : ℕ) (thing : SocketTarget) → thing_of b n ≡ Some thing
-    → (s : Socket) × (lookup (nat_eq n) b.sockets ≡ Some s) × (s.thing ≡ thing)
-thing_here b n thing = go (lookup (nat_eq n) b.sockets) refl
+target_here : (b : HostTcp) (n : ℕ) (target : SocketTarget) → socket_target b n ≡ Some target
+    → (s : Socket) × (lookup (nat_eq n) b.sockets ≡ Some s) × (s.target ≡ target)
+target_here b n target = go (lookup (nat_eq n) b.sockets) refl
   where
     by : (s : Socket) (c : Bool) → lookup (nat_eq n) b.sockets ≡ Some s
-        → (if c then Some s.thing else None) ≡ Some thing
-        → (t : Socket) × (lookup (nat_eq n) b.sockets ≡ Some t) × (t.thing ≡ thing)
-    by s true at e = (s, at, same_Some s.thing thing e)
-    by s false at e = absurd (none-some thing e)
+        → (if c then Some s.target else None) ≡ Some target
+        → (t : Socket) × (lookup (nat_eq n) b.sockets ≡ Some t) × (t.target ≡ target)
+    by s true at e = (s, at, same_Some s.target target e)
+    by s false at e = absurd (none-some target e)
 
-    go : (o : Option Socket) → lookup (nat_eq n) b.sockets ≡ o → option_map_or if_live o None ≡ Some thing
-        → (t : Socket) × (lookup (nat_eq n) b.sockets ≡ Some t) × (t.thing ≡ thing)
-    go None at e = absurd (none-some thing e)
+    go : (o : Option Socket) → lookup (nat_eq n) b.sockets ≡ o → option_map_or if_live o None ≡ Some target
+        → (t : Socket) × (lookup (nat_eq n) b.sockets ≡ Some t) × (t.target ≡ target)
+    go None at e = absurd (none-some target e)
     go (Some s) at e = by s s.live at e
 
 -- a number is given to a thing whose name is right
-with_new : (all : List CallDone) (a : Hosts) (x : Host) (b c : HostTcp) (n : ℕ) (thing : SocketTarget)
-    → Moved all a x b c → c.sockets ≡ b.sockets → Names all x c n thing → Moved all a x b (with_socket c n thing)
-with_new all a x b c n thing g same names = record {
+with_new : (all : List CallDone) (a : Hosts) (x : Host) (b c : HostTcp) (n : ℕ) (target : SocketTarget)
+    → Moved all a x b c → c.sockets ≡ b.sockets → Names all x c n target → Moved all a x b (with_socket c n target)
+with_new all a x b c n target g same names = record {
   ends = g.ends;
   born = λ i f at. again f (g.born i f at);
   listeners = g.listeners;
-  sockets = λ m s e. by m s (socket_insert c.sockets n (record { thing = thing; live = true }) m s e);
+  sockets = λ m s e. by m s (socket_insert c.sockets n (record { target = target; live = true }) m s e);
 }
   where
-    again : {P : Type 0} (f : Endpoint) → P ⊎ Born a x c f → P ⊎ Born a x (with_socket c n thing) f
+    again : {P : Type 0} (f : Endpoint) → P ⊎ Born a x c f → P ⊎ Born a x (with_socket c n target) f
     again f (inl old) = inl old
     again f (inr new) = inr (record { listener = new.listener; peer = new.peer })
 
-    same_names : (t : SocketTarget) → Names all x c n t → Names all x (with_socket c n thing) n t
+    same_names : (t : SocketTarget) → Names all x c n t → Names all x (with_socket c n target) n t
     same_names (EndpointAt i) y = y
     same_names (ListenerAt l) y = y
 
     by : (m : ℕ) (s : Socket)
-        → (lookup (nat_eq m) c.sockets ≡ Some s) ⊎ ((n ≡ m) × (record { thing = thing; live = true } ≡ s))
-        → ((t : Socket) × (lookup (nat_eq m) b.sockets ≡ Some t) × (t.thing ≡ s.thing))
-        ⊎ Names all x (with_socket c n thing) m s.thing
+        → (lookup (nat_eq m) c.sockets ≡ Some s) ⊎ ((n ≡ m) × (record { target = target; live = true } ≡ s))
+        → ((t : Socket) × (lookup (nat_eq m) b.sockets ≡ Some t) × (t.target ≡ s.target))
+        ⊎ Names all x (with_socket c n target) m s.target
     by m s (inl old) = inl (s, subst (λ (l : List (ℕ × Socket)). lookup (nat_eq m) l ≡ Some s) same old, refl)
     by m s (inr one) =
-        inr (subst (λ k. Names all x (with_socket c n thing) k s.thing) one.0
-        (subst (λ (t : SocketTarget). Names all x (with_socket c n thing) n t) (ap (λ (y : Socket). y.thing) one.1)
-        (same_names thing names)))
+        inr (subst (λ k. Names all x (with_socket c n target) k s.target) one.0
+        (subst (λ (t : SocketTarget). Names all x (with_socket c n target) n t) (ap (λ (y : Socket). y.target) one.1)
+        (same_names target names)))
 
 moved_change : (all : List CallDone) (a : Hosts) (x : Host) (b : HostTcp) (n : ℕ) (f : Endpoint → Endpoint)
     → ((e : Endpoint) → SameEnd e (f e)) → Moved all a x b (change b n f)
 moved_change all a x b n f new =
-    map_or_cases (λ (c : HostTcp). Moved all a x b c) (thing_of b n) b (change_thing b f) (λ e. moved_not all a x b)
-    (λ thing e. go thing)
+    map_or_cases (λ (c : HostTcp). Moved all a x b c) (socket_target b n) b (change_target b f) (λ e. moved_not all a x b)
+    (λ target e. go target)
   where
-    go : (thing : SocketTarget) → Moved all a x b (change_thing b f thing)
+    go : (target : SocketTarget) → Moved all a x b (change_target b f target)
     go (ListenerAt l) = moved_not all a x b
     go (EndpointAt i) = moved_one all a x b i f new
 
@@ -445,11 +445,11 @@ moved_map all a x b l = record {
 moved_gone : (all : List CallDone) (a : Hosts) (x : Host) (b : HostTcp) (n : ℕ) (f : Endpoint → Endpoint)
     → ((e : Endpoint) → SameEnd e (f e)) → Moved all a x b (after_gone b n f)
 moved_gone all a x b n f new =
-    map_or_cases (λ (c : HostTcp). Moved all a x b c) (thing_of b n) b
-    (λ thing. record (thing_gone b thing f) { sockets = dead b.sockets n }) (λ e. moved_not all a x b)
-    (λ thing e. go thing)
+    map_or_cases (λ (c : HostTcp). Moved all a x b c) (socket_target b n) b
+    (λ target. record (target_gone b target f) { sockets = dead b.sockets n }) (λ e. moved_not all a x b)
+    (λ target e. go target)
   where
-    go : (thing : SocketTarget) → Moved all a x b (record (thing_gone b thing f) { sockets = dead b.sockets n })
+    go : (target : SocketTarget) → Moved all a x b (record (target_gone b target f) { sockets = dead b.sockets n })
     go (ListenerAt l) = moved_dead all a x b (without_listener b l) n (moved_map all a x b l) refl
     go (EndpointAt i) = moved_dead all a x b (with_endpoint b i f) n (moved_one all a x b i f new) refl
 
@@ -463,12 +463,12 @@ close_end e = go (is_syn_sent e.state)
 -- what is known of a host before a call
 pub record Known (all : List CallDone) (x : Host) (b : HostTcp) : Type 0 where
   pub sound : Sound b
-  pub numbers : (n : ℕ) (s : Socket) → lookup (nat_eq n) b.sockets ≡ Some s → Names all x b n s.thing
+  pub numbers : (n : ℕ) (s : Socket) → lookup (nat_eq n) b.sockets ≡ Some s → Names all x b n s.target
   pub children : (i : ℕ) (e : Endpoint) (l : ℕ) → slice_get b.endpoints i ≡ Some e → e.listener ≡ Some l → port_at b.listeners l ≡ Some e.lport
 
 moved_accept : (all : List CallDone) (a : Hosts) (x : Host) (b : HostTcp) (h n : ℕ) → Known all x b
-    → Stands all (calls.Accept h) (answers.Given n) → (thing : SocketTarget) → thing_of b h ≡ Some thing
-    → Moved all a x b (after_accept b n thing)
+    → Stands all (calls.Accept h) (answers.Given n) → (target : SocketTarget) → socket_target b h ≡ Some target
+    → Moved all a x b (after_accept b n target)
 moved_accept all a x b h n known stands (EndpointAt i) is = moved_not all a x b
 moved_accept all a x b h n known stands (ListenerAt l) is = go (queue_of b l) refl
   where
@@ -501,7 +501,7 @@ moved_accept all a x b h n known stands (ListenerAt l) is = go (queue_of b l) re
         e = first.0
 
         listening : Names all x b h (ListenerAt l)
-        listening = let s = thing_here b h (ListenerAt l) is in subst (λ (t : SocketTarget). Names all x b h t) s.2 (known.numbers h s.0 s.1)
+        listening = let s = target_here b h (ListenerAt l) is in subst (λ (t : SocketTarget). Names all x b h t) s.2 (known.numbers h s.0 s.1)
 
         port : listening.0 ≡ e.lport
         port = same_Some listening.0 e.lport (sym listening.2 ∙ known.children c e l first.1 first.2)
@@ -544,8 +544,8 @@ moved_call p all a x b (calls.Connect at lport rport) (answers.Given n) known st
           (opens at lport rport refl) stands),
     )
 moved_call p all a x b (calls.Accept h) (answers.Given n) known stands listens opens =
-    map_or_cases (λ (c : HostTcp). Moved all a x b c) (thing_of b h) b (after_accept b n) (λ e. moved_not all a x b)
-    (λ thing e. moved_accept all a x b h n known stands thing e)
+    map_or_cases (λ (c : HostTcp). Moved all a x b c) (socket_target b h) b (after_accept b n) (λ e. moved_not all a x b)
+    (λ target e. moved_accept all a x b h n known stands target e)
 moved_call p all a x b (calls.Send h bytes) (answers.Given n) known stands listens opens =
     moved_change all a x b h (after_send bytes n) (λ e. plain_end e (after_send bytes n e) refl refl refl)
 moved_call p all a x b (calls.Recv h most) (answers.Bytes bytes) known stands listens opens =

@@ -14,11 +14,11 @@ use Rattle.case_forms.specs.declared.steps.SegmentPlan.{SegmentPlan}
 use Rattle.case_forms.specs.declared.trace.Header.{Header}
 use Rattle.streams.proofs.Places.{get_append}
 use Rattle.spec_network.specs.Tables.{pick, other, with_host, on, Made, unsent, gone_out, waiting, settled}
-use Rattle.spec_network.specs.Hosts.{HostState, Turn, Idle, Called, Answered, World, Deed, Does, Expires, Makes, Sends}
+use Rattle.spec_network.specs.Hosts.{HostState, Turn, Idle, Called, Answered, World, HostStep, Does, Expires, Makes, Sends}
 use Rattle.spec_network.specs.Hosts.{Gets, Hears, Takes, Drops, Answers, Step, Begin, Finish, Effect, At, Stamped}
 use Rattle.spec_network.specs.Hosts.{turn_of}
 use Rattle.spec_network.specs.HostRules.{aim_of, Permitted}
-use Rattle.spec_network.specs.HostSteps.{deed_after, call_after, effect_after, after, after_all, start, Lawful}
+use Rattle.spec_network.specs.HostSteps.{host_step_after, call_after, effect_after, after, after_all, start, Lawful}
 use Rattle.spec_tcp.specs.Signals.{profile_of}
 use Rattle.spec_tcp.specs.declared.endpoint.Emission.{Emission}
 use Rattle.spec_tcp.specs.declared.endpoint.Endpoint.{Endpoint}
@@ -44,7 +44,7 @@ use Rattle.checker.specs.Headline.{CallDone, Stands, HasPorts}
 use Rattle.checker.specs.Peers.{peer_of, GoesTo}
 use Rattle.checker.proofs.HeadlineLemmas.{one_done, run_done}
 use Rattle.checker.proofs.PeerLemmas.{Meets, meets, both_step}
-use Rattle.checker.proofs.PortLemmas.{HasAt, port_at, place_ports, taker_place, SameEnd, same_end, Born, Names, Moved, moved_deed, moved_call}
+use Rattle.checker.proofs.PortLemmas.{HasAt, port_at, place_ports, taker_place, SameEnd, same_end, Born, Names, Moved, moved_host_step, moved_call}
 
 -- a segment with SYN was made at this host by an endpoint of its ports; of a reset that answers nothing is said, since it has the sender of the segment that it
 -- answers
@@ -84,13 +84,13 @@ settled_home a x line inbox old =
     on_cases (AllWaiting (FromHost a (other x))) (waiting line inbox) inbox (λ m. settled line inbox) old
     (λ m e. inbox_settled (FromHost a (other x)) inbox line old)
 
-deed_home : (h : Header) → is_half h.version ≡ false → (s : ℕ) (w : World tcp_shape) (host : Host) (d : Deed tcp_shape)
+host_step_home : (h : Header) → is_half h.version ≡ false → (s : ℕ) (w : World tcp_shape) (host : Host) (d : HostStep tcp_shape)
     → Permitted (tcp h) s w (At host d) → AtHome w.hosts host (pick w.hosts host)
     → AtHome w.hosts (other host) (pick w.hosts (other host))
-    → AtHome w.hosts host (deed_after (tcp h) host s (suc w.count) (pick w.hosts (other host)).wire (pick w.hosts host) d)
-deed_home h both s w host (Does x) may g far = record { made = g.made; wire = g.wire; inbox = g.inbox }
-deed_home h both s w host (Expires line x) may g far = record { made = g.made; wire = g.wire; inbox = g.inbox }
-deed_home h both s w host (Makes m) may g far = record {
+    → AtHome w.hosts host (host_step_after (tcp h) host s (suc w.count) (pick w.hosts (other host)).wire (pick w.hosts host) d)
+host_step_home h both s w host (Does x) may g far = record { made = g.made; wire = g.wire; inbox = g.inbox }
+host_step_home h both s w host (Expires line x) may g far = record { made = g.made; wire = g.wire; inbox = g.inbox }
+host_step_home h both s w host (Makes m) may g far = record {
   made = made_more w.hosts host (pick w.hosts host).made (suc w.count)
       (option_map_or (made_at host (pick w.hosts host).body m)
       (place_of (pick w.hosts host).body m.lport m.rport) None)
@@ -98,7 +98,7 @@ deed_home h both s w host (Makes m) may g far = record {
   wire = g.wire;
   inbox = g.inbox;
 }
-deed_home h both s w host (Sends line number wire) may g far = let k = pick w.hosts host in record {
+host_step_home h both s w host (Sends line number wire) may g far = let k = pick w.hosts host in record {
   made = on_cases (λ (t : List (ℕ × Made Emission)). AllIn (λ (y : Made Emission). FromHost w.hosts host y.emission) t) (lookup (nat_eq number) k.made) k.made
       (λ m. insert_entry nat_eq k.made number (gone_out m)) g.made
       (λ m e. all_insert (λ (y : Made Emission). FromHost w.hosts host y.emission) k.made number (gone_out m) (g.made number m e) g.made);
@@ -107,19 +107,19 @@ deed_home h both s w host (Sends line number wire) may g far = let k = pick w.ho
       (λ m e. all_insert (FromHost w.hosts host) k.wire line (sent s wire m.emission) (g.made number m e) g.wire);
   inbox = g.inbox;
 }
-deed_home h both s w host (Gets line copied wire) may g far = let k = pick w.hosts host in record {
+host_step_home h both s w host (Gets line copied wire) may g far = let k = pick w.hosts host in record {
   made = g.made;
   wire = g.wire;
   inbox = on_cases (AllWaiting (FromHost w.hosts (other host))) (lookup (nat_eq copied) (pick w.hosts (other host)).wire) k.inbox
       (λ m. insert_entry nat_eq k.inbox line (Some m)) g.inbox
       (λ m e. inbox_join (FromHost w.hosts (other host)) k.inbox line m (far.wire copied m e) g.inbox);
 }
-deed_home h both s w host (Hears line wire) may g far = absurd (heard_nothing h both may)
-deed_home h both s w host (Takes line how) may g far =
+host_step_home h both s w host (Hears line wire) may g far = absurd (heard_nothing h both may)
+host_step_home h both s w host (Takes line how) may g far =
     record { made = g.made; wire = g.wire; inbox = settled_home w.hosts host line (pick w.hosts host).inbox g.inbox }
-deed_home h both s w host (Drops line) may g far =
+host_step_home h both s w host (Drops line) may g far =
     record { made = g.made; wire = g.wire; inbox = settled_home w.hosts host line (pick w.hosts host).inbox g.inbox }
-deed_home h both s w host (Answers line) may g far = let k = pick w.hosts host in record {
+host_step_home h both s w host (Answers line) may g far = let k = pick w.hosts host in record {
   made = on_cases (λ (t : List (ℕ × Made Emission)). AllIn (λ (y : Made Emission). FromHost w.hosts host y.emission) t) (waiting line k.inbox) k.made
       (λ m. insert_entry nat_eq k.made (suc w.count) (unsent (reset_of m))) g.made
       (λ m e. all_insert (λ (y : Made Emission). FromHost w.hosts host y.emission) k.made (suc w.count) (unsent (reset_of m)) (λ syn. absurd cc) g.made);
@@ -144,7 +144,7 @@ home_later a b later x h g = record {
 -- what holds of a world, where these calls had their effect
 pub record Ported (all : List CallDone) (a : Hosts) : Type 0 where
   -- what a socket number names has the ports of the call that gave it
-  pub numbers : (x : Host) (n : ℕ) (s : Socket) → lookup (nat_eq n) (pick a x).body.sockets ≡ Some s → Names all x (pick a x).body n s.thing
+  pub numbers : (x : Host) (n : ℕ) (s : Socket) → lookup (nat_eq n) (pick a x).body.sockets ≡ Some s → Names all x (pick a x).body n s.target
   -- a child has its listener's port
   pub children : (x : Host) (i : ℕ) (e : Endpoint) (l : ℕ) → slice_get (pick a x).body.endpoints i ≡ Some e
       → e.listener ≡ Some l → port_at (pick a x).body.listeners l ≡ Some e.lport
@@ -190,12 +190,12 @@ ported_host all w step host k old moved home met =
         → port_at y.body.listeners l ≡ Some port) moved.listeners (λ l port e. e)
 
     sockets : (x : Host) (n : ℕ) (s : Socket) → lookup (nat_eq n) (pick b x).body.sockets ≡ Some s
-        → ((t : Socket) × (lookup (nat_eq n) (pick a x).body.sockets ≡ Some t) × (t.thing ≡ s.thing))
-        ⊎ Names all x (pick b x).body n s.thing
+        → ((t : Socket) × (lookup (nat_eq n) (pick a x).body.sockets ≡ Some t) × (t.target ≡ s.target))
+        ⊎ Names all x (pick b x).body n s.target
     sockets =
         with_cases a host k (λ x y. (n : ℕ) (s : Socket) → lookup (nat_eq n) y.body.sockets ≡ Some s
-        → ((t : Socket) × (lookup (nat_eq n) (pick a x).body.sockets ≡ Some t) × (t.thing ≡ s.thing))
-        ⊎ Names all x y.body n s.thing)
+        → ((t : Socket) × (lookup (nat_eq n) (pick a x).body.sockets ≡ Some t) × (t.target ≡ s.target))
+        ⊎ Names all x y.body n s.target)
         moved.sockets (λ n s e. inl (s, e, refl))
 
     stand : AllStand a b
@@ -210,12 +210,12 @@ ported_host all w step host k old moved home met =
         (g.0, g.1, subst (λ (l : ℕ). HasPorts all x l g.0.rport n) (sym g.2.lport) (subst (λ (r : ℕ). HasPorts all x y.0.lport r n) (sym g.2.rport) y.2))
     named x n (ListenerAt l) y = (y.0, y.1, listeners x l y.0 y.2, y.3)
 
-    numbers : (x : Host) (n : ℕ) (s : Socket) → lookup (nat_eq n) (pick b x).body.sockets ≡ Some s → Names all x (pick b x).body n s.thing
+    numbers : (x : Host) (n : ℕ) (s : Socket) → lookup (nat_eq n) (pick b x).body.sockets ≡ Some s → Names all x (pick b x).body n s.target
     numbers x n s at = go (sockets x n s at)
       where
-        go : ((t : Socket) × (lookup (nat_eq n) (pick a x).body.sockets ≡ Some t) × (t.thing ≡ s.thing))
-            ⊎ Names all x (pick b x).body n s.thing → Names all x (pick b x).body n s.thing
-        go (inl t) = subst (λ (y : SocketTarget). Names all x (pick b x).body n y) t.2 (named x n t.0.thing (old.numbers x n t.0 t.1))
+        go : ((t : Socket) × (lookup (nat_eq n) (pick a x).body.sockets ≡ Some t) × (t.target ≡ s.target))
+            ⊎ Names all x (pick b x).body n s.target → Names all x (pick b x).body n s.target
+        go (inl t) = subst (λ (y : SocketTarget). Names all x (pick b x).body n y) t.2 (named x n t.0.target (old.numbers x n t.0 t.1))
         go (inr new) = new
 
     children : (x : Host) (i : ℕ) (f : Endpoint) (l : ℕ) → slice_get (pick b x).body.endpoints i ≡ Some f
@@ -282,8 +282,8 @@ ported_step : (h : Header) → is_half h.version ≡ false
 ported_step h both all s w (Begin line t call) steady may stands old = old
 ported_step h both all s w (Finish line t answer) steady may stands old = old
 ported_step h both all s w (At host d) steady may stands old =
-    ported_host all w (At host d) host (deed_after (tcp h) host s (suc w.count) (pick w.hosts (other host)).wire (pick w.hosts host) d) old
-    (moved_deed all h s w host d (old.home host).inbox may) (deed_home h both s w host d may (old.home host) (old.home (other host)))
+    ported_host all w (At host d) host (host_step_after (tcp h) host s (suc w.count) (pick w.hosts (other host)).wire (pick w.hosts host) d) old
+    (moved_host_step all h s w host d (old.home host).inbox may) (host_step_home h both s w host d may (old.home host) (old.home (other host)))
     (meets w (At host d) (after (tcp h) s w (At host d)).hosts (both_step h s w (At host d) steady may))
 ported_step h both all s w (Effect t answer) steady may stands old =
     go (turn_of t w.threads) stands
@@ -352,13 +352,13 @@ pub number_ports : (all : List CallDone) (a : Hosts) → Ported all a → (x : H
     → HasPorts all x e.lport e.rport n
 number_ports all a g x n i e own at = go (lookup (nat_eq n) (pick a x).body.sockets) refl own
   where
-    by : (s : Socket) (t : SocketTarget) → s.thing ≡ t → Names all x (pick a x).body n t → endpoint_place t ≡ Some i → HasPorts all x e.lport e.rport n
+    by : (s : Socket) (t : SocketTarget) → s.target ≡ t → Names all x (pick a x).body n t → endpoint_place t ≡ Some i → HasPorts all x e.lport e.rport n
     by s (ListenerAt l) is names place = absurd (none-some i place)
     by s (EndpointAt j) is names place =
         let same : names.0 ≡ e = same_Some names.0 e (sym names.1 ∙ (ap (λ (k : ℕ). slice_get (pick a x).body.endpoints k) (same_Some j i place) ∙ at)) in
         subst (λ (y : Endpoint). HasPorts all x y.lport y.rport n) same names.2
 
     go : (o : Option Socket) → lookup (nat_eq n) (pick a x).body.sockets ≡ o
-        → option_map_or (λ s. endpoint_place s.thing) o None ≡ Some i → HasPorts all x e.lport e.rport n
+        → option_map_or (λ s. endpoint_place s.target) o None ≡ Some i → HasPorts all x e.lport e.rport n
     go None there own = absurd (none-some i own)
-    go (Some s) there own = by s s.thing refl (g.numbers x n s there) own
+    go (Some s) there own = by s s.target refl (g.numbers x n s there) own

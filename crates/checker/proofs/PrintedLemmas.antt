@@ -33,7 +33,7 @@ use Rattle.line_fields.proofs.Endings.{ending_again}
 use Rattle.line_fields.proofs.Loop.{spelled_raws}
 use Rattle.line_fields.proofs.Texts.{lines_of-concat}
 use Rattle.line_fields.proofs.Written.{first_plain, written_clean}
-use Rattle.trace_text.specs.FirstLine.{first_words}
+use Rattle.case_lines.specs.FirstLine.{first_words}
 use Rattle.trace_reader.specs.Headers.{AreLines, slack_words, late_words, header_words}
 use Rattle.trace_reader.specs.Events.{event_pieces}
 use Rattle.trace_reader.specs.EventLines.{Place, behind, line_pieces, IsEventLine}

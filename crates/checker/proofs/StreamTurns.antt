@@ -32,7 +32,7 @@ use Rattle.line_fields.specs.Folding.{read_lines}
 use Rattle.line_fields.proofs.Loop.{spelled_takes}
 use Rattle.line_fields.specs.Rows.{rows_of}
 use Rattle.trace_reader.specs.EventLines.{Place, behind, line_of, IsEventLine}
-use Rattle.trace_text.specs.TextLeft.{rows_left}
+use Rattle.case_lines.specs.TextLeft.{rows_left}
 use Rattle.trace_reader.specs.declared.stream.TraceReader.{TraceReader}
 use Rattle.trace_reader.specs.TraceLeft.{lines_left, place_of, version_of, kept_of, lines_after, AreAt, StandsAt}
 use Rattle.trace_reader.proofs.EventLineLaw.{reads_line}

@@ -13,9 +13,9 @@ use Rattle.counted.specs.Counting.{left_of}
 use Rattle.line_fields.specs.declared.fault.TextFault.{TextFault}
 use Rattle.line_fields.specs.Rows.{rows_of}
 use Rattle.trace_reader.specs.TraceText.{trace_of, trace_in}
-use Rattle.trace_text.specs.CaseLines.{trace_rows}
-use Rattle.trace_text.specs.declared.text_lines.TextEnd.{TextEnd}
-use Rattle.trace_text.specs.declared.text_lines.TextEnd.TheVariants as ends
+use Rattle.case_lines.specs.CaseLines.{trace_rows}
+use Rattle.case_lines.specs.declared.text_lines.TextEnd.{TextEnd}
+use Rattle.case_lines.specs.declared.text_lines.TextEnd.TheVariants as ends
 use Rattle.trace_reader.specs.TraceLeft.{Begins, with_header}
 use Rattle.witness.specs.WitnessText.{witness_for}
 use Rattle.witness.specs.StepsLeft.{steps_from, steps_of, steps_left, number_read, source_of, version_of}

@@ -10,7 +10,7 @@ use Rattle.line_fields.specs.Reading.{◌>>=◌}
 use Rattle.line_fields.specs.Left.{in_front, Yields}
 use Rattle.trace_reader.specs.TraceLeft.{source_of, place_of, fault_of, end_of_text, trace_left, lines_left}
 use Rattle.trace_reader.specs.TraceLeft.{IsFresh, IsBegun}
-use Rattle.trace_text.specs.declared.text_lines.TextEnd.TheVariants as ends
+use Rattle.case_lines.specs.declared.text_lines.TextEnd.TheVariants as ends
 use Rattle.interval_order.specs.Orders.{Order}
 use Rattle.checker.specs.declared.case.CaseFault.{CaseFault}
 use Rattle.checker.specs.declared.case.CaseFault.TheVariants as faults

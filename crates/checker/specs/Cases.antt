@@ -9,7 +9,7 @@ use Rattle.line_fields.specs.declared.fault.FaultKind.{FaultKind}
 use Rattle.line_fields.specs.declared.fault.FaultKind.TheVariants as kinds
 use Rattle.line_fields.specs.declared.fault.TextFault.{TextFault}
 use Rattle.trace_reader.specs.TraceText.{trace_of}
-use Rattle.trace_text.specs.FirstLine.{version_named}
+use Rattle.case_lines.specs.FirstLine.{version_named}
 use Rattle.witness.specs.WitnessText.{witness_for}
 use Rattle.witness.specs.FirstLine.{begins_witness}
 use Rattle.verdict.specs.declared.report.Verdict.{Verdict}

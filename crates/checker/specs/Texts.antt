@@ -3,7 +3,7 @@ use Rattle.std.specs.Prelude.{◌≡◌, ℕ, List, Option, None, Some, Result, 
 use Rattle.bstr.specs.Text.{lines_of}
 use Rattle.case_forms.specs.declared.trace.Trace.{Trace}
 use Rattle.case_forms.specs.declared.steps.Witness.{Witness}
-use Rattle.trace_text.specs.FirstLine.{version_named}
+use Rattle.case_lines.specs.FirstLine.{version_named}
 use Rattle.trace_reader.specs.TraceText.{trace_of}
 use Rattle.witness.specs.WitnessText.{witness_for}
 use Rattle.verdict.specs.declared.report.Verdict.{Verdict}

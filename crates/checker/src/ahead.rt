@@ -19,9 +19,9 @@ ghost use Rattle.checker.specs.Ahead.{IsAll, IsInStep, TraceFails, Follows};
 
 use crate::case::{CaseFault, trace_fault};
 use case_forms::{Header, Line};
+use case_lines::KeptLines;
 use counted::Counted;
 use interval_order::{Window, is_reached};
-use kept_lines::KeptLines;
 use line_fields::SourceFault;
 use std::alloc::Global;
 use std::io::BufRead;
@@ -90,6 +90,17 @@ impl Ahead<&'static [u8]> {
         let mut line = None;
         read_next(&mut reader, &mut line)?;
         Ok(Ahead { reader, line })
+    }
+
+    /// A trace with this header, of which no line is left.
+    pub(crate) fn at_end(alloc: Global, header: &Header) -> Ahead<&'static [u8]>
+        ensures ahead { IsAhead result }
+        ensures end { line_ahead result ≡ None }
+    {
+        Ahead {
+            reader: TraceReader::of_lines(alloc, header, KeptLines::new(alloc)),
+            line: None,
+        }
     }
 }
 

@@ -29,9 +29,10 @@
 //! - `ahead`: a trace that is read one line ahead
 //! - `offering`: the lines that a step's moment reaches, and a line that a step names before it is reached
 //! - `turns`: what a turn does: it reads a step, does it, and says no if it is refused
+//! - `lists`: a trace and a witness that are in memory
 //! - `verdicts`: the loop with a turn for each step, and the verdict at the end of the witness
-//! - `steps`: the rest of a witness, which is read only for its faults
-//! - `replay`: the replay of a witness that is all in memory; what one step does
+//! - `steps`: the steps of a witness, of a text or of a list
+//! - `replay`: what one step does to the window and the world
 //! - `printed`: a trace and its witness as one text
 //! - `laws`: when the verdict is yes and what it counts; that a yes stays one if less is judged; which line is taken
 //!   first; that receives return a prefix of what the peer's sends accepted; what else follows for streams, windows and
@@ -42,6 +43,7 @@
 mod ahead;
 mod case;
 mod laws;
+mod lists;
 mod offering;
 mod one_text;
 mod printed;
@@ -58,7 +60,7 @@ pub use laws::{
     streams_at_each_moment, two_witnesses_of_one_trace, verdict_means, verdict_when_read_again,
     what_a_verdict_means, yes_counts_all_lines,
 };
+pub use lists::check;
 pub use one_text::check_reader;
 pub use printed::print_case;
-pub use replay::check;
 pub use two_texts::check_streams;

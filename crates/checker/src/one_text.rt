@@ -7,7 +7,7 @@ ghost use Rattle.std.specs.Prelude.{◌≡◌, ◌≢◌, [], true, false, Err, 
 ghost use Rattle.case_forms.specs.declared.trace.Trace.{Trace};
 ghost use Rattle.case_forms.specs.declared.steps.Witness.{Witness};
 ghost use Rattle.counted.specs.Counting.{left_of, failures_of, one_more};
-ghost use Rattle.trace_text.specs.CaseLines.{has_met, KeepsWitness};
+ghost use Rattle.case_lines.specs.CaseLines.{has_met, KeepsWitness};
 ghost use Rattle.trace_reader.specs.TraceText.{first_place};
 ghost use Rattle.trace_reader.specs.TraceLeft.{fault_of, place_of, end_of_text, trace_left, lines_left, rows_behind};
 ghost use Rattle.trace_reader.specs.TraceLeft.{kept_of, reader_failures, AreAt, IsBegun, IsFresh, IsReadThrough};
@@ -23,8 +23,8 @@ use crate::case::{CaseFault, trace_fault, witness_fault};
 use crate::laws::verdict_means;
 use crate::verdicts::judge;
 use case_forms::Header;
+use case_lines::KeptLines;
 use counted::Counted;
-use kept_lines::KeptLines;
 use line_fields::{SourceFault, TextFault};
 use std::alloc::Global;
 use std::io::BufRead;

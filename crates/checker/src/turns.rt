@@ -1,4 +1,4 @@
-//! The turns of the loop that replays a witness while both texts are read, one for each step.
+//! The turns of the loop that replays a witness, one for each step.
 
 ghost use Rattle.std.specs.Prelude.{◌≡◌, ◌≢◌, ◌<◌, ◌≤◌, ◌+◌, ◌^◌, List, Err, IfOk, IfErr, IfSome, OnOk, None, Some};
 ghost use Rattle.std.specs.Prelude.{Option, Result};
@@ -9,7 +9,6 @@ ghost use Rattle.case_forms.specs.Witnesses.{IsWithinLimits};
 ghost use Rattle.counted.specs.Counting.{failures_of, one_more};
 ghost use Rattle.line_fields.specs.declared.fault.TextFault.{TextFault};
 ghost use Rattle.line_fields.specs.Left.{FailsLeft, Yields};
-ghost use Rattle.witness.specs.StepsLeft.{steps_left, fault_of, number_of, reader_failures};
 ghost use Rattle.spec_step.specs.Faults.{IfBroken};
 ghost use Rattle.spec_tcp.specs.Bounds.{most_steps};
 ghost use Rattle.checker.specs.Ahead.{source_ahead, line_ahead, left_ahead, IsAhead, IsInStep, TraceFails};
@@ -21,17 +20,15 @@ use crate::ahead::Ahead;
 use crate::case::{CaseFault, witness_fault};
 use crate::offering::{offer_reached, refuse_late};
 use crate::replay::{line_named, replay};
-use crate::steps::drain_steps;
-use answers::step_line;
+use crate::steps::StepSource;
 use case_forms::{Label, NamedLine, Step};
 use endpoint_state::StepFault;
 use interval_order::Window;
-use line_fields::SourceFault;
+use line_fields::{SourceFault, step_line};
 use std::alloc::Global;
 use std::io::BufRead;
 use verdict::{Rule, Verdict};
 use watched::Case;
-use witness::StepReader;
 
 /// How many steps were done.
 #[derive(Clone, Copy)]
@@ -87,29 +84,27 @@ fn late_fault<A: BufRead>(lines: &mut Ahead<A>, fault: SourceFault) -> CaseFault
 
 /// Reads the next step of the witness into the item, or `None` at its end. A fault of the trace comes before one of the
 /// witness.
-pub(crate) fn read_step<A: BufRead, B: BufRead>(
+pub(crate) fn read_step<A: BufRead, S: StepSource>(
     lines: &mut Ahead<A>,
-    steps: &mut StepReader<B>,
+    steps: &mut S,
     item: &mut Option<Step>,
 ) -> Result<(), CaseFault>
     requires ahead { IsAhead lines.old }
-    requires working { fault_of steps.old ≡ None }
-    ensures next { OnOk result
-        (Yields (steps_left B.remaining steps.old) (steps_left B.remaining steps.new) item.new) }
+    requires working { S.is_working steps.old }
+    ensures next { OnOk result (Yields (S.left steps.old) (S.left steps.new) item.new) }
     ensures place { OnOk result (IfSome item.new (λ step. IsWithinLimits step.label
-        × (number_of steps.new ≡ number_of steps.old + 1) × (number_of steps.old ≤ 10000000))) }
-    ensures working { OnOk result (fault_of steps.new ≡ None) }
+        × (S.room steps.old ≡ S.room steps.new + 1))) }
+    ensures working { OnOk result (S.is_working steps.new) }
     ensures unread { OnOk result (lines.new ≡ lines.old) }
-    ensures fault { IfErr result (λ e.
-        CaseFails e (left_ahead A.remaining lines.old) (steps_left B.remaining steps.old)) }
+    ensures fault { IfErr result (λ e. CaseFails e (left_ahead A.remaining lines.old) (S.left steps.old)) }
     ensures read { result ≡ Err CaseFault.Read →
-        OneFailed (failures_of (source_ahead lines.old)) (reader_failures steps.old)
-        (failures_of (source_ahead lines.new)) (reader_failures steps.new) }
+        OneFailed (failures_of (source_ahead lines.old)) (S.failures steps.old)
+        (failures_of (source_ahead lines.new)) (S.failures steps.new) }
     ensures same_lines { result ≢ Err CaseFault.Read
         → failures_of (source_ahead lines.new) ≡ failures_of (source_ahead lines.old) }
-    ensures same_steps { result ≢ Err CaseFault.Read → reader_failures steps.new ≡ reader_failures steps.old }
+    ensures same_steps { result ≢ Err CaseFault.Read → S.failures steps.new ≡ S.failures steps.old }
 {
-    match steps.next_into(item) {
+    match steps.next_step(item) {
         Ok(()) => Ok(()),
         Err(fault) => Err(late_fault(lines, fault)),
     }
@@ -186,30 +181,29 @@ pub(crate) fn replay_next<A: BufRead>(
 /// The verdict if a step with this label, after so many others, breaks this rule; a fault of what remains of the texts
 /// comes before it.
 #[inline(never)]
-pub(crate) fn refuse<A: BufRead, B: BufRead>(
+pub(crate) fn refuse<A: BufRead, S: StepSource>(
     lines: &mut Ahead<A>,
-    steps: &mut StepReader<B>,
+    steps: &mut S,
     place: u64,
     label: &Label<NamedLine>,
     rule: Rule,
 ) -> Result<Verdict, CaseFault>
     requires ahead { IsAhead lines.old }
-    requires working { fault_of steps.old ≡ None }
+    requires working { S.is_working steps.old }
     requires few { place ≤ 10000000 }
     ensures tells { (header : Header) (t : Option (Result (List Line) TextFault))
         (s : Option (Result (List Step) TextFault))
-        → IsBroken header t (left_ahead A.remaining lines.old) s (steps_left B.remaining steps.old) place
-        (line_named label.now) rule
+        → IsBroken header t (left_ahead A.remaining lines.old) s (S.left steps.old) place (line_named label.now) rule
         → Tells header t s result }
     ensures read { result ≡ Err CaseFault.Read →
-        OneFailed (failures_of (source_ahead lines.old)) (reader_failures steps.old)
-        (failures_of (source_ahead lines.new)) (reader_failures steps.new) }
+        OneFailed (failures_of (source_ahead lines.old)) (S.failures steps.old)
+        (failures_of (source_ahead lines.new)) (S.failures steps.new) }
     ensures same_lines { result ≢ Err CaseFault.Read
         → failures_of (source_ahead lines.new) ≡ failures_of (source_ahead lines.old) }
-    ensures same_steps { result ≢ Err CaseFault.Read → reader_failures steps.new ≡ reader_failures steps.old }
+    ensures same_steps { result ≢ Err CaseFault.Read → S.failures steps.new ≡ S.failures steps.old }
 {
     lines.drain()?;
-    drain_steps(steps)?;
+    steps.drain()?;
     Ok(Verdict::No {
         witness_line: step_line(place),
         trace_line: line_named(label),

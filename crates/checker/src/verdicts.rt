@@ -1,9 +1,10 @@
 //! The verdict on a case whose lines and steps are read while it is judged.
 //!
-//! Of the trace, the lines that are reached and not yet placed are kept, and one more; of the witness, one step. The
-//! world keeps what endpoints have outstanding, and each segment that was made or sent, since later steps may name it.
+//! Of one text, all lines are kept until they are placed; of two, those that are reached, and one more; of the witness,
+//! one step. The world keeps what endpoints have outstanding, and each segment that was made or sent, since later
+//! steps may name it.
 
-ghost use Rattle.std.specs.Prelude.{◌≡◌, ◌≢◌, ◌≤◌, List, [], Err, IfSome, None, Option, Result};
+ghost use Rattle.std.specs.Prelude.{◌≡◌, ◌≢◌, ◌≤◌, ◌<◌, List, [], Err, IfSome, None, Option, Result};
 ghost use Rattle.case_forms.specs.declared.trace.Header.{Header};
 ghost use Rattle.case_forms.specs.declared.trace.Line.{Line};
 ghost use Rattle.case_forms.specs.declared.steps.Step.{Step};
@@ -11,7 +12,6 @@ ghost use Rattle.case_forms.specs.Traces.{first_event_line};
 ghost use Rattle.counted.specs.Counting.{failures_of, one_more};
 ghost use Rattle.line_fields.specs.declared.fault.TextFault.{TextFault};
 ghost use Rattle.line_fields.specs.Left.{Yields};
-ghost use Rattle.witness.specs.StepsLeft.{steps_left, fault_of, number_of, reader_failures};
 ghost use Rattle.spec_duties.specs.Cases.{late_at_end};
 ghost use Rattle.spec_tcp.specs.Bounds.{most_steps};
 ghost use Rattle.checker.specs.Verdicts.{verdict_left};
@@ -21,6 +21,7 @@ ghost use Rattle.checker.specs.Streaming.{OneFailed, SoFar, Tallied, Tells, firs
 use crate::ahead::Ahead;
 use crate::case::CaseFault;
 use crate::replay::takes_line;
+use crate::steps::StepSource;
 use crate::turns::{StepCounts, read_step, refuse, replay_next};
 use case_forms::Header;
 use endpoint_state::StepFault;
@@ -29,27 +30,26 @@ use std::alloc::Global;
 use std::io::BufRead;
 use verdict::Verdict;
 use watched::Case;
-use witness::StepReader;
 
 /// The verdict on a trace whose header was read and on its witness, before any of its steps was read; or the first
 /// fault of both.
-pub(crate) fn judge<A: BufRead, B: BufRead>(
+pub(crate) fn judge<A: BufRead, S: StepSource>(
     alloc: Global,
     header: &Header,
     lines: &mut Ahead<A>,
-    steps: &mut StepReader<B>,
+    steps: &mut S,
 ) -> Result<Verdict, CaseFault>
     requires ahead { IsAhead lines.old }
     requires first_line { IfSome (line_ahead lines.old) (λ line. line.number ≡ first_event_line header.now) }
-    requires working { fault_of steps.old ≡ None }
-    requires first_step { number_of steps.old ≡ 2 }
-    ensures tells { Tells header.now (left_ahead A.remaining lines.old) (steps_left B.remaining steps.old) result }
+    requires working { S.is_working steps.old }
+    requires few { S.room steps.old < 10000000 }
+    ensures tells { Tells header.now (left_ahead A.remaining lines.old) (S.left steps.old) result }
     ensures read { result ≡ Err CaseFault.Read →
-        OneFailed (failures_of (source_ahead lines.old)) (reader_failures steps.old)
-        (failures_of (source_ahead lines.new)) (reader_failures steps.new) }
+        OneFailed (failures_of (source_ahead lines.old)) (S.failures steps.old)
+        (failures_of (source_ahead lines.new)) (S.failures steps.new) }
     ensures same_lines { result ≢ Err CaseFault.Read
         → failures_of (source_ahead lines.new) ≡ failures_of (source_ahead lines.old) }
-    ensures same_steps { result ≢ Err CaseFault.Read → reader_failures steps.new ≡ reader_failures steps.old }
+    ensures same_steps { result ≢ Err CaseFault.Read → S.failures steps.new ≡ S.failures steps.old }
 {
     let mut window = Window::new(alloc, header);
     let mut world = Case::start(alloc, header);
@@ -59,31 +59,30 @@ pub(crate) fn judge<A: BufRead, B: BufRead>(
     verdict
 }
 
-// The same, if no line was offered to the window and the world is that before the first step. Each step has one turn,
-// up to the first that is refused.
-fn judge_in<A: BufRead, B: BufRead>(
+/// The same, if the first lines were offered to the window, the others are left, and the world is that before the first
+/// step. Each step has one turn, up to the first that is refused.
+pub(crate) fn judge_in<A: BufRead, S: StepSource>(
     alloc: Global,
     window: &mut Window,
     world: &mut Case,
     lines: &mut Ahead<A>,
-    steps: &mut StepReader<B>,
+    steps: &mut S,
 ) -> Result<Verdict, CaseFault>
     requires ahead { IsAhead lines.old }
     requires in_step { IsInStep window.old (line_ahead lines.old) }
-    requires working { fault_of steps.old ≡ None }
+    requires working { S.is_working steps.old }
     requires begun { world.old.steps ≡ 0 }
-    requires first { number_of steps.old ≡ 2 }
+    requires few { S.room steps.old < 10000000 }
     ensures tells { (header : Header) (t : Option (Result (List Line) TextFault))
-        (s : Option (Result (List Step) TextFault))
-        → SoFar header t (left_ahead A.remaining lines.old) s
-        (steps_left B.remaining steps.old) window.old world.old [] []
+        (s : Option (Result (List Step) TextFault)) (offered : List Line)
+        → SoFar header t (left_ahead A.remaining lines.old) s (S.left steps.old) window.old world.old offered []
         → Tells header t s result }
     ensures read { result ≡ Err CaseFault.Read →
-        OneFailed (failures_of (source_ahead lines.old)) (reader_failures steps.old)
-        (failures_of (source_ahead lines.new)) (reader_failures steps.new) }
+        OneFailed (failures_of (source_ahead lines.old)) (S.failures steps.old)
+        (failures_of (source_ahead lines.new)) (S.failures steps.new) }
     ensures same_lines { result ≢ Err CaseFault.Read
         → failures_of (source_ahead lines.new) ≡ failures_of (source_ahead lines.old) }
-    ensures same_steps { result ≢ Err CaseFault.Read → reader_failures steps.new ≡ reader_failures steps.old }
+    ensures same_steps { result ≢ Err CaseFault.Read → S.failures steps.new ≡ S.failures steps.old }
 {
     let mut tally = StepCounts {
         lines: 0,

@@ -6,7 +6,7 @@ use Rattle.checker.specs.declared.case.CaseFault.{CaseFault}
 use Rattle.checker.specs.declared.case.CaseFault.TheVariants as faults
 use Rattle.checker.specs.Cases.{texts_result}
 use Rattle.checker.specs.Texts.{GivesTexts}
-use Rattle.answer_lines.specs.Output.{line_of, status_of}
+use Rattle.answers.specs.Output.{line_of, status_of}
 use Rattle.cli.specs.Output.{Ends}
 
 same_ends : (given read : Result Verdict CaseFault) (status : ℕ) (old new : Option (List ℕ)) → given ≡ read

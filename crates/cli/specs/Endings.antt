@@ -3,7 +3,7 @@ use Rattle.std.specs.Prelude.{ℕ, List, Option, IfSome, codes}
 use Rattle.checker.specs.Cases.{case_result}
 use Rattle.cli.specs.HexText.{segment_in}
 use Rattle.answer_stream.specs.Endings.{EndsMany}
-use Rattle.answer_lines.specs.Output.{line_of, status_of}
+use Rattle.answers.specs.Output.{line_of, status_of}
 use Rattle.cli.specs.Output.{Ends}
 use Rattle.cli.specs.Recorded.{EndsRecord}
 use Rattle.cli.specs.SegmentText.{segment_line, segment_status}

@@ -6,7 +6,7 @@ ghost use Rattle.checker.specs.Cases.{case_result};
 ghost use Rattle.checker.specs.OneText.{GivesText};
 ghost use Rattle.counted.specs.Counting.{left_of, failures_of, one_more};
 ghost use Rattle.answer_stream.specs.Endings.{TellsBefore};
-ghost use Rattle.answer_lines.specs.Output.{line_of, status_of};
+ghost use Rattle.answers.specs.Output.{line_of, status_of};
 ghost use Rattle.cli.specs.Endings.{EndsFor};
 ghost use Rattle.cli.specs.HexText.{segment_in};
 ghost use Rattle.cli.specs.Output.{Ends};

@@ -4,11 +4,11 @@ ghost use Rattle.std.specs.Prelude.{◌≡◌, ◌≢◌, ◌⊎◌, ◌<◌, �
 ghost use Rattle.std.specs.Io.KnownBytes.{Appends};
 ghost use Rattle.checker.specs.Cases.{texts_result};
 ghost use Rattle.counted.specs.Counting.{left_of, failures_of};
-ghost use Rattle.answer_lines.specs.Output.{line_of, status_of};
+ghost use Rattle.answers.specs.Output.{line_of, status_of};
 ghost use Rattle.cli.specs.Output.{Ends};
 
 use crate::lines::{answer_bad_device, answer_bad_memory, say};
-use answer_lines::{line_of, status_of};
+use answers::{line_of, status_of};
 use checker::{CaseFault, check_streams};
 use counted::Counted;
 use std::alloc::Global;

@@ -4,7 +4,7 @@ ghost use Rattle.std.specs.Prelude.{◌≡◌, ◌≢◌, ◌<◌, ◌^◌, code
 ghost use Rattle.std.specs.Io.KnownBytes.{Appends};
 ghost use Rattle.counted.specs.Counting.{left_of, failures_of};
 
-use answer_lines::{DEVICE, MEMORY};
+use answers::{DEVICE, MEMORY};
 use counted::Counted;
 use std::io::Write;
 

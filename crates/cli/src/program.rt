@@ -5,7 +5,7 @@ ghost use Rattle.std.specs.Io.KnownBytes.{Appends};
 ghost use Rattle.checker.specs.Cases.{case_result};
 ghost use Rattle.counted.specs.Counting.{left_of, failures_of};
 ghost use Rattle.answer_stream.specs.Endings.{EndsMany, TellsBefore};
-ghost use Rattle.answer_lines.specs.Output.{line_of, status_of};
+ghost use Rattle.answers.specs.Output.{line_of, status_of};
 ghost use Rattle.cli.specs.CommandLine.{AsksCheck, AsksNothing, AsksSegment};
 ghost use Rattle.cli.specs.Endings.{EndsFor};
 ghost use Rattle.cli.specs.HexText.{segment_in};

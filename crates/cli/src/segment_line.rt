@@ -7,7 +7,7 @@ ghost use Rattle.cli.specs.SegmentText.{upper_letters};
 
 use crate::argument::ArgumentFault;
 use crate::lines::YES;
-use answer_lines::{MEMORY, REFUSED};
+use answers::{MEMORY, REFUSED};
 use case_forms::OutOfMemory;
 use line_fields::{push_number, push_word};
 use segment::{Flag, Segment};

@@ -134,7 +134,7 @@ impl<X> End<X> {
     }
 
     // The answer of a read or write; a failure is counted.
-    fn tallied<T>(&mut self, answer: io::Result<T>) -> io::Result<T>
+    fn tally<T>(&mut self, answer: io::Result<T>) -> io::Result<T>
         ensures answer { result ≡ answer }
         ensures inner { self.new.inner ≡ self.old.inner }
         ensures calls { self.new.calls ≡ self.old.calls }
@@ -186,7 +186,7 @@ impl<R: Read> Read for Counted<R> {
         ensures calls { calls_of self.new ≡ one_call_more (calls_of self.old) }
     {
         if !self.end.may_call() {
-            return self.end.tallied(Err(spent()));
+            return self.end.tally(Err(spent()));
         }
         if let Some(buffer) = &mut self.buffer
             && buffer.has_unread()
@@ -194,7 +194,7 @@ impl<R: Read> Read for Counted<R> {
             return Ok(buffer.give_to(buf));
         }
         let answer = self.end.inner.read(buf);
-        self.end.tallied(answer)
+        self.end.tally(answer)
     }
 }
 
@@ -215,13 +215,13 @@ impl<W: Write> Write for Counted<W> {
         ensures calls { calls_of self.new ≡ one_call_more (calls_of self.old) }
     {
         if !self.end.may_call() {
-            return self.end.tallied(Err(spent()));
+            return self.end.tally(Err(spent()));
         }
         let answer = match self.end.inner.write(buf) {
             Ok(0) if !buf.is_empty() => Err(nothing_taken()),
             answer => answer,
         };
-        self.end.tallied(answer)
+        self.end.tally(answer)
     }
 
     // It ends at the first call that fails, including an interrupted one.
@@ -243,10 +243,10 @@ impl<W: Write> Write for Counted<W> {
         ensures calls { calls_of self.new ≡ one_call_more (calls_of self.old) }
     {
         if !self.end.may_call() {
-            return self.end.tallied(Err(spent()));
+            return self.end.tally(Err(spent()));
         }
         let answer = self.end.inner.flush();
-        self.end.tallied(answer)
+        self.end.tally(answer)
     }
 }
 

@@ -70,7 +70,7 @@ impl Callers {
     }
 
     /// The threads of a host.
-    pub(crate) fn of(&self, host: Host) -> &Threads {
+    pub(crate) fn threads_of(&self, host: Host) -> &Threads {
         match host {
             Host::Zero => &self.zero,
             Host::One => &self.one,

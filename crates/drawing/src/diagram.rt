@@ -1,12 +1,11 @@
 //! A case as a picture: two hosts as lines, time downward, each segment an arrow.
 
-use crate::Done;
 use crate::callers::{Callers, Open};
 use crate::fates::Fates;
 use crate::frame::Frame;
 use crate::labels::{AnswerLabel, CallLabel, Milliseconds};
 use crate::layout::{ARRIVING, BASE, MOST_BARS, ROW, SENT};
-use crate::missing::{Missing, debtor};
+use crate::overdue::{Overdue, debtor};
 use crate::picture::{Point, at, dot, line};
 use crate::range::{Drawn, Range, last_line};
 use crate::rows::{Marks, Rows};
@@ -35,16 +34,16 @@ struct Drawing {
 /// The case as a picture in SVG, of the lines in a range.
 pub fn draw(alloc: Global, case: &Case, range: Range) -> Result<String, OutOfMemory> {
     let debtor = debtor(alloc, case)?;
-    let fates = Fates::of(alloc, case)?;
-    let range = Drawn::of(range, case, &fates);
-    let missing = Missing::of(debtor, case, range);
+    let fates = Fates::new(alloc, case)?;
+    let range = Drawn::new(range, case, &fates);
+    let overdue = Overdue::new(debtor, case, range);
     let marks = Marks {
         refused: marked_line(case, &fates),
-        due: missing.map(|missing| missing.after),
+        due: overdue.map(|overdue| overdue.after),
     };
     let lines = case.trace.lines.as_slice();
     let version = case.trace.header.version;
-    let rows = Rows::of(alloc, range.lines(case), range, marks)?;
+    let rows = Rows::new(alloc, range.lines(case), range, marks)?;
     let mut drawing = Drawing {
         alloc,
         range,
@@ -56,7 +55,7 @@ pub fn draw(alloc: Global, case: &Case, range: Range) -> Result<String, OutOfMem
         frame: Frame::new(alloc, case, rows)?,
     };
     drawing.lines(case)?;
-    drawing.missing(missing, debtor.map_or("", |debtor| debtor.debt.what))?;
+    drawing.overdue(overdue, debtor.map_or("", |debtor| debtor.debt.what))?;
     let picture = drawing.frame.picture(case, &drawing.callers)?;
     drop(drawing);
     Ok(picture)
@@ -73,20 +72,20 @@ fn marked_line(case: &Case, fates: &Fates) -> Option<u64> {
 }
 
 // A point of the arrow of a half case, whose label is above it.
-fn lowered(point: Point) -> Point {
+fn lower(point: Point) -> Point {
     at(point.x, point.y.saturating_add(BASE))
 }
 
 impl Drawing {
     // Draws what the lines show.
-    fn lines(&mut self, case: &Case) -> Done {
+    fn lines(&mut self, case: &Case) -> Result<(), OutOfMemory> {
         for line in case.trace.lines.as_slice() {
             self.line(line)?;
         }
         self.open_calls()
     }
 
-    fn line(&mut self, line: &Line) -> Done {
+    fn line(&mut self, line: &Line) -> Result<(), OutOfMemory> {
         let number = line.number;
         let is_drawn = self.range.has(number);
         if is_drawn {
@@ -96,15 +95,17 @@ impl Drawing {
         match &line.event {
             Event::CallBegin(call) => self.call(line, call),
             Event::CallEnd(answer) => self.answer(number, line.thread, answer),
-            Event::Sent(host, wire) if is_drawn => self.sent(number, *host, wire),
-            Event::Came(host, wire) if is_drawn => self.came(number, *host, wire),
-            Event::Expired(host, _, _, timer) if is_drawn => self.expired(number, *host, *timer),
+            Event::Sent(host, wire) if is_drawn => self.draw_sent(number, *host, wire),
+            Event::Came(host, wire) if is_drawn => self.draw_arrival(number, *host, wire),
+            Event::Expired(host, _, _, timer) if is_drawn => self.draw_expiry(
+                number, *host, *timer,
+            ),
             Event::Sent(..) | Event::Came(..) | Event::Expired(..) => Ok(()),
         }
     }
 
     // A line's number, and its time if it isn't that of the line above.
-    fn when(&mut self, line: &Line) -> Done {
+    fn when(&mut self, line: &Line) -> Result<(), OutOfMemory> {
         let y = self.frame.rows.y(line.number).saturating_add(BASE);
         self.frame.numbers.add("number", y, &line.number)?;
         if self.shown != Some(line.moment) {
@@ -116,19 +117,25 @@ impl Drawing {
     }
 
     // A text beside a host, outside.
-    fn beside(&mut self, number: u64, host: Host, class: &str, words: &impl fmt::Display) -> Done {
+    fn beside(
+        &mut self,
+        number: u64,
+        host: Host,
+        class: &str,
+        words: &impl fmt::Display,
+    ) -> Result<(), OutOfMemory> {
         let y = self.frame.rows.y(number).saturating_add(BASE);
         self.frame.labels(host).add(class, y, words)
     }
 
     // A call beside its host.
-    fn call(&mut self, line: &Line, call: &Call) -> Done {
+    fn call(&mut self, line: &Line, call: &Call) -> Result<(), OutOfMemory> {
         let host = self.callers.begin(line, call)?;
         self.words_of_call(line.number, host, line.thread, &CallLabel(call))
     }
 
     // The bar of a call, and its answer.
-    fn answer(&mut self, number: u64, thread: u32, answer: &Answer) -> Done {
+    fn answer(&mut self, number: u64, thread: u32, answer: &Answer) -> Result<(), OutOfMemory> {
         let Some(open) = self.callers.end(thread, answer)? else {
             return Ok(());
         };
@@ -144,7 +151,7 @@ impl Drawing {
         host: Host,
         thread: u32,
         words: &impl fmt::Display,
-    ) -> Done {
+    ) -> Result<(), OutOfMemory> {
         if !self.range.has(number) {
             return Ok(());
         }
@@ -161,7 +168,7 @@ impl Drawing {
     }
 
     // The bars of calls that have no answer.
-    fn open_calls(&mut self) -> Done {
+    fn open_calls(&mut self) -> Result<(), OutOfMemory> {
         let mut left = Vec::new(self.alloc);
         for (thread, open) in self.callers.open.iter() {
             left.push((*thread, *open))?;
@@ -173,7 +180,7 @@ impl Drawing {
     }
 
     // The bar of a call, with the dot of its effect.
-    fn bar(&mut self, thread: u32, open: Open, to: u64) -> Done {
+    fn bar(&mut self, thread: u32, open: Open, to: u64) -> Result<(), OutOfMemory> {
         let Open {
             host,
             line: from,
@@ -195,7 +202,7 @@ impl Drawing {
     }
 
     // A segment that is sent: its label, and its arrow, unless that is drawn where the segment is received.
-    fn sent(&mut self, number: u64, host: Host, wire: &Wire) -> Done {
+    fn draw_sent(&mut self, number: u64, host: Host, wire: &Wire) -> Result<(), OutOfMemory> {
         let label = self.labels.label(host, &wire.seg)?;
         self.segment(number, host, &label)?;
         let y = self.frame.rows.y(number);
@@ -215,13 +222,13 @@ impl Drawing {
         let fate = self.fates.sent(number);
         if self.frame.hosts.is_half {
             let peer = at(self.frame.hosts.inside(host.other(), 0), y);
-            return self.frame.arrow(fate, lowered(from), lowered(peer));
+            return self.frame.arrow(fate, lower(from), lower(peer));
         }
         self.frame.arrow(fate, from, stub)
     }
 
     // The arrow of a segment that is received. It has its label here if the line that it copies isn't drawn.
-    fn came(&mut self, number: u64, host: Host, wire: &Wire) -> Done {
+    fn draw_arrival(&mut self, number: u64, host: Host, wire: &Wire) -> Result<(), OutOfMemory> {
         let fate = self.fates.received(number);
         let y = self.frame.rows.y(number);
         let to = at(self.frame.hosts.inside(host, 0), y);
@@ -235,7 +242,7 @@ impl Drawing {
         self.segment(number, host, &label)?;
         if self.frame.hosts.is_half {
             let peer = at(self.frame.hosts.inside(host.other(), 0), y);
-            return self.frame.arrow(fate, lowered(peer), lowered(to));
+            return self.frame.arrow(fate, lower(peer), lower(to));
         }
         let stub = at(
             self.frame.hosts.inside(host, ARRIVING),
@@ -245,7 +252,7 @@ impl Drawing {
     }
 
     // The label of a segment: in a half case above its arrow, else beside the host.
-    fn segment(&mut self, number: u64, host: Host, label: &String) -> Done {
+    fn segment(&mut self, number: u64, host: Host, label: &String) -> Result<(), OutOfMemory> {
         if self.frame.hosts.is_half {
             let y = self.frame.rows.y(number);
             return self.frame.middle.add("segment", y, label);
@@ -254,14 +261,14 @@ impl Drawing {
     }
 
     // A timer at its host.
-    fn expired(&mut self, number: u64, host: Host, timer: Timer) -> Done {
+    fn draw_expiry(&mut self, number: u64, host: Host, timer: Timer) -> Result<(), OutOfMemory> {
         let name = timer_name(timer);
         self.beside(number, host, "timer", &format_args!("timer {name} expires"))
     }
 
     // A red dot at the host when something was due, and what that is.
-    fn missing(&mut self, missing: Option<Missing>, owed: &str) -> Done {
-        let Some(Missing { host, due, .. }) = missing else {
+    fn overdue(&mut self, overdue: Option<Overdue>, owed: &str) -> Result<(), OutOfMemory> {
+        let Some(Overdue { host, due, .. }) = overdue else {
             return Ok(());
         };
         let (y, x) = (self.frame.rows.due, self.frame.hosts.inside(host, 0));

@@ -1,6 +1,5 @@
 //! What became of the lines of a case, by its witness.
 
-use crate::Done;
 use crate::picture::Look;
 use case_forms::{Event, Extras, Label, Line, NamedLine, OutOfMemory, Step};
 use replayed::Case;
@@ -73,7 +72,7 @@ pub(crate) struct Fates {
 
 impl Fates {
     /// What the witness of a case shows.
-    pub(crate) fn of(alloc: Global, case: &Case) -> Result<Fates, OutOfMemory> {
+    pub(crate) fn new(alloc: Global, case: &Case) -> Result<Fates, OutOfMemory> {
         let mut fates = Fates {
             copies: BTreeMap::new(alloc),
             copied: BTreeMap::new(alloc),
@@ -88,7 +87,7 @@ impl Fates {
     }
 
     // Reads the steps before the refused one. If they receive all segments, any other segment is lost.
-    fn read_all(&mut self, case: &Case) -> Done {
+    fn read_all(&mut self, case: &Case) -> Result<(), OutOfMemory> {
         for step in case.steps_before_refusal() {
             self.read(case, step)?;
         }
@@ -112,7 +111,7 @@ impl Fates {
         }
     }
 
-    fn read(&mut self, case: &Case, step: &Step) -> Done {
+    fn read(&mut self, case: &Case, step: &Step) -> Result<(), OutOfMemory> {
         match &step.label {
             Label::L(named) => {
                 self.last = named.number;
@@ -141,7 +140,7 @@ impl Fates {
         Ok(())
     }
 
-    fn read_line(&mut self, line: &Line, named: NamedLine) -> Done {
+    fn read_line(&mut self, line: &Line, named: NamedLine) -> Result<(), OutOfMemory> {
         match &line.event {
             Event::Came(_, _) => {
                 if let Extras::One(copied) = named.extras {
@@ -158,7 +157,7 @@ impl Fates {
         Ok(())
     }
 
-    fn copy(&mut self, line: u64, copied: u64) -> Done {
+    fn copy(&mut self, line: u64, copied: u64) -> Result<(), OutOfMemory> {
         self.copies.insert(line, copied)?;
         if !self.copied.contains_key(&copied) {
             self.copied.insert(copied, line)?;
@@ -166,7 +165,7 @@ impl Fates {
         Ok(())
     }
 
-    fn put(&mut self, line: u64, fate: Fate) -> Done {
+    fn put(&mut self, line: u64, fate: Fate) -> Result<(), OutOfMemory> {
         self.fates.insert(line, fate)?;
         Ok(())
     }

@@ -1,6 +1,5 @@
 //! What is around the events of a picture: the hosts, the key, the refusal, and the place of each column.
 
-use crate::Done;
 use crate::callers::Callers;
 use crate::fates::Fate;
 use crate::labels::{Length, RefusalWords};
@@ -79,7 +78,7 @@ impl Frame {
     }
 
     /// Draws the arrow of a segment with this fate.
-    pub(crate) fn arrow(&mut self, fate: Fate, from: Point, to: Point) -> Done {
+    pub(crate) fn arrow(&mut self, fate: Fate, from: Point, to: Point) -> Result<(), OutOfMemory> {
         if !self.fates.as_slice().contains(&fate) {
             self.fates.push(fate)?;
         }
@@ -123,13 +122,13 @@ impl Frame {
         let labels = times
             .saturating_add(2 * MARGIN)
             .saturating_add(self.zero.width);
-        let room = self.hosts.room(callers.of(Host::Zero).bars());
+        let room = self.hosts.room(callers.threads_of(Host::Zero).bars());
         let left = labels
             .max(MARGIN.saturating_add(refusal))
             .saturating_add(room)
             .max(ZERO);
         let right = left.saturating_add(self.hosts.span());
-        let one = right.saturating_add(self.hosts.room(callers.of(Host::One).bars()));
+        let one = right.saturating_add(self.hosts.room(callers.threads_of(Host::One).bars()));
         let middle = left.saturating_add(MARGIN);
         let width = one
             .saturating_add(self.one.width)
@@ -148,8 +147,8 @@ impl Frame {
     }
 
     // The numbers of a host's threads, above their bars.
-    fn name_threads(&mut self, host: Host, callers: &Callers) -> Done {
-        let threads = callers.of(host);
+    fn name_threads(&mut self, host: Host, callers: &Callers) -> Result<(), OutOfMemory> {
+        let threads = callers.threads_of(host);
         if threads.bars() == 0 {
             return Ok(());
         }
@@ -172,7 +171,7 @@ impl Frame {
     }
 
     // The hosts, the bands where the clock jumps, and what is drawn at the hosts.
-    fn push_hosts(&self, out: &mut String, places: Places) -> Done {
+    fn push_hosts(&self, out: &mut String, places: Places) -> Result<(), OutOfMemory> {
         begin_group(out, "", places.hosts)?;
         self.push_host(out, Host::Zero)?;
         self.push_host(out, Host::One)?;
@@ -194,7 +193,7 @@ impl Frame {
     }
 
     // A host's name, and its line.
-    fn push_host(&self, out: &mut String, host: Host) -> Done {
+    fn push_host(&self, out: &mut String, host: Host) -> Result<(), OutOfMemory> {
         let x = self.hosts.inside(host, 0);
         let (top, bottom) = (TOP.saturating_sub(ROW), self.rows.bottom);
         if self.is_peer(host) {
@@ -213,7 +212,7 @@ impl Frame {
     }
 
     // The lines of the hosts in a gap.
-    fn push_pause(&self, out: &mut String, gap: Gap) -> Done {
+    fn push_pause(&self, out: &mut String, gap: Gap) -> Result<(), OutOfMemory> {
         let top = gap.y.saturating_sub(ROW / 2);
         let bottom = top.saturating_add(self.height_of(gap));
         for host in [Host::Zero, Host::One] {
@@ -228,7 +227,7 @@ impl Frame {
         Ok(())
     }
 
-    fn push_columns(&mut self, out: &mut String, places: Places) -> Done {
+    fn push_columns(&mut self, out: &mut String, places: Places) -> Result<(), OutOfMemory> {
         for gap in self.rows.gaps.as_slice() {
             let y = gap.y.saturating_add(BASE);
             self.times.add("gap", y, &Length(gap.length))?;
@@ -241,7 +240,7 @@ impl Frame {
     }
 
     // The key, with the fates that occur, and a call if there are any.
-    fn push_key(&self, out: &mut String, has_calls: bool) -> Done {
+    fn push_key(&self, out: &mut String, has_calls: bool) -> Result<(), OutOfMemory> {
         let mut x = MARGIN;
         let y = KEY.saturating_sub(BASE);
         if has_calls {
@@ -273,7 +272,12 @@ impl Frame {
     }
 
     // A red line, and below it what is refused.
-    fn push_refusal(&self, out: &mut String, places: Places, words: &str) -> Done {
+    fn push_refusal(
+        &self,
+        out: &mut String,
+        places: Places,
+        words: &str,
+    ) -> Result<(), OutOfMemory> {
         let middle = self.rows.refused;
         let y = middle.saturating_sub(6);
         let right = places.width.saturating_sub(MARGIN);
@@ -285,7 +289,7 @@ impl Frame {
 // What the key says of a bar with a dot.
 const CALL: &str = "call, and its effect";
 
-fn push_arrow(out: &mut String, fate: Fate, from: Point, to: Point) -> Done {
+fn push_arrow(out: &mut String, fate: Fate, from: Point, to: Point) -> Result<(), OutOfMemory> {
     match fate {
         Fate::Lost => crossed(out, fate.look(), from, to),
         _ => arrow(out, fate.look(), from, to),

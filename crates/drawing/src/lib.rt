@@ -7,9 +7,9 @@
 //!
 //! Private modules:
 //!
-//! - `showing`: a case as text
+//! - `listing`: a case as text
 //! - `diagram`: a case as a picture; `range`: the lines that are drawn; `fates`: what became of the lines; `callers`:
-//!   hosts and bars of threads; `missing`: what was due and is missing
+//!   hosts and bars of threads; `overdue`: what was due and is missing
 //! - `labels`: what is written beside an event; `segments`: the labels of segments
 //! - `layout`: the measures; `rows`: the rows of lines and of what is between them; `frame`: what is around the events;
 //!   `picture`: parts in SVG
@@ -21,16 +21,13 @@ mod fates;
 mod frame;
 mod labels;
 mod layout;
-mod missing;
+mod listing;
+mod overdue;
 mod picture;
 mod range;
 mod rows;
 mod segments;
-mod showing;
 
 pub use diagram::draw;
+pub use listing::show;
 pub use range::Range;
-pub use showing::show;
-
-// What a function gives that writes or notes something.
-type Done = Result<(), case_forms::OutOfMemory>;

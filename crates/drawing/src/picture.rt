@@ -1,7 +1,7 @@
 //! Parts of a picture in SVG, a line each. Lengths are pixels, and y grows downward.
 
-use crate::Done;
 use crate::layout::LETTER;
+use case_forms::OutOfMemory;
 use std::alloc::Global;
 use std::fmt;
 
@@ -29,7 +29,7 @@ pub(crate) struct Look {
 }
 
 /// Begins a picture of this size.
-pub(crate) fn begin(out: &mut String, width: u64, height: u64) -> Done {
+pub(crate) fn begin(out: &mut String, width: u64, height: u64) -> Result<(), OutOfMemory> {
     out.push_str("<svg xmlns=\"http://www.w3.org/2000/svg\"")?;
     write!(out, " width=\"{width}\" height=\"{height}\"")?;
     writeln!(out, " viewBox=\"0 0 {width} {height}\">\n{STYLE}")
@@ -46,7 +46,7 @@ const STYLE: &str = "<style>text{font:11px sans-serif;fill:#222}\
 <rect width=\"100%\" height=\"100%\" fill=\"#fff\"/>";
 
 /// How arrows of a kind look.
-pub(crate) fn style(out: &mut String, look: Look) -> Done {
+pub(crate) fn style(out: &mut String, look: Look) -> Result<(), OutOfMemory> {
     let Look {
         class,
         color,
@@ -69,30 +69,40 @@ pub(crate) fn style(out: &mut String, look: Look) -> Done {
 }
 
 /// Ends a picture.
-pub(crate) fn end(out: &mut String) -> Done {
+pub(crate) fn end(out: &mut String) -> Result<(), OutOfMemory> {
     writeln!(out, "</svg>")
 }
 
 /// Begins a group whose points are so far to the right of their coordinates.
-pub(crate) fn begin_group(out: &mut String, class: &str, right: u64) -> Done {
+pub(crate) fn begin_group(out: &mut String, class: &str, right: u64) -> Result<(), OutOfMemory> {
     writeln!(
         out,
         "<g class=\"{class}\" transform=\"translate({right} 0)\">"
     )
 }
 
-pub(crate) fn end_group(out: &mut String) -> Done {
+pub(crate) fn end_group(out: &mut String) -> Result<(), OutOfMemory> {
     writeln!(out, "</g>")
 }
 
 /// A line of a class.
-pub(crate) fn line(out: &mut String, class: &str, from: Point, to: Point) -> Done {
+pub(crate) fn line(
+    out: &mut String,
+    class: &str,
+    from: Point,
+    to: Point,
+) -> Result<(), OutOfMemory> {
     stroke(out, class, from, to)?;
     writeln!(out, "/>")
 }
 
 /// An arrow.
-pub(crate) fn arrow(out: &mut String, look: Look, from: Point, to: Point) -> Done {
+pub(crate) fn arrow(
+    out: &mut String,
+    look: Look,
+    from: Point,
+    to: Point,
+) -> Result<(), OutOfMemory> {
     let class = look.class;
     write!(out, "<g class=\"arrow\">")?;
     stroke(out, class, from, to)?;
@@ -100,7 +110,12 @@ pub(crate) fn arrow(out: &mut String, look: Look, from: Point, to: Point) -> Don
 }
 
 /// A line that ends in a cross.
-pub(crate) fn crossed(out: &mut String, look: Look, from: Point, to: Point) -> Done {
+pub(crate) fn crossed(
+    out: &mut String,
+    look: Look,
+    from: Point,
+    to: Point,
+) -> Result<(), OutOfMemory> {
     let (class, Point { x, y }) = (look.class, to);
     write!(out, "<g class=\"arrow\">")?;
     stroke(out, class, from, to)?;
@@ -113,14 +128,14 @@ pub(crate) fn crossed(out: &mut String, look: Look, from: Point, to: Point) -> D
     )
 }
 
-fn stroke(out: &mut String, class: &str, from: Point, to: Point) -> Done {
+fn stroke(out: &mut String, class: &str, from: Point, to: Point) -> Result<(), OutOfMemory> {
     let Point { x, y } = from;
     write!(out, "<line class=\"{class}\" x1=\"{x}\" y1=\"{y}\"")?;
     write!(out, " x2=\"{}\" y2=\"{}\"", to.x, to.y)
 }
 
 /// A band over the whole width.
-pub(crate) fn band(out: &mut String, y: u64, height: u64) -> Done {
+pub(crate) fn band(out: &mut String, y: u64, height: u64) -> Result<(), OutOfMemory> {
     write!(
         out,
         "<rect x=\"0\" y=\"{y}\" width=\"100%\" height=\"{height}\""
@@ -129,14 +144,19 @@ pub(crate) fn band(out: &mut String, y: u64, height: u64) -> Done {
 }
 
 /// A circle that is filled with a color.
-pub(crate) fn dot(out: &mut String, color: &str, at: Point) -> Done {
+pub(crate) fn dot(out: &mut String, color: &str, at: Point) -> Result<(), OutOfMemory> {
     let Point { x, y } = at;
     write!(out, "<circle r=\"4\" fill=\"{color}\" ")?;
     writeln!(out, "cx=\"{x}\" cy=\"{y}\"/>")
 }
 
 /// A text of a class, from a point on.
-pub(crate) fn text(out: &mut String, class: &str, at: Point, words: &impl fmt::Display) -> Done {
+pub(crate) fn text(
+    out: &mut String,
+    class: &str,
+    at: Point,
+    words: &impl fmt::Display,
+) -> Result<(), OutOfMemory> {
     let Point { x, y } = at;
     writeln!(
         out,
@@ -170,7 +190,12 @@ impl Column {
     }
 
     /// Adds a text of a class with this base line.
-    pub(crate) fn add(&mut self, class: &str, y: u64, words: &impl fmt::Display) -> Done {
+    pub(crate) fn add(
+        &mut self,
+        class: &str,
+        y: u64,
+        words: &impl fmt::Display,
+    ) -> Result<(), OutOfMemory> {
         let words = format!(in self.alloc; "{words}")?;
         let letters = words.as_str().trim_end();
         self.width = (letters.len() as u64)
@@ -183,7 +208,7 @@ impl Column {
     }
 
     /// Writes the column. At x are its right ends if the class is `left`, else its left ends.
-    pub(crate) fn place(&self, out: &mut String, class: &str, x: u64) -> Done {
+    pub(crate) fn place(&self, out: &mut String, class: &str, x: u64) -> Result<(), OutOfMemory> {
         begin_group(out, class, x)?;
         out.push_str(self.texts.as_str())?;
         end_group(out)

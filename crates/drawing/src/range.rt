@@ -28,7 +28,7 @@ pub(crate) struct Drawn {
 
 impl Drawn {
     /// The lines of a case that are in a range.
-    pub(crate) fn of(range: Range, case: &Case, fates: &Fates) -> Drawn {
+    pub(crate) fn new(range: Range, case: &Case, fates: &Fates) -> Drawn {
         let (first, last) = (case.trace.header.first_event_line(), last_line(case));
         let to = match (range.from, range.to, line_refused(case, fates)) {
             (None, None, Some(line)) => {

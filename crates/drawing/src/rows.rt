@@ -46,7 +46,7 @@ pub(crate) struct Rows {
 
 impl Rows {
     /// The rows of these lines, which are all lines of the range.
-    pub(crate) fn of(
+    pub(crate) fn new(
         alloc: Global,
         lines: &[Line],
         range: Drawn,

@@ -1,7 +1,6 @@
 //! The labels of segments. Each direction of a connection has what its last label said, so that a number is repeated
 //! only where it changes.
 
-use crate::Done;
 use case_forms::{Event, Flags, Host, Line, OutOfMemory, Version};
 use plain_words::{FlagWords, Numbers};
 use segment::{Flag, Segment};
@@ -52,7 +51,7 @@ impl SegmentLabels {
     }
 
     /// Reads a line. A SYN carries its sender's initial sequence number and shift.
-    pub(crate) fn read(&mut self, line: &Line) -> Done {
+    pub(crate) fn read(&mut self, line: &Line) -> Result<(), OutOfMemory> {
         self.numbers.read(line)?;
         let (sender, seg) = match &line.event {
             Event::Sent(host, wire) => (*host, &wire.seg),
@@ -89,7 +88,12 @@ impl SegmentLabels {
         Ok(words)
     }
 
-    fn name_ports(&mut self, words: &mut String, host: Host, seg: &Segment) -> Done {
+    fn name_ports(
+        &mut self,
+        words: &mut String,
+        host: Host,
+        seg: &Segment,
+    ) -> Result<(), OutOfMemory> {
         let ports = (seg.src, seg.dst);
         let last = self.ports.insert(host as u8, ports)?;
         if last.is_some_and(|last| last != ports) {
@@ -180,7 +184,7 @@ fn direction_of(host: Host, seg: &Segment) -> Direction {
 }
 
 // The flags. Nearly every segment has ACK, so it is named only with SYN, and if a segment should have it.
-fn push_flags(words: &mut String, seg: &Segment) -> Done {
+fn push_flags(words: &mut String, seg: &Segment) -> Result<(), OutOfMemory> {
     let (ack, syn, rst) = (seg.has(Flag::Ack), seg.has(Flag::Syn), seg.has(Flag::Rst));
     let fin = seg.has(Flag::Fin);
     if syn || rst || fin {

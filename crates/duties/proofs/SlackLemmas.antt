@@ -21,29 +21,29 @@ use Rattle.spec_duties.specs.Expire.{expiry_due}
 use Rattle.spec_duties.specs.Owed.{lates_of, lates_of_open, none_late}
 use Rattle.spec_duties.specs.Probe.{probing_due}
 use Rattle.spec_duties.specs.Reset.{reset_since}
-use Rattle.spec_duties.specs.Sights.{sight}
+use Rattle.spec_duties.specs.Observations.{observe}
 use Rattle.spec_duties.specs.Slack.{AtMost, LessLateIsMoreAccepted, NothingIsJudged, SlackIsNotNoted, with_slack}
 use Rattle.spec_duties.specs.Start.{start_due}
 use Rattle.spec_duties.specs.Views.{view_of}
 use Rattle.spec_duties.specs.Watching.{Duties, built_by, counts_now, duty_rules, leaves_late, listener_closed, owed_by, sent_late, touched_rules}
 use Rattle.spec_duties.specs.declared.owed.Lates.{Lates}
 use Rattle.spec_duties.specs.declared.owed.Owed.{Owed}
-use Rattle.spec_duties.specs.declared.sights.Mail.{Mail}
-use Rattle.spec_duties.specs.declared.sights.Mail.TheVariants as mail
-use Rattle.spec_duties.specs.declared.sights.Sight.{Sight}
-use Rattle.spec_duties.specs.declared.sights.Touched.{Touched}
+use Rattle.spec_duties.specs.declared.observations.InboxChange.{InboxChange}
+use Rattle.spec_duties.specs.declared.observations.InboxChange.TheVariants as inbox_change
+use Rattle.spec_duties.specs.declared.observations.Observation.{Observation}
+use Rattle.spec_duties.specs.declared.observations.TouchedEndpoint.{TouchedEndpoint}
 use Rattle.spec_duties.specs.declared.tables.Built.{Built}
 use Rattle.spec_duties.specs.declared.views.View.{View}
 
 -- ---- without a slack
 
-pub nothing_judged : (h : Header) (moment : ℕ) (d : Duties) (s : Sight) → h.slack ≡ None → judged_rules h moment d s ≡ []
+pub nothing_judged : (h : Header) (moment : ℕ) (d : Duties) (s : Observation) → h.slack ≡ None → judged_rules h moment d s ≡ []
 nothing_judged h moment d s any = ap (λ o. on o [] (λ slack. duty_rules h slack moment d s)) any
 
 pub dutiful_any : (h : Header) (k : Known) (xs : List (Stamped tcp_shape)) → h.slack ≡ None → Dutiful h k xs
 dutiful_any h k [] any = tt
 dutiful_any h k (x ∷ xs) any = (
-  ap first_broken (nothing_judged h x.moment k.duties (sight h x.moment k.model x.step) any),
+  ap first_broken (nothing_judged h x.moment k.duties (observe h x.moment k.model x.step) any),
   dutiful_any h (known_after h x.moment k x.step) xs any,
 )
 
@@ -130,16 +130,17 @@ lates_less slack more moment v listener o le = by (is_closed v.state)
     by false = open_less slack more moment v o _ _ le reset
 
 -- the rules of an endpoint
-leaves_less : (slack more moment : ℕ) (d : Duties) (it : Mail) → slack ≤ more → leaves_late slack moment d it ≡ false → leaves_late more moment d it ≡ false
-leaves_less slack more moment d mail.Nothing le e = refl
-leaves_less slack more moment d (mail.Enters line) le e = refl
-leaves_less slack more moment d (mail.Leaves line) le e = late_less slack more moment (waiting line d.inbox) le e
+leaves_less : (slack more moment : ℕ) (d : Duties) (it : InboxChange) → slack ≤ more → leaves_late slack moment d it ≡ false
+    → leaves_late more moment d it ≡ false
+leaves_less slack more moment d inbox_change.Nothing le e = refl
+leaves_less slack more moment d (inbox_change.Enters line) le e = refl
+leaves_less slack more moment d (inbox_change.Leaves line) le e = late_less slack more moment (waiting line d.inbox) le e
 
 sent_less : (slack more moment : ℕ) (b : Option Built) → slack ≤ more → sent_late slack moment b ≡ false → sent_late more moment b ≡ false
 sent_less slack more moment None le e = refl
 sent_less slack more moment (Some b) le e = late_less slack more moment (Some b.since) le e
 
-touched_less : (h : Header) (slack more moment : ℕ) (d : Duties) (counts : Bool) (o : Option Touched) → slack ≤ more
+touched_less : (h : Header) (slack more moment : ℕ) (d : Duties) (counts : Bool) (o : Option TouchedEndpoint) → slack ≤ more
     → AreFewer (on o [] (touched_rules (with_slack (Some slack) h) slack moment d counts))
     (on o [] (touched_rules (with_slack (Some more) h) more moment d counts))
 touched_less h slack more moment d counts None le = tt
@@ -147,7 +148,7 @@ touched_less h slack more moment d counts (Some t) le =
     let l = lates_less slack more moment t.before (listener_closed d t.host t.before) (owed_by d t.host t.place) le in
     (l.acknowledge, (l.expire, (l.retransmit, (l.probe, (l.start, (l.reset, (λ e. e, (λ e. e, (λ e. e, tt)))))))))
 
-step_less : (less more : Option ℕ) → AtMost less more → (h : Header) (moment : ℕ) (d : Duties) (s : Sight)
+step_less : (less more : Option ℕ) → AtMost less more → (h : Header) (moment : ℕ) (d : Duties) (s : Observation)
     → first_broken (judged_rules (with_slack less h) moment d s) ≡ None
     → first_broken (judged_rules (with_slack more h) moment d s) ≡ None
 step_less less None at h moment d s e = refl
@@ -158,8 +159,12 @@ step_less (Some slack) (Some more) at h moment d s e =
       (
         λ e. e,
         (
-          leaves_less slack more moment d s.mail at,
-          (sent_less slack more moment (built_by d s.post) at, touched_less h slack more moment d (counts_now (built_by d s.post)) s.touched at),
+          leaves_less slack more moment d s.inbox_change at,
+          (
+            sent_less slack more moment (built_by d s.built_change) at,
+            touched_less h slack more moment d
+                (counts_now (built_by d s.built_change)) s.touched at,
+          ),
         ),
       ),
     ) e

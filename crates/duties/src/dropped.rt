@@ -9,7 +9,7 @@ ghost use Rattle.spec_duties.specs.Dropped.{is_challenged, is_next, is_unaccepta
 
 use case_forms::{Host, State, TakeChoice};
 use seqno::number;
-use spec_duties::{Dropping, Spared};
+use spec_duties::{Droppable, Dropping};
 use spec_tcp::{Arrived, Emission, Endpoint};
 use verdict::Rule;
 
@@ -80,14 +80,14 @@ pub fn dropping_of(
     host: Host,
     processing: Result<(), Rule>,
     answering: Result<(), Rule>,
-    spared: Spared,
+    droppable: Droppable,
 ) -> Dropping
-    ensures { result ≡ dropping_of host (result_err processing) (result_err answering) spared }
+    ensures { result ≡ dropping_of host (result_err processing) (result_err answering) droppable }
 {
     Dropping {
         host,
         takeable: processing.is_ok(),
-        spared,
+        droppable,
         answerable: answering.is_ok() && !is_unacceptable(processing),
     }
 }

@@ -5,7 +5,7 @@
 //! and what is kept after it, given what the step shows of the world. `watched` computes that, and joins both with the
 //! model. Each function looks up a bounded number of entries.
 //!
-//! - `watching`: the rules of a step, and what is kept after it
+//! - `steps`: the rules of a step, and what is kept after it
 //! - `owed`: what an endpoint owes; `acknowledge`, `expire`, `retransmit`, `probe`, `start`, `reset`: a duty each
 //! - `resent`, `excess`: the limits
 //! - `dropped`: which segments may be dropped, and what a dropped one asks for
@@ -13,8 +13,8 @@
 //! - `per_host`: a value for each host
 //! - `laws`: what a greater slack accepts
 //!
-//! Each function of a step is inlined. Otherwise what a step shows (`Sight`, some 300 bytes) is copied from one to the
-//! next, which takes as long as all that they compute.
+//! Each function of a step is inlined. Otherwise what a step shows (`Observation`, some 300 bytes) is copied from one
+//! to the next, which takes as long as all that they compute.
 #![tactic(auto)]
 
 mod acknowledge;
@@ -30,8 +30,8 @@ mod resent;
 mod reset;
 mod retransmit;
 mod start;
+mod steps;
 mod views;
-mod watching;
 
 pub use acknowledge::acknowledge_due;
 pub use deadlines::{is_late_at_once, judged_slack};
@@ -45,5 +45,5 @@ pub use owed::{admits_lates, either, lates_of, none_late};
 pub use probe::probing_due;
 pub use reset::reset_since;
 pub use start::start_due;
+pub use steps::Duties;
 pub use views::{unborn, view_of};
-pub use watching::Duties;

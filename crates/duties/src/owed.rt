@@ -18,7 +18,7 @@ use crate::resent::again_after;
 use crate::reset::{reset_after, reset_since};
 use crate::retransmit::{probe_after, retransmit_after};
 use crate::start::{start_after, start_due};
-use spec_duties::{Lates, Owed, Touched, View};
+use spec_duties::{Lates, Owed, TouchedEndpoint, View};
 use verdict::Rule;
 
 /// Before any step touches an endpoint.
@@ -178,7 +178,7 @@ pub(crate) fn admits_owed(
 
 #[inline(always)]
 pub(crate) fn owed_open(
-    touched: &Touched,
+    touched: &TouchedEndpoint,
     after: &View,
     moment: u64,
     listener_closed: Option<u64>,
@@ -226,7 +226,7 @@ fn once_closed(owed: Owed) -> Owed
 /// acknowledgment.
 #[inline(always)]
 pub(crate) fn owed_after(
-    touched: &Touched,
+    touched: &TouchedEndpoint,
     after: &View,
     moment: u64,
     listener_closed: Option<u64>,

@@ -14,8 +14,8 @@ pub(crate) mod listen;
 pub(crate) mod other_states;
 pub(crate) mod syn_sent;
 
-use crate::arrives::other_states::reset::was_reset;
-use crate::arrives::other_states::taken;
+use crate::arrives::other_states::on_segment;
+use crate::arrives::other_states::reset::on_reset;
 use crate::arrives::syn_sent::on_syn;
 use case_forms::{Header, TakeChoice};
 use segment::OutOfMemory;
@@ -39,12 +39,12 @@ pub fn take_segment(
     ensures err { OnErr result (endpoint.new ≡ endpoint.old) }
 {
     if m.flags().rst {
-        was_reset(endpoint, how, moment);
+        on_reset(endpoint, how, moment);
         return Ok(());
     }
     if endpoint.state.is_syn_sent() {
         on_syn(header, endpoint, how, m, moment);
         return Ok(());
     }
-    taken(header, endpoint, how, m, moment)
+    on_segment(header, endpoint, how, m, moment)
 }

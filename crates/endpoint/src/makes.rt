@@ -20,7 +20,7 @@ use crate::makes::kind::{
     close_after_reset, given_shift, is_bad_iss, makes_nothing, may_make, seq_of,
 };
 use crate::makes::payload::{has_new_bytes, is_bad_payload, is_bad_place, making_length};
-use case_forms::{SegmentPlan, State, Timer};
+use case_forms::{SegmentPlan, Timer};
 use segment::{Bytes, OutOfMemory};
 use spec_tcp::{Emission, Endpoint, EndpointId};
 use std::alloc::Global;

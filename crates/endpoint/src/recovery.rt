@@ -10,7 +10,6 @@ ghost use Rattle.verdict.specs.Rules.{first_broken};
 ghost use Rattle.window_rules.specs.Control.{greatest};
 
 use crate::signals::{at_moment, recovery_signal};
-use case_forms::State;
 use spec_tcp::Endpoint;
 use verdict::Rule;
 use window_rules::GREATEST_WINDOW;

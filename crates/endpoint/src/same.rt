@@ -1,6 +1,6 @@
 //! The comparisons in the rules.
 
-ghost use Rattle.spec_tcp.specs.Same.{same_bool, same_word, same_name};
+ghost use Rattle.spec_tcp.specs.Same.{same_bool, same_word, same_endpoint};
 ghost use Rattle.std.specs.Prelude.{◌≡◌};
 
 use seqno::Word;
@@ -12,8 +12,8 @@ pub(crate) fn same_bool(a: bool, b: bool) -> bool
     a == b
 }
 
-pub(crate) fn same_name(a: EndpointId, b: EndpointId) -> bool
-    ensures { result ≡ same_name a b }
+pub(crate) fn same_endpoint(a: EndpointId, b: EndpointId) -> bool
+    ensures { result ≡ same_endpoint a b }
 {
     a.host == b.host && a.number == b.number
 }

@@ -19,7 +19,7 @@ use std::alloc::Global;
 use verdict::Rule;
 
 /// Every segment from the host that is not recorded has this sender.
-const FAR_NAME: EndpointId = EndpointId {
+const FAR_ID: EndpointId = EndpointId {
     host: Host::One,
     number: 0,
 };
@@ -170,7 +170,7 @@ pub fn heard(alloc: Global, moment: u64, wire: &Wire) -> Result<Emission, OutOfM
 {
     let payload = carried(wire.seg.payload.as_slice());
     Ok(Emission {
-        sender: FAR_NAME,
+        sender: FAR_ID,
         peer_at_send: None,
         lport: wire.seg.src,
         rport: wire.seg.dst,
@@ -216,6 +216,7 @@ fn told_flags(segment: &Segment) -> Flags
 pub fn admits_copy(header: &Header, moment: u64, wire: &Wire, m: &Emission) -> Result<(), Rule>
     ensures { result_err result ≡ first_broken (in_rules header.now moment wire.now m.now) }
 {
+    // Bytes decide first, at any age, as this rule has the lower number: the bytes of old segments can't be freed.
     if !same_bytes(wire.bytes.as_slice(), m.bytes.as_slice()) {
         return Err(Rule::CopyDiffers);
     }
@@ -225,7 +226,7 @@ pub fn admits_copy(header: &Header, moment: u64, wire: &Wire, m: &Emission) -> R
     Ok(())
 }
 
-/// Whether a moment, in microseconds, is more than the maximum segment lifetime after the segment was built (RFC 9293,
+/// Whether a moment, in microseconds, is more than the maximum segment lifetime after the segment was sent (RFC 9293,
 /// 3.4.2).
 pub fn is_past_lifetime(header: &Header, moment: u64, m: &Emission) -> bool
     ensures { result ≡ nat_lt (m.now.moment + header.now.msl) moment }

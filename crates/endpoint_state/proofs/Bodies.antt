@@ -25,12 +25,12 @@ use Rattle.spec_tcp.specs.declared.endpoint.SocketTarget.{SocketTarget}
 use Rattle.spec_tcp.specs.declared.endpoint.SocketTarget.TheVariants.{ListenerAt, EndpointAt}
 use Rattle.case_forms.specs.declared.steps.TakeChoice.{TakeChoice}
 use Rattle.spec_tcp.specs.Endpoints.{new_endpoint}
-use Rattle.spec_tcp.specs.HostTcp.{HostTcp, empty, place_of, queue_of, thing_of, with_endpoint, at_ports, dead}
+use Rattle.spec_tcp.specs.HostTcp.{HostTcp, empty, place_of, queue_of, socket_target, with_endpoint, at_ports, dead}
 use Rattle.case_forms.specs.States.{is_syn_received}
-use Rattle.spec_tcp.specs.Calls.{call_allows, endpoint_allows, is_bad_socket, thing_allows, change_thing, change, after_call}
+use Rattle.spec_tcp.specs.Calls.{call_allows, endpoint_allows, is_bad_socket, target_allows, change_target, change, after_call}
 use Rattle.spec_tcp.specs.Calls.Send.{after_send}
 use Rattle.spec_tcp.specs.Calls.Receive.{after_recv}
-use Rattle.spec_tcp.specs.Calls.Close.{orphaned, without_listener, thing_gone, after_gone, after_shut, after_close, after_abort}
+use Rattle.spec_tcp.specs.Calls.Close.{orphaned, without_listener, target_gone, after_gone, after_shut, after_close, after_abort}
 use Rattle.spec_tcp.specs.Calls.Accept.{accepted_from, after_accept}
 use Rattle.spec_tcp.specs.Makes.{after_making}
 use Rattle.spec_tcp.specs.Timeouts.{after_expiry}
@@ -129,9 +129,9 @@ joins_bounded steps b e new k =
 changed_bounded : (steps : ℕ) (b : HostTcp) (n : ℕ) (f : Endpoint → Endpoint)
     → ((e : Endpoint) → IsBounded steps e → IsBounded (suc steps) (f e)) → IsBoundedBody steps b
     → IsBoundedBody (suc steps) (change b n f)
-changed_bounded steps b n f grows k = by (thing_of b n)
+changed_bounded steps b n f grows k = by (socket_target b n)
   where
-    by : (o : Option SocketTarget) → IsBoundedBody (suc steps) (option_map_or (change_thing b f) o b)
+    by : (o : Option SocketTarget) → IsBoundedBody (suc steps) (option_map_or (change_target b f) o b)
     by None = body_later steps b k
     by (Some (ListenerAt l)) = body_later steps b k
     by (Some (EndpointAt i)) = place_bounded steps b i f (λ e there. grows e) k
@@ -139,12 +139,12 @@ changed_bounded steps b n f grows k = by (thing_of b n)
 recv_bounded : (steps : ℕ) (b : HostTcp) (n most : ℕ) (bytes : List ℕ)
     → call_allows b (calls.Recv n most) (answers.Bytes bytes) ≡ true → IsBoundedBody steps b
     → IsBoundedBody (suc steps) (change b n (after_recv bytes))
-recv_bounded steps b n most bytes allowed k = by (thing_of b n) allowed
+recv_bounded steps b n most bytes allowed k = by (socket_target b n) allowed
   where
     by : (o : Option SocketTarget)
-        → option_map_or (thing_allows b (calls.Recv n most) (answers.Bytes bytes)) o
+        → option_map_or (target_allows b (calls.Recv n most) (answers.Bytes bytes)) o
         (is_bad_socket (answers.Bytes bytes)) ≡ true
-        → IsBoundedBody (suc steps) (option_map_or (change_thing b (after_recv bytes)) o b)
+        → IsBoundedBody (suc steps) (option_map_or (change_target b (after_recv bytes)) o b)
     by None h = body_later steps b k
     by (Some (ListenerAt l)) h = body_later steps b k
     by (Some (EndpointAt i)) h =
@@ -158,7 +158,7 @@ recv_bounded steps b n most bytes allowed k = by (thing_of b n) allowed
 gone_bounded : (steps : ℕ) (b : HostTcp) (n : ℕ) (f : Endpoint → Endpoint)
     → ((e : Endpoint) → IsBounded steps e → IsBounded (suc steps) (f e)) → IsBoundedBody steps b
     → IsBoundedBody (suc steps) (after_gone b n f)
-gone_bounded steps b n f grows k = by (thing_of b n)
+gone_bounded steps b n f grows k = by (socket_target b n)
   where
     -- socket numbers are not spoken of
     plain : (c : HostTcp) → IsBoundedBody (suc steps) c → IsBoundedBody (suc steps) (record c { sockets = dead b.sockets n })
@@ -179,7 +179,7 @@ gone_bounded steps b n f grows k = by (thing_of b n)
           listeners = omega arith;
         }
 
-    by : (o : Option SocketTarget) → IsBoundedBody (suc steps) (option_map_or (λ thing. record (thing_gone b thing f) { sockets = dead b.sockets n }) o b)
+    by : (o : Option SocketTarget) → IsBoundedBody (suc steps) (option_map_or (λ target. record (target_gone b target f) { sockets = dead b.sockets n }) o b)
     by None = body_later steps b k
     by (Some (ListenerAt l)) = plain (without_listener b l) (orphans l)
     by (Some (EndpointAt i)) = plain (with_endpoint b i f) (place_bounded steps b i f (λ e there. grows e) k)
@@ -233,7 +233,7 @@ call_bounded p steps b (calls.Connect host lport rport) (answers.Given n) small 
     let e = new_endpoint lport rport None states.SynSent p in
     socket_bounded (suc steps) (record b { endpoints = b.endpoints ++ e ∷ [] }) _ refl refl
     (joins_bounded steps b e (opened_bounded p lport rport (suc steps)) k)
-call_bounded p steps b (calls.Accept h) (answers.Given n) small allowed k = accept_bounded steps b n (thing_of b h) k
+call_bounded p steps b (calls.Accept h) (answers.Given n) small allowed k = accept_bounded steps b n (socket_target b h) k
 call_bounded p steps b (calls.Send h bytes) (answers.Given n) small allowed k =
     changed_bounded steps b h (after_send bytes n) (after_send_bounded bytes n small steps) k
 call_bounded p steps b (calls.Recv h most) (answers.Bytes bytes) small allowed k = recv_bounded steps b h most bytes allowed k

@@ -18,10 +18,10 @@ use Rattle.verdict.specs.Rules.{first_broken}
 use Rattle.verdict.specs.declared.rule.Rule.TheVariants as rules
 use Rattle.verdict.proofs.RuleLemmas.{none_both}
 use Rattle.spec_network.specs.Tables.{Both, Made, gone_out, on, pick, settled, unsent, waiting}
-use Rattle.spec_network.specs.Hosts.{HostState, World, Turn, Idle, Called, Answered, Deed, Does, Expires, Makes, Sends}
+use Rattle.spec_network.specs.Hosts.{HostState, World, Turn, Idle, Called, Answered, HostStep, Does, Expires, Makes, Sends}
 use Rattle.spec_network.specs.Hosts.{Gets, Hears, Takes, Drops, Answers, Step, Begin, Finish, Effect, At, turn_of}
-use Rattle.spec_network.specs.HostRules.{Permitted, aim_of, call_rules, deed_rules, effect_rules, fresh_rules, just}
-use Rattle.spec_network.specs.HostSteps.{act_made, after, call_after, deed_after, effect_after, empty_host, makes, start}
+use Rattle.spec_network.specs.HostRules.{Permitted, aim_of, call_rules, host_step_rules, effect_rules, fresh_rules, just}
+use Rattle.spec_network.specs.HostSteps.{act_made, after, call_after, host_step_after, effect_after, empty_host, makes, start}
 use Rattle.spec_tcp.specs.declared.endpoint.Emission.{Emission}
 use Rattle.spec_tcp.specs.HostTcp.{HostTcp}
 use Rattle.spec_tcp.specs.Heard.{heard}
@@ -39,7 +39,7 @@ use Rattle.endpoint_state.proofs.Forgets.{IsBounded, all_kept_forgotten, bounded
 use Rattle.endpoint_state.proofs.Rooms.{have_room}
 use Rattle.endpoint_state.proofs.Segments.{heard_small, resets_small, sent_small}
 use Rattle.endpoint_state.specs.Kept.{AreSmall, IsKeptHost, IsKeptWorld, IsReady, IsSmallArrival}
-use Rattle.endpoint_state.specs.SmallSteps.{IsSmallDeed, IsSmallStep}
+use Rattle.endpoint_state.specs.SmallSteps.{IsSmallHostStep, IsSmallStep}
 use Rattle.endpoint_state.specs.Worlds.{hosts_brought}
 use Rattle.endpoint_state.proofs.Still.{waiting_small}
 
@@ -99,8 +99,9 @@ module _ (hd : Header) (me : Host) (moment steps : ℕ) (h : HostState tcp_shape
         tables = record { made = k.tables.made; wire = k.tables.wire; inbox = k.tables.inbox };
       }
 
-  makes_kept : (fresh : ℕ) (making : SegmentPlan) → IsSmallDeed me h (Makes making) → first_broken (act_rules hd me moment h.body (acts.Makes making)) ≡ None
-      → IsKeptHost (suc steps) (forget_host (deed_after (tcp hd) me moment fresh [] h (Makes making)))
+  makes_kept : (fresh : ℕ) (making : SegmentPlan) → IsSmallHostStep me h (Makes making)
+      → first_broken (act_rules hd me moment h.body (acts.Makes making)) ≡ None
+      → IsKeptHost (suc steps) (forget_host (host_step_after (tcp hd) me moment fresh [] h (Makes making)))
   makes_kept fresh making small permitted = record {
     body = act_kept (acts.Makes making) tt permitted;
     tables =
@@ -175,21 +176,21 @@ module _ (hd : Header) (me : Host) (moment steps : ℕ) (h : HostState tcp_shape
         };
   }
 
-  deed_kept : (fresh : ℕ) (far : List (ℕ × Emission)) (d : Deed tcp_shape) → All (λ x. IsSmallEmission x.1) far
-      → IsSmallDeed me h d → first_broken (deed_rules (tcp hd) me moment far h d) ≡ None
-      → IsKeptHost (suc steps) (forget_host (deed_after (tcp hd) me moment fresh far h d))
-  deed_kept fresh far (Does x) others small permitted = body_kept (acts.Recovers x) tt permitted
-  deed_kept fresh far (Expires line x) others small permitted = body_kept (acts.Expires x) tt permitted
-  deed_kept fresh far (Makes making) others small permitted = makes_kept fresh making small permitted
-  deed_kept fresh far (Sends line number wire) others small permitted =
+  host_step_kept : (fresh : ℕ) (far : List (ℕ × Emission)) (d : HostStep tcp_shape) → All (λ x. IsSmallEmission x.1) far
+      → IsSmallHostStep me h d → first_broken (host_step_rules (tcp hd) me moment far h d) ≡ None
+      → IsKeptHost (suc steps) (forget_host (host_step_after (tcp hd) me moment fresh far h d))
+  host_step_kept fresh far (Does x) others small permitted = body_kept (acts.Recovers x) tt permitted
+  host_step_kept fresh far (Expires line x) others small permitted = body_kept (acts.Expires x) tt permitted
+  host_step_kept fresh far (Makes making) others small permitted = makes_kept fresh making small permitted
+  host_step_kept fresh far (Sends line number wire) others small permitted =
       sends_kept line number wire (lookup (nat_eq number) h.made)
       (All-lookup (λ (m : Made Emission). IsSmallEmission m.emission) (nat_eq number) h.made k.tables.made)
-  deed_kept fresh far (Gets line copied wire) others small permitted =
+  host_step_kept fresh far (Gets line copied wire) others small permitted =
       gets_kept line (lookup (nat_eq copied) far) (All-lookup IsSmallEmission (nat_eq copied) far others)
-  deed_kept fresh far (Hears line wire) others small permitted = gets_kept line (Some (heard moment wire)) (heard_small moment wire)
-  deed_kept fresh far (Takes line how) others small permitted = takes_kept line how (waiting line h.inbox) refl permitted
-  deed_kept fresh far (Drops line) others small permitted = drops_kept line (waiting line h.inbox)
-  deed_kept fresh far (Answers line) others small permitted = answers_kept fresh line (waiting line h.inbox) permitted
+  host_step_kept fresh far (Hears line wire) others small permitted = gets_kept line (Some (heard moment wire)) (heard_small moment wire)
+  host_step_kept fresh far (Takes line how) others small permitted = takes_kept line how (waiting line h.inbox) refl permitted
+  host_step_kept fresh far (Drops line) others small permitted = drops_kept line (waiting line h.inbox)
+  host_step_kept fresh far (Answers line) others small permitted = answers_kept fresh line (waiting line h.inbox) permitted
 
 -- 3. the world
 
@@ -221,16 +222,16 @@ module _ (h : Header) (moment steps : ℕ) (w : World tcp_shape) (k : IsKeptWorl
         count = count_later steps w.count false k.count;
       }
 
-  deed_at : (host : Host) (d : Deed tcp_shape) → IsSmallDeed host (pick w.hosts host) d
+  host_step_at : (host : Host) (d : HostStep tcp_shape) → IsSmallHostStep host (pick w.hosts host) d
       → Permitted (tcp h) moment w (At host d) → Kept (after (tcp h) moment w (At host d))
-  deed_at Zero d small permitted = record {
-    zero = deed_kept h Zero moment steps w.hosts.zero k.zero (suc w.count) w.hosts.one.wire d k.one.tables.wire small permitted;
+  host_step_at Zero d small permitted = record {
+    zero = host_step_kept h Zero moment steps w.hosts.zero k.zero (suc w.count) w.hosts.one.wire d k.one.tables.wire small permitted;
     one = idle_host steps w.hosts.one k.one;
     count = count_later steps w.count (makes (tcp h) d) k.count;
   }
-  deed_at One d small permitted = record {
+  host_step_at One d small permitted = record {
     zero = idle_host steps w.hosts.zero k.zero;
-    one = deed_kept h One moment steps w.hosts.one k.one (suc w.count) w.hosts.zero.wire d k.zero.tables.wire small permitted;
+    one = host_step_kept h One moment steps w.hosts.one k.one (suc w.count) w.hosts.zero.wire d k.zero.tables.wire small permitted;
     count = count_later steps w.count (makes (tcp h) d) k.count;
   }
 
@@ -268,7 +269,7 @@ pub kept_after : (h : Header) (moment steps : ℕ) (w : World tcp_shape) (step :
 kept_after h moment steps w (Begin line t call) small permitted k = turn_kept h moment steps w k (insert_entry nat_eq w.threads t (Called call))
 kept_after h moment steps w (Finish line t answer) small permitted k = turn_kept h moment steps w k (insert_entry nat_eq w.threads t Idle)
 kept_after h moment steps w (Effect t answer) small permitted k = effect_at h moment steps w k t answer (turn_of t w.threads) small permitted
-kept_after h moment steps w (At host d) small permitted k = deed_at h moment steps w k host d small permitted
+kept_after h moment steps w (At host d) small permitted k = host_step_at h moment steps w k host d small permitted
 
 pub ready : (steps : ℕ) (h : HostState tcp_shape) → steps < most_steps → IsKeptHost steps h → IsReady h
 ready steps h few k =

@@ -1,4 +1,4 @@
--- What a deed of each kind leaves at one host is what the kernel's deed leaves of both, with all discarded that may be.
+-- What a step of each kind leaves at its host is what the kernel's step leaves of both, with all discarded that may be.
 use Rattle.std.proofs.Common.{◌≡◌, ℕ, Option, None, Some, refl, sym, ap, ◌∙◌, nat_eq}
 use Rattle.std.specs.Map.{lookup}
 use Rattle.indexmap.specs.IndexMap.{insert_entry}

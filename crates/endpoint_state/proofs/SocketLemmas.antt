@@ -20,7 +20,7 @@ use Rattle.spec_tcp.specs.declared.endpoint.SocketTarget.TheVariants.{EndpointAt
 use Rattle.spec_tcp.specs.HostTcp.{HostTcp, queue_of, with_socket}
 use Rattle.spec_tcp.specs.Endpoints.{new_endpoint}
 use Rattle.spec_tcp.specs.Bounds.{HasRoom}
-use Rattle.spec_tcp.specs.Calls.{call_allows, thing_allows, is_bad_socket, endpoint_allows}
+use Rattle.spec_tcp.specs.Calls.{call_allows, target_allows, is_bad_socket, endpoint_allows}
 use Rattle.spec_tcp.specs.Calls.Accept.{accepted_from}
 use Rattle.spec_tcp.specs.Forgetting.{forget_body}
 use Rattle.endpoint_state.specs.Changes.{changed}
@@ -46,7 +46,7 @@ queue_at b l x at = ap (λ (o : Option Listener). option_map_or (λ y. y.queue) 
 -- the first child is accepted
 pub accepted_first : (b : HostTcp) (l n child : ℕ) (es : List Endpoint) (xs : List Listener) (ss : List (ℕ × Socket)) → slice_get (queue_of b l) 0 ≡ Some child
     → es ≡ changed b.endpoints child (λ e. record e { listener = None }) → xs ≡ modify b.listeners l without_first
-    → ss ≡ insert_entry nat_eq b.sockets n (record { thing = EndpointAt child; live = true })
+    → ss ≡ insert_entry nat_eq b.sockets n (record { target = EndpointAt child; live = true })
     → (let a : HostTcp = record { endpoints = es; listeners = xs; sockets = ss } in a) ≡ forget_body (accepted_from b l n (queue_of b l))
 accepted_first b l n child es xs ss first e x s = by (queue_of b l) refl first
   where
@@ -90,9 +90,9 @@ both false b is = absurd (true≢false (sym is))
 -- bytes that a `recv` may give wait
 pub allowed_wait : (b : HostTcp) (n most : ℕ) (bytes : List ℕ) → call_allows b (calls.Recv n most) (answers.Bytes bytes) ≡ true → AreWaiting b n bytes
 allowed_wait b n most bytes allowed i e named at =
-    let one : thing_allows b (calls.Recv n most) (answers.Bytes bytes) (EndpointAt i) ≡ true =
+    let one : target_allows b (calls.Recv n most) (answers.Bytes bytes) (EndpointAt i) ≡ true =
     sym (ap (λ (o : Option SocketTarget).
-    option_map_or (thing_allows b (calls.Recv n most) (answers.Bytes bytes)) o
+    option_map_or (target_allows b (calls.Recv n most) (answers.Bytes bytes)) o
     (is_bad_socket (answers.Bytes bytes))) named) ∙ allowed in
     let two : endpoint_allows e (calls.Recv n most) (answers.Bytes bytes) ≡ true =
     sym (ap (λ (o : Option Endpoint).

@@ -20,7 +20,7 @@ use Rattle.endpoint_state.specs.Kept.{IsKeptWorld}
 use Rattle.endpoint_state.specs.Kinds.{sent_one}
 use Rattle.endpoint_state.specs.Sides.{AreReady}
 use Rattle.endpoint_state.specs.Worlds.{Progress, after}
-use Rattle.endpoint_state.proofs.Deeds.{Host_}
+use Rattle.endpoint_state.proofs.KeptHostSteps.{Host_}
 use Rattle.endpoint_state.proofs.KindLemmas.{came_hosts, sent_hosts}
 use Rattle.endpoint_state.proofs.Progresses.{Hosts_, Threads_, done_at, kept_next, shown}
 

@@ -10,7 +10,7 @@ use Rattle.case_forms.specs.declared.taken_line.Expired.{Expired}
 use Rattle.case_forms.specs.declared.steps.SegmentPlan.{SegmentPlan}
 use Rattle.case_forms.specs.declared.steps.TakeChoice.{TakeChoice}
 use Rattle.spec_network.specs.Tables.{on, unsent, waiting}
-use Rattle.spec_network.specs.Hosts.{HostState, Deed, Expires}
+use Rattle.spec_network.specs.Hosts.{HostState, HostStep, Expires}
 use Rattle.spec_network.specs.HostSteps.{inbox_settled, made_gone_out, wire_after}
 use Rattle.spec_tcp.specs.HostTcp.{at_ports, HostTcp}
 use Rattle.spec_tcp.specs.Machine.{act_makes, tcp_shape, rules_at}
@@ -63,7 +63,7 @@ answered_one line fresh h = record h {
 }
 
 -- a timer of the endpoint of these ports expires
-abbrev pub expiry_of : Ports → Expired → Deed tcp_shape
+abbrev pub expiry_of : Ports → Expired → HostStep tcp_shape
 expiry_of ports e = Expires 0 (record { lport = ports.lport; rport = ports.rport; expired = e })
 
 -- its rules, and the host's endpoints after it

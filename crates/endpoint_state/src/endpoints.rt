@@ -120,8 +120,11 @@ fn add_child(
     Ok(())
 }
 
+// The places given to these functions are those of endpoints: a socket, a queue or a search by ports gave them, and
+// endpoints are never removed. `make` and `take` require it; the others change nothing where there is none. Each tests
+// the place itself, since the prover refuses these functions with `get_mut` instead.
 impl Endpoints {
-    /// The endpoint of this name makes a segment, at a moment in microseconds. If memory runs out, nothing is changed.
+    /// The endpoint with this identity makes a segment, at a moment in microseconds. Without memory, nothing changes.
     pub(crate) fn make(
         &mut self,
         alloc: Global,
@@ -191,7 +194,7 @@ impl Endpoints {
         }
     }
 
-    /// The endpoint at a place is aborted (RFC 9293, 3.10.5).
+    /// The endpoint at a place is aborted (RFC 9293, 3.10.5). If there is none, which no socket names, nothing changes.
     pub(crate) fn abort(&mut self, place: u32)
         requires { All HasRoom self.old }
         ensures { self.new ≡ changed self.old place after_abort }

@@ -25,7 +25,7 @@ ghost use Rattle.endpoint_state.specs.Kinds.{answered_one, dropped_one, made_one
 ghost use Rattle.endpoint_state.specs.Kinds.{dropping_rules, expired_body, expiring_rules, recovered_body};
 ghost use Rattle.endpoint_state.specs.Kinds.{recovering_rules, taking_rules};
 
-use crate::arriving::{Arrival, admitted_arrival, consume_arrival, waiting};
+use crate::arrivals::{Arrival, admitted_arrival, consume_arrival, waiting};
 use crate::fault::StepFault;
 use crate::host_tcp::HostTcp;
 use crate::made::{Made, admitted_sending, mark};

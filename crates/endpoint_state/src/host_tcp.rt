@@ -12,7 +12,7 @@ ghost use Rattle.std.specs.Prelude.{◌≡◌, length, slice_get, None, Some, If
 ghost use Rattle.std.specs.Option.{option_copied};
 ghost use Rattle.verdict.specs.declared.rule.Rule.TheVariants.{NoEndpoint};
 ghost use Rattle.spec_tcp.specs.HostTcp.{empty, endpoint_of, given, is_connected, if_live, is_listening, listener_on};
-ghost use Rattle.spec_tcp.specs.HostTcp.{place_of, thing_of};
+ghost use Rattle.spec_tcp.specs.HostTcp.{place_of, socket_target};
 
 mod arrives;
 mod calls;
@@ -79,8 +79,8 @@ impl HostTcp {
     }
 
     /// What a socket number names. None: it is not live.
-    pub fn thing(&self, number: u32) -> Option<SocketTarget>
-        ensures { result ≡ thing_of self.now number }
+    pub fn target(&self, number: u32) -> Option<SocketTarget>
+        ensures { result ≡ socket_target self.now number }
     {
         match self.sockets.get(u64::from(number)) {
             Some(socket) => if_live(*socket),
@@ -165,7 +165,7 @@ fn if_live(socket: Socket) -> Option<SocketTarget>
     ensures { result ≡ if_live socket }
 {
     if socket.live {
-        Some(socket.thing)
+        Some(socket.target)
     } else {
         None
     }

@@ -1,6 +1,6 @@
 //! The model's state of a case: two hosts, threads with their calls, how many segments were made, and how many steps
 //! were done. Each kind of step is one function of `World`, which checks the rules and does the step if none is broken;
-//! the function of the same name with `admits_` only checks.
+//! for each, a function whose name begins with `admits_` only checks.
 //!
 //! `specs/Worlds.antt` defines the state of a case, `specs/Kinds.antt` a host's state after each kind of step,
 //! `specs/Calls.antt` what a call may answer, and `specs/Sides.antt` both hosts' state after a step of one of them.
@@ -9,7 +9,7 @@
 //!
 //! - `world`: the state of a case, and every step except the effect of a call
 //! - `calls`: the effect of a call, and the two rules of its answer
-//! - `readings`: further queries of a world
+//! - `queries`: further queries of a world
 //! - `fault`: why a step was refused
 //! - `host_pair`: the two hosts, one of which acts; `host`: one host's state, and each step there
 //!
@@ -17,7 +17,7 @@
 //!
 //! - `threads`: where each thread is, and the lines that begin and end a call
 //! - `made`: segments that were made, and the lines that send them
-//! - `arriving`: the lines of arrivals, and what waits in an inbox
+//! - `arrivals`: the lines of arrivals, and what waits in an inbox
 //!
 //! One host's TCP state below its tables:
 //!
@@ -26,9 +26,11 @@
 //! - `endpoints`: found by their ports, and each changed in its place; `listeners`: found by their ports, with their
 //!   queues
 //! - `laws`: limits of counts and positions
+//!
+//! Functions that only hand a call or an answer on are inlined, which saves a copy of it.
 #![tactic(auto)]
 
-mod arriving;
+mod arrivals;
 mod calls;
 mod endpoints;
 mod fault;
@@ -38,7 +40,7 @@ mod host_tcp;
 mod laws;
 mod listeners;
 mod made;
-mod readings;
+mod queries;
 mod threads;
 mod world;
 

@@ -16,7 +16,7 @@ use std::marker::Model;
 #[derive(Drop)]
 pub(crate) struct Listeners {
     all: Vec<Listener>,
-    /// For each port, the listener opened last there.
+    /// For each port, the listener opened last there. A hash table will do: ports have 16 bits, so few can collide.
     places: IndexMap<u16, u32>,
 }
 

@@ -154,7 +154,7 @@ pub(crate) fn finish(
 
 /// A thread's call has its effect, with this answer. If memory runs out, nothing is changed; for a thread that called
 /// before it can't run out.
-pub(crate) fn answered(
+pub(crate) fn set_answer(
     threads: &mut Table<Turn>,
     thread: u32,
     answer: Answer,

@@ -7,7 +7,7 @@ use Rattle.std.specs.Ordering.{nat_cmp}
 use Rattle.std.specs.Option.{option_and_then, option_map_or}
 use Rattle.std.specs.Map.{keys_of, lookup}
 use Rattle.std.proofs.lemmas.Bool.Decides.{nat_tests}
-use Rattle.interval_order.specs.declared.window.Waiting.{Waiting}
+use Rattle.interval_order.specs.declared.pending_lines.Waiting.{Waiting}
 use Rattle.interval_order.specs.Waits.{lines_of, waiting_at, Leads}
 use Rattle.interval_order.proofs.EntryLemmas.{line_is, any_at, found_any}
 

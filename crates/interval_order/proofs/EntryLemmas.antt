@@ -15,7 +15,7 @@ use Rattle.std.proofs.lemmas.List.Elements.{recursion_from_All}
 use Rattle.std.proofs.lemmas.Map.Keys.{sorted_head, sorted_tail}
 use Rattle.std.proofs.lemmas.Map.Made.{lookup-map_values}
 use Rattle.case_forms.specs.declared.trace.Line.{Line}
-use Rattle.interval_order.specs.declared.window.Waiting.{Waiting}
+use Rattle.interval_order.specs.declared.pending_lines.Waiting.{Waiting}
 use Rattle.interval_order.specs.Waits.{lines_of, waiting_at}
 
 module _ {X : Type 0} where

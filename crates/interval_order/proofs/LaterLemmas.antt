@@ -10,7 +10,7 @@ use Rattle.std.specs.Option.{option_and_then}
 use Rattle.std.specs.Map.{keys_of}
 use Rattle.std.proofs.lemmas.List.Sums.{sum_by-cons}
 use Rattle.std.proofs.lemmas.List.Elements.{recursion_from_All, All-from_recursion}
-use Rattle.interval_order.specs.declared.window.Waiting.{Waiting}
+use Rattle.interval_order.specs.declared.pending_lines.Waiting.{Waiting}
 use Rattle.interval_order.specs.Waits.{lines_of, waiting_at, IsSound}
 use Rattle.interval_order.proofs.EarlierLemmas.{earlier_is}
 use Rattle.interval_order.proofs.EntryLemmas.{any_is_found}
@@ -320,7 +320,7 @@ late_line header lines between after line earlier moment extras below late =
     (order_with header lines (between ++ line ∷ after) earlier below)
     ∙ late_is (order_of header lines earlier) between after line moment extras (order_below header lines earlier) (omega arith) late
 
--- ---- how many lines a window holds
+-- ---- how many lines are pending
 
 abbrev weight : Bool → ℕ
 weight b = cond b 1 0
@@ -398,7 +398,7 @@ held_few header lines earlier moment none below =
     (all_current (order_of header lines earlier) moment (unplaced header lines earlier) none
     (recursion_from_All (λ e. e.1.moment ≤ moment) (unplaced header lines earlier) below))
 
--- ---- the rule of a late line, by what a window keeps
+-- ---- the rule of a late line, by what pending lines keep true
 
 pub lines_below : (next : ℕ) (es : List (ℕ × Waiting)) → AllByRecursion (λ n. n < next) (keys_of es) → KeysBelow next (lines_of es)
 lines_below next [] h = tt

@@ -2,7 +2,7 @@
 use Rattle.std.proofs.Common.{◌≡◌, ℕ, ◌<◌, ◌≤◌, ◌+◌, ◌⊎◌, inl, inr, Bool, true, false, Option, Some, None, refl, sym, ap, ◌∙◌, subst, arith}
 use Rattle.std.specs.Prelude.{nat_eq}
 use Rattle.std.proofs.lemmas.Bool.Decides.{nat_tests}
-use Rattle.interval_order.specs.declared.window.Waiting.{Waiting}
+use Rattle.interval_order.specs.declared.pending_lines.Waiting.{Waiting}
 use Rattle.interval_order.specs.Waits.{Leads, AreLinked}
 
 same_or : (p k : ℕ) → (p ≡ k) ⊎ (p ≡ k → ⊥)

@@ -1,4 +1,4 @@
--- What a window keeps true stays true with one line more, and with the first of its thread placed.
+-- What pending lines keep true stays true with one line more, and with the first of its thread placed.
 use Rattle.std.proofs.Common.{◌≡◌, ℕ, ◌<◌, ◌≤◌, ◌+◌, true, false, cond, ◌&&◌, ◌==◌, nat_lt, List, [], ◌∷◌, ◌++◌, ◌-◌}
 use Rattle.std.proofs.Common.{not, length, get_or, Option, Some, None, sym, ap, subst, arith}
 use Rattle.std.proofs.lemmas.Bool.Decides.{nat_tests}
@@ -14,7 +14,7 @@ use Rattle.std.proofs.lemmas.List.Kept.{IsNonDecreasingBy-filter, IsStrictlySort
 use Rattle.std.proofs.lemmas.List.Sorted.{IsNonDecreasingBy-push}
 use Rattle.std.proofs.lemmas.Map.Entries.{lookup-filter-keys}
 use Rattle.case_forms.specs.declared.trace.Line.{Line}
-use Rattle.interval_order.specs.declared.window.Waiting.{Waiting}
+use Rattle.interval_order.specs.declared.pending_lines.Waiting.{Waiting}
 use Rattle.interval_order.specs.Orders.{Order, with_line}
 use Rattle.interval_order.specs.Waits.{lines_of, waiting_at, latest_in, IsSound}
 use Rattle.interval_order.proofs.EntryLemmas.{rising_more, found_last, found_still, keys_kept, found_below, any_at}

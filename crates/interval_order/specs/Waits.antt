@@ -1,11 +1,11 @@
--- The invariant of the lines that wait in a window.
+-- The invariant of pending lines.
 use Rattle.std.specs.Prelude.{◌≡◌, ℕ, ◌<◌, ◌≤◌, All, map, nat_eq, List, Option, None, Some}
 use Rattle.std.specs.List.Sorted.{IsStrictlySortedBy, IsNonDecreasingBy}
 use Rattle.std.specs.Ordering.{nat_cmp}
 use Rattle.std.specs.Map.{keys_of, lookup}
 use Rattle.tables.specs.Tables.{Table}
 use Rattle.case_forms.specs.declared.trace.Line.{Line}
-use Rattle.interval_order.specs.declared.window.Waiting.{Waiting}
+use Rattle.interval_order.specs.declared.pending_lines.Waiting.{Waiting}
 
 -- the lines themselves, each with its number
 abbrev pub lines_of : List (ℕ × Waiting) → List (ℕ × Line)

@@ -1,4 +1,4 @@
-//! Lines outside the window: when one is to be offered, and the verdict if one is left over.
+//! When a line is to be offered, and the verdict if one is left over.
 
 ghost use Rattle.std.specs.Prelude.{◌≡◌, nat_le};
 

@@ -1,6 +1,6 @@
 //! The levels that were tried, and whether duties alone refuse one.
 
-use crate::trying::{Facts, JudgeFault, Question, try_level};
+use crate::one_level::{Facts, JudgeFault, Question, try_level};
 use case_forms::Judged;
 use replayed::Refused;
 use std::alloc::Global;

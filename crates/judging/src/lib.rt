@@ -16,24 +16,24 @@
 //!
 //! Private modules:
 //!
-//! - `asking`: the levels, one after the other
-//! - `rewriting`: a trace in version 5
-//! - `trying`: one level: the case that is found, and its verdict
+//! - `judgement`: the levels, one after the other
+//! - `version_five`: a trace in version 5
+//! - `one_level`: the case that is found at one level, and its verdict
 //! - `levels`: what is known of each level, and whether duties alone refuse it
 //! - `connections`: how many connections it has, and how many were established
 //! - `sentences`: what a yes says, and what a no refuses
 #![tactic(auto)]
 
-mod asking;
 mod connections;
+mod judgement;
 mod levels;
-mod rewriting;
+mod one_level;
 mod sentences;
-mod trying;
+mod version_five;
 
-pub use asking::{Judgement, judge};
 pub use connections::Connections;
+pub use judgement::{Judgement, judge};
 pub use levels::{Answer, Level};
-pub use rewriting::{GREATEST_SLACK, Slack};
+pub use one_level::JudgeFault;
 pub use sentences::{level_name, sentence};
-pub use trying::JudgeFault;
+pub use version_five::{GREATEST_SLACK, Slack};

@@ -2,7 +2,7 @@
 
 use crate::connections::Connections;
 use crate::levels::{Answer, Level, is_yes_without_duties};
-use crate::trying::{Question, Tried};
+use crate::one_level::{Question, Tried};
 use case_forms::{Judged, OutOfMemory};
 use itoa::Buffer;
 use plain_words::{about, word_if};

@@ -30,7 +30,7 @@ use Rattle.spec_duties.specs.Cases.{Known}
 use Rattle.spec_duties.specs.Dropped.{answering_breaks, asks, has_content, is_ack_range, is_next, is_unacceptable, taking_breaks}
 use Rattle.spec_duties.specs.End.{end_rules}
 use Rattle.spec_duties.specs.Owed.{owed_after}
-use Rattle.spec_duties.specs.Sights.{at_drop, dropping_sight, sight, unseen}
+use Rattle.spec_duties.specs.Observations.{at_drop, observe_dropping, observe, unseen}
 use Rattle.spec_duties.specs.Watching.{owed_by}
 use Rattle.spec_duties.specs.declared.events.Event.{Event}
 use Rattle.spec_duties.specs.declared.events.Event.TheVariants.{Drops, Sends}
@@ -149,7 +149,8 @@ module _ (t : Trace) (w : Witness) (slack : ℕ) (r : Run t.header slack (length
             → (owed_by (known_before t w (suc j)).duties me.host me.number).acknowledged ≡ Some since
             → Touches t.header (known_before t w j) x me
             ⊎ ((owed_by (known_before t w (suc j)).duties me.host me.number ≡ owed_by (known_before t w j).duties me.host me.number)
-            × ((event : Event) → (sight t.header x.moment (known_before t w j).model x.step).touched ≡ Some (touched (known_before t w j).model me event) → ⊥))
+            × ((event : Event) → (observe t.header x.moment (known_before t w j).model x.step).touched ≡ Some (touched (known_before t w j).model me event)
+            → ⊥))
             → SentAck t w me (suc j) since
         next j x is all since now (inr same) = sent_later j since (all since (sym (ap (λ (o : Owed). o.acknowledged) same.0) ∙ now))
         next j x is all since now (inl at) =
@@ -183,7 +184,7 @@ module _ (t : Trace) (w : Witness) (slack : ℕ) (r : Run t.header slack (length
         let v = world_before t w place in
         let b = host_before t w place me.host in
         let taking = taking_breaks t.header moment v me.host line in
-        ap (λ (o : Option Emission). (on o unseen (λ m. dropping_sight me.host b line taking (answering_breaks t.header v me.host line) m
+        ap (λ (o : Option Emission). (on o unseen (λ m. observe_dropping me.host b line taking (answering_breaks t.header v me.host line) m
         (taker b m))).touched) at.waits
         ∙ ap (λ (k : Taker). at_drop me.host b m taking k) at.comes
         ∙ place_touched v me.host (Drops (asks m taking e) (has_content m)) me.number e (taker_there b m me.number e at.comes);

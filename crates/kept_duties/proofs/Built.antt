@@ -18,16 +18,17 @@ use Rattle.spec_tcp.specs.Machine.{tcp, tcp_shape}
 use Rattle.spec_tcp.specs.declared.endpoint.Emission.{Emission}
 use Rattle.spec_duties.specs.Cases.{Known, first_known}
 use Rattle.spec_duties.specs.Deadlines.{is_late}
-use Rattle.spec_duties.specs.Sights.{sight, view_in}
+use Rattle.spec_duties.specs.Observations.{observe, view_in}
 use Rattle.spec_duties.specs.Watching.{Duties, builds_mere_ack, built_after, built_by, counts_now, duty_rules, sent_late}
-use Rattle.spec_duties.specs.declared.sights.Post.{Post}
-use Rattle.spec_duties.specs.declared.sights.Post.TheVariants as post
+use Rattle.spec_duties.specs.declared.observations.BuiltChange.{BuiltChange}
+use Rattle.spec_duties.specs.declared.observations.BuiltChange.TheVariants as built_change
 use Rattle.spec_duties.specs.declared.tables.Built.{Built}
 use Rattle.spec_duties.specs.declared.views.View.{View}
 use Rattle.kept_duties.proofs.Inbox.{not_late}
 use Rattle.kept_duties.proofs.Runs.{Goes, Run, run_goes, run_keeps}
-use Rattle.kept_duties.proofs.Sights.{IsMade, IsNew, PostOf, builds, count_after, made_by, made_from, post_builds, post_of, post_sends, sends}
-use Rattle.kept_duties.proofs.Sights.{waiting_elsewhere, waiting_here}
+use Rattle.kept_duties.proofs.Observations.{IsMade, IsNew, BuiltChangeOf, builds, count_after, made_by, made_from, built_change_builds, built_change_of}
+use Rattle.kept_duties.proofs.Observations.{built_change_sends, sends}
+use Rattle.kept_duties.proofs.Observations.{waiting_elsewhere, waiting_here}
 
 same_pair : (o : Option (Host × ℕ)) (g host : Host) (q n : ℕ) → o ≡ Some (g, q) → g ≡ host → q ≡ n → o ≡ Some (host, n)
 same_pair o g host q n is same number = is ∙ (λ i. Some (same i, number i))
@@ -36,8 +37,8 @@ module _ (h : Header) (slack n : ℕ) (acts : ℕ → Option (Stamped tcp_shape)
   -- whether an act builds a mere acknowledgment
   abbrev pub counts_by : Known → Stamped tcp_shape → Bool
   counts_by k x =
-      option_map_or (builds_mere_ack (view_in (after (tcp h) x.moment k.model x.step) (sight h x.moment k.model x.step).touched))
-      (sight h x.moment k.model x.step).touched false
+      option_map_or (builds_mere_ack (view_in (after (tcp h) x.moment k.model x.step) (observe h x.moment k.model x.step).touched))
+      (observe h x.moment k.model x.step).touched false
 
   -- before this place a host built the segment of that number
   pub record WasBuilt (to : ℕ) (host : Host) (number : ℕ) : Type 0 where
@@ -124,35 +125,35 @@ module _ (h : Header) (slack n : ℕ) (acts : ℕ → Option (Stamped tcp_shape)
     abbrev table : List (ℕ × Option Built)
     table = (known j).duties.built
 
-    abbrev shown : Post
-    shown = (sight h x.moment (known j).model x.step).post
+    abbrev shown : BuiltChange
+    shown = (observe h x.moment (known j).model x.step).built_change
 
     abbrev shown_view : View
-    shown_view = view_in (after (tcp h) x.moment (known j).model x.step) (sight h x.moment (known j).model x.step).touched
+    shown_view = view_in (after (tcp h) x.moment (known j).model x.step) (observe h x.moment (known j).model x.step).touched
 
     -- what is kept of a segment that is built now
     abbrev just_built : Built
     just_built = record {
       since = x.moment;
-      counts = option_map_or (builds_mere_ack shown_view) (sight h x.moment (known j).model x.step).touched false;
+      counts = option_map_or (builds_mere_ack shown_view) (observe h x.moment (known j).model x.step).touched false;
     }
 
-    go_on : (q : ℕ) (p : Post) → shown ≡ p
+    go_on : (q : ℕ) (p : BuiltChange) → shown ≡ p
         → waiting q (known (suc j)).duties.built
-        ≡ waiting q (built_after shown_view x.moment (sight h x.moment (known j).model x.step).touched p table)
+        ≡ waiting q (built_after shown_view x.moment (observe h x.moment (known j).model x.step).touched p table)
     go_on q p shows =
         ap (λ (d : Duties). waiting q d.built) goes.duties
-        ∙ ap (λ p. waiting q (built_after shown_view x.moment (sight h x.moment (known j).model x.step).touched p table)) shows
+        ∙ ap (λ p. waiting q (built_after shown_view x.moment (observe h x.moment (known j).model x.step).touched p table)) shows
 
     new : (host : Host) (number : ℕ) (m : Made Emission) → IsNew (known j).model x.step host number m → InTime (suc j) (known (suc j)) host number m
     new host number m now = record {
       was = record { place = j; act = x; low = omega arith; is = is; builds = now.built; count = now.number };
       content = now.content;
       waits = λ no.
-          let made = post_builds h x.moment (known j).model x.step host now.built in
+          let made = built_change_builds h x.moment (known j).model x.step host now.built in
           let self : nat_eq number number ≡ true = grind (arith, nat_tests) in (
             just_built,
-            go_on number (post.Builds number) (made ∙ ap post.Builds (sym now.number))
+            go_on number (built_change.Builds number) (made ∙ ap built_change.Builds (sym now.number))
                 ∙ waiting_here number (Some just_built) table,
             refl,
             refl,
@@ -162,27 +163,27 @@ module _ (h : Header) (slack n : ℕ) (acts : ℕ → Option (Stamped tcp_shape)
     -- a segment that waits and isn't sent now goes on waiting
     still : (host : Host) (number : ℕ) → WasBuilt j host number → (sends x.step ≡ Some (host, number) → ⊥)
         → (b : Built) → waiting number table ≡ Some b → waiting number (known (suc j)).duties.built ≡ Some b
-    still host number was not b waits = by shown refl (post_of h x.moment (known j).model x.step)
+    still host number was not b waits = by shown refl (built_change_of h x.moment (known j).model x.step)
       where
-        by : (p : Post) → shown ≡ p → PostOf (known j).model.count p x.step → waiting number (known (suc j)).duties.built ≡ Some b
-        by post.Nothing shows of = go_on number post.Nothing shows ∙ waits
-        by (post.Builds q) shows of =
+        by : (p : BuiltChange) → shown ≡ p → BuiltChangeOf (known j).model.count p x.step → waiting number (known (suc j)).duties.built ≡ Some b
+        by built_change.Nothing shows of = go_on number built_change.Nothing shows ∙ waits
+        by (built_change.Builds q) shows of =
             let low' = low_number j host number (omega (arith, low)) was in
             let next = of.0 in
             let other : nat_eq number q ≡ false = grind (arith, nat_tests, low', next) in
-            subst (λ (o : Option Built). o ≡ Some b) (sym (go_on number (post.Builds q) shows))
+            subst (λ (o : Option Built). o ≡ Some b) (sym (go_on number (built_change.Builds q) shows))
             (waiting_elsewhere number q (Some just_built) table other ∙ waits)
-        by (post.Sends q) shows of = test (nat_eq number q) refl
+        by (built_change.Sends q) shows of = test (nat_eq number q) refl
           where
             test : (t : Bool) → nat_eq number q ≡ t → waiting number (known (suc j)).duties.built ≡ Some b
             test true same =
                 let e : q ≡ number = grind (arith, nat_tests, same) in
-                let sent = post_sends h x.moment (known j).model x.step of.0 q goes.permitted of.1 in
+                let sent = built_change_sends h x.moment (known j).model x.step of.0 q goes.permitted of.1 in
                 let other = subst (λ (k : ℕ). WasBuilt j of.0 k) e (all of.0 q sent.1.made sent.1.there).was in
                 let one : of.0 ≡ host = same_builder j of.0 host number (omega (arith, low)) other was in
                 absurd (not (same_pair (sends x.step) of.0 host q number of.1 one e))
             test false other =
-                subst (λ (o : Option Built). o ≡ Some b) (sym (go_on number (post.Sends q) shows)) (waiting_elsewhere number q None table other ∙ waits)
+                subst (λ (o : Option Built). o ≡ Some b) (sym (go_on number (built_change.Sends q) shows)) (waiting_elsewhere number q None table other ∙ waits)
 
     step : AllInTime (suc j) (known (suc j))
     step host number m there =
@@ -221,13 +222,13 @@ module _ (h : Header) (slack n : ℕ) (acts : ℕ → Option (Stamped tcp_shape)
     pub made : Made Emission
     pub there : lookup (nat_eq number) (pick (known j).model.hosts host).made ≡ Some made
     pub content : made_by (known was.place).model was.act.step ≡ Some made.emission
-    pub counts : counts_now (built_by (known j).duties (sight h y.moment (known j).model y.step).post) ≡ counts_by (known was.place) was.act
+    pub counts : counts_now (built_by (known j).duties (observe h y.moment (known j).model y.step).built_change) ≡ counts_by (known was.place) was.act
 
   pub sent_was_built : (j : ℕ) (y : Stamped tcp_shape) (host : Host) (number : ℕ) → j < n → acts j ≡ Some y → sends y.step ≡ Some (host, number)
       → Sent j y host number
   sent_was_built j y host number low is sending =
       let goes = run_goes h slack n acts known r j y low is in
-      let sent = post_sends h y.moment (known j).model y.step host number goes.permitted sending in
+      let sent = built_change_sends h y.moment (known j).model y.step host number goes.permitted sending in
       let old = all_in_time j (omega (arith, low)) host number sent.1.made sent.1.there in
       let b = old.waits sent.1.unsent in
       record {
@@ -246,11 +247,11 @@ module _ (h : Header) (slack n : ℕ) (acts : ℕ → Option (Stamped tcp_shape)
       → (b : WasBuilt j host number) × (y.moment ≤ b.act.moment + slack)
   sent_in_time j y host number low is sending =
       let goes = run_goes h slack n acts known r j y low is in
-      let sent = post_sends h y.moment (known j).model y.step host number goes.permitted sending in
+      let sent = built_change_sends h y.moment (known j).model y.step host number goes.permitted sending in
       let old = all_in_time j (omega (arith, low)) host number sent.1.made sent.1.there in
       let b = old.waits sent.1.unsent in
       let d = (known j).duties in
-      let fine = (none_all (duty_rules h slack y.moment d (sight h y.moment (known j).model y.step)) goes.dutiful).1.1.1.0 in
+      let fine = (none_all (duty_rules h slack y.moment d (observe h y.moment (known j).model y.step)) goes.dutiful).1.1.1.0 in
       let due : is_late slack y.moment (option_map (λ (b : Built). b.since) (waiting number d.built)) ≡ false =
       sym (ap (λ p. sent_late slack y.moment (built_by d p)) sent.0) ∙ fine in (
         old.was,

@@ -28,15 +28,15 @@ use Rattle.spec_tcp_laws.proofs.Runs.{later_step}
 use Rattle.spec_duties.specs.Cases.{Known}
 use Rattle.spec_duties.specs.End.{end_rules}
 use Rattle.spec_duties.specs.Reset.{aborts, reset_since, sends_reset}
-use Rattle.spec_duties.specs.Sights.{sight, view_in}
+use Rattle.spec_duties.specs.Observations.{observe, view_in}
 use Rattle.spec_duties.specs.Views.{unborn, view_of}
 use Rattle.spec_duties.specs.Watching.{Duties, closed_at, counts_for, left, listener_closed, moved, moved_by, owed_by, queued}
 use Rattle.spec_duties.specs.declared.events.Event.{Event}
 use Rattle.spec_duties.specs.declared.owed.Owed.{Owed}
-use Rattle.spec_duties.specs.declared.sights.Queueing.{Queueing}
-use Rattle.spec_duties.specs.declared.sights.Queueing.TheVariants as queueing
-use Rattle.spec_duties.specs.declared.sights.Sight.{Sight}
-use Rattle.spec_duties.specs.declared.sights.Touched.{Touched}
+use Rattle.spec_duties.specs.declared.observations.Queueing.{Queueing}
+use Rattle.spec_duties.specs.declared.observations.Queueing.TheVariants as queueing
+use Rattle.spec_duties.specs.declared.observations.Observation.{Observation}
+use Rattle.spec_duties.specs.declared.observations.TouchedEndpoint.{TouchedEndpoint}
 use Rattle.spec_duties.specs.declared.tables.Listening.{Listening}
 use Rattle.spec_duties.specs.declared.views.View.{View}
 use Rattle.checker.specs.Seen.{moves}
@@ -83,7 +83,7 @@ kept_host both Zero One table place since keeps is = is
 kept_host both One Zero table place since keeps is = is
 kept_host both One One table place since keeps is = keeps is
 
-kept_both : (after : View) (o : Option Touched) (both : Both (List (ℕ × Listening))) (host : Host) (place since : ℕ)
+kept_both : (after : View) (o : Option TouchedEndpoint) (both : Both (List (ℕ × Listening))) (host : Host) (place since : ℕ)
     → closed_in (pick both host) place ≡ Some since → closed_in (pick (on o both (moved_by after both)) host) place ≡ Some since
 kept_both after None both host place since is = is
 kept_both after (Some t) both host place since is =
@@ -177,15 +177,15 @@ module _ (t : Trace) (w : Witness) (slack : ℕ) (r : Run t.header slack (length
       k : Known
       k = known_before t w j
 
-      s : Sight
-      s = sight t.header y.moment (known_before t w j).model y.step
+      s : Observation
+      s = observe t.header y.moment (known_before t w j).model y.step
 
       not_again : s.queueing ≡ queueing.Closes me.host l → ⊥
       not_again is = once j y.moment (omega (arith, behind)) (record {
         act = y;
         is = at;
         time = refl;
-        closes = subst (λ (v : World tcp_shape). (sight t.header y.moment v y.step).queueing ≡ queueing.Closes me.host l) (world_is t w j) is;
+        closes = subst (λ (v : World tcp_shape). (observe t.header y.moment v y.step).queueing ≡ queueing.Closes me.host l) (world_is t w j) is;
       })
 
       still : ((event : Event) → s.touched ≡ Some (touched (known_before t w j).model me event) → ⊥)
@@ -197,7 +197,7 @@ module _ (t : Trace) (w : Witness) (slack : ℕ) (r : Run t.header slack (length
         before = ap (λ (v : World tcp_shape). awaits_reset l (seen v me)) (sym (world_is t w j)) ∙ pending.awaits;
         after = ap (λ (v : World tcp_shape). awaits_reset l (seen v me)) (sym (world_is t w (suc j))) ∙ ends;
         quiet = λ now event a.
-            quiet event (subst (λ (z : Stamped tcp_shape). (sight t.header z.moment (known_before t w j).model z.step).touched
+            quiet event (subst (λ (z : Stamped tcp_shape). (observe t.header z.moment (known_before t w j).model z.step).touched
             ≡ Some (touched (known_before t w j).model me event)) (same_Some a.act y (sym a.is ∙ at)) (happens_to t w j now me event a));
       })))
       still quiet same true awaits =
@@ -300,8 +300,8 @@ module _ (t : Trace) (w : Witness) (slack : ℕ) (r : Run t.header slack (length
       goes : Goes t.header slack (known_before t w place) (known_before t w (suc place)) c.act
       goes = goes_of t w slack r place c.act c.is
 
-      s : Sight
-      s = sight t.header c.act.moment (known_before t w place).model c.act.step
+      s : Observation
+      s = observe t.header c.act.moment (known_before t w place).model c.act.step
 
       v : View
       v = view_in (after (tcp t.header) c.act.moment (known_before t w place).model c.act.step) s.touched
@@ -311,7 +311,7 @@ module _ (t : Trace) (w : Witness) (slack : ℕ) (r : Run t.header slack (length
 
       closes : s.queueing ≡ queueing.Closes me.host l
       closes =
-          subst (λ (v : World tcp_shape). (sight t.header c.act.moment v c.act.step).queueing ≡ queueing.Closes me.host l) (sym (world_is t w place)) c.closes
+          subst (λ (v : World tcp_shape). (observe t.header c.act.moment v c.act.step).queueing ≡ queueing.Closes me.host l) (sym (world_is t w place)) c.closes
 
       now : awaits_reset l (seen (known_before t w (suc place)).model me) ≡ true
       now = ap (λ (v : World tcp_shape). awaits_reset l (seen v me)) (world_is t w (suc place)) ∙ awaits

@@ -45,14 +45,14 @@ use Rattle.spec_tcp_laws.proofs.Runs.{later_step}
 use Rattle.spec_duties.specs.Cases.{Dutiful, Known, first_known}
 use Rattle.spec_duties.specs.Excess.{answers_after, is_arrival, is_excess, is_listen, is_mere_ack, one_more}
 use Rattle.spec_duties.specs.Owed.{once_closed, owed_after, owed_open}
-use Rattle.spec_duties.specs.Sights.{at_place, at_sender, sending_of, sight, unseen, view_in}
+use Rattle.spec_duties.specs.Observations.{at_place, at_sender, sending_of, observe, unseen, view_in}
 use Rattle.spec_duties.specs.Views.{unborn, view_of}
 use Rattle.spec_duties.specs.Watching.{built_by, builds_mere_ack, counts_now, owed_by}
 use Rattle.spec_duties.specs.declared.events.Event.{Event}
 use Rattle.spec_duties.specs.declared.events.Event.TheVariants.{Builds, Drops, Processes}
-use Rattle.spec_duties.specs.declared.sights.Post.TheVariants as post
+use Rattle.spec_duties.specs.declared.observations.BuiltChange.TheVariants as built_change
 use Rattle.spec_duties.specs.declared.owed.Owed.{Owed}
-use Rattle.spec_duties.specs.declared.sights.Touched.{Touched}
+use Rattle.spec_duties.specs.declared.observations.TouchedEndpoint.{TouchedEndpoint}
 use Rattle.spec_duties.specs.declared.views.View.{View}
 use Rattle.kept_duties.specs.Counts.{builds_mere, builds_mere_at, comes, comes_at, count_before, event_at, event_for, is_unborn, mere_before, number_sent}
 use Rattle.kept_duties.specs.Counts.{sends_mere_at, sent_by}
@@ -65,7 +65,7 @@ use Rattle.kept_duties.proofs.Segments.{count_is, run, within}
 use Rattle.kept_duties.proofs.Since.{steady_at}
 use Rattle.kept_duties.proofs.Built.{Sent, WasBuilt, counts_by, same_builder, same_place, sent_was_built}
 use Rattle.kept_duties.proofs.Labels.{sending_act}
-use Rattle.kept_duties.proofs.Sights.{builds, made_by, sends}
+use Rattle.kept_duties.proofs.Observations.{builds, made_by, sends}
 use Rattle.kept_duties.proofs.Touched.{AsBefore, AsShown, Child, Opened, Touches, as_before, seen, touched, touches_or_not}
 
 -- ---- what happens at an endpoint
@@ -109,13 +109,13 @@ counted false false false true sent came answers s c e le = absurd (let f : fals
 counted false true false false sent came answers s c e le = omega (arith, le)
 counted false false false false sent came answers s c e le = omega (arith, le)
 
-pub event_of : (me : EndpointId) (o : Option Touched) (event : Event) → event_for me o ≡ Some event
-    → (s : Touched) × (o ≡ Some s) × (s.host ≡ me.host) × (s.place ≡ me.number) × (s.event ≡ event)
+pub event_of : (me : EndpointId) (o : Option TouchedEndpoint) (event : Event) → event_for me o ≡ Some event
+    → (s : TouchedEndpoint) × (o ≡ Some s) × (s.host ≡ me.host) × (s.place ≡ me.number) × (s.event ≡ event)
 event_of me None event is = absurd (none-some event is)
 event_of me (Some s) event is = by (host_is s.host me.host && s.place == me.number) refl is
   where
     by : (b : Bool) → (host_is s.host me.host && s.place == me.number) ≡ b → (if b then Some s.event else None) ≡ Some event
-        → (x : Touched) × (Some s ≡ Some x) × (x.host ≡ me.host) × (x.place ≡ me.number) × (x.event ≡ event)
+        → (x : TouchedEndpoint) × (Some s ≡ Some x) × (x.host ≡ me.host) × (x.place ≡ me.number) × (x.event ≡ event)
     by false no' is = absurd (none-some event is)
     by true here is =
         let both = both_true (host_is s.host me.host) (s.place == me.number) here in
@@ -140,7 +140,7 @@ mere_builds event before after is = absurd cc
 -- what a step that sends shows
 sending_shows : (h : Header) (moment : ℕ) (v : World tcp_shape) (step : Step tcp_shape) (host : Host) (n : ℕ) (m : Made Emission)
     → sends step ≡ Some (host, n) → lookup (nat_eq n) (pick v.hosts host).made ≡ Some m
-    → (sight h moment v step).touched ≡ at_sender host (pick v.hosts host).body m.emission
+    → (observe h moment v step).touched ≡ at_sender host (pick v.hosts host).body m.emission
 sending_shows h moment v (At g (Sends line k wire)) host n m e there =
     let same = some_pair_parts g host k n e in
     let at : lookup (nat_eq k) (pick v.hosts g).made ≡ Some m =
@@ -148,7 +148,7 @@ sending_shows h moment v (At g (Sends line k wire)) host n m e there =
     (subst (λ (q : ℕ). lookup (nat_eq q) (pick v.hosts host).made ≡ Some m) (sym same.1) there) in
     ap (λ (o : Option (Made Emission)). (on o unseen (λ (m : Made Emission). record unseen {
       touched = at_sender g (pick v.hosts g).body m.emission;
-      post = post.Sends k;
+      built_change = built_change.Sends k;
     })).touched) at
     ∙ ap (λ (x : Host). at_sender x (pick v.hosts x).body m.emission) same.0
 sending_shows h moment v step host n m e there = absurd (none-some (host, n) e)
@@ -202,7 +202,7 @@ module _ (t : Trace) (w : Witness) (slack : ℕ) (given : t.header.slack ≡ Som
     plan : SegmentPlan
     endpoint : Endpoint
     is : act_at t w place ≡ Some act
-    shows : (sight t.header act.moment (known_before t w place).model act.step).touched ≡ Some (touched (known_before t w place).model me (Builds plan))
+    shows : (observe t.header act.moment (known_before t w place).model act.step).touched ≡ Some (touched (known_before t w place).model me (Builds plan))
     mere : is_mere_ack plan (seen (known_before t w place).model me) (seen (known_before t w (suc place)).model me) ≡ true
     step : act.step ≡ At me.host (Makes plan)
     ports : place_of (pick (known_before t w place).model.hosts me.host).body plan.lport plan.rport ≡ Some me.number
@@ -213,7 +213,7 @@ module _ (t : Trace) (w : Witness) (slack : ℕ) (given : t.header.slack ≡ Som
       let e = map_or_true (event_at t w me place) (λ event. builds_mere event (seen_before t w place me) (seen_before t w (suc place) me)) is in
       let b = mere_builds e.0 (seen_before t w place me) (seen_before t w (suc place) me) e.2 in
       by (act_at t w place) refl b.0 (ap (λ (o : Option (Stamped tcp_shape)). on o None
-      (λ x. event_for me (sight t.header x.moment (world_before t w place) x.step).touched)) refl
+      (λ x. event_for me (observe t.header x.moment (world_before t w place) x.step).touched)) refl
       ∙ e.1 ∙ ap (λ (event : Event). Some event) b.1) b.2
     where
       mere_here : (m : SegmentPlan) → is_mere_ack m (seen_before t w place me) (seen_before t w (suc place) me) ≡ true
@@ -224,7 +224,7 @@ module _ (t : Trace) (w : Witness) (slack : ℕ) (given : t.header.slack ≡ Som
 
       make : (x : Stamped tcp_shape) → act_at t w place ≡ Some x → (m : SegmentPlan)
           → is_mere_ack m (seen (known_before t w place).model me) (seen (known_before t w (suc place)).model me) ≡ true
-          → (sight t.header x.moment (known_before t w place).model x.step).touched ≡ Some (touched (known_before t w place).model me (Builds m))
+          → (observe t.header x.moment (known_before t w place).model x.step).touched ≡ Some (touched (known_before t w place).model me (Builds m))
           → AsShown (known_before t w place).model x.step (touched (known_before t w place).model me (Builds m)) → MereBuilt place
       make x at m mere shows found = there found.there
         where
@@ -249,8 +249,8 @@ module _ (t : Trace) (w : Witness) (slack : ℕ) (given : t.header.slack ≡ Som
               let b = found.does in
               absurd (let clash : At me.host (Makes m) ≡ At me.host (Takes c.line c.how) = sym b ∙ c.is in cc clash)
 
-      named : (x : Stamped tcp_shape) → act_at t w place ≡ Some x → (m : SegmentPlan) → (s : Touched)
-          → (sight t.header x.moment (known_before t w place).model x.step).touched ≡ Some s
+      named : (x : Stamped tcp_shape) → act_at t w place ≡ Some x → (m : SegmentPlan) → (s : TouchedEndpoint)
+          → (observe t.header x.moment (known_before t w place).model x.step).touched ≡ Some s
           → s.host ≡ me.host → s.place ≡ me.number → s.event ≡ Builds m
           → is_mere_ack m (seen (known_before t w place).model me) (seen (known_before t w (suc place)).model me) ≡ true
           → AsShown (known_before t w place).model x.step s → MereBuilt place
@@ -262,16 +262,16 @@ module _ (t : Trace) (w : Witness) (slack : ℕ) (given : t.header.slack ≡ Som
             event = event i;
             before = (found.before ∙ (λ i. seen (known_before t w place).model (record { host = host i; number = number i }))) i;
           } in
-          make x at m mere (shows ∙ ap (λ (y : Touched). Some y) one) (subst (AsShown (known_before t w place).model x.step) one found)
+          make x at m mere (shows ∙ ap (λ (y : TouchedEndpoint). Some y) one) (subst (AsShown (known_before t w place).model x.step) one found)
 
       by : (o : Option (Stamped tcp_shape)) → act_at t w place ≡ o → (m : SegmentPlan)
-          → on o None (λ x. event_for me (sight t.header x.moment (world_before t w place) x.step).touched) ≡ Some (Builds m)
+          → on o None (λ x. event_for me (observe t.header x.moment (world_before t w place) x.step).touched) ≡ Some (Builds m)
           → is_mere_ack m (seen_before t w place me) (seen_before t w (suc place) me) ≡ true → MereBuilt place
       by None at m is mere = absurd (none-some (Builds m) is)
       by (Some x) at m is mere =
-          let here : event_for me (sight t.header x.moment (known_before t w place).model x.step).touched ≡ Some (Builds m) =
-          ap (λ (v : World tcp_shape). event_for me (sight t.header x.moment v x.step).touched) (world_is t w place) ∙ is in
-          let s = event_of me (sight t.header x.moment (known_before t w place).model x.step).touched (Builds m) here in
+          let here : event_for me (observe t.header x.moment (known_before t w place).model x.step).touched ≡ Some (Builds m) =
+          ap (λ (v : World tcp_shape). event_for me (observe t.header x.moment v x.step).touched) (world_is t w place) ∙ is in
+          let s = event_of me (observe t.header x.moment (known_before t w place).model x.step).touched (Builds m) here in
           named x at m s.0 s.1 s.2 s.3 s.4 (mere_here m mere)
           (subst (AsBefore (known_before t w place).model x.step) s.1 (as_before t.header x.moment (known_before t w place).model x.step))
 
@@ -291,8 +291,8 @@ module _ (t : Trace) (w : Witness) (slack : ℕ) (given : t.header.slack ≡ Som
   -- it touches the endpoint, and counts
   record SendsMere (j : ℕ) (y : Stamped tcp_shape) : Type 0 where
     event : Event
-    shows : (sight t.header y.moment (known_before t w j).model y.step).touched ≡ Some (touched (known_before t w j).model me event)
-    counts : counts_now (built_by (known_before t w j).duties (sight t.header y.moment (known_before t w j).model y.step).post) ≡ true
+    shows : (observe t.header y.moment (known_before t w j).model y.step).touched ≡ Some (touched (known_before t w j).model me event)
+    counts : counts_now (built_by (known_before t w j).duties (observe t.header y.moment (known_before t w j).model y.step).built_change) ≡ true
 
   mere_sent : (j : ℕ) (y : Stamped tcp_shape) → act_at t w j ≡ Some y → (host : Host) (n : ℕ) → sends y.step ≡ Some (host, n)
       → MereAt j n → SendsMere j y
@@ -359,7 +359,7 @@ module _ (t : Trace) (w : Witness) (slack : ℕ) (given : t.header.slack ≡ Som
           let goes = goes_of t w slack r m.place b.act b.is in
           let v = after (tcp t.header) b.act.moment k.model b.act.step in
           let base : counts_by t.header slack (length w.steps) (act_at t w) (known_before t w) r k b.act ≡ true =
-          ap (λ (o : Option Touched). option_map_or (builds_mere_ack (view_in v o)) o false) b.shows
+          ap (λ (o : Option TouchedEndpoint). option_map_or (builds_mere_ack (view_in v o)) o false) b.shows
           ∙ ap (λ (u : World tcp_shape). is_mere_ack b.plan (seen k.model me) (seen u me)) (sym goes.model) ∙ b.mere in
           subst (λ (q : ℕ). counts_by t.header slack (length w.steps) (act_at t w) (known_before t w) r (known_before t w q) sent.was.act ≡ true) (sym same)
           (subst (λ (x : Stamped tcp_shape). counts_by t.header slack (length w.steps) (act_at t w) (known_before t w) r (known_before t w m.place) x ≡ true)
@@ -448,12 +448,12 @@ module _ (t : Trace) (w : Witness) (slack : ℕ) (given : t.header.slack ≡ Som
       touch_or : (y : Stamped tcp_shape) → act_at t w j ≡ Some y
           → Touches t.header (known_before t w j) y me
           ⊎ ((owed_by (known_before t w (suc j)).duties me.host me.number ≡ owed_by (known_before t w j).duties me.host me.number)
-          × ((event : Event) → (sight t.header y.moment (known_before t w j).model y.step).touched ≡ Some (touched (known_before t w j).model me event) → ⊥))
+          × ((event : Event) → (observe t.header y.moment (known_before t w j).model y.step).touched ≡ Some (touched (known_before t w j).model me event) → ⊥))
           → Fits (suc j)
       touch_or y at (inr same) =
           same_left j (ap (λ (o : Owed). o.answers) same.0)
           (none_sends (λ z is k. same.1 k.event
-          (subst (λ (v : Stamped tcp_shape). (sight t.header v.moment (known_before t w j).model v.step).touched
+          (subst (λ (v : Stamped tcp_shape). (observe t.header v.moment (known_before t w j).model v.step).touched
           ≡ Some (touched (known_before t w j).model me k.event))
           (same_Some z y (sym is ∙ at)) k.shows))) fits
       touch_or y at (inl touch) =
@@ -468,15 +468,16 @@ module _ (t : Trace) (w : Witness) (slack : ℕ) (given : t.header.slack ≡ Som
           (counted (sends_mere_at t w me j) (comes_at t w me j) owes.counts (is_arrival touch.event before)
           (count_before (sends_mere_at t w me) j) (count_before (comes_at t w me) j) (left j)
           (λ is. let k = key j is in owes.counted
-          ∙ subst (λ (v : Stamped tcp_shape). counts_now (built_by (known_before t w j).duties (sight t.header v.moment (known_before t w j).model v.step).post)
+          ∙ subst (λ (v : Stamped tcp_shape). counts_now
+          (built_by (known_before t w j).duties (observe t.header v.moment (known_before t w j).model v.step).built_change)
           ≡ true)
           (same_Some k.0 y (sym k.1 ∙ at)) k.2.counts)
           (λ arrives.
           ap (λ (o : Option (Stamped tcp_shape)). option_map_or (λ event. comes event (seen_before t w j me))
-          (on o None (λ x. event_for me (sight t.header x.moment (world_before t w j) x.step).touched)) false) at
+          (on o None (λ x. event_for me (observe t.header x.moment (world_before t w j) x.step).touched)) false) at
           ∙ ap (λ (v : World tcp_shape). option_map_or (λ event. comes event (seen v me))
-          (event_for me (sight t.header y.moment v y.step).touched) false) (sym (world_is t w j))
-          ∙ ap (λ (o : Option Touched). option_map_or (λ event. comes event before) (event_for me o) false) touch.shows
+          (event_for me (observe t.header y.moment v y.step).touched) false) (sym (world_is t w j))
+          ∙ ap (λ (o : Option TouchedEndpoint). option_map_or (λ event. comes event before) (event_for me o) false) touch.shows
           ∙ ap (λ (o : Option Event). option_map_or (λ event. comes event before) o false) (event_here (known_before t w j).model me touch.event)
           ∙ comes_is touch.event before ∙ arrives)
           owes.excess fits)

@@ -29,11 +29,11 @@ use Rattle.spec_tcp.specs.declared.endpoint.Endpoint.{Endpoint}
 use Rattle.spec_tcp.specs.declared.endpoint.Listener.{Listener}
 use Rattle.spec_tcp_laws.proofs.Rules.{both_true, less_to, not_false, not_true, on_passes, true_false, zero_from}
 use Rattle.spec_duties.specs.Dropped.{answering_breaks, discards, discards_at, dropping_of, holds_next, is_challenged, is_next, is_unacceptable}
-use Rattle.spec_duties.specs.Dropped.{keeps_order, meets_closed_window, spared_by, taking_breaks}
-use Rattle.spec_duties.specs.Sights.{dropping_sight, sight, taking_sight, unseen}
-use Rattle.spec_duties.specs.Watching.{drops_needed, duty_rules, is_spared}
-use Rattle.spec_duties.specs.declared.sights.Spared.TheVariants as spareds
-use Rattle.kept_duties.specs.Drops.{ByListener, DropsAreLawful, HoldsNext, IsChallenged, MayBeDropped, MayBeSpared, MeetsClosedWindow, NextIsKept}
+use Rattle.spec_duties.specs.Dropped.{keeps_order, meets_closed_window, droppable_by, taking_breaks}
+use Rattle.spec_duties.specs.Observations.{observe_dropping, observe, observe_taking, unseen}
+use Rattle.spec_duties.specs.Watching.{drops_needed, duty_rules, is_droppable}
+use Rattle.spec_duties.specs.declared.observations.Droppable.TheVariants as droppables
+use Rattle.kept_duties.specs.Drops.{ByListener, DropsAreLawful, HoldsNext, IsChallenged, MayBeDropped, IsDroppable, MeetsClosedWindow, NextIsKept}
 use Rattle.kept_duties.specs.Drops.{host_before, keeps_next}
 use Rattle.kept_duties.proofs.Soon.{either_true}
 use Rattle.kept_duties.specs.Happens.{act_at, known_before, world_before}
@@ -83,16 +83,16 @@ kept_of choice e m next fine = by choice.keep refl
         absurd (true_false all fine)
 
 module _ (t : Trace) (w : Witness) (slack : ℕ) (r : Run t.header slack (length w.steps) (act_at t w) (known_before t w)) where
-  spared : (place : ℕ) (host : Host) (m : Emission) → is_spared (known_before t w place).duties host
-      (spared_by (host_before t w place host) m (taker (host_before t w place host) m)) ≡ true
-      → MayBeSpared t w place host m
-  spared place host m = by (taker (host_before t w place host) m) refl
+  droppable : (place : ℕ) (host : Host) (m : Emission) → is_droppable (known_before t w place).duties host
+      (droppable_by (host_before t w place host) m (taker (host_before t w place host) m)) ≡ true
+      → IsDroppable t w place host m
+  droppable place host m = by (taker (host_before t w place host) m) refl
     where
-      ends : (c : Bool) → (is_spared (known_before t w place).duties host (if c then spareds.Yes else spareds.No)) ≡ true → c ≡ true
+      ends : (c : Bool) → (is_droppable (known_before t w place).duties host (if c then droppables.Yes else droppables.No)) ≡ true → c ≡ true
       ends true e = refl
       ends false e = absurd cc
 
-      challenged : (i : ℕ) (f : Endpoint) → taker (host_before t w place host) m ≡ AtEndpoint i f → is_challenged f m ≡ true → MayBeSpared t w place host m
+      challenged : (i : ℕ) (f : Endpoint) → taker (host_before t w place host) m ≡ AtEndpoint i f → is_challenged f m ≡ true → IsDroppable t w place host m
       challenged i f goes is =
           let a = both_true (m.flags.rst && not (is_syn_sent f.state)) (not (is_next f m)) is in
           let b = both_true m.flags.rst (not (is_syn_sent f.state)) a.0 in
@@ -100,7 +100,7 @@ module _ (t : Trace) (w : Witness) (slack : ℕ) (r : Run t.header slack (length
           (λ next. true_false (ap (λ (o : Option Word). option_map_or (λ irs. same_word m.seq (number_of irs (rcv_nxt f))) o false) next.1 ∙ next.2)
           (not_true (is_next f m) a.1))
 
-      shut : (i : ℕ) (f : Endpoint) → taker (host_before t w place host) m ≡ AtEndpoint i f → meets_closed_window f m ≡ true → MayBeSpared t w place host m
+      shut : (i : ℕ) (f : Endpoint) → taker (host_before t w place host) m ≡ AtEndpoint i f → meets_closed_window f m ≡ true → IsDroppable t w place host m
       shut i f goes is =
           let a = both_true (not (is_syn_sent f.state) && receive_window f == 0) (nat_lt 0 (segment_length m)) is in
           let b = both_true (not (is_syn_sent f.state)) (receive_window f == 0) a.0 in
@@ -108,18 +108,20 @@ module _ (t : Trace) (w : Witness) (slack : ℕ) (r : Run t.header slack (length
           MeetsClosedWindow i f goes (not_true (is_syn_sent f.state) b.0) (zero_from (receive_window f) b.1) some
 
       at_endpoint : (i : ℕ) (f : Endpoint) → taker (host_before t w place host) m ≡ AtEndpoint i f
-          → (is_challenged f m ≡ true) ⊎ (meets_closed_window f m ≡ true) → MayBeSpared t w place host m
+          → (is_challenged f m ≡ true) ⊎ (meets_closed_window f m ≡ true) → IsDroppable t w place host m
       at_endpoint i f goes (inl is) = challenged i f goes is
       at_endpoint i f goes (inr is) = shut i f goes is
 
       full : (l : ℕ) → taker (host_before t w place host) m ≡ AtListener l → (o : Option Listener) → slice_get (host_before t w place host).listeners l ≡ o
-          → is_spared (known_before t w place).duties host (option_map_or (λ x. spareds.IfFull l x.backlog) o spareds.No) ≡ true → MayBeSpared t w place host m
+          → is_droppable (known_before t w place).duties host (option_map_or (λ x. droppables.IfFull l x.backlog) o droppables.No) ≡ true
+          → IsDroppable t w place host m
       full l goes None at e = absurd cc
       full l goes (Some x) at e = ByListener l x goes at (grind (arith, nat_tests, e))
 
-      by : (k : Taker) → taker (host_before t w place host) m ≡ k → is_spared (known_before t w place).duties host (spared_by (host_before t w place host) m k)
+      by : (k : Taker) → taker (host_before t w place host) m ≡ k
+          → is_droppable (known_before t w place).duties host (droppable_by (host_before t w place host) m k)
           ≡ true
-          → MayBeSpared t w place host m
+          → IsDroppable t w place host m
       by Nobody goes e = absurd cc
       by (AtListener l) goes e = full l goes (slice_get (host_before t w place host).listeners l) refl e
       by (AtEndpoint i f) goes e = at_endpoint i f goes (either_true (is_challenged f m) (meets_closed_window f m)
@@ -132,24 +134,24 @@ module _ (t : Trace) (w : Witness) (slack : ℕ) (r : Run t.header slack (length
       (ap (λ (o : Option WitnessStep). option_map_or (act_of t.header t.lines) o None) is.here) in
       let k = known_before t w place in
       let p = on_passes (waiting line (pick k.model.hosts host).inbox) rules.Inbox _ goes.permitted in
-      let fine = (none_all (duty_rules t.header slack moment k.duties (sight t.header moment k.model (At host (Drops line)))) goes.dutiful).0 in
+      let fine = (none_all (duty_rules t.header slack moment k.duties (observe t.header moment k.model (At host (Drops line)))) goes.dutiful).0 in
       by p.0 (subst (λ (v : World tcp_shape). waiting line (pick v.hosts host).inbox ≡ Some p.0) (world_is t w place) p.1)
       (subst (λ (v : World tcp_shape). drops_needed k.duties (Some (dropping_of host (taking_breaks t.header moment v host line)
       (answering_breaks t.header v host line)
-      (spared_by (pick v.hosts host).body p.0 (taker (pick v.hosts host).body p.0)))) ≡ false) (world_is t w place)
-      (sym (ap (λ (o : Option Emission). drops_needed k.duties (on o unseen (λ m. dropping_sight host (pick k.model.hosts host).body line
+      (droppable_by (pick v.hosts host).body p.0 (taker (pick v.hosts host).body p.0)))) ≡ false) (world_is t w place)
+      (sym (ap (λ (o : Option Emission). drops_needed k.duties (on o unseen (λ m. observe_dropping host (pick k.model.hosts host).body line
       (taking_breaks t.header moment k.model host line) (answering_breaks t.header k.model host line) m
       (taker (pick k.model.hosts host).body m))).dropping) p.1) ∙ fine))
     where
       by : (m : Emission) → waiting line (pick (world_before t w place).hosts host).inbox ≡ Some m
           → drops_needed (known_before t w place).duties (Some (dropping_of host (taking_breaks t.header moment (world_before t w place) host line)
-          (answering_breaks t.header (world_before t w place) host line) (spared_by (host_before t w place host) m (taker (host_before t w place host) m))))
+          (answering_breaks t.header (world_before t w place) host line) (droppable_by (host_before t w place host) m (taker (host_before t w place host) m))))
           ≡ false
           → MayBeDropped t w place moment host line
       by m waits none =
           let taking = taking_breaks t.header moment (world_before t w place) host line in
           let answering = answering_breaks t.header (world_before t w place) host line in
-          let s = is_spared (known_before t w place).duties host (spared_by (host_before t w place host) m (taker (host_before t w place host) m)) in
+          let s = is_droppable (known_before t w place).duties host (droppable_by (host_before t w place host) m (taker (host_before t w place host) m)) in
           let both = needed_not (not (is_some taking)) s (not (is_some answering) && not (is_unacceptable taking)) none in
           record {
             segment = m;
@@ -166,10 +168,10 @@ module _ (t : Trace) (w : Witness) (slack : ℕ) (r : Run t.header slack (length
           answer (inr is) = inr (unacceptable_is (taking_breaks t.header moment (world_before t w place) host line) is)
 
           process : (not (is_some (taking_breaks t.header moment (world_before t w place) host line)) ≡ false)
-              ⊎ (is_spared (known_before t w place).duties host (spared_by (host_before t w place host) m (taker (host_before t w place host) m)) ≡ true)
-              → (is_some (taking_breaks t.header moment (world_before t w place) host line) ≡ true) ⊎ MayBeSpared t w place host m
+              ⊎ (is_droppable (known_before t w place).duties host (droppable_by (host_before t w place host) m (taker (host_before t w place host) m)) ≡ true)
+              → (is_some (taking_breaks t.header moment (world_before t w place) host line) ≡ true) ⊎ IsDroppable t w place host m
           process (inl breaks) = inl (not_false (is_some (taking_breaks t.header moment (world_before t w place) host line)) breaks)
-          process (inr full) = inr (spared place host m full)
+          process (inr full) = inr (droppable place host m full)
 
   pub next_kept : NextIsKept t w
   next_kept place moment line i host choice m e is waits goes_to next =
@@ -178,10 +180,10 @@ module _ (t : Trace) (w : Witness) (slack : ℕ) (r : Run t.header slack (length
       (record { moment = moment; step = At host (Takes line choice) }) low
       (ap (λ (o : Option WitnessStep). option_map_or (act_of t.header t.lines) o None) is.here) in
       let k = known_before t w place in
-      let fine = (none_all (duty_rules t.header slack moment k.duties (sight t.header moment k.model (At host (Takes line choice)))) goes.dutiful).1.0 in
-      let here : (sight t.header moment (world_before t w place) (At host (Takes line choice))).discards ≡ false =
-      subst (λ (v : World tcp_shape). (sight t.header moment v (At host (Takes line choice))).discards ≡ false) (world_is t w place) fine in
+      let fine = (none_all (duty_rules t.header slack moment k.duties (observe t.header moment k.model (At host (Takes line choice)))) goes.dutiful).1.0 in
+      let here : (observe t.header moment (world_before t w place) (At host (Takes line choice))).discards ≡ false =
+      subst (λ (v : World tcp_shape). (observe t.header moment v (At host (Takes line choice))).discards ≡ false) (world_is t w place) fine in
       let b = host_before t w place host in
       kept_of choice e (as_read t.header.version e m) next
-      (sym (ap (λ (o : Option Emission). (on o unseen (λ m. taking_sight t.header host b line choice m (taker b m))).discards) waits
+      (sym (ap (λ (o : Option Emission). (on o unseen (λ m. observe_taking t.header host b line choice m (taker b m))).discards) waits
       ∙ ap (λ (k : Taker). discards_at t.header.version choice m k) goes_to) ∙ here)

@@ -26,7 +26,7 @@ use Rattle.spec_tcp.specs.declared.endpoint.Emission.{Emission}
 use Rattle.spec_tcp.specs.declared.endpoint.Endpoint.{Endpoint}
 use Rattle.spec_tcp_laws.proofs.Rules.{map_or_passes, on_passes}
 use Rattle.spec_tcp_laws.proofs.Takes.{taker_there}
-use Rattle.spec_duties.specs.Sights.{at_place, at_ports, at_target, processing_of, sight, taking_sight, unseen}
+use Rattle.spec_duties.specs.Observations.{at_place, at_ports, at_target, processing_of, observe, observe_taking, unseen}
 use Rattle.spec_duties.specs.Views.{unborn, view_of}
 use Rattle.spec_duties.specs.declared.views.View.{View}
 use Rattle.checker.specs.Seen.{act_of, moves}
@@ -105,7 +105,7 @@ module _ (t : Trace) (w : Witness) (slack : ℕ) (r : Run t.header slack (length
     (placed : Placed t.header t.lines (moves w.steps)) where
   -- a step with an act at an endpoint
   makes_happen : (place moment : ℕ) (step : Step tcp_shape) (host : Host) (event : Event) → act_at t w place ≡ Some (record { moment = moment; step = step })
-      → (i : ℕ) × ((sight t.header moment (known_before t w place).model step).touched
+      → (i : ℕ) × ((observe t.header moment (known_before t w place).model step).touched
       ≡ Some (touched (known_before t w place).model (record { host = host; number = i }) event))
       → HappensThere t w place moment host event
   makes_happen place moment step host event is p =
@@ -129,7 +129,7 @@ module _ (t : Trace) (w : Witness) (slack : ℕ) (r : Run t.header slack (length
         subst (λ (v : World tcp_shape). waiting line (pick v.hosts host).inbox ≡ Some p.0) (world_is t w place) p.1,
         makes_happen place moment (At host (model.Takes line choice)) host (processing_of p.0) acts (
           q.0,
-          ap (λ (o : Option Emission). (on o unseen (λ m. taking_sight t.header host (pick v.hosts host).body line choice m
+          ap (λ (o : Option Emission). (on o unseen (λ m. observe_taking t.header host (pick v.hosts host).body line choice m
               (taker (pick v.hosts host).body m))).touched) p.1 ∙ q.1,
         ),
       )

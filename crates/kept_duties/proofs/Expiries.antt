@@ -18,7 +18,7 @@ use Rattle.spec_duties.specs.Cases.{Known}
 use Rattle.spec_duties.specs.End.{end_rules}
 use Rattle.spec_duties.specs.Expire.{expiry_due, has_expiry_due, opened_after}
 use Rattle.spec_duties.specs.Owed.{lates_of, owed_after}
-use Rattle.spec_duties.specs.Sights.{sight}
+use Rattle.spec_duties.specs.Observations.{observe}
 use Rattle.spec_duties.specs.Watching.{owed_by}
 use Rattle.spec_duties.specs.declared.events.Event.{Event}
 use Rattle.spec_duties.specs.declared.owed.Owed.{Owed}
@@ -149,7 +149,7 @@ module _ (t : Trace) (w : Witness) (slack : ℕ) (r : Run t.header slack (length
       next : (j : ℕ) (x : Stamped tcp_shape) → j ≤ to → act_at t w j ≡ Some x → (owed_by (known_before t w j).duties me.host me.number).opened ≤ from
           → Touches t.header (known_before t w j) x me
           ⊎ ((owed_by (known_before t w (suc j)).duties me.host me.number ≡ owed_by (known_before t w j).duties me.host me.number)
-          × ((event : Event) → (sight t.header x.moment (known_before t w j).model x.step).touched ≡ Some (touched (known_before t w j).model me event) → ⊥))
+          × ((event : Event) → (observe t.header x.moment (known_before t w j).model x.step).touched ≡ Some (touched (known_before t w j).model me event) → ⊥))
           → (owed_by (known_before t w (suc j)).duties me.host me.number).opened ≤ from
       next j x low is old (inr same) = subst (λ (n : ℕ). n ≤ from) (sym (ap (λ (o : Owed). o.opened) same.0)) old
       next j x low is old (inl at) =

@@ -19,7 +19,7 @@ use Rattle.case_forms.specs.declared.version.Judged.TheVariants.{Full}
 use Rattle.case_forms.specs.declared.version.Version.TheVariants.{Five}
 use Rattle.spec_duties.specs.Views.{unborn}
 use Rattle.spec_duties.specs.declared.events.Event.TheVariants as happening
-use Rattle.spec_duties.specs.declared.sights.Touched.{Touched}
+use Rattle.spec_duties.specs.declared.observations.TouchedEndpoint.{TouchedEndpoint}
 use Rattle.spec_duties.specs.declared.views.View.{View}
 use Rattle.checker.specs.Again.{nowhere}
 use Rattle.kept_duties.specs.Counts.{builds_mere, count_before, event_for, sent_by}
@@ -165,7 +165,7 @@ building_does_not = refl
 one_in_three : count_before (λ place. place == 1) 3 ≡ 1
 one_in_three = refl
 
-abbrev touches_zero : Touched
+abbrev touches_zero : TouchedEndpoint
 touches_zero = record { host = Zero; place = 0; event = happening.Recovers; before = unborn }
 
 for_its_endpoint : event_for (record { host = Zero; number = 0 }) (Some touches_zero) ≡ Some happening.Recovers

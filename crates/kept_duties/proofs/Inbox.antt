@@ -15,12 +15,13 @@ use Rattle.spec_tcp.specs.declared.endpoint.Emission.{Emission}
 use Rattle.spec_duties.specs.Cases.{Known, first_known}
 use Rattle.spec_duties.specs.Deadlines.{is_late}
 use Rattle.spec_duties.specs.End.{first_waiting}
-use Rattle.spec_duties.specs.Sights.{sight}
+use Rattle.spec_duties.specs.Observations.{observe}
 use Rattle.spec_duties.specs.Watching.{Duties, duty_rules, inbox_after, leaves_late}
-use Rattle.spec_duties.specs.declared.sights.Mail.{Mail}
-use Rattle.spec_duties.specs.declared.sights.Mail.TheVariants as mail
+use Rattle.spec_duties.specs.declared.observations.InboxChange.{InboxChange}
+use Rattle.spec_duties.specs.declared.observations.InboxChange.TheVariants as inbox_change
 use Rattle.kept_duties.proofs.Runs.{Goes, Run, run_goes, run_keeps}
-use Rattle.kept_duties.proofs.Sights.{MailOf, enters, leaves, inbox_from, leaves_waits, mail_enters, mail_of, waiting_elsewhere, waiting_here}
+use Rattle.kept_duties.proofs.Observations.{InboxChangeOf, enters, leaves, inbox_from, leaves_waits, inbox_change_enters, inbox_change_of, waiting_elsewhere}
+use Rattle.kept_duties.proofs.Observations.{waiting_here}
 
 -- a moment that isn't late
 pub not_late : (slack since moment : ℕ) (due : Option ℕ) → due ≡ Some since → is_late slack moment due ≡ false → moment ≤ since + slack
@@ -82,9 +83,9 @@ module _ (h : Header) (slack n : ℕ) (acts : ℕ → Option (Stamped tcp_shape)
     begins : IsLeft (suc i) (known (suc i))
     begins =
         let goes = run_goes h slack n acts known r i x low is in
-        let s = sight h x.moment (known i).model x.step in
+        let s = observe h x.moment (known i).model x.step in
         inr (ap (λ (d : Duties). waiting line d.inbox) goes.duties
-        ∙ ap (λ m. waiting line (inbox_after x.moment m (known i).duties.inbox)) (mail_enters h x.moment (known i).model x.step host line comes)
+        ∙ ap (λ m. waiting line (inbox_after x.moment m (known i).duties.inbox)) (inbox_change_enters h x.moment (known i).model x.step host line comes)
         ∙ waiting_here line (Some x.moment) (known i).duties.inbox)
 
     -- whoever takes it is the host where it came
@@ -99,22 +100,22 @@ module _ (h : Header) (slack n : ℕ) (acts : ℕ → Option (Stamped tcp_shape)
         → IsLeft j (known j) → IsLeft (suc j) (known (suc j))
     more j y behind less at goes (inl left) = inl left
     more j y behind less at goes (inr waits) =
-        by (sight h y.moment (known j).model y.step).mail refl (mail_of h y.moment (known j).model y.step)
+        by (observe h y.moment (known j).model y.step).inbox_change refl (inbox_change_of h y.moment (known j).model y.step)
       where
         d : Duties
         d = (known j).duties
 
-        go_on : (m : Mail) → (sight h y.moment (known j).model y.step).mail ≡ m → waiting line (inbox_after y.moment m d.inbox) ≡ Some x.moment
+        go_on : (m : InboxChange) → (observe h y.moment (known j).model y.step).inbox_change ≡ m → waiting line (inbox_after y.moment m d.inbox) ≡ Some x.moment
             → IsLeft (suc j) (known (suc j))
         go_on m shows still = inr (ap (λ (d : Duties). waiting line d.inbox) goes.duties ∙ ap (λ m. waiting line (inbox_after y.moment m d.inbox)) shows
             ∙ still)
 
-        leaving : (g : Host) → (sight h y.moment (known j).model y.step).mail ≡ mail.Leaves line → leaves y.step ≡ Some (g, line)
+        leaving : (g : Host) → (observe h y.moment (known j).model y.step).inbox_change ≡ inbox_change.Leaves line → leaves y.step ≡ Some (g, line)
             → IsLeft (suc j) (known (suc j))
         leaving g shows takes =
             let m = leaves_waits h y.moment (known j).model y.step g line goes.permitted takes in
             let same : g ≡ host = same_host j (omega (arith, less)) g m.0 m.1 in
-            let fine = (none_all (duty_rules h slack y.moment d (sight h y.moment (known j).model y.step)) goes.dutiful).1.1.0 in
+            let fine = (none_all (duty_rules h slack y.moment d (observe h y.moment (known j).model y.step)) goes.dutiful).1.1.0 in
             inl (record {
               place = j;
               act = y;
@@ -126,9 +127,9 @@ module _ (h : Header) (slack n : ℕ) (acts : ℕ → Option (Stamped tcp_shape)
                   not_late slack x.moment y.moment (waiting line d.inbox) waits (sym (ap (leaves_late slack y.moment d) shows) ∙ fine);
             })
 
-        by : (m : Mail) → (sight h y.moment (known j).model y.step).mail ≡ m → MailOf m y.step → IsLeft (suc j) (known (suc j))
-        by mail.Nothing shows known' = go_on mail.Nothing shows waits
-        by (mail.Enters k) shows known' = test (nat_eq line k) refl
+        by : (m : InboxChange) → (observe h y.moment (known j).model y.step).inbox_change ≡ m → InboxChangeOf m y.step → IsLeft (suc j) (known (suc j))
+        by inbox_change.Nothing shows known' = go_on inbox_change.Nothing shows waits
+        by (inbox_change.Enters k) shows known' = test (nat_eq line k) refl
           where
             test : (b : Bool) → nat_eq line k ≡ b → IsLeft (suc j) (known (suc j))
             test true same =
@@ -136,15 +137,15 @@ module _ (h : Header) (slack n : ℕ) (acts : ℕ → Option (Stamped tcp_shape)
                 let one : j ≡ i = once j y known'.0 at (known'.1 ∙ ap (λ (q : ℕ). Some (known'.0, q)) e) in
                 absurd (omega (arith, one, behind))
             test false differs =
-                go_on (mail.Enters k) shows (waiting_elsewhere line k (Some y.moment) d.inbox differs ∙ waits)
-        by (mail.Leaves k) shows known' = test (nat_eq line k) refl
+                go_on (inbox_change.Enters k) shows (waiting_elsewhere line k (Some y.moment) d.inbox differs ∙ waits)
+        by (inbox_change.Leaves k) shows known' = test (nat_eq line k) refl
           where
             test : (b : Bool) → nat_eq line k ≡ b → IsLeft (suc j) (known (suc j))
             test true same =
                 let e : k ≡ line = grind (arith, nat_tests, same) in
-                leaving known'.0 (shows ∙ ap mail.Leaves e) (known'.1 ∙ ap (λ (q : ℕ). Some (known'.0, q)) e)
+                leaving known'.0 (shows ∙ ap inbox_change.Leaves e) (known'.1 ∙ ap (λ (q : ℕ). Some (known'.0, q)) e)
             test false differs =
-                go_on (mail.Leaves k) shows (waiting_elsewhere line k None d.inbox differs ∙ waits)
+                go_on (inbox_change.Leaves k) shows (waiting_elsewhere line k None d.inbox differs ∙ waits)
 
     -- it leaves the inbox in time, or is there at the end
     pub left_or_waits : IsLeft n (known n)

@@ -43,7 +43,7 @@ use Rattle.spec_tcp.specs.Steps.{line_step, step_of}
 use Rattle.kept_duties.specs.Happens.{ExpiresAt, act_at}
 use Rattle.kept_duties.specs.Places.{ArrivesAt, IsAnswered, IsDropped, IsProcessed, IsStep, LeavesAt, SendsAt, builder}
 use Rattle.checker.specs.Seen.{act_of, move_of, moves}
-use Rattle.kept_duties.proofs.Sights.{enters, leaves, builds, sends}
+use Rattle.kept_duties.proofs.Observations.{enters, leaves, builds, sends}
 
 -- ---- lines by their numbers
 

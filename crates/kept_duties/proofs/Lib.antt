@@ -1,5 +1,5 @@
 pub mod Runs
-pub mod Sights
+pub mod Observations
 pub mod Inbox
 pub mod Built
 pub mod Labels

@@ -24,13 +24,13 @@ use Rattle.spec_duties.specs.Cases.{Known}
 use Rattle.spec_duties.specs.End.{end_rules}
 use Rattle.spec_duties.specs.Owed.{lates_of, once_closed, owed_after, owed_open}
 use Rattle.spec_duties.specs.Probe.{first_probing, greatest_factor, is_probe, next_probe_due, probing_due, still_probing}
-use Rattle.spec_duties.specs.Sights.{sight}
+use Rattle.spec_duties.specs.Observations.{observe}
 use Rattle.spec_duties.specs.Watching.{owed_by}
 use Rattle.spec_duties.specs.declared.events.Event.{Event}
 use Rattle.spec_duties.specs.declared.events.Event.TheVariants.{Expires, Sends}
 use Rattle.spec_duties.specs.declared.owed.Owed.{Owed}
 use Rattle.spec_duties.specs.declared.owed.Probing.{Probing}
-use Rattle.spec_duties.specs.declared.sights.Touched.{Touched}
+use Rattle.spec_duties.specs.declared.observations.TouchedEndpoint.{TouchedEndpoint}
 use Rattle.spec_duties.specs.declared.views.View.{View}
 use Rattle.checker.specs.Seen.{moves}
 use Rattle.kept_duties.specs.Counts.{event_for}
@@ -158,10 +158,10 @@ probe_wait rto slack p low = record { onward = onward'; rules = λ l all. all.1.
 
 -- a step that does nothing at the endpoint has no event for it
 no_event : (h : Header) (moment : ℕ) (v : World tcp_shape) (step : Step tcp_shape) (me : EndpointId)
-    → ((event : Event) → (sight h moment v step).touched ≡ Some (touched v me event) → ⊥) → event_for me (sight h moment v step).touched ≡ None
-no_event h moment v step me none = by (event_for me (sight h moment v step).touched) refl
+    → ((event : Event) → (observe h moment v step).touched ≡ Some (touched v me event) → ⊥) → event_for me (observe h moment v step).touched ≡ None
+no_event h moment v step me none = by (event_for me (observe h moment v step).touched) refl
   where
-    same : (event : Event) (s : Touched) → (sight h moment v step).touched ≡ Some s → s.host ≡ me.host → s.place ≡ me.number → s.event ≡ event
+    same : (event : Event) (s : TouchedEndpoint) → (observe h moment v step).touched ≡ Some s → s.host ≡ me.host → s.place ≡ me.number → s.event ≡ event
         → AsShown v step s → ⊥
     same event s shows host number is found =
         none event (shows ∙ (λ i. Some (record {
@@ -171,10 +171,10 @@ no_event h moment v step me none = by (event_for me (sight h moment v step).touc
           before = (found.before ∙ (λ i. seen v (record { host = host i; number = number i }))) i;
         })))
 
-    by : (o : Option Event) → event_for me (sight h moment v step).touched ≡ o → o ≡ None
+    by : (o : Option Event) → event_for me (observe h moment v step).touched ≡ o → o ≡ None
     by None is = refl
     by (Some event) is =
-        let s = event_of me (sight h moment v step).touched event is in
+        let s = event_of me (observe h moment v step).touched event is in
         absurd (same event s.0 s.1 s.2 s.3 s.4 (subst (AsBefore v step) s.1 (as_before h moment v step)))
 
 -- ---- from the step on
@@ -199,18 +199,18 @@ module _ (t : Trace) (w : Witness) (slack : ℕ) (r : Run t.header slack (length
       touch_or : (x : Stamped tcp_shape) → act_at t w j ≡ Some x
           → Touches t.header (known_before t w j) x me
           ⊎ ((owed_by (known_before t w (suc j)).duties me.host me.number ≡ owed_by (known_before t w j).duties me.host me.number)
-          × ((event : Event) → (sight t.header x.moment (known_before t w j).model x.step).touched ≡ Some (touched (known_before t w j).model me event) → ⊥))
+          × ((event : Event) → (observe t.header x.moment (known_before t w j).model x.step).touched ≡ Some (touched (known_before t w j).model me event) → ⊥))
           → (owed_by (known_before t w (suc j)).duties me.host me.number).probing ≡ option_map probing_of (probes_by t w me j probes x)
       touch_or x at (inr same) =
           let none = no_event t.header x.moment (known_before t w j).model x.step me same.1 in
           ap (λ (o : Owed). o.probing) same.0 ∙ old
           ∙ ap (λ (o : Option Event). option_map probing_of (on o probes
           (λ event. probes_after event (seen_before t w j me) (seen_before t w (suc j) me) x.moment probes))) (sym none)
-          ∙ ap (λ (v : World tcp_shape). option_map probing_of (on (event_for me (sight t.header x.moment v x.step).touched) probes
+          ∙ ap (λ (v : World tcp_shape). option_map probing_of (on (event_for me (observe t.header x.moment v x.step).touched) probes
           (λ event. probes_after event (seen_before t w j me) (seen_before t w (suc j) me) x.moment probes))) (world_is t w j)
       touch_or x at (inl touch) =
           let owes = owes_of t w slack r j x me touch.event at touch.shows in
-          let here : event_for me (sight t.header x.moment (known_before t w j).model x.step).touched ≡ Some touch.event =
+          let here : event_for me (observe t.header x.moment (known_before t w j).model x.step).touched ≡ Some touch.event =
           ap (event_for me) touch.shows ∙ event_here (known_before t w j).model me touch.event in
           ap (λ (o : Owed). o.probing) owes.after
           ∙ probing_is touch.event before after x.moment owes.listener owes.counts (owed_by (known_before t w j).duties me.host me.number) probes old
@@ -219,7 +219,7 @@ module _ (t : Trace) (w : Witness) (slack : ℕ) (r : Run t.header slack (length
           (world_is t w (suc j))
           ∙ ap (λ (o : Option Event). option_map probing_of (on o probes
           (λ event. probes_after event (seen_before t w j me) (seen_before t w (suc j) me) x.moment probes))) (sym here)
-          ∙ ap (λ (v : World tcp_shape). option_map probing_of (on (event_for me (sight t.header x.moment v x.step).touched) probes
+          ∙ ap (λ (v : World tcp_shape). option_map probing_of (on (event_for me (observe t.header x.moment v x.step).touched) probes
           (λ event. probes_after event (seen_before t w j me) (seen_before t w (suc j) me) x.moment probes))) (world_is t w j)
 
       by : (o : Option (Stamped tcp_shape)) → act_at t w j ≡ o → Steps t.header slack (known_before t w j) (known_before t w (suc j)) o → Agree me (suc j)
@@ -256,7 +256,8 @@ module _ (t : Trace) (w : Witness) (slack : ℕ) (r : Run t.header slack (length
       shows : probes_before t w me (suc place) ≡ probes_after event (seen_before t w place me) first a.act.moment old
       shows =
           ap (λ (o : Option (Stamped tcp_shape)). on o old (probes_by t w me place old)) a.is
-          ∙ ap (λ (o : Option Touched). on (event_for me o) old (λ event. probes_after event (seen_before t w place me) first a.act.moment old)) a.touches
+          ∙ ap (λ (o : Option TouchedEndpoint). on (event_for me o) old
+          (λ event. probes_after event (seen_before t w place me) first a.act.moment old)) a.touches
           ∙ ap (λ (o : Option Event). on o old (λ event. probes_after event (seen_before t w place me) first a.act.moment old))
           (event_here (world_before t w place) me event)
 

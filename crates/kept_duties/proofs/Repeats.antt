@@ -17,7 +17,7 @@ use Rattle.spec_tcp_laws.proofs.Rules.{less_to}
 use Rattle.spec_duties.specs.Cases.{Known}
 use Rattle.spec_duties.specs.Owed.{once_closed, owed_after, owed_open}
 use Rattle.spec_duties.specs.Resent.{again_after, begins_again, is_repeating, judges_repeats, judges_windows, passed_by, repeated_end}
-use Rattle.spec_duties.specs.Sights.{sight}
+use Rattle.spec_duties.specs.Observations.{observe}
 use Rattle.spec_duties.specs.Watching.{owed_by}
 use Rattle.spec_duties.specs.declared.events.Event.{Event}
 use Rattle.spec_duties.specs.declared.events.Event.TheVariants.{Builds, Expires, Processes, Recovers}
@@ -70,18 +70,18 @@ passed_grows event before again = omega arith
 
 -- an act by what is known
 pub happens_to : (t : Trace) (w : Witness) (place moment : ℕ) (me : EndpointId) (event : Event) → (a : Happens t w place moment me event)
-    → (sight t.header a.act.moment (known_before t w place).model a.act.step).touched ≡ Some (touched (known_before t w place).model me event)
+    → (observe t.header a.act.moment (known_before t w place).model a.act.step).touched ≡ Some (touched (known_before t w place).model me event)
 happens_to t w place moment me event a =
-    subst (λ (v : World tcp_shape). (sight t.header a.act.moment v a.act.step).touched ≡ Some (touched v me event)) (sym (world_is t w place)) a.touches
+    subst (λ (v : World tcp_shape). (observe t.header a.act.moment v a.act.step).touched ≡ Some (touched v me event)) (sym (world_is t w place)) a.touches
 
 pub happens_from : (t : Trace) (w : Witness) (place : ℕ) (x : Stamped tcp_shape) (me : EndpointId) (event : Event) → act_at t w place ≡ Some x
-    → (sight t.header x.moment (known_before t w place).model x.step).touched ≡ Some (touched (known_before t w place).model me event)
+    → (observe t.header x.moment (known_before t w place).model x.step).touched ≡ Some (touched (known_before t w place).model me event)
     → Happens t w place x.moment me event
 happens_from t w place x me event is shows = record {
   act = x;
   is = is;
   time = refl;
-  touches = subst (λ (v : World tcp_shape). (sight t.header x.moment v x.step).touched ≡ Some (touched v me event)) (world_is t w place) shows;
+  touches = subst (λ (v : World tcp_shape). (observe t.header x.moment v x.step).touched ≡ Some (touched v me event)) (world_is t w place) shows;
 }
 
 module _ (t : Trace) (w : Witness) (slack : ℕ) (r : Run t.header slack (length w.steps) (act_at t w) (known_before t w)) where
@@ -90,7 +90,7 @@ module _ (t : Trace) (w : Witness) (slack : ℕ) (r : Run t.header slack (length
 
   -- an act at an endpoint: its duties are compared, and changed
   pub owes_of : (place : ℕ) (x : Stamped tcp_shape) (me : EndpointId) (event : Event) → act_at t w place ≡ Some x
-      → (sight t.header x.moment (known_before t w place).model x.step).touched ≡ Some (touched (known_before t w place).model me event)
+      → (observe t.header x.moment (known_before t w place).model x.step).touched ≡ Some (touched (known_before t w place).model me event)
       → Owes t.header slack (known_before t w place) (known_before t w (suc place)) x me event
   owes_of place x me event is shows =
       owes_after t.header slack (known_before t w place) (known_before t w (suc place)) x me (goes_of place x is) event shows
@@ -127,7 +127,8 @@ module _ (t : Trace) (w : Witness) (slack : ℕ) (r : Run t.header slack (length
 
         by : Touches t.header (known_before t w j) y me
             ⊎ ((owed_by (known_before t w (suc j)).duties me.host me.number ≡ owed_by (known_before t w j).duties me.host me.number)
-            × ((event : Event) → (sight t.header y.moment (known_before t w j).model y.step).touched ≡ Some (touched (known_before t w j).model me event) → ⊥))
+            × ((event : Event) → (observe t.header y.moment (known_before t w j).model y.step).touched ≡ Some (touched (known_before t w j).model me event)
+            → ⊥))
             → ends ≤ again (known_before t w (suc j))
         by (inr same) = subst (λ (n : ℕ). ends ≤ n) (sym (ap (λ (o : Owed). o.again) same.0)) old
         by (inl at) =

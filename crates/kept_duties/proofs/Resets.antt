@@ -27,16 +27,16 @@ use Rattle.spec_duties.specs.Deadlines.{is_late}
 use Rattle.spec_duties.specs.End.{end_rules}
 use Rattle.spec_duties.specs.Owed.{lates_of, lates_of_open, none_late, owed_after}
 use Rattle.spec_duties.specs.Reset.{aborts, reset_since, sends_reset}
-use Rattle.spec_duties.specs.Sights.{sight, view_in}
+use Rattle.spec_duties.specs.Observations.{observe, view_in}
 use Rattle.spec_duties.specs.Watching.{Duties, closed_at, counts_for, left, listener_closed, listening_after, listening_at, moved, moved_by}
 use Rattle.spec_duties.specs.Watching.{owed_by, queued}
 use Rattle.spec_duties.specs.declared.events.Event.{Event}
 use Rattle.spec_duties.specs.declared.events.Event.TheVariants.{Calls, Sends}
 use Rattle.spec_duties.specs.declared.owed.Owed.{Owed}
-use Rattle.spec_duties.specs.declared.sights.Queueing.{Queueing}
-use Rattle.spec_duties.specs.declared.sights.Queueing.TheVariants as queueing
-use Rattle.spec_duties.specs.declared.sights.Sight.{Sight}
-use Rattle.spec_duties.specs.declared.sights.Touched.{Touched}
+use Rattle.spec_duties.specs.declared.observations.Queueing.{Queueing}
+use Rattle.spec_duties.specs.declared.observations.Queueing.TheVariants as queueing
+use Rattle.spec_duties.specs.declared.observations.Observation.{Observation}
+use Rattle.spec_duties.specs.declared.observations.TouchedEndpoint.{TouchedEndpoint}
 use Rattle.spec_duties.specs.declared.tables.Listening.{Listening}
 use Rattle.spec_duties.specs.declared.views.View.{View}
 use Rattle.checker.specs.Seen.{moves}
@@ -91,7 +91,7 @@ on_host both Zero One table place moment since keeps is = inr is
 on_host both One Zero table place moment since keeps is = inr is
 on_host both One One table place moment since keeps is = keeps is
 
-moved_both : (after : View) (o : Option Touched) (both : Both (List (ℕ × Listening))) (host : Host) (place moment since : ℕ)
+moved_both : (after : View) (o : Option TouchedEndpoint) (both : Both (List (ℕ × Listening))) (host : Host) (place moment since : ℕ)
     → closed_in (pick (on o both (moved_by after both)) host) place ≡ Some since → (since ≡ moment) ⊎ (closed_in (pick both host) place ≡ Some since)
 moved_both after None both host place moment since is = inr is
 moved_both after (Some t) both host place moment since is =
@@ -106,7 +106,7 @@ queued_keeps (queueing.Accepts g l) both host place moment since is =
 queued_keeps (queueing.Closes g l) both host place moment since is =
     on_host both g host (closed_at moment (pick both g) l) place moment since (inserted (pick both g) l place _ moment since (inl refl)) is
 
-listening_keeps : (after : View) (s : Sight) (both : Both (List (ℕ × Listening))) (host : Host) (place moment since : ℕ)
+listening_keeps : (after : View) (s : Observation) (both : Both (List (ℕ × Listening))) (host : Host) (place moment since : ℕ)
     → closed_in (pick (listening_after after moment s both) host) place ≡ Some since → (since ≡ moment) ⊎ (closed_in (pick both host) place ≡ Some since)
 listening_keeps after s both host place moment since is =
     by (queued_keeps s.queueing (on s.touched both (moved_by after both)) host place moment since is)
@@ -219,7 +219,7 @@ module _ (t : Trace) (w : Witness) (slack : ℕ) (r : Run t.header slack (length
       listens : (j : ℕ) (x : Stamped tcp_shape) → act_at t w j ≡ Some x → Goes t.header slack (known_before t w j) (known_before t w (suc j)) x
           → ListenersBegan j (known_before t w j) → ListenersBegan (suc j) (known_before t w (suc j))
       listens j x is goes all host place since now =
-          let s = sight t.header x.moment (known_before t w j).model x.step in
+          let s = observe t.header x.moment (known_before t w j).model x.step in
           by (listening_keeps (view_in (after (tcp t.header) x.moment (known_before t w j).model x.step) s.touched) s (known_before t w j).duties.listening host
           place x.moment since (sym (ap (λ (d : Duties). closed_in (pick d.listening host) place) goes.duties) ∙ now))
         where
@@ -231,7 +231,7 @@ module _ (t : Trace) (w : Witness) (slack : ℕ) (r : Run t.header slack (length
           → (since : ℕ) → (owed_by (known_before t w (suc j)).duties me.host me.number).reset ≡ Some since
           → Touches t.header (known_before t w j) x me
           ⊎ ((owed_by (known_before t w (suc j)).duties me.host me.number ≡ owed_by (known_before t w j).duties me.host me.number)
-          × ((event : Event) → (sight t.header x.moment (known_before t w j).model x.step).touched ≡ Some (touched (known_before t w j).model me event) → ⊥))
+          × ((event : Event) → (observe t.header x.moment (known_before t w j).model x.step).touched ≡ Some (touched (known_before t w j).model me event) → ⊥))
           → Began t w (suc j) since
       next j x is all since now (inr same) = began_before t w j since (all.1 since (sym (ap (λ (o : Owed). o.reset) same.0) ∙ now))
       next j x is all since now (inl at) =

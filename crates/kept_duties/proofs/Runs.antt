@@ -17,7 +17,7 @@ use Rattle.spec_network.specs.HostSteps.{after, after_all, Lawful}
 use Rattle.spec_network.specs.Tables.{on}
 use Rattle.spec_tcp.specs.Machine.{tcp, tcp_shape}
 use Rattle.spec_duties.specs.Cases.{Known, Dutiful, first_known, known_after, known_after_all, watch_rules}
-use Rattle.spec_duties.specs.Sights.{sight, view_in}
+use Rattle.spec_duties.specs.Observations.{observe, view_in}
 use Rattle.spec_duties.specs.Watching.{duty_rules, duties_after}
 use Rattle.checker.specs.Seen.{act_of, stamped}
 use Rattle.kept_duties.specs.Happens.{act_at, known_before, world_before}
@@ -35,11 +35,11 @@ onward P from (suc n) le p more =
 -- a step that is permitted and that no duty refuses: what it makes of what is known
 pub record Goes (h : Header) (slack : ℕ) (k next : Known) (x : Stamped tcp_shape) : Type 0 where
   pub permitted : Permitted (tcp h) x.moment k.model x.step
-  pub dutiful : first_broken (duty_rules h slack x.moment k.duties (sight h x.moment k.model x.step)) ≡ None
+  pub dutiful : first_broken (duty_rules h slack x.moment k.duties (observe h x.moment k.model x.step)) ≡ None
   pub model : next.model ≡ after (tcp h) x.moment k.model x.step
   pub duties : next.duties
-      ≡ duties_after (view_in (after (tcp h) x.moment k.model x.step) (sight h x.moment k.model x.step).touched) x.moment
-      (sight h x.moment k.model x.step) k.duties
+      ≡ duties_after (view_in (after (tcp h) x.moment k.model x.step) (observe h x.moment k.model x.step).touched) x.moment
+      (observe h x.moment k.model x.step) k.duties
 
 -- a step that does something in the model; another changes nothing
 abbrev pub Steps : Header → (slack : ℕ) → (k next : Known) → Option (Stamped tcp_shape) → Type 0
@@ -124,13 +124,13 @@ module _ (h : Header) (lines : List Line) where
   goes_at slack given k next x may is = record {
     permitted = may.0;
     dutiful =
-        sym (ap (λ o. first_broken (on o [] (λ slack. duty_rules h slack x.moment k.duties (sight h x.moment k.model x.step)))) given)
+        sym (ap (λ o. first_broken (on o [] (λ slack. duty_rules h slack x.moment k.duties (observe h x.moment k.model x.step)))) given)
         ∙ may.1;
     model = ap (λ (m : Known). m.model) is;
     duties =
         ap (λ (m : Known). m.duties) is
         ∙ ap (λ o. on o k.duties (λ slack. duties_after (view_in (after (tcp h) x.moment k.model x.step)
-        (sight h x.moment k.model x.step).touched) x.moment (sight h x.moment k.model x.step) k.duties)) given;
+        (observe h x.moment k.model x.step).touched) x.moment (observe h x.moment k.model x.step) k.duties)) given;
   }
 
   model_after : (k : Known) (xs : List (Stamped tcp_shape)) → (known_after_all h k xs).model ≡ after_all (tcp h) k.model xs

@@ -30,7 +30,7 @@ use Rattle.kept_duties.proofs.Built.{count_next, sent_in_time}
 use Rattle.kept_duties.proofs.Inbox.{Left, late_waiting, left_or_waits, not_late}
 use Rattle.kept_duties.proofs.Labels.{arrival_act, arrival_takes, arrives_at, builder_is, builder_none, leaves_at, sending_act}
 use Rattle.kept_duties.proofs.Runs.{Run, Steps, onward, run_of}
-use Rattle.kept_duties.proofs.Sights.{enters}
+use Rattle.kept_duties.proofs.Observations.{enters}
 
 take_all : {X : Type 0} (xs : List X) → take (length xs) xs ≡ xs
 take_all [] = refl

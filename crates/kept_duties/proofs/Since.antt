@@ -28,7 +28,7 @@ use Rattle.spec_duties.specs.Cases.{Known, first_known}
 use Rattle.spec_duties.specs.End.{either, end_rules, lates_at, lates_from, lates_of_all, lates_of_host}
 use Rattle.spec_duties.specs.Owed as owed
 use Rattle.spec_duties.specs.Owed.{late_rules, lates_of, none_late, owed_after}
-use Rattle.spec_duties.specs.Sights.{sight}
+use Rattle.spec_duties.specs.Observations.{observe}
 use Rattle.spec_duties.specs.Views.{unborn, view_of}
 use Rattle.spec_duties.specs.Watching.{Duties, listener_closed, owed_by}
 use Rattle.spec_duties.specs.declared.events.Event.{Event}
@@ -181,7 +181,8 @@ module _ (t : Trace) (w : Witness) (slack : ℕ) (r : Run t.header slack (length
             → since_at (known_before t w (suc j)) ≡ Some since
             → Touches t.header (known_before t w j) x me
             ⊎ ((owed_by (known_before t w (suc j)).duties me.host me.number ≡ owed_by (known_before t w j).duties me.host me.number)
-            × ((event : Event) → (sight t.header x.moment (known_before t w j).model x.step).touched ≡ Some (touched (known_before t w j).model me event) → ⊥))
+            × ((event : Event) → (observe t.header x.moment (known_before t w j).model x.step).touched ≡ Some (touched (known_before t w j).model me event)
+            → ⊥))
             → Began t w (suc j) since
         next j x is goes all since now (inr same) = began_before t w j since (all since (sym (ap get same.0) ∙ now))
         next j x is goes all since now (inl at) =
@@ -204,7 +205,7 @@ module _ (t : Trace) (w : Witness) (slack : ℕ) (r : Run t.header slack (length
   pub becomes : (me : EndpointId) (Is : View → Bool) (i by : ℕ) (j : ℕ) (y : Stamped tcp_shape) → i ≤ j
       → (i < j → Is (seen (known_before t w j).model me) ≡ false) → act_at t w j ≡ Some y
       → Is (seen (known_before t w (suc j)).model me) ≡ true
-      → ((event : Event) → (sight t.header y.moment (known_before t w j).model y.step).touched ≡ Some (touched (known_before t w j).model me event)
+      → ((event : Event) → (observe t.header y.moment (known_before t w j).model y.step).touched ≡ Some (touched (known_before t w j).model me event)
       → y.moment ≤ by)
       → BecomesBy t w i by me Is
   becomes me Is i by j y behind before at after soon = record {
@@ -216,7 +217,7 @@ module _ (t : Trace) (w : Witness) (slack : ℕ) (r : Run t.header slack (length
         let one : a.act ≡ y = same_Some a.act y (sym a.is ∙ at) in
         let time : y.moment ≡ moment = sym (ap (λ (z : Stamped tcp_shape). z.moment) one) ∙ a.time in
         subst (λ (m : ℕ). m ≤ by) time (soon event
-        (subst (λ (z : Stamped tcp_shape). (sight t.header z.moment (known_before t w j).model z.step).touched
+        (subst (λ (z : Stamped tcp_shape). (observe t.header z.moment (known_before t w j).model z.step).touched
         ≡ Some (touched (known_before t w j).model me event))
         one (happens_to t w j moment me event a)));
   }
@@ -247,7 +248,7 @@ module _ (t : Trace) (w : Witness) (slack : ℕ) (r : Run t.header slack (length
             (f.0, ap (λ (v : World tcp_shape). find v.hosts me) goes.model ∙ f.1)
 
         stays : Inv (owed_by (known_before t w (suc j)).duties me.host me.number)
-            → ((event : Event) → (sight t.header y.moment (known_before t w j).model y.step).touched ≡ Some (touched (known_before t w j).model me event)
+            → ((event : Event) → (observe t.header y.moment (known_before t w j).model y.step).touched ≡ Some (touched (known_before t w j).model me event)
             → y.moment ≤ by_then)
             → Goes_on (known_before t w (suc j))
         stays now soon = test (Is (seen (known_before t w (suc j)).model me)) refl
@@ -258,7 +259,7 @@ module _ (t : Trace) (w : Witness) (slack : ℕ) (r : Run t.header slack (length
 
         by_step : Touches t.header (known_before t w j) y me
             ⊎ ((owed_by (known_before t w (suc j)).duties me.host me.number ≡ owed_by (known_before t w j).duties me.host me.number)
-            × ((event : Event) → (sight t.header y.moment (known_before t w j).model y.step).touched ≡ Some (touched (known_before t w j).model me event)
+            × ((event : Event) → (observe t.header y.moment (known_before t w j).model y.step).touched ≡ Some (touched (known_before t w j).model me event)
             → ⊥))
             → Goes_on (known_before t w (suc j))
         by_step (inr same) = stays (subst Inv (sym same.0) still.owes) (λ event shows. absurd (same.1 event shows))

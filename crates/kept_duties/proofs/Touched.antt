@@ -24,7 +24,7 @@ use Rattle.case_forms.specs.declared.trace.Wire.{Wire}
 use Rattle.verdict.specs.declared.rule.Rule.{Rule}
 use Rattle.verdict.proofs.RuleLemmas.{none_all}
 use Rattle.spec_network.specs.HostRules.{Permitted, aim_of}
-use Rattle.spec_network.specs.HostSteps.{after, deed_after, effect_after}
+use Rattle.spec_network.specs.HostSteps.{after, host_step_after, effect_after}
 use Rattle.spec_network.specs.Hosts.{HostState, Stamped, World, Does, Expires, Makes, Sends, Gets, Hears, Takes, Drops, Answers, Step, Begin, Finish, Effect}
 use Rattle.spec_network.specs.Hosts.{At}
 use Rattle.spec_network.specs.Hosts.{Turn, Idle, Called, Answered, turn_of}
@@ -33,7 +33,7 @@ use Rattle.spec_network.proofs.Entries.{lookup_insert}
 use Rattle.spec_tcp.specs.Arrives.{AtEndpoint, AtListener, Nobody, Taker, after_taking, taker}
 use Rattle.spec_tcp.specs.Arrives.Listen.{child}
 use Rattle.spec_tcp.specs.Endpoints.{new_endpoint}
-use Rattle.spec_tcp.specs.HostTcp.{place_of, thing_of}
+use Rattle.spec_tcp.specs.HostTcp.{place_of, socket_target}
 use Rattle.spec_tcp.specs.Machine.{Calls, Expiring, act_after, aim, tcp, tcp_shape}
 use Rattle.spec_tcp.specs.Signals.{profile_of}
 use Rattle.spec_tcp.specs.declared.endpoint.Emission.{Emission}
@@ -49,16 +49,16 @@ use Rattle.spec_duties.specs.Dropped.{taking_breaks}
 use Rattle.spec_duties.specs.Excess.{is_excess}
 use Rattle.spec_duties.specs.Owed.{late_rules, lates_of, nothing, owed_after}
 use Rattle.spec_duties.specs.Resent.{is_resent, is_resent_beyond}
-use Rattle.spec_duties.specs.Sights.{accept_sight, at_drop, at_place, at_ports, at_sender, at_target, call_sight, close_sight, effect_sight}
-use Rattle.spec_duties.specs.Sights.{is_done, other_sight, processing_of, sending_of, sight, unseen, view_in}
+use Rattle.spec_duties.specs.Observations.{observe_accept, at_drop, at_place, at_ports, at_sender, at_target, observe_call, observe_close, observe_effect}
+use Rattle.spec_duties.specs.Observations.{is_done, observe_other, processing_of, sending_of, observe, unseen, view_in}
 use Rattle.spec_duties.specs.Views.{unborn, view_of}
 use Rattle.spec_duties.specs.Watching.{Duties, built_by, counts_now, duty_rules, listener_closed, owed_by, owed_table_after, touched_rules}
 use Rattle.spec_duties.specs.declared.events.Event.{Event}
 use Rattle.spec_duties.specs.declared.events.Event.TheVariants as events
 use Rattle.spec_duties.specs.declared.owed.Owed.{Owed}
-use Rattle.spec_duties.specs.declared.sights.Queueing.TheVariants as queueing
-use Rattle.spec_duties.specs.declared.sights.Sight.{Sight}
-use Rattle.spec_duties.specs.declared.sights.Touched.{Touched}
+use Rattle.spec_duties.specs.declared.observations.Queueing.TheVariants as queueing
+use Rattle.spec_duties.specs.declared.observations.Observation.{Observation}
+use Rattle.spec_duties.specs.declared.observations.TouchedEndpoint.{TouchedEndpoint}
 use Rattle.spec_duties.specs.declared.views.View.{View}
 use Rattle.kept_duties.proofs.Runs.{Goes}
 
@@ -69,7 +69,7 @@ seen w me = option_map_or view_of (find w.hosts me) unborn
 -- ---- what a step shows of an endpoint is how it was before, and the endpoint is there or is new
 
 -- a listener's child, which a step creates
-pub record Child (w : World tcp_shape) (step : Step tcp_shape) (t : Touched) : Type 0 where
+pub record Child (w : World tcp_shape) (step : Step tcp_shape) (t : TouchedEndpoint) : Type 0 where
   pub line : ℕ
   pub how : TakeChoice
   pub segment : Emission
@@ -80,7 +80,7 @@ pub record Child (w : World tcp_shape) (step : Step tcp_shape) (t : Touched) : T
   pub next : t.place ≡ length (pick w.hosts t.host).body.endpoints
 
 -- an endpoint that `open` creates
-pub record Opened (w : World tcp_shape) (step : Step tcp_shape) (t : Touched) : Type 0 where
+pub record Opened (w : World tcp_shape) (step : Step tcp_shape) (t : TouchedEndpoint) : Type 0 where
   pub thread : ℕ
   pub socket : ℕ
   pub lport : ℕ
@@ -101,17 +101,17 @@ StepDoes step host events.Recovers = (x : Recovery) × (step ≡ At host (Does x
 StepDoes step host (events.Calls aborts) = (thread : ℕ) × (answer : Answer) × (step ≡ Effect thread answer)
 StepDoes step host events.Opens = (thread : ℕ) × (answer : Answer) × (step ≡ Effect thread answer)
 
-abbrev pub name_of : Touched → EndpointId
+abbrev pub name_of : TouchedEndpoint → EndpointId
 name_of t = record { host = t.host; number = t.place }
 
-pub record AsShown (w : World tcp_shape) (step : Step tcp_shape) (t : Touched) : Type 0 where
+pub record AsShown (w : World tcp_shape) (step : Step tcp_shape) (t : TouchedEndpoint) : Type 0 where
   pub before : t.before ≡ seen w (name_of t)
   pub there : ((e : Endpoint) × (find w.hosts (name_of t) ≡ Some e)) ⊎ Opened w step t ⊎ Child w step t
   pub does : StepDoes step t.host t.event
   -- a segment is built by the endpoint that its ports name
   pub built : (m : SegmentPlan) → t.event ≡ events.Builds m → place_of (pick w.hosts t.host).body m.lport m.rport ≡ Some t.place
 
-abbrev pub AsBefore : World tcp_shape → Step tcp_shape → Option Touched → Type 0
+abbrev pub AsBefore : World tcp_shape → Step tcp_shape → Option TouchedEndpoint → Type 0
 AsBefore w step None = Unit {0}
 AsBefore w step (Some t) = AsShown w step t
 
@@ -167,15 +167,15 @@ drop_before w step host m taking does Nobody = tt
 drop_before w step host m taking does (AtListener l) = tt
 drop_before w step host m taking does (AtEndpoint i e) = place_before w step host _ i does (λ p e. absurd cc)
 
-thing_before : (w : World tcp_shape) (step : Step tcp_shape) (o : Option SocketTarget) (f : SocketTarget → Sight)
-    → ((thing : SocketTarget) → AsBefore w step (f thing).touched)
+socket_target_before : (w : World tcp_shape) (step : Step tcp_shape) (o : Option SocketTarget) (f : SocketTarget → Observation)
+    → ((target : SocketTarget) → AsBefore w step (f target).touched)
     → AsBefore w step (on o unseen f).touched
-thing_before w step None f each = tt
-thing_before w step (Some thing) f each = each thing
+socket_target_before w step None f each = tt
+socket_target_before w step (Some target) f each = each target
 
 close_before : (w : World tcp_shape) (step : Step tcp_shape) (host : Host) (aborts : Bool) (answer : Answer)
-    → (thread : ℕ) × (a : Answer) × (step ≡ Effect thread a) → (thing : SocketTarget)
-    → AsBefore w step (close_sight host (pick w.hosts host).body aborts answer thing).touched
+    → (thread : ℕ) × (a : Answer) × (step ≡ Effect thread a) → (target : SocketTarget)
+    → AsBefore w step (observe_close host (pick w.hosts host).body aborts answer target).touched
 close_before w step host aborts answer did (EndpointAt i) = place_before w step host _ i did (λ p e. absurd cc)
 close_before w step host aborts answer did (ListenerAt l) = by (is_done answer)
   where
@@ -183,18 +183,18 @@ close_before w step host aborts answer did (ListenerAt l) = by (is_done answer)
     by true = tt
     by false = tt
 
-other_before : (w : World tcp_shape) (step : Step tcp_shape) (host : Host) → (thread : ℕ) × (a : Answer) × (step ≡ Effect thread a) → (thing : SocketTarget)
-    → AsBefore w step (other_sight host (pick w.hosts host).body thing).touched
+other_before : (w : World tcp_shape) (step : Step tcp_shape) (host : Host) → (thread : ℕ) × (a : Answer) × (step ≡ Effect thread a) → (target : SocketTarget)
+    → AsBefore w step (observe_other host (pick w.hosts host).body target).touched
 other_before w step host did (ListenerAt l) = tt
 other_before w step host did (EndpointAt i) = place_before w step host _ i did (λ p e. absurd cc)
 
-accept_before : (w : World tcp_shape) (step : Step tcp_shape) (host : Host) (answer : Answer) (thing : SocketTarget)
-    → AsBefore w step (accept_sight host (pick w.hosts host).body answer thing).touched
+accept_before : (w : World tcp_shape) (step : Step tcp_shape) (host : Host) (answer : Answer) (target : SocketTarget)
+    → AsBefore w step (observe_accept host (pick w.hosts host).body answer target).touched
 accept_before w step host (answers.Given n) (ListenerAt l) = tt
-accept_before w step host answer thing = tt
+accept_before w step host answer target = tt
 
 call_before : (h : Header) (w : World tcp_shape) (thread : ℕ) (host : Host) (call : Call) (answer : Answer) → turn_of thread w.threads ≡ Called call
-    → aim_of (tcp h) w.hosts (aim call) ≡ Some host → AsBefore w (Effect thread answer) (call_sight host (pick w.hosts host).body call answer).touched
+    → aim_of (tcp h) w.hosts (aim call) ≡ Some host → AsBefore w (Effect thread answer) (observe_call host (pick w.hosts host).body call answer).touched
 call_before h w thread host (calls.Connect x lport rport) (answers.Given n) turn aims =
     let same : x ≡ host = same_Some x host aims in
     record {
@@ -214,31 +214,32 @@ call_before h w thread host (calls.Connect x lport rport) (answers.Given n) turn
     }
 call_before h w thread host (calls.Connect x lport rport) answer turn aims = tt
 call_before h w thread host (calls.Accept n) answer turn aims =
-    thing_before w (Effect thread answer) (thing_of (pick w.hosts host).body n) (accept_sight host (pick w.hosts host).body answer)
+    socket_target_before w (Effect thread answer) (socket_target (pick w.hosts host).body n) (observe_accept host (pick w.hosts host).body answer)
     (accept_before w (Effect thread answer) host answer)
 call_before h w thread host (calls.Send n bytes) answer turn aims =
-    thing_before w (Effect thread answer) (thing_of (pick w.hosts host).body n) (other_sight host (pick w.hosts host).body)
+    socket_target_before w (Effect thread answer) (socket_target (pick w.hosts host).body n) (observe_other host (pick w.hosts host).body)
     (other_before w (Effect thread answer) host (thread, answer, refl))
 call_before h w thread host (calls.Shut n) answer turn aims =
-    thing_before w (Effect thread answer) (thing_of (pick w.hosts host).body n) (other_sight host (pick w.hosts host).body)
+    socket_target_before w (Effect thread answer) (socket_target (pick w.hosts host).body n) (observe_other host (pick w.hosts host).body)
     (other_before w (Effect thread answer) host (thread, answer, refl))
 call_before h w thread host (calls.Close n) answer turn aims =
-    thing_before w (Effect thread answer) (thing_of (pick w.hosts host).body n) (close_sight host (pick w.hosts host).body false answer)
+    socket_target_before w (Effect thread answer) (socket_target (pick w.hosts host).body n) (observe_close host (pick w.hosts host).body false answer)
     (close_before w (Effect thread answer) host false answer (thread, answer, refl))
 call_before h w thread host (calls.Abort n) answer turn aims =
-    thing_before w (Effect thread answer) (thing_of (pick w.hosts host).body n) (close_sight host (pick w.hosts host).body (is_done answer) answer)
+    socket_target_before w (Effect thread answer) (socket_target (pick w.hosts host).body n)
+    (observe_close host (pick w.hosts host).body (is_done answer) answer)
     (close_before w (Effect thread answer) host (is_done answer) answer (thread, answer, refl))
 call_before h w thread host call answer turn aims = tt
 
 effect_before : (h : Header) (w : World tcp_shape) (thread : ℕ) (answer : Answer) (u : Turn tcp_shape) → turn_of thread w.threads ≡ u
-    → AsBefore w (Effect thread answer) (effect_sight h w answer u).touched
+    → AsBefore w (Effect thread answer) (observe_effect h w answer u).touched
 effect_before h w thread answer Idle turn = tt
 effect_before h w thread answer (Called call) turn =
-    on_cases (λ (s : Sight). AsBefore w (Effect thread answer) s.touched) (aim_of (tcp h) w.hosts (aim call)) unseen
-    (λ host. call_sight host (pick w.hosts host).body call answer) tt (λ host aims. call_before h w thread host call answer turn aims)
+    on_cases (λ (s : Observation). AsBefore w (Effect thread answer) s.touched) (aim_of (tcp h) w.hosts (aim call)) unseen
+    (λ host. observe_call host (pick w.hosts host).body call answer) tt (λ host aims. call_before h w thread host call answer turn aims)
 effect_before h w thread answer (Answered given) turn = tt
 
-pub as_before : (h : Header) (moment : ℕ) (w : World tcp_shape) (step : Step tcp_shape) → AsBefore w step (sight h moment w step).touched
+pub as_before : (h : Header) (moment : ℕ) (w : World tcp_shape) (step : Step tcp_shape) → AsBefore w step (observe h moment w step).touched
 as_before h moment w (Begin line thread call) = tt
 as_before h moment w (Finish line thread answer) = tt
 as_before h moment w (Effect thread answer) = effect_before h w thread answer (turn_of thread w.threads) refl
@@ -248,21 +249,21 @@ as_before h moment w (At host (Makes m)) =
     ports_before w (At host (Makes m)) host (events.Builds m) m.lport m.rport refl
     (λ i at p e. let same : m ≡ p = cc in ap (λ (q : SegmentPlan). place_of (pick w.hosts host).body q.lport q.rport) (sym same) ∙ at)
 as_before h moment w (At host (Sends line number wire)) =
-    on_cases (λ (s : Sight). AsBefore w (At host (Sends line number wire)) s.touched) (lookup (nat_eq number) (pick w.hosts host).made) unseen _ tt
+    on_cases (λ (s : Observation). AsBefore w (At host (Sends line number wire)) s.touched) (lookup (nat_eq number) (pick w.hosts host).made) unseen _ tt
     (λ m is. sender_before w (At host (Sends line number wire)) host m.emission (line, number, wire, refl))
 as_before h moment w (At host (Gets line copied wire)) = tt
 as_before h moment w (At host (Hears line wire)) = tt
 as_before h moment w (At host (Takes line how)) =
-    on_cases (λ (s : Sight). AsBefore w (At host (Takes line how)) s.touched) (waiting line (pick w.hosts host).inbox) unseen _ tt
+    on_cases (λ (s : Observation). AsBefore w (At host (Takes line how)) s.touched) (waiting line (pick w.hosts host).inbox) unseen _ tt
     (λ m is. target_before w host line how m is (taker (pick w.hosts host).body m) refl)
 as_before h moment w (At host (Drops line)) =
-    on_cases (λ (s : Sight). AsBefore w (At host (Drops line)) s.touched) (waiting line (pick w.hosts host).inbox) unseen _ tt
+    on_cases (λ (s : Observation). AsBefore w (At host (Drops line)) s.touched) (waiting line (pick w.hosts host).inbox) unseen _ tt
     (λ m is. drop_before w (At host (Drops line)) host m (taking_breaks h moment w host line) (line, refl) (taker (pick w.hosts host).body m))
 as_before h moment w (At host (Answers line)) = tt
 
 -- ---- whether a step touches an endpoint
 
-abbrev pub touched : World tcp_shape → EndpointId → Event → Touched
+abbrev pub touched : World tcp_shape → EndpointId → Event → TouchedEndpoint
 touched w me event = record { host = me.host; place = me.number; event = event; before = seen w me }
 
 -- what an endpoint owes in a table
@@ -270,7 +271,7 @@ abbrev owed_in : Both (List (ℕ × Owed)) → EndpointId → Owed
 owed_in both me = unwrap_or (lookup (nat_eq me.number) (pick both me.host)) nothing
 
 -- another value for one endpoint
-abbrev with_owed : Both (List (ℕ × Owed)) → Touched → Owed → Both (List (ℕ × Owed))
+abbrev with_owed : Both (List (ℕ × Owed)) → TouchedEndpoint → Owed → Both (List (ℕ × Owed))
 with_owed both t v = with_host both t.host (insert_entry nat_eq (pick both t.host) t.place v)
 
 pick_here : {X : Type 0} (both : Both X) (host : Host) (x : X) → pick (with_host both host x) host ≡ x
@@ -286,7 +287,7 @@ owed_here both w me event v =
     ∙ ap (λ b. cond b (Some v) (lookup (nat_eq me.number) (pick both me.host))) self)
 
 -- the endpoint is the one that is touched, or what it owes stays
-same_or_not : (t : Touched) (me : EndpointId)
+same_or_not : (t : TouchedEndpoint) (me : EndpointId)
     → ((t.host ≡ me.host) × (t.place ≡ me.number)) ⊎ ((both : Both (List (ℕ × Owed))) (v : Owed) → owed_in (with_owed both t v) me ≡ owed_in both me)
 same_or_not t me = by t.host me.host refl refl
   where
@@ -324,13 +325,13 @@ same_or_not t me = by t.host me.host refl refl
 -- a step touches the endpoint
 pub record Touches (h : Header) (k : Known) (x : Stamped tcp_shape) (me : EndpointId) : Type 0 where
   pub event : Event
-  pub shows : (sight h x.moment k.model x.step).touched ≡ Some (touched k.model me event)
+  pub shows : (observe h x.moment k.model x.step).touched ≡ Some (touched k.model me event)
 
 -- so its duties were compared, and are changed
 pub record Owes (h : Header) (slack : ℕ) (k next : Known) (x : Stamped tcp_shape) (me : EndpointId) (event : Event) : Type 0 where
   pub counts : Bool
   pub listener : Option ℕ
-  pub counted : counts ≡ counts_now (built_by k.duties (sight h x.moment k.model x.step).post)
+  pub counted : counts ≡ counts_now (built_by k.duties (observe h x.moment k.model x.step).built_change)
   pub listens : listener ≡ listener_closed k.duties me.host (seen k.model me)
   pub lates : AllByRecursion (λ r. r.1 ≡ false) (late_rules (lates_of slack x.moment (seen k.model me) listener (owed_by k.duties me.host me.number)))
   pub resent : is_resent h.congestion event (seen k.model me) (owed_by k.duties me.host me.number).again ≡ false
@@ -340,14 +341,15 @@ pub record Owes (h : Header) (slack : ℕ) (k next : Known) (x : Stamped tcp_sha
       ≡ owed_after event (seen k.model me) (seen next.model me) x.moment listener counts (owed_by k.duties me.host me.number)
 
 module _ (h : Header) (slack : ℕ) (k next : Known) (x : Stamped tcp_shape) (me : EndpointId) (goes : Goes h slack k next x) where
-  abbrev shown : Sight
-  shown = sight h x.moment k.model x.step
+  abbrev shown : Observation
+  shown = observe h x.moment k.model x.step
 
   -- by the step's event at it
   pub owes_after : (event : Event) → shown.touched ≡ Some (touched k.model me event) → Owes h slack k next x me event
   owes_after event shows =
       let rules = (none_all (duty_rules h slack x.moment k.duties shown) goes.dutiful).1.1.1.1 in
-      let here = subst (λ (o : Option Touched). AllByRecursion (λ r. r.1 ≡ false) (on o [] (touched_rules h slack x.moment k.duties counts))) shows rules in
+      let here =
+      subst (λ (o : Option TouchedEndpoint). AllByRecursion (λ r. r.1 ≡ false) (on o [] (touched_rules h slack x.moment k.duties counts))) shows rules in
       record {
         counts = counts;
         listener = listener_closed k.duties me.host (seen k.model me);
@@ -359,7 +361,7 @@ module _ (h : Header) (slack : ℕ) (k next : Known) (x : Stamped tcp_shape) (me
         excess = here.1.1.1.1.1.1.1.1.0;
         after =
             ap (λ (d : Duties). owed_by d me.host me.number) goes.duties
-            ∙ ap (λ (o : Option Touched). owed_in (on o k.duties.owed (owed_table_after
+            ∙ ap (λ (o : Option TouchedEndpoint). owed_in (on o k.duties.owed (owed_table_after
             (view_in (after (tcp h) x.moment k.model x.step) o) x.moment counts k.duties)) me) shows
             ∙ owed_here k.duties.owed k.model me event _
             ∙ ap (λ (w : World tcp_shape). owed_after event (seen k.model me) (seen w me) x.moment
@@ -367,7 +369,7 @@ module _ (h : Header) (slack : ℕ) (k next : Known) (x : Stamped tcp_shape) (me
       }
     where
       counts : Bool
-      counts = counts_now (built_by k.duties shown.post)
+      counts = counts_now (built_by k.duties shown.built_change)
 
   -- another step leaves what it owes
   pub touches_or_not : Touches h k x me
@@ -375,29 +377,29 @@ module _ (h : Header) (slack : ℕ) (k next : Known) (x : Stamped tcp_shape) (me
       × ((event : Event) → shown.touched ≡ Some (touched k.model me event) → ⊥))
   touches_or_not = by shown.touched refl (as_before h x.moment k.model x.step)
     where
-      keeps : (o : Option Touched) → shown.touched ≡ o → owed_in (on o k.duties.owed
+      keeps : (o : Option TouchedEndpoint) → shown.touched ≡ o → owed_in (on o k.duties.owed
           (owed_table_after (view_in (after (tcp h) x.moment k.model x.step) o) x.moment
-          (counts_now (built_by k.duties shown.post)) k.duties)) me ≡ owed_in k.duties.owed me → owed_by next.duties me.host me.number
+          (counts_now (built_by k.duties shown.built_change)) k.duties)) me ≡ owed_in k.duties.owed me → owed_by next.duties me.host me.number
           ≡ owed_by k.duties me.host me.number
       keeps o shows same =
           ap (λ (d : Duties). owed_by d me.host me.number) goes.duties
-          ∙ ap (λ (o : Option Touched). owed_in (on o k.duties.owed (owed_table_after (view_in (after (tcp h) x.moment k.model x.step) o) x.moment
-          (counts_now (built_by k.duties shown.post)) k.duties)) me) shows
+          ∙ ap (λ (o : Option TouchedEndpoint). owed_in (on o k.duties.owed (owed_table_after (view_in (after (tcp h) x.moment k.model x.step) o) x.moment
+          (counts_now (built_by k.duties shown.built_change)) k.duties)) me) shows
           ∙ same
 
       -- two values tell that what is written is found
-      apart : (t : Touched) (event : Event) → t ≡ touched k.model me event
+      apart : (t : TouchedEndpoint) (event : Event) → t ≡ touched k.model me event
           → ((both : Both (List (ℕ × Owed))) (v : Owed) → owed_in (with_owed both t v) me ≡ owed_in both me) → ⊥
       apart t event one stays =
           let changed : owed_in (with_owed k.duties.owed t (record nothing { opened = suc (owed_in k.duties.owed me).opened })) me
           ≡ record nothing { opened = suc (owed_in k.duties.owed me).opened } =
-          ap (λ (t : Touched). owed_in (with_owed k.duties.owed t (record nothing { opened = suc (owed_in k.duties.owed me).opened })) me) one
+          ap (λ (t : TouchedEndpoint). owed_in (with_owed k.duties.owed t (record nothing { opened = suc (owed_in k.duties.owed me).opened })) me) one
           ∙ owed_here k.duties.owed k.model me event (record nothing { opened = suc (owed_in k.duties.owed me).opened }) in
           let more : suc (owed_in k.duties.owed me).opened ≡ (owed_in k.duties.owed me).opened =
           ap (λ (o : Owed). o.opened) (sym changed ∙ stays k.duties.owed (record nothing { opened = suc (owed_in k.duties.owed me).opened })) in
           omega (arith, more)
 
-      by : (o : Option Touched) → shown.touched ≡ o → AsBefore k.model x.step o
+      by : (o : Option TouchedEndpoint) → shown.touched ≡ o → AsBefore k.model x.step o
           → Touches h k x me
           ⊎ ((owed_by next.duties me.host me.number ≡ owed_by k.duties me.host me.number)
           × ((event : Event) → shown.touched ≡ Some (touched k.model me event) → ⊥))
@@ -440,7 +442,7 @@ child_there h moment w g line how m l waits is =
     let b = (pick w.hosts g).body in (
       child (profile_of h) l how m moment,
       ap (λ (k : HostState tcp_shape). slice_get k.body.endpoints (length b.endpoints))
-          (pick_here w.hosts g (deed_after (tcp h) g moment (suc w.count) (pick w.hosts (other g)).wire (pick w.hosts g) (Takes line how)))
+          (pick_here w.hosts g (host_step_after (tcp h) g moment (suc w.count) (pick w.hosts (other g)).wire (pick w.hosts g) (Takes line how)))
           ∙ ap (λ (o : Option Emission). slice_get (on o b (λ e. act_after h g moment b ((tcp h).takes how e))).endpoints (length b.endpoints)) waits
           ∙ ap (λ (t : Taker). slice_get (after_taking h b how m moment t).endpoints (length b.endpoints)) is
           ∙ last_there b.endpoints (child (profile_of h) l how m moment),
@@ -462,7 +464,7 @@ open_there h moment w thread socket host lport rport turn =
     )
 
 pub there_after : (h : Header) (moment : ℕ) (w : World tcp_shape) (step : Step tcp_shape) (me : EndpointId) (event : Event) → Steady w.hosts
-    → Permitted (tcp h) moment w step → (sight h moment w step).touched ≡ Some (touched w me event)
+    → Permitted (tcp h) moment w step → (observe h moment w step).touched ≡ Some (touched w me event)
     → (e : Endpoint) × (find (after (tcp h) moment w step).hosts me ≡ Some e)
 there_after h moment w step me event steady may shows =
     by (subst (AsBefore w step) shows (as_before h moment w step)).there

@@ -18,10 +18,10 @@ use Rattle.case_forms.specs.declared.trace.Event.TheVariants.{Sent}
 use Rattle.case_forms.specs.declared.trace.Trace.{Trace}
 use Rattle.spec_network.specs.Tables.{host_is, on}
 use Rattle.spec_tcp.specs.declared.endpoint.EndpointId.{EndpointId}
-use Rattle.spec_duties.specs.Sights.{sight}
+use Rattle.spec_duties.specs.Observations.{observe}
 use Rattle.spec_duties.specs.declared.events.Event.{Event}
 use Rattle.spec_duties.specs.declared.events.Event.TheVariants.{Builds, Drops, Processes}
-use Rattle.spec_duties.specs.declared.sights.Touched.{Touched}
+use Rattle.spec_duties.specs.declared.observations.TouchedEndpoint.{TouchedEndpoint}
 use Rattle.spec_duties.specs.declared.views.View.{View}
 use Rattle.kept_duties.specs.Happens.{act_at, seen_before, world_before}
 use Rattle.kept_duties.specs.Places.{built_before}
@@ -32,13 +32,13 @@ count_before test zero = 0
 count_before test (suc place) = if test place then suc (count_before test place) else count_before test place
 
 -- what happens at an endpoint, if it is the one that a step touches
-abbrev pub event_for : EndpointId → Option Touched → Option Event
+abbrev pub event_for : EndpointId → Option TouchedEndpoint → Option Event
 event_for me o = on o None (λ x. if host_is x.host me.host && x.place == me.number then Some x.event else None)
 
 -- what the step at a place does at an endpoint, if anything
 abbrev pub event_at : Trace → Witness → EndpointId → (place : ℕ) → Option Event
 event_at t w me place =
-    on (act_at t w place) None (λ x. event_for me (sight t.header x.moment (world_before t w place) x.step).touched)
+    on (act_at t w place) None (λ x. event_for me (observe t.header x.moment (world_before t w place) x.step).touched)
 
 -- a listener's child doesn't exist before it processes its SYN
 abbrev pub is_unborn : State → Bool

@@ -55,22 +55,22 @@ IsNext e m = (irs : Word) × (e.irs ≡ Some irs) × (same_word m.seq (number_of
 
 -- what could be processed need not be: a reset that isn't next is challenged (RFC 5961, 3.2), or what doesn't fit meets
 -- a closed receive window (RFC 9293, 3.10.7.4, first); or the listener's backlog is reached (3.9.1.2)
-pub data MayBeSpared (t : Trace) (w : Witness) (place : ℕ) (host : Host) (m : Emission) : Type 0 where
+pub data IsDroppable (t : Trace) (w : Witness) (place : ℕ) (host : Host) (m : Emission) : Type 0 where
   IsChallenged : (i : ℕ) (e : Endpoint) → taker (host_before t w place host) m ≡ AtEndpoint i e
-      → is_syn_sent e.state ≡ false → m.flags.rst ≡ true → (IsNext e m → ⊥) → MayBeSpared t w place host m
+      → is_syn_sent e.state ≡ false → m.flags.rst ≡ true → (IsNext e m → ⊥) → IsDroppable t w place host m
   MeetsClosedWindow : (i : ℕ) (e : Endpoint) → taker (host_before t w place host) m ≡ AtEndpoint i e
-      → is_syn_sent e.state ≡ false → receive_window e ≡ 0 → 0 < segment_length m → MayBeSpared t w place host m
+      → is_syn_sent e.state ≡ false → receive_window e ≡ 0 → 0 < segment_length m → IsDroppable t w place host m
   ByListener : (l : ℕ) (x : Listener) → taker (host_before t w place host) m ≡ AtListener l
       → slice_get (host_before t w place host).listeners l ≡ Some x → x.backlog ≤ children_before t w place host l
-      → MayBeSpared t w place host m
+      → IsDroppable t w place host m
 
 -- the segment of that line may be dropped at this place
 pub record MayBeDropped (t : Trace) (w : Witness) (place moment : ℕ) (host : Host) (line : ℕ) : Type 0 where
   pub segment : Emission
   pub waits : waiting line (pick (world_before t w place).hosts host).inbox ≡ Some segment
-  -- to process it would break a rule of the model, or it is spared
+  -- to process it would break a rule of the model, or the segment need not be processed
   pub processing : (is_some (processing_breaks t w place moment host line) ≡ true)
-      ⊎ MayBeSpared t w place host segment
+      ⊎ IsDroppable t w place host segment
   -- to answer it with a reset would break one, or the segment is unacceptable, so that an acknowledgment is as good
   pub answering : (is_some (answering_breaks t w place host line) ≡ true)
       ⊎ (processing_breaks t w place moment host line ≡ Some Unacceptable)

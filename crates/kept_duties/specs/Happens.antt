@@ -23,7 +23,7 @@ use Rattle.spec_tcp.specs.declared.endpoint.EndpointId.{EndpointId}
 use Rattle.spec_tcp_laws.specs.Consequences.{find}
 use Rattle.spec_tcp_laws.specs.Runs.{world_at_end}
 use Rattle.spec_duties.specs.Cases.{Known, first_known, known_after_all}
-use Rattle.spec_duties.specs.Sights.{sight}
+use Rattle.spec_duties.specs.Observations.{observe}
 use Rattle.spec_duties.specs.Views.{unborn, view_of}
 use Rattle.spec_duties.specs.declared.events.Event.{Event}
 use Rattle.spec_duties.specs.declared.events.Event.TheVariants.{Builds, Calls, Drops, Expires, Opens, Processes}
@@ -49,12 +49,12 @@ known_before t w place =
 abbrev pub seen_before : Trace → Witness → (place : ℕ) → EndpointId → View
 seen_before t w place me = option_map_or view_of (find (world_before t w place).hosts me) unborn
 
--- the step at this place does this at an endpoint, as `sight` shows it of the model
+-- the step at this place does this at an endpoint, as `observe` shows it of the model
 pub record Happens (t : Trace) (w : Witness) (place moment : ℕ) (me : EndpointId) (event : Event) : Type 0 where
   pub act : Stamped tcp_shape
   pub is : act_at t w place ≡ Some act
   pub time : act.moment ≡ moment
-  pub touches : (sight t.header act.moment (world_before t w place) act.step).touched
+  pub touches : (observe t.header act.moment (world_before t w place) act.step).touched
       ≡ Some (record { host = me.host; place = me.number; event = event; before = seen_before t w place me })
 
 -- a timer of the host expires: the step uses this `T` line

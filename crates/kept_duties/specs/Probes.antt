@@ -12,7 +12,7 @@ use Rattle.spec_network.specs.Hosts.{Stamped}
 use Rattle.spec_network.specs.Tables.{on}
 use Rattle.spec_tcp.specs.Machine.{tcp_shape}
 use Rattle.spec_tcp.specs.declared.endpoint.EndpointId.{EndpointId}
-use Rattle.spec_duties.specs.Sights.{sight}
+use Rattle.spec_duties.specs.Observations.{observe}
 use Rattle.spec_duties.specs.declared.events.Event.{Event}
 use Rattle.spec_duties.specs.declared.events.Event.TheVariants.{Expires, Sends}
 use Rattle.spec_duties.specs.declared.views.View.{View}
@@ -53,7 +53,7 @@ probes_after event before after moment probes =
 -- before a step
 abbrev pub probes_by : Trace → Witness → EndpointId → (place : ℕ) → Option Probes → Stamped tcp_shape → Option Probes
 probes_by t w me place probes x =
-    on (event_for me (sight t.header x.moment (world_before t w place) x.step).touched) probes
+    on (event_for me (observe t.header x.moment (world_before t w place) x.step).touched) probes
     (λ event. probes_after event (seen_before t w place me) (seen_before t w (suc place) me) x.moment probes)
 
 abbrev pub probes_before : Trace → Witness → EndpointId → (place : ℕ) → Option Probes

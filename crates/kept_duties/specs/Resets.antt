@@ -8,10 +8,10 @@ use Rattle.case_forms.specs.declared.trace.Trace.{Trace}
 use Rattle.spec_network.specs.Hosts.{Stamped}
 use Rattle.spec_tcp.specs.Machine.{tcp_shape}
 use Rattle.spec_tcp.specs.declared.endpoint.EndpointId.{EndpointId}
-use Rattle.spec_duties.specs.Sights.{sight}
+use Rattle.spec_duties.specs.Observations.{observe}
 use Rattle.spec_duties.specs.declared.events.Event.{Event}
 use Rattle.spec_duties.specs.declared.events.Event.TheVariants.{Calls, Sends}
-use Rattle.spec_duties.specs.declared.sights.Queueing.TheVariants.{Closes}
+use Rattle.spec_duties.specs.declared.observations.Queueing.TheVariants.{Closes}
 use Rattle.spec_duties.specs.declared.views.View.{View}
 use Rattle.kept_duties.specs.Happens.{Happens, act_at, seen_before, world_before}
 use Rattle.kept_duties.specs.Segments.{EndsBy}
@@ -30,12 +30,12 @@ AbortsAreReset t w slack =
     → (seen_before t w (suc place) me).resets ≡ true
     → HappensBy t w place (moment + slack) me SendsReset ⊎ EndsBy w (moment + slack)
 
--- the step at this place closes a listener, as `sight` shows it of the model
+-- the step at this place closes a listener, as `observe` shows it of the model
 pub record ClosesListener (t : Trace) (w : Witness) (place moment : ℕ) (host : Host) (listener : ℕ) : Type 0 where
   pub act : Stamped tcp_shape
   pub is : act_at t w place ≡ Some act
   pub time : act.moment ≡ moment
-  pub closes : (sight t.header act.moment (world_before t w place) act.step).queueing ≡ Closes host listener
+  pub closes : (observe t.header act.moment (world_before t w place) act.step).queueing ≡ Closes host listener
 
 -- a child of this listener that isn't accepted yet has to be reset
 abbrev pub awaits_reset : (listener : ℕ) → View → Bool

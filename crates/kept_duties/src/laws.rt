@@ -25,8 +25,8 @@ pub fn arrivals_are_handled()
         → ArrivalsAreHandled t w slack }
 {}
 
-/// Each segment that was dropped may be: to process it would break a rule of the model, or it is spared; and to answer
-/// it with a reset would break one, or an acknowledgment is as good (RFC 9293, 3.10.7).
+/// Each segment that was dropped may be: to process it would break a rule of the model, or it need not be processed;
+/// and to answer it with a reset would break one, or an acknowledgment is as good (RFC 9293, 3.10.7).
 pub fn drops_are_lawful()
     ensures { (t : Trace) (w : Witness) (slack : ℕ) → Explains t w → t.header.slack ≡ Some slack → DropsAreLawful t w }
 {}

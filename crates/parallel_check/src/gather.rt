@@ -5,7 +5,7 @@ ghost use Rattle.std.proofs.Common.{get_or};
 ghost use Rattle.parallel_check.specs.Answers.{AnswersEach, AreSlots, IsAnswer, IsSlot};
 
 use crate::plain::CaseResult;
-use crate::work::{Cases, Done, Gate, check_one};
+use crate::work::{Cases, Gate, NumberedAnswer, check_one};
 use answers::put_at;
 use case_forms::OutOfMemory;
 use std::alloc::Global;
@@ -14,7 +14,7 @@ use std::alloc::Global;
 pub(crate) fn gather<C: Cases, G: Gate>(
     alloc: Global,
     cases: &[&[u8]],
-    parts: Vec<Vec<Done<C>>>,
+    parts: Vec<Vec<NumberedAnswer<C>>>,
     gate: &G,
 ) -> Result<Vec<CaseResult>, OutOfMemory>
     requires { map (λ case. case.now) cases.now ≡ C.cases }
@@ -38,7 +38,7 @@ fn empty_slots(alloc: Global, count: usize) -> Result<Vec<Option<CaseResult>>, O
 }
 
 // Puts each answer of a worker into the slot of its case.
-fn fill<C: Cases>(slots: &mut Vec<Option<CaseResult>>, part: Vec<Done<C>>)
+fn fill<C: Cases>(slots: &mut Vec<Option<CaseResult>>, part: Vec<NumberedAnswer<C>>)
     requires { AreSlots C.cases slots.old.items }
     ensures { AreSlots C.cases slots.new.items }
 {
@@ -47,11 +47,12 @@ fn fill<C: Cases>(slots: &mut Vec<Option<CaseResult>>, part: Vec<Done<C>>)
     }
 }
 
-fn put<C: Cases>(slots: &mut Vec<Option<CaseResult>>, done: Done<C>)
+// Puts an answer into the slot of its case.
+fn put<C: Cases>(slots: &mut Vec<Option<CaseResult>>, done: NumberedAnswer<C>)
     requires { AreSlots C.cases slots.old.items }
     ensures { AreSlots C.cases slots.new.items }
 {
-    let Done {
+    let NumberedAnswer {
         index,
         answer,
         of: _,
@@ -81,6 +82,7 @@ fn settle<C: Cases, G: Gate>(
     Ok(answers)
 }
 
+// Takes the answer out of the slot of this case, if there is one.
 fn take_slot<C: Cases>(slots: &mut Vec<Option<CaseResult>>, index: usize) -> Option<CaseResult>
     requires slots { AreSlots C.cases slots.old.items }
     requires in_range { index < length C.cases }
@@ -96,8 +98,8 @@ fn missing<C: Cases, G: Gate>(alloc: Global, cases: &[&[u8]], index: usize, gate
     requires cases { map (λ case. case.now) cases.now ≡ C.cases }
     ensures { IsAnswer (get_or C.cases index []) result }
 {
-    let done: Done<C> = check_one(alloc, cases, index, gate);
-    let Done {
+    let done: NumberedAnswer<C> = check_one(alloc, cases, index, gate);
+    let NumberedAnswer {
         index: _,
         answer,
         of: _,

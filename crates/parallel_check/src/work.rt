@@ -34,7 +34,7 @@ impl Cases for Brand {
 
 /// The answer to one of these cases, with the number of the case.
 #[derive(Drop)]
-pub(crate) struct Done<C: Cases> {
+pub(crate) struct NumberedAnswer<C: Cases> {
     pub index: usize,
     pub answer: CaseResult,
     pub of: PhantomData<C>,
@@ -48,7 +48,7 @@ pub(crate) fn check_one<C: Cases, G: Gate>(
     cases: &[&[u8]],
     index: usize,
     gate: &G,
-) -> Done<C>
+) -> NumberedAnswer<C>
     requires in_range { index < length cases.now }
     requires cases { map (λ case. case.now) cases.now ≡ C.cases }
     ensures { result.index ≡ index }
@@ -56,7 +56,7 @@ pub(crate) fn check_one<C: Cases, G: Gate>(
     gate.before(index);
     let answer = answer_to(alloc, cases[index]);
     gate.after(index);
-    Done {
+    NumberedAnswer {
         index,
         answer,
         of: PhantomData,
@@ -83,7 +83,7 @@ fn work<C: Cases, G: Gate, H: Wait>(
     cases: &[&[u8]],
     next: &Mutex<usize>,
     gate: &G,
-) -> Vec<Done<C>>
+) -> Vec<NumberedAnswer<C>>
     requires { map (λ case. case.now) cases.now ≡ C.cases }
 {
     let mut done = Vec::new(alloc);
@@ -111,7 +111,7 @@ fn check_named<C: Cases + Send + Sync, G: Gate + Sync, H: Threads + Wait + Sync>
     ensures { IfOk result (λ answers. AnswersEach C.cases answers.items) }
 {
     let next = Mutex::new(0);
-    let parts: Vec<Vec<Done<C>>> = thread::map_indices(
+    let parts: Vec<Vec<NumberedAnswer<C>>> = thread::map_indices(
         rt,
         alloc,
         workers,

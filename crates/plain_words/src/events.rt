@@ -1,7 +1,7 @@
 //! Segments, the events of lines, and steps in words.
 
 use crate::numbers::Numbers;
-use crate::words::{AnswerWords, CallWords, FlagWords, HostName, word_if};
+use crate::words::{AnswerWords, CallWords, FlagWords, HostName};
 use case_forms::{Event, Flags, Host, Label, Line, NamedLine, Recovery, SegmentPlan, TakeChoice};
 use line_fields::timer_name;
 use segment::{Flag, Segment};

@@ -13,14 +13,14 @@ use Rattle.stack_core.specs.declared.tick.Tick.{Tick}
 use Rattle.stack_core.specs.ArrivalEvents.{IsArrival, IsArrived, IsArrivedShort, IsRecovered, IsSettled, brought, came, ports_of}
 use Rattle.stack_core.specs.ArrivalEvents as arrivals
 use Rattle.stack_core.specs.CallEvents.{IsAttempted, IsAttemptShort, answered, begun, effected}
-use Rattle.stack_core.specs.Cores.{Core, line_to_come, opened, with_item, with_step}
+use Rattle.stack_core.specs.Cores.{Core, line_to_come, event_begun, with_item, with_step}
 use Rattle.stack_core.specs.Keys.{key_of}
 use Rattle.std.specs.Prelude.{IfNone}
 use Rattle.std.specs.Option.{IfSome}
 use Rattle.stack_core.specs.PumpEvents.{IsPumped, IsPumpedShort, NothingToPump, made}
 use Rattle.stack_core.specs.PumpEvents as pumps
 use Rattle.stack_core.specs.TimerEvents.{IsTimed, expired}
-use Rattle.merging.specs.Naming.{AllAbove, IsAbove}
+use Rattle.recorder.specs.Naming.{AllAbove, IsAbove}
 use Rattle.recorder.specs.Books.{IsBook, IsSameSite, ends_in, item_ends, step_ends}
 
 -- ---- one entry more
@@ -29,7 +29,7 @@ step_add : (s : Step tcp_shape) (n : ℕ) → step_ends s n ≡ step_ends s 0 + 
 step_add (Begin line t call) n = omega arith
 step_add (Finish line t answer) n = omega arith
 step_add (Effect t answer) n = omega arith
-step_add (At host deed) n = omega arith
+step_add (At host host_step) n = omega arith
 
 item_add : (i : Item tcp_shape) (n : ℕ) → item_ends i n ≡ item_ends i 0 + n
 item_add (Do s) n = step_add s n
@@ -54,8 +54,8 @@ pub record Grows (c d : Core) (n : ℕ) : Type 0 where
   pub above : AllAbove c.recorded.entries → AllAbove d.recorded.entries
   pub events : d.events ≡ suc c.events
 
-opened_grows : (c : Core) (tick : Tick) → Grows c (opened c tick) 0
-opened_grows c tick = record { header = refl; me = refl; ends = omega arith; above = λ a. a; events = refl }
+event_grows : (c : Core) (tick : Tick) → Grows c (event_begun c tick) 0
+event_grows c tick = record { header = refl; me = refl; ends = omega arith; above = λ a. a; events = refl }
 
 step_grows : (c d : Core) (n : ℕ) (s : Step tcp_shape) → Grows c d n → Grows c (with_step d s) (step_ends s n)
 step_grows c d n s g = record {
@@ -88,13 +88,13 @@ to c d e n is g = subst (λ (x : Core). Grows c x n) (sym is) g
 pub begun_grows : (c d : Core) (tick : Tick) (thread : ℕ) (call : Call) → d ≡ begun c tick thread call → Grows c d 0
 begun_grows c d tick thread call is =
     to c (begun c tick thread call) d 0 is
-    (step_grows c (opened c tick) 0 (Begin (line_to_come c) thread call) (opened_grows c tick))
+    (step_grows c (event_begun c tick) 0 (Begin (line_to_come c) thread call) (event_grows c tick))
 
-pub ticked_grows : (c d : Core) (tick : Tick) → d ≡ opened c tick → Grows c d 0
-ticked_grows c d tick is = to c (opened c tick) d 0 is (opened_grows c tick)
+pub ticked_grows : (c d : Core) (tick : Tick) → d ≡ event_begun c tick → Grows c d 0
+ticked_grows c d tick is = to c (event_begun c tick) d 0 is (event_grows c tick)
 
 effected_grows : (c : Core) (tick : Tick) (thread : ℕ) (answer : Answer) → Grows c (effected c tick thread answer) 0
-effected_grows c tick thread answer = step_grows c (opened c tick) 0 (Effect thread answer) (opened_grows c tick)
+effected_grows c tick thread answer = step_grows c (event_begun c tick) 0 (Effect thread answer) (event_grows c tick)
 
 pub attempted_grows : (c d : Core) (tick : Tick) (thread : ℕ) (a : Answered) → IsAttempted c tick thread a d → Grows c d 1
 attempted_grows c d tick thread a is =
@@ -110,7 +110,7 @@ attempt_short_grows c d tick thread (inr is) = to c (effected c tick thread is.0
 
 module _ (c : Core) (tick : Tick) (f : Flying tcp_shape) (up : before f.key (key_of c.recorded.me tick) ≡ true) where
   brought_grows : Grows c (brought c tick f) 0
-  brought_grows = bring_grows c (opened c tick) 0 f up (opened_grows c tick)
+  brought_grows = bring_grows c (event_begun c tick) 0 f up (event_grows c tick)
 
   came_grows : (wire : Wire) → Grows c (came c tick f wire) 0
   came_grows wire = step_grows c (brought c tick f) 0 (At c.recorded.me (Gets (line_to_come c) f.line wire)) brought_grows
@@ -142,12 +142,12 @@ module _ (c : Core) (tick : Tick) (f : Flying tcp_shape) (up : before f.key (key
 -- ---- segments that go out, and timers
 
 made_grows : (c : Core) (tick : Tick) (plan : _) → Grows c (made c tick plan) 0
-made_grows c tick plan = step_grows c (opened c tick) 0 (At c.recorded.me (Makes plan)) (opened_grows c tick)
+made_grows c tick plan = step_grows c (event_begun c tick) 0 (At c.recorded.me (Makes plan)) (event_grows c tick)
 
 pub pumped_grows : (c d : Core) (tick : Tick) (f : Flying tcp_shape) → IsPumped c tick f d → Grows c d 0
 pumped_grows c d tick f (pumps.Answered number waited out) =
-    to c _ d 0 out.row (step_grows c (opened c tick) 0
-    (At c.recorded.me (Sends (line_to_come (opened c tick)) number out.wire)) (opened_grows c tick))
+    to c _ d 0 out.row (step_grows c (event_begun c tick) 0
+    (At c.recorded.me (Sends (line_to_come (event_begun c tick)) number out.wire)) (event_grows c tick))
 pumped_grows c d tick f (pumps.Made free plan out) =
     to c _ d 0 out.row (step_grows c (made c tick plan) 0
     (At c.recorded.me (Sends (line_to_come (made c tick plan)) _ out.wire)) (made_grows c tick plan))
@@ -189,7 +189,7 @@ pub begun_goes : (c d : Core) (tick : Tick) (thread : ℕ) (call : Call) (total 
     → c.events < 10000000 → d ≡ begun c tick thread call → Goes c d total
 begun_goes c d tick thread call total b room is = goes c d total b room (begun_grows c d tick thread call is)
 
-pub ticked_goes : (c d : Core) (tick : Tick) (total : ℕ) → IsBook c total → c.events < 10000000 → d ≡ opened c tick → Goes c d total
+pub ticked_goes : (c d : Core) (tick : Tick) (total : ℕ) → IsBook c total → c.events < 10000000 → d ≡ event_begun c tick → Goes c d total
 ticked_goes c d tick total b room is = goes c d total b room (ticked_grows c d tick is)
 
 pub short_goes : (c d : Core) (tick : Tick) (thread : ℕ) (total : ℕ) → IsBook c total → c.events < 10000000 → IsAttemptShort c tick thread d → Goes c d total
@@ -223,7 +223,7 @@ pumped_short_goes c d tick total b room is = goes c d total b room (pumped_short
 pub timed_goes : (c d : Core) (tick : Tick) (found : Bool) (total : ℕ) → IsBook c total → c.events < 10000000 → IsTimed c tick found d → Goes c d total
 timed_goes c d tick true total b room is =
     goes c d total b room (to c (expired c tick is.0 is.1) d 0 is.2
-    (step_grows c (opened c tick) 0 _ (opened_grows c tick)))
+    (step_grows c (event_begun c tick) 0 _ (event_grows c tick)))
 timed_goes c d tick false total b room is = stays c d total b is.0
 
 -- ---- the same, of the book alone
@@ -288,5 +288,5 @@ pub pumped_short_site : (c d : Core) (tick : Tick) → IsPumpedShort c tick d �
 pumped_short_site c d tick is = let g = pumped_short_grows c d tick is in (g.header, g.me)
 
 pub timed_site : (c d : Core) (tick : Tick) (found : Bool) → IsTimed c tick found d → IsSameSite c d
-timed_site c d tick true is = let g = to c (expired c tick is.0 is.1) d 0 is.2 (step_grows c (opened c tick) 0 _ (opened_grows c tick)) in (g.header, g.me)
+timed_site c d tick true is = let g = to c (expired c tick is.0 is.1) d 0 is.2 (step_grows c (event_begun c tick) 0 _ (event_grows c tick)) in (g.header, g.me)
 timed_site c d tick false is = (ap (λ (x : Core). x.recorded.header) is.0, ap (λ (x : Core). x.recorded.me) is.0)

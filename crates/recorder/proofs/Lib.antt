@@ -1,1 +1,12 @@
 pub mod BookLemmas
+pub mod Emissions
+pub mod ToldLemmas
+pub mod Strangers
+pub mod TellLemmas
+pub mod OrderLemmas
+pub mod SayLemmas
+pub mod JoinLemmas
+pub mod SmallLemmas
+pub mod MergeLemmas
+pub mod HonestLemmas
+pub mod ShiftLemmas

@@ -5,14 +5,14 @@ use Rattle.spec_tcp.specs.Machine.{tcp_shape}
 use Rattle.spec_merge.specs.Books.{Item, Do, Bring}
 use Rattle.spec_merge.specs.Recordings.{TcpEntry}
 use Rattle.stack_core.specs.Cores.{Core}
-use Rattle.merging.specs.Naming.{AllAbove}
+use Rattle.recorder.specs.Naming.{AllAbove}
 
 -- how many entries are lines that end a call
 abbrev pub step_ends : Step tcp_shape → ℕ → ℕ
 step_ends (Begin line t call) n = n
 step_ends (Finish line t answer) n = suc n
 step_ends (Effect t answer) n = n
-step_ends (At host deed) n = n
+step_ends (At host host_step) n = n
 
 abbrev pub item_ends : Item tcp_shape → ℕ → ℕ
 item_ends (Do step) n = step_ends step n

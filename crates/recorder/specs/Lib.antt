@@ -3,3 +3,9 @@ pub mod Views
 pub mod Receipts
 pub mod Ticks
 pub mod Seats
+pub mod Told
+pub mod Saying
+pub mod Order
+pub mod Numbers
+pub mod Naming
+pub mod Faults

@@ -11,7 +11,7 @@ ghost use Rattle.stack_core.specs.Cores.{IsAfter, IsCallWithin, IsRecorded, worl
 ghost use Rattle.stack_core.specs.Entries.{steps_in};
 ghost use Rattle.stack_core.specs.Keys.{key_of};
 ghost use Rattle.stack_core.specs.Told.{AllTold};
-ghost use Rattle.merging.specs.Naming.{AllAbove};
+ghost use Rattle.recorder.specs.Naming.{AllAbove};
 ghost use Rattle.recorder.specs.Books.{IsSameSite, ends_in};
 
 use case_forms::{Call, Header, Host, OutOfMemory};

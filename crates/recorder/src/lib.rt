@@ -51,27 +51,45 @@
 //! - `recorder`: seats, calls, looking, stopping, finishing
 //! - `loops`: segments are sent and arrive, timers expire
 //! - `fate`, `held_back`: what becomes of a segment in transit; the segments that are held back
-//! - `joining`: the merge of two books
+//! - `book_merge`: the merge of two books
+//!
+//! Of the merge itself:
+//!
+//! - `order`: entries of two hosts in the order of their keys
+//! - `numbers`: lines and made segments renumbered (`specs/Numbers`)
+//! - `arrival_names`: which segment an arrival names (`specs/Naming`)
+//! - `step_lines`: steps as lines and as steps of a witness (`specs/Saying`)
+//! - `merged_case`: the two recordings become a trace and its witness
+//! - `laws`: the trace and the witness written from a run fit each other (`specs/Told`), and a law connects that to
+//!   what `checker` calls explained, so `check` of the merged case answers yes; each law is the contract of a call that
+//!   does nothing
 #![tactic(auto)]
 
+mod arrival_names;
+mod book_merge;
 mod desk;
 mod fate;
 mod held_back;
 mod host_book;
-mod joining;
+mod laws;
 mod loops;
+mod merged_case;
+mod numbers;
+mod order;
 mod receipt;
 mod recorder;
 mod seat;
 mod seats;
 mod site;
+mod step_lines;
 
+pub use book_merge::merge;
 pub use fate::{Fate, LoseEach, WireFate};
 pub use held_back::HeldBack;
 pub use host_book::HostBook;
-pub use joining::merge;
+pub use laws::{books_have_no_stranger, core_worlds_are_explained, what_is_told_explains};
 pub use loops::LoopEnd;
-pub use merging::{MergeFault, Recorded};
+pub use merged_case::{MergeFault, Recorded, merge_recordings};
 pub use receipt::{Receipt, receipt_stands};
 pub use recorder::{Cause, RecFault, Recorder, Unfinished};
 pub use seat::Seat;

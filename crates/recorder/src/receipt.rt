@@ -4,8 +4,8 @@ ghost use Rattle.std.specs.Prelude.{◌≡◌, ◌↔◌, IsTrue, Some};
 ghost use Rattle.std.specs.Option.{option_map};
 ghost use Rattle.recorder.specs.Receipts.{end_at, end_line};
 
+use crate::merged_case::Recorded;
 use case_forms::{Answer, Event, Line};
-use merging::Recorded;
 use stack_core::Answered;
 
 /// The answer of a call, and which of its thread's answers it is, counted from 0.

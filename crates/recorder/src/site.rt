@@ -1,4 +1,4 @@
-//! Which host a recorder is of, known from a type.
+//! Which host a recorder is of, known from a type, so that a seat at another recorder doesn't compile.
 
 ghost use Rattle.std.specs.Prelude.{◌≡◌, None};
 ghost use Rattle.case_forms.specs.declared.calls.Host.{Host};

@@ -1,4 +1,4 @@
-//! What the hosts that record themselves decide in one step each: `stack_core`, `merging` and `recorder` call these
+//! What the hosts that record themselves decide in one step each: `stack_core` and `recorder` call these
 //! functions. They are a crate of their own so that faulty implementations of them are refused without proving those
 //! crates again. Each contract says which result there is, except that `told_shift` may always return None.
 //!

@@ -1,11 +1,11 @@
 //! Acknowledgments that are sent again and again: at most one for each segment that arrives, other than to update the
 //! window (RFC 5681, 4.2).
 
-use crate::found::{Done, Found, Lines, Who};
+use crate::found::{Found, Lines, Who};
 use crate::notes::Note;
 use crate::review::{Review, endpoint_of};
 use crate::waits::Now;
-use case_forms::{Host, SegmentPlan, Version};
+use case_forms::{Host, OutOfMemory, SegmentPlan, Version};
 use endpoint_state::World;
 use spec_tcp::{Arrived, Emission, Endpoint};
 use std::fmt;
@@ -25,7 +25,7 @@ pub(crate) struct PureAck {
 impl PureAck {
     /// The segment of a plan. None: it does something else, or begins with an acknowledged position, as keep-alives and
     /// probes without data do (RFC 9293, 3.8.4).
-    pub(crate) fn of(endpoint: &Endpoint, plan: &SegmentPlan) -> Option<PureAck> {
+    pub(crate) fn from_plan(endpoint: &Endpoint, plan: &SegmentPlan) -> Option<PureAck> {
         let (flags, window) = (plan.flags, plan.window);
         let carries = flags.syn || flags.fin || flags.rst || plan.len != 0;
         if carries || !flags.ack || plan.pos < endpoint.stream.snd_una {
@@ -68,7 +68,12 @@ impl EqualAcks {
 impl Note {
     /// Takes an acknowledgment that is sent. If it differs from those before it, they have come to an end. Of what
     /// asked until then and wasn't answered, as much as is tolerated is left for it.
-    pub(crate) fn acknowledge(&mut self, found: &mut Found, pure_ack: PureAck, now: Now) -> Done {
+    pub(crate) fn acknowledge(
+        &mut self,
+        found: &mut Found,
+        pure_ack: PureAck,
+        now: Now,
+    ) -> Result<(), OutOfMemory> {
         if let Some(equal_acks) = self.equal_acks {
             if equal_acks.is_of(pure_ack) {
                 self.equal_acks = Some(equal_acks.longer(now.line));
@@ -88,7 +93,7 @@ impl Note {
     }
 
     /// Remarks on the last equal acknowledgments, if they are too many.
-    pub(crate) fn say_equal_acks(&self, found: &mut Found) -> Done {
+    pub(crate) fn say_equal_acks(&self, found: &mut Found) -> Result<(), OutOfMemory> {
         let Some(equal_acks) = self.equal_acks else {
             return Ok(());
         };
@@ -103,7 +108,12 @@ impl Note {
 
 impl Review<'_> {
     /// A segment arrives with a line, and may ask for an acknowledgment.
-    pub(crate) fn count_asked(&mut self, world: &World, host: Host, line: u64) -> Done {
+    pub(crate) fn count_asked(
+        &mut self,
+        world: &World,
+        host: Host,
+        line: u64,
+    ) -> Result<(), OutOfMemory> {
         let Some(segment) = world.waiting(host, line) else {
             return Ok(());
         };

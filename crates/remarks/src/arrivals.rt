@@ -1,6 +1,6 @@
 //! What arrives: dropped although it may be processed, or processed and not kept.
 
-use crate::found::{Done, Stretch, Who};
+use crate::found::{Stretch, Who};
 use crate::notes::{Permit, position_key};
 use crate::review::{Review, endpoint_of};
 use case_forms::{Flags, Host, OutOfMemory, Step, TakeChoice};
@@ -46,7 +46,7 @@ struct Carried {
 
 impl Carried {
     // What a segment carries whose number has this position.
-    fn of(segment: &Emission, position: u64) -> Carried {
+    fn new(segment: &Emission, position: u64) -> Carried {
         let first = position.saturating_add(u64::from(segment.flags.syn));
         let end = first.saturating_add(segment.payload.len() as u64);
         Carried {
@@ -175,7 +175,11 @@ impl Review<'_> {
     }
 
     /// A host drops a segment, which a rule may judge.
-    pub(crate) fn drop_arrival(&mut self, world: &World, arrival: &Arrival<'_>) -> Done {
+    pub(crate) fn drop_arrival(
+        &mut self,
+        world: &World,
+        arrival: &Arrival<'_>,
+    ) -> Result<(), OutOfMemory> {
         if self.found.covered.duties {
             return Ok(());
         }
@@ -197,13 +201,13 @@ impl Review<'_> {
                     return None;
                 }
                 let read = Arrived::checked_read(version, endpoint, segment)?;
-                (Who::of(host, endpoint), read.pos(), read.ack())
+                (Who::from_endpoint(host, endpoint), read.pos(), read.ack())
             }
             _ => (self.listener_with_room(world, host, segment.rport)?, 0, 0),
         };
         let what = Acceptable {
             flags: segment.flags,
-            carried: Carried::of(segment, position),
+            carried: Carried::new(segment, position),
             ack,
         };
         Some((who, what))
@@ -219,11 +223,11 @@ impl Review<'_> {
     }
 
     // Remarks on what an endpoint doesn't keep, unless a rule judges that, and remembers what it keeps beyond a gap.
-    fn keep(&mut self, arrival: &Arrival<'_>, keeps: bool) -> Done {
+    fn keep(&mut self, arrival: &Arrival<'_>, keeps: bool) -> Result<(), OutOfMemory> {
         let Some((id, endpoint, fresh)) = self.fresh(arrival) else {
             return Ok(());
         };
-        let who = Who::of(id.host, endpoint);
+        let who = Who::from_endpoint(id.host, endpoint);
         if keeps {
             return self.hold(id, arrival.line, who, fresh, endpoint.rcv_nxt());
         }
@@ -246,13 +250,20 @@ impl Review<'_> {
             return None;
         }
         let read = Arrived::checked_read(self.case.trace.header.version, endpoint, segment)?;
-        let fresh = Carried::of(segment, read.pos()).fresh(endpoint);
+        let fresh = Carried::new(segment, read.pos()).fresh(endpoint);
         Some((id, endpoint, fresh))
     }
 
     // Remarks on bytes that an endpoint keeps beyond the windows that lines show, and remembers what it keeps beyond a
     // gap, before which it expects the position `next`.
-    fn hold(&mut self, id: EndpointId, line: u64, who: Who, fresh: Carried, next: u64) -> Done {
+    fn hold(
+        &mut self,
+        id: EndpointId,
+        line: u64,
+        who: Who,
+        fresh: Carried,
+        next: u64,
+    ) -> Result<(), OutOfMemory> {
         let edge = self.note(id)?.edge;
         if let Some(bytes) = fresh.bytes.and_then(|bytes| bytes.within(edge, u64::MAX)) {
             let but = "but the segments it sent advertise only up to";

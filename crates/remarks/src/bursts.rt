@@ -1,11 +1,11 @@
 //! What is retransmitted at once after an expiry of the retransmission timer, beyond the loss window. An expiry leaves
 //! a congestion window of one segment until something new is acknowledged (RFC 5681, 3.1).
 
-use crate::found::{Done, Found, Lines, Stretch, Who};
+use crate::found::{Found, Lines, Stretch, Who};
 use crate::notes::{Note, Permit, Permits};
 use crate::sendings::Sending;
 use crate::waits::Now;
-use case_forms::SegmentPlan;
+use case_forms::{OutOfMemory, SegmentPlan};
 use spec_tcp::Endpoint;
 
 /// What an endpoint retransmits after one permit.
@@ -30,7 +30,7 @@ impl Burst {
     }
 
     /// Remarks on the bytes beyond the loss window, if there are any and no rule judges them.
-    pub(crate) fn say(&self, found: &mut Found) -> Done {
+    pub(crate) fn say(&self, found: &mut Found) -> Result<(), OutOfMemory> {
         let Some((bytes, lines)) = self.beyond else {
             return Ok(());
         };

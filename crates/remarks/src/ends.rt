@@ -1,10 +1,10 @@
 //! What is left at the end of a case.
 
-use crate::found::{AT_THE_END, Done, Found, Stretch, Who};
+use crate::found::{AT_THE_END, Found, Stretch, Who};
 use crate::notes::Note;
 use crate::review::{Review, call_in};
 use crate::waits::{Now, say_late, say_stall};
-use case_forms::Host;
+use case_forms::{Host, OutOfMemory};
 use endpoint_state::World;
 use plain_words::CallWords;
 use spec_tcp::{Endpoint, Fault};
@@ -13,7 +13,7 @@ use verdict::Verdict;
 
 impl Review<'_> {
     /// Adds what was counted up to here, and if the case is a yes, what is left at its end.
-    pub(crate) fn finish(&mut self, alloc: Global, world: &World) -> Done {
+    pub(crate) fn finish(&mut self, alloc: Global, world: &World) -> Result<(), OutOfMemory> {
         for again in self.again.values() {
             again.say(&mut self.found)?;
         }
@@ -34,12 +34,12 @@ impl Review<'_> {
     }
 
     // Remarks on what endpoints have left.
-    fn say_left(&mut self, alloc: Global, world: &World) -> Done {
+    fn say_left(&mut self, alloc: Global, world: &World) -> Result<(), OutOfMemory> {
         let (line, moment) = (AT_THE_END, self.moment);
         for ((host, number), note) in self.notes.iter() {
             let host = if *host == 0 { Host::Zero } else { Host::One };
             if let Some(endpoint) = world.body(host).endpoint_at(*number) {
-                let who = Who::of(host, endpoint);
+                let who = Who::from_endpoint(host, endpoint);
                 let now = Now { line, moment, who };
                 note.say_left(alloc, &mut self.found, now, endpoint)?;
             }
@@ -48,7 +48,7 @@ impl Review<'_> {
     }
 
     // Remarks on the calls that didn't end.
-    fn say_calls(&mut self) -> Done {
+    fn say_calls(&mut self) -> Result<(), OutOfMemory> {
         for (&thread, &line) in self.calls.iter() {
             if let Some(call) = call_in(self.case, line) {
                 let who = Who::Call { thread, line };
@@ -62,7 +62,13 @@ impl Review<'_> {
 
 impl Note {
     // Remarks on what an endpoint has left.
-    fn say_left(&self, alloc: Global, found: &mut Found, now: Now, endpoint: &Endpoint) -> Done {
+    fn say_left(
+        &self,
+        alloc: Global,
+        found: &mut Found,
+        now: Now,
+        endpoint: &Endpoint,
+    ) -> Result<(), OutOfMemory> {
         let is_closed = endpoint.state.is_closed();
         let has_given_up = is_closed && matches!(endpoint.fault, Some(Fault::Timeout));
         if !is_closed {
@@ -86,7 +92,12 @@ impl Note {
 }
 
 // Remarks on what was sent, up to this position, and wasn't acknowledged.
-fn say_unacknowledged(found: &mut Found, who: Who, endpoint: &Endpoint, sent_end: u64) -> Done {
+fn say_unacknowledged(
+    found: &mut Found,
+    who: Who,
+    endpoint: &Endpoint,
+    sent_end: u64,
+) -> Result<(), OutOfMemory> {
     let (end, una) = (endpoint.stream.accepted.end(), endpoint.stream.snd_una);
     let does = "received no acknowledgment of";
     if let Some(bytes) = Stretch::up_to(una.max(1), sent_end.min(end)) {
@@ -100,7 +111,12 @@ fn say_unacknowledged(found: &mut Found, who: Who, endpoint: &Endpoint, sent_end
 }
 
 // Remarks on what wasn't sent, which begins at this position.
-fn say_unsent(found: &mut Found, who: Who, endpoint: &Endpoint, sent_end: u64) -> Done {
+fn say_unsent(
+    found: &mut Found,
+    who: Who,
+    endpoint: &Endpoint,
+    sent_end: u64,
+) -> Result<(), OutOfMemory> {
     let end = endpoint.stream.accepted.end();
     if let Some(bytes) = Stretch::up_to(sent_end.max(1), end) {
         found.add(AT_THE_END, who, "accepted but never sent", &bytes)?;
@@ -113,7 +129,12 @@ fn say_unsent(found: &mut Found, who: Who, endpoint: &Endpoint, sent_end: u64) -
 }
 
 // Remarks on the bytes that an endpoint received in order and its program wasn't given.
-fn say_undelivered(alloc: Global, found: &mut Found, who: Who, endpoint: &Endpoint) -> Done {
+fn say_undelivered(
+    alloc: Global,
+    found: &mut Found,
+    who: Who,
+    endpoint: &Endpoint,
+) -> Result<(), OutOfMemory> {
     let received = &endpoint.stream.receive;
     let waiting = received.read(alloc, usize::MAX)?.len() as u64;
     let fin = u64::from(received.is_ended());

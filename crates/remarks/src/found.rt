@@ -2,16 +2,13 @@
 //! their positions.
 
 use crate::covered::Covered;
-use crate::review::Remarked;
+use crate::review::Remarks;
 use case_forms::{Header, Host, OutOfMemory};
 use plain_words::HostName;
 use spec_tcp::Endpoint;
 use std::alloc::Global;
 use std::collections::BTreeMap;
 use std::fmt::{self, Display};
-
-/// Done, or memory ran out.
-pub(crate) type Done = Result<(), OutOfMemory>;
 
 /// Remarks in the order of finding, one after another in a text.
 #[derive(Drop)]
@@ -35,12 +32,24 @@ impl Found {
     }
 
     /// One more remark, on one line.
-    pub(crate) fn add(&mut self, line: u64, who: Who, does: &str, what: &impl Display) -> Done {
+    pub(crate) fn add(
+        &mut self,
+        line: u64,
+        who: Who,
+        does: &str,
+        what: &impl Display,
+    ) -> Result<(), OutOfMemory> {
         self.add_at(Lines(line, line), who, does, what)
     }
 
     /// One more remark: in these lines, who does what.
-    pub(crate) fn add_at(&mut self, at: Lines, who: Who, does: &str, what: &impl Display) -> Done {
+    pub(crate) fn add_at(
+        &mut self,
+        at: Lines,
+        who: Who,
+        does: &str,
+        what: &impl Display,
+    ) -> Result<(), OutOfMemory> {
         let key = (at.0, self.places.len() as u64);
         let begin = self.text.len();
         writeln!(self.text, "{at}: {who} {does} {what}")?;
@@ -49,13 +58,13 @@ impl Found {
     }
 
     /// All of them.
-    pub(crate) fn remarked(&self, alloc: Global) -> Result<Remarked, OutOfMemory> {
+    pub(crate) fn remarks(&self, alloc: Global) -> Result<Remarks, OutOfMemory> {
         let (mut text, mut places) = (String::new(alloc), Vec::new(alloc));
         for ((first, _), (last, begin, end)) in self.places.iter() {
             text.push_str(self.text.get(*begin..*end).unwrap_or(""))?;
             places.push((*first != AT_THE_END).then_some((*first, *last)))?;
         }
-        Ok(Remarked { text, places })
+        Ok(Remarks { text, places })
     }
 }
 
@@ -90,7 +99,7 @@ pub(crate) enum Who {
 
 impl Who {
     /// An endpoint of a host.
-    pub(crate) fn of(host: Host, endpoint: &Endpoint) -> Who {
+    pub(crate) fn from_endpoint(host: Host, endpoint: &Endpoint) -> Who {
         let (lport, rport) = (endpoint.lport, endpoint.rport);
         Who::Endpoint { host, lport, rport }
     }
@@ -160,7 +169,7 @@ impl Repeats {
     }
 
     /// Remarks on them, unless a rule judges them.
-    pub(crate) fn say(&self, found: &mut Found, how: &impl Display) -> Done {
+    pub(crate) fn say(&self, found: &mut Found, how: &impl Display) -> Result<(), OutOfMemory> {
         if found.covered.repeats && !self.is_syn_ack {
             return Ok(());
         }

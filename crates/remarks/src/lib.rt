@@ -6,7 +6,7 @@
 //! crate. Each function is proved only to be safe and to return. The time is linear in the size of the case, except for
 //! the searches in tables.
 //!
-//! - `remark`, `Remarked`: the remarks on a case
+//! - `remark`, `Remarks`: the remarks on a case
 //!
 //! Private modules:
 //!
@@ -30,4 +30,4 @@ mod review;
 mod sendings;
 mod waits;
 
-pub use review::{Remarked, remark};
+pub use review::{Remarks, remark};

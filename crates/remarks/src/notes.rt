@@ -3,10 +3,10 @@
 
 use crate::acknowledgments::EqualAcks;
 use crate::bursts::Burst;
-use crate::found::{Done, Found, Repeats, Time};
+use crate::found::{Found, Repeats, Time};
 use crate::sendings::Sending;
 use crate::waits::{Clock, Now, Probes, Stall, is_short, required_wait};
-use case_forms::Timer;
+use case_forms::{OutOfMemory, Timer};
 use plain_words::word_if;
 use spec_tcp::{Endpoint, EndpointId};
 use std::fmt;
@@ -201,7 +201,7 @@ pub(crate) struct Again {
 
 impl Again {
     /// Remarks on them, unless there is one alone.
-    pub(crate) fn say(&self, found: &mut Found) -> Done {
+    pub(crate) fn say(&self, found: &mut Found) -> Result<(), OutOfMemory> {
         if self.repeats.times < 2 {
             return Ok(());
         }
@@ -255,7 +255,7 @@ impl Chain {
     }
 
     /// Remarks on those that came too early, if any did.
-    pub(crate) fn say(&self, found: &mut Found) -> Done {
+    pub(crate) fn say(&self, found: &mut Found) -> Result<(), OutOfMemory> {
         if self.early.times == 0 {
             return Ok(());
         }

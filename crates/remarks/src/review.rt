@@ -1,7 +1,7 @@
 //! The review of a case: its replay, and what is remembered beside it.
 
 use crate::arrivals::Reset;
-use crate::found::{Done, Found};
+use crate::found::Found;
 use crate::notes::{Again, Note, Permit};
 use crate::sendings::Sending;
 use case_forms::{Call, Event, Extras, Host, Label, NamedLine, OutOfMemory, Step};
@@ -13,7 +13,7 @@ use std::collections::{BTreeMap, BTreeSet};
 
 /// The remarks on a case.
 #[derive(Drop)]
-pub struct Remarked {
+pub struct Remarks {
     /// A line for each; empty if there is none.
     pub text: String,
     /// For each, the first and the last line of the trace that it is about. None: it is about the end.
@@ -21,7 +21,7 @@ pub struct Remarked {
 }
 
 /// Remarks on a case with a yes, or up to the step that is refused. There is none on a case without a verdict.
-pub fn remark(alloc: Global, case: &Case<'_>) -> Result<Remarked, ReplayFault> {
+pub fn remark(alloc: Global, case: &Case<'_>) -> Result<Remarks, ReplayFault> {
     let mut review = Review::new(alloc, case);
     let remarked = review.replay(alloc);
     drop(review);
@@ -68,7 +68,7 @@ impl<'c> Review<'c> {
     }
 
     // Replays the case.
-    fn replay(&mut self, alloc: Global) -> Result<Remarked, ReplayFault> {
+    fn replay(&mut self, alloc: Global) -> Result<Remarks, ReplayFault> {
         let mut replay = Replay::new(alloc, self.case);
         let remarked = self.run(alloc, &mut replay);
         drop(replay);
@@ -78,7 +78,7 @@ impl<'c> Review<'c> {
 
 impl Review<'_> {
     // Replays the steps before the refused one, or all.
-    fn run(&mut self, alloc: Global, replay: &mut Replay<'_>) -> Result<Remarked, ReplayFault> {
+    fn run(&mut self, alloc: Global, replay: &mut Replay<'_>) -> Result<Remarks, ReplayFault> {
         if self.case.verdict.is_ok() {
             self.read_shown()?;
             for step in self.case.steps_before_refusal() {
@@ -87,11 +87,11 @@ impl Review<'_> {
             }
             self.finish(alloc, replay.world())?;
         }
-        Ok(self.found.remarked(alloc)?)
+        Ok(self.found.remarks(alloc)?)
     }
 
     // Remembers which segments lines show.
-    fn read_shown(&mut self) -> Done {
+    fn read_shown(&mut self) -> Result<(), OutOfMemory> {
         for step in self.case.steps.as_slice() {
             if let Label::L(named) = &step.label
                 && let Extras::One(made) = named.extras
@@ -135,7 +135,7 @@ impl Review<'_> {
         Ok(())
     }
 
-    fn use_line(&mut self, world: &World, named: NamedLine) -> Done {
+    fn use_line(&mut self, world: &World, named: NamedLine) -> Result<(), OutOfMemory> {
         let Some(line) = self.case.line(named.number) else {
             return Ok(());
         };
@@ -216,7 +216,7 @@ fn endpoint_named(world: &World, call: &Call) -> Option<EndpointId> {
 }
 
 fn endpoint_at_socket(world: &World, host: Host, socket: u32) -> Option<EndpointId> {
-    match world.body(host).thing(socket)? {
+    match world.body(host).target(socket)? {
         SocketTarget::EndpointAt(number) => Some(EndpointId { host, number }),
         SocketTarget::ListenerAt(_) => None,
     }

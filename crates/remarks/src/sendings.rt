@@ -2,11 +2,11 @@
 
 use crate::acknowledgments::PureAck;
 use crate::bursts::beyond_loss_window;
-use crate::found::{Done, Found, Lines, Repeats, Stretch, Time, Who};
+use crate::found::{Found, Lines, Repeats, Stretch, Time, Who};
 use crate::notes::{Again, Note, Permit, Permits, position_key};
 use crate::review::{Review, endpoint_of};
 use crate::waits::{Now, say_late};
-use case_forms::{Host, SegmentPlan, Timer};
+use case_forms::{Host, OutOfMemory, SegmentPlan, Timer};
 use endpoint_state::World;
 use spec_tcp::{Endpoint, EndpointId, window_in};
 
@@ -47,7 +47,7 @@ pub(crate) struct Sending {
 
 impl Sending {
     // The segment of a plan, before an endpoint makes it.
-    fn of(id: EndpointId, endpoint: &Endpoint, plan: &SegmentPlan, note: &Note) -> Sending {
+    fn new(id: EndpointId, endpoint: &Endpoint, plan: &SegmentPlan, note: &Note) -> Sending {
         let controls = u64::from(plan.flags.syn) + u64::from(plan.flags.fin);
         let end = plan.pos.saturating_add(u64::from(plan.len) + controls);
         let mut permits = note.permits;
@@ -56,7 +56,7 @@ impl Sending {
         }
         Sending {
             id,
-            who: Who::of(id.host, endpoint),
+            who: Who::from_endpoint(id.host, endpoint),
             made: 0,
             position: plan.pos,
             end,
@@ -68,7 +68,7 @@ impl Sending {
             permits,
             answers: note.heard,
             beyond: beyond_loss_window(endpoint, plan, note),
-            pure_ack: PureAck::of(endpoint, plan),
+            pure_ack: PureAck::from_plan(endpoint, plan),
             rto: endpoint.timers.rto,
         }
     }
@@ -85,7 +85,7 @@ impl Sending {
     }
 
     // Remarks on a segment that was built long before it is sent, unless rules judge that.
-    fn say_wait(&self, found: &mut Found, now: Now) -> Done {
+    fn say_wait(&self, found: &mut Found, now: Now) -> Result<(), OutOfMemory> {
         let waited = now.moment.saturating_sub(self.made);
         if waited <= WAIT || found.covered.duties {
             return Ok(());
@@ -109,7 +109,12 @@ fn edge_of(endpoint: &Endpoint, plan: &SegmentPlan) -> u64 {
 
 impl Review<'_> {
     /// A host makes a segment.
-    pub(crate) fn make(&mut self, world: &World, host: Host, plan: &SegmentPlan) -> Done {
+    pub(crate) fn make(
+        &mut self,
+        world: &World,
+        host: Host,
+        plan: &SegmentPlan,
+    ) -> Result<(), OutOfMemory> {
         let Some((id, endpoint)) = endpoint_of(world, host, plan.lport, plan.rport) else {
             return Ok(());
         };
@@ -120,7 +125,7 @@ impl Review<'_> {
         if is_shown && plan.flags.ack {
             note.edge = note.edge.max(edge_of(endpoint, plan));
         }
-        let mut sending = Sending::of(id, endpoint, plan, note);
+        let mut sending = Sending::new(id, endpoint, plan, note);
         sending.reset = reset;
         sending.made = self.moment;
         self.made.insert(number, sending)?;
@@ -137,7 +142,12 @@ impl Review<'_> {
     }
 
     /// The made segment of this number is sent with a line.
-    pub(crate) fn send(&mut self, world: &World, number: u32, line: u64) -> Done {
+    pub(crate) fn send(
+        &mut self,
+        world: &World,
+        number: u32,
+        line: u64,
+    ) -> Result<(), OutOfMemory> {
         let Some(sending) = self.made.get(&number).copied() else {
             return Ok(());
         };
@@ -167,7 +177,12 @@ impl Review<'_> {
     }
 
     // Counts a retransmission, and remarks on those before it that have come to an end.
-    fn send_again(&mut self, note: &mut Note, sending: &Sending, now: Now) -> Done {
+    fn send_again(
+        &mut self,
+        note: &mut Note,
+        sending: &Sending,
+        now: Now,
+    ) -> Result<(), OutOfMemory> {
         note.count_probe(sending, now.moment);
         self.count_again(sending, now.line)?;
         if let Some(burst) = note.count_burst(sending, now) {
@@ -182,7 +197,7 @@ impl Review<'_> {
 
     // Counts the retransmissions from a position. A SYN may be sent again for each one that arrives. After a whole
     // timeout, the timer may have expired with no line.
-    fn count_again(&mut self, sending: &Sending, line: u64) -> Done {
+    fn count_again(&mut self, sending: &Sending, line: u64) -> Result<(), OutOfMemory> {
         if sending.position == 0 && sending.answers {
             return Ok(());
         }

@@ -1,10 +1,10 @@
 //! An endpoint's timers, and its waits with nothing sent: timers that are past their time, open windows, and a SYN that
 //! is given up too early. Times and moments are microseconds.
 
-use crate::found::{Done, Found, Time, Who};
+use crate::found::{Found, Time, Who};
 use crate::notes::Note;
 use crate::review::{Review, endpoint_at};
-use case_forms::{State, Timer};
+use case_forms::{OutOfMemory, State, Timer};
 use endpoint_state::World;
 use line_fields::timer_name;
 use spec_tcp::{Endpoint, EndpointId};
@@ -192,11 +192,14 @@ impl Review<'_> {
         id: EndpointId,
         timer: Timer,
         line: u64,
-    ) -> Done {
+    ) -> Result<(), OutOfMemory> {
         let Some(endpoint) = endpoint_at(world, id) else {
             return Ok(());
         };
-        let (una, who) = (endpoint.stream.snd_una, Who::of(id.host, endpoint));
+        let (una, who) = (
+            endpoint.stream.snd_una,
+            Who::from_endpoint(id.host, endpoint),
+        );
         let moment = self.moment;
         let now = Now { line, moment, who };
         let note = self.note(id)?;
@@ -210,12 +213,17 @@ impl Review<'_> {
     }
 
     /// Compares an endpoint after a step with what is remembered of it. What ends there ends with this line.
-    pub(crate) fn touch(&mut self, world: &World, id: EndpointId, line: u64) -> Done {
+    pub(crate) fn touch(
+        &mut self,
+        world: &World,
+        id: EndpointId,
+        line: u64,
+    ) -> Result<(), OutOfMemory> {
         let moment = self.moment;
         let Some(endpoint) = endpoint_at(world, id) else {
             return Ok(());
         };
-        let who = Who::of(id.host, endpoint);
+        let who = Who::from_endpoint(id.host, endpoint);
         let note = self.note(id)?;
         let before = *note;
         note.see(endpoint, moment);
@@ -225,7 +233,7 @@ impl Review<'_> {
 }
 
 // Remarks on the waits that ended.
-fn say_ended(found: &mut Found, now: Now, before: &Note, after: &Note) -> Done {
+fn say_ended(found: &mut Found, now: Now, before: &Note, after: &Note) -> Result<(), OutOfMemory> {
     let runs_on = match (before.clock, after.clock) {
         (Some(was), Some(is)) => was.timer as u8 == is.timer as u8 && was.since == is.since,
         _ => false,
@@ -240,7 +248,7 @@ fn say_ended(found: &mut Found, now: Now, before: &Note, after: &Note) -> Done {
 }
 
 // Remarks on a SYN that was first sent at a moment, and is given up too early. A clock's granularity is tolerated.
-fn say_given_up(found: &mut Found, now: Now, begun: u64, grain: u64) -> Done {
+fn say_given_up(found: &mut Found, now: Now, begun: u64, grain: u64) -> Result<(), OutOfMemory> {
     let lasted = now.moment.saturating_sub(begun);
     if SYN_LASTS <= lasted.saturating_add(grain) {
         return Ok(());
@@ -251,7 +259,7 @@ fn say_given_up(found: &mut Found, now: Now, begun: u64, grain: u64) -> Done {
 }
 
 /// Remarks on a timer that ran for more than twice its time with nothing sent, unless rules judge that.
-pub(crate) fn say_late(found: &mut Found, now: Now, note: &Note) -> Done {
+pub(crate) fn say_late(found: &mut Found, now: Now, note: &Note) -> Result<(), OutOfMemory> {
     let Some(clock) = note.clock.filter(|_| !found.covered.duties) else {
         return Ok(());
     };
@@ -266,7 +274,11 @@ pub(crate) fn say_late(found: &mut Found, now: Now, note: &Note) -> Done {
 }
 
 /// Remarks on a window that is open for long, unless a rule judges that.
-pub(crate) fn say_stall(found: &mut Found, now: Now, stall: Option<Stall>) -> Done {
+pub(crate) fn say_stall(
+    found: &mut Found,
+    now: Now,
+    stall: Option<Stall>,
+) -> Result<(), OutOfMemory> {
     let Some(stall) = stall.filter(|_| !found.covered.duties) else {
         return Ok(());
     };

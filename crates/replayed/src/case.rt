@@ -43,7 +43,7 @@ pub enum Refusal<'c> {
 impl<'t> Case<'t> {
     /// Reads and judges a case. An error is the first fault of its trace; its kind is `OutOfMemory` if memory ran out.
     pub fn read(alloc: Global, text: &'t [u8]) -> Result<Case<'t>, TextFault> {
-        let texts = Texts::of(text);
+        let texts = Texts::new(text);
         let trace = read_trace(alloc, texts.trace)?;
         let (steps, verdict) = match read_witness_for(alloc, trace.header.version, texts.witness) {
             Ok(witness) => {
@@ -63,8 +63,12 @@ impl<'t> Case<'t> {
 
     /// Reads a case that `checker` has judged, without judging it again. An error is as in `read`, and a fault of the
     /// witness is one too.
-    pub fn judged(alloc: Global, text: &'t [u8], verdict: Verdict) -> Result<Case<'t>, TextFault> {
-        let texts = Texts::of(text);
+    pub fn with_verdict(
+        alloc: Global,
+        text: &'t [u8],
+        verdict: Verdict,
+    ) -> Result<Case<'t>, TextFault> {
+        let texts = Texts::new(text);
         let trace = read_trace(alloc, texts.trace)?;
         let witness = read_witness_for(alloc, trace.header.version, texts.witness)?;
         Ok(Case {

@@ -6,7 +6,7 @@
 //!
 //! - `texts`: the two texts of a case, and their lines
 //! - `case`: the values of a case and its verdict; where the verdict refuses it
-//! - `replay`: the world and its duties before and after each step; `owing`: what endpoints owe, and what is late;
+//! - `replay`: the world and its duties before and after each step; `debts`: what endpoints owe, and what is late;
 //!   `touched`: the endpoint that a step touches
 //! - `refusal`: what a verdict refuses, as values; `reasons`: what two rules of sending compare
 //! - `unused_lines`: the lines of a trace, which are read as steps use them
@@ -15,7 +15,7 @@
 
 mod calls;
 mod case;
-mod owing;
+mod debts;
 mod reasons;
 mod refusal;
 mod replay;
@@ -25,8 +25,8 @@ mod unused_lines;
 
 pub use calls::socket_of;
 pub use case::{Case, Refusal};
-pub use owing::{Debt, Debtor, Late, debts_of};
-pub use reasons::{Reason, beyond, end_of, misplaced};
+pub use debts::{Debt, Debtor, Late, debts_of};
+pub use reasons::{Reason, congestion_reason, end_of, old_data_reason};
 pub use refusal::{Refused, refused_by};
 pub use replay::{Replay, ReplayFault, has_room};
 pub use texts::{Texts, line_at};

@@ -1,6 +1,6 @@
 //! What the rules `congestion` and `old-data` compare: how much is sent, and what is retransmitted.
 
-use crate::owing::Late;
+use crate::debts::Late;
 use case_forms::{POSITIONS, SegmentPlan};
 use endpoint_state::Endpoint;
 
@@ -43,7 +43,7 @@ pub fn end_of(plan: &SegmentPlan) -> u64 {
 }
 
 /// Why a segment with new data breaks `congestion`.
-pub fn beyond(endpoint: &Endpoint, plan: &SegmentPlan) -> Reason {
+pub fn congestion_reason(endpoint: &Endpoint, plan: &SegmentPlan) -> Reason {
     let snd_una = endpoint.stream.snd_una;
     if snd_una >= POSITIONS {
         return Reason::Other;
@@ -54,7 +54,7 @@ pub fn beyond(endpoint: &Endpoint, plan: &SegmentPlan) -> Reason {
 }
 
 /// Why a segment breaks `old-data`.
-pub fn misplaced(endpoint: &Endpoint, plan: &SegmentPlan) -> Reason {
+pub fn old_data_reason(endpoint: &Endpoint, plan: &SegmentPlan) -> Reason {
     let (pos, syn) = (plan.pos, plan.flags.syn);
     let (sent, una) = (endpoint.snd_max(), endpoint.stream.snd_una);
     if pos > sent {

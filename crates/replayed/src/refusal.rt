@@ -1,7 +1,7 @@
 //! What a verdict refuses, as values.
 
-use crate::owing::{Late, debtor_after, debtor_at};
-use crate::reasons::{Reason, beyond, misplaced};
+use crate::debts::{Late, debtor_after, debtor_at};
+use crate::reasons::{Reason, congestion_reason, old_data_reason};
 use crate::replay::{ReplayFault, apply_other, apply_taken};
 use crate::touched::{touched_by_line, touched_by_other};
 use crate::unused_lines::UnusedLines;
@@ -63,7 +63,7 @@ pub fn refused_by<A: BufRead + Drop, B: BufRead + Drop>(
             trace_line: line,
             rule,
         } => {
-            let mut lines = UnusedLines::of(alloc, header, events);
+            let mut lines = UnusedLines::new(alloc, header, events);
             let mut steps = StepReader::new(alloc, header.version, witness);
             let step_line = (witness_line != 0).then_some(witness_line);
             let no = No {
@@ -135,7 +135,7 @@ fn refused_after(watched: &Case, moment: u64, no: No) -> Refused {
     let late = if rule == Rule::ProcessLate {
         Late::at_once(watched.duties().waiting_since(line), moment)
     } else {
-        debtor_after(watched, rule, moment).map(|debtor| Late::of(debtor.debt, moment))
+        debtor_after(watched, rule, moment).map(|debtor| Late::new(debtor.debt, moment))
     };
     let reason = late.map_or(Reason::Other, Reason::Late);
     Refused { line, rule, reason }
@@ -173,7 +173,7 @@ fn late_at<A: BufRead>(
     }
     let touched = touched_at(watched.world(), lines, step)?;
     let debtor = touched.and_then(|id| debtor_at(watched, id, rule, at));
-    Ok(debtor.map(|debtor| Late::of(debtor.debt, at)))
+    Ok(debtor.map(|debtor| Late::new(debtor.debt, at)))
 }
 
 // The number of the segment that a step sends; 0 if it sends none.
@@ -223,8 +223,8 @@ fn reason_of(world: &World, step: &Step, rule: Rule) -> Reason {
         return Reason::Other;
     };
     match rule {
-        Rule::Congestion => beyond(endpoint, plan),
-        Rule::OldData => misplaced(endpoint, plan),
+        Rule::Congestion => congestion_reason(endpoint, plan),
+        Rule::OldData => old_data_reason(endpoint, plan),
         Rule::LineRange | Rule::LineAgain | Rule::ThreadOrder | Rule::MomentFalls => Reason::Other,
         Rule::MomentOff | Rule::Overdue | Rule::ThreadBusy | Rule::NoCall => Reason::Other,
         Rule::DoneTwice | Rule::AnswerDiffers | Rule::Socket | Rule::CallAnswer => Reason::Other,

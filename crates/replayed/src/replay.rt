@@ -25,7 +25,7 @@ pub enum ReplayFault {
     OutOfMemory,
 }
 
-// The texts that are replayed were read before, so they have no fault.
+// The texts that are replayed were read before, so reading them again fails only if memory runs out.
 impl From<TextFault> for ReplayFault {
     fn from(_fault: TextFault) -> ReplayFault {
         ReplayFault::OutOfMemory

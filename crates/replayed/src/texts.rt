@@ -15,7 +15,7 @@ pub struct Texts<'t> {
 
 impl<'t> Texts<'t> {
     /// Cuts a case.
-    pub fn of(case: &'t [u8]) -> Texts<'t> {
+    pub fn new(case: &'t [u8]) -> Texts<'t> {
         let version = version_named(case);
         let mut at: usize = 0;
         for raw in case.lines_with_terminator() {

@@ -3,10 +3,10 @@
 use crate::replay::{Replay, has_room, is_small};
 use case_forms::{Step, TakenLine};
 use endpoint_state::World;
-use spec_duties::Touched;
+use spec_duties::TouchedEndpoint;
 use spec_step::{Act, Hidden, act_of};
 use spec_tcp::EndpointId;
-use watched::{sight_of_hidden, sight_of_line};
+use watched::{observe_hidden, observe_line};
 
 impl Replay<'_> {
     /// The endpoint that a step touches, as it is before the step. None: it touches none, or creates one.
@@ -27,7 +27,7 @@ pub(crate) fn touched_by_line(world: &World, moment: u64, line: &TakenLine) -> O
     if !has_room(world) {
         return None;
     }
-    born(world, sight_of_line(world, moment, line).touched)
+    born(world, observe_line(world, moment, line).touched)
 }
 
 /// The endpoint that a step touches which uses no line. None: it touches none, or creates one.
@@ -39,12 +39,12 @@ pub(crate) fn touched_by_other(
     if !has_room(world) || !is_small(step) {
         return None;
     }
-    born(world, sight_of_hidden(world, moment, step).touched)
+    born(world, observe_hidden(world, moment, step).touched)
 }
 
 // What is touched, if it exists before the step.
-fn born(world: &World, touched: Option<Touched>) -> Option<EndpointId> {
-    let Touched { host, place, .. } = touched?;
+fn born(world: &World, touched: Option<TouchedEndpoint>) -> Option<EndpointId> {
+    let TouchedEndpoint { host, place, .. } = touched?;
     world.body(host).endpoint_at(place)?;
     Some(EndpointId {
         host,

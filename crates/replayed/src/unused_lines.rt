@@ -22,7 +22,7 @@ pub(crate) struct UnusedLines<A> {
 
 impl<A: BufRead> UnusedLines<A> {
     /// The lines of a trace with this header, by the text after the header.
-    pub(crate) fn of(alloc: Global, header: &Header, source: Counted<A>) -> UnusedLines<A> {
+    pub(crate) fn new(alloc: Global, header: &Header, source: Counted<A>) -> UnusedLines<A> {
         UnusedLines {
             alloc,
             version: header.version,

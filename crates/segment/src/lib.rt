@@ -20,23 +20,23 @@
 //!
 //! - `fields`, `flag`, `bytes`, `fault`: the types above
 //! - `options`: the items of a list of options, and the MSS and the shift that they carry
-//! - `reading`: `decode`; `writing`: `encode`
+//! - `decoder`: `decode`; `encoder`: `encode`
 #![tactic(auto)]
 
 mod bytes;
+mod decoder;
+mod encoder;
 mod fault;
 mod fields;
 mod flag;
 mod options;
-mod reading;
-mod writing;
 
 pub use bytes::Bytes;
+pub use decoder::{decode, is_segment, reading_law};
+pub use encoder::encode;
 pub use fault::{EncFault, SegFault};
 pub use fields::Segment;
 pub use flag::Flag;
-pub use reading::{decode, is_segment, reading_law};
-pub use writing::encode;
 
 /// Memory ran out. Nothing was changed.
 pub type OutOfMemory = std::alloc::AllocError;

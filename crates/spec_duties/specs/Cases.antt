@@ -10,7 +10,7 @@ use Rattle.spec_network.specs.HostSteps as network
 use Rattle.spec_network.specs.Tables.{on}
 use Rattle.spec_tcp.specs.Forgetting as forgetting
 use Rattle.spec_tcp.specs.Machine.{tcp, tcp_shape}
-use Rattle.spec_duties.specs.Sights.{Sight, sight, view_in}
+use Rattle.spec_duties.specs.Observations.{Observation, observe, view_in}
 use Rattle.spec_duties.specs.Watching as watching
 use Rattle.spec_duties.specs.Watching.{Duties, duty_rules, duties_after}
 use Rattle.spec_duties.specs.End as end
@@ -33,16 +33,16 @@ abbrev pub start : Header → Watched
 start h = record { header = h; world = first_known h; steps = 0 }
 
 -- the rules of duties if the header gives a slack; none if it says `any`
-abbrev pub judged_rules : Header → (moment : ℕ) → Duties → Sight → List (Rule × Bool)
+abbrev pub judged_rules : Header → (moment : ℕ) → Duties → Observation → List (Rule × Bool)
 judged_rules h moment d s = on h.slack [] (λ slack. duty_rules h slack moment d s)
 
 -- what is kept after a step: nothing new at `any`
-abbrev pub noted_by : Header → (moment : ℕ) → (after : World tcp_shape) → Sight → Duties → Duties
+abbrev pub noted_by : Header → (moment : ℕ) → (after : World tcp_shape) → Observation → Duties → Duties
 noted_by h moment w s d = on h.slack d (λ slack. duties_after (view_in w s.touched) moment s d)
 
 -- the rules of duties at a step
 abbrev pub watch_rules : Header → (moment : ℕ) → Known → Step tcp_shape → List (Rule × Bool)
-watch_rules h moment k step = judged_rules h moment k.duties (sight h moment k.model step)
+watch_rules h moment k step = judged_rules h moment k.duties (observe h moment k.model step)
 
 -- the rules of a step: those of the model, then those of duties
 abbrev pub case_rules : Header → (moment : ℕ) → Known → Step tcp_shape → List (Rule × Bool)
@@ -53,7 +53,7 @@ abbrev pub known_after : Header → (moment : ℕ) → Known → Step tcp_shape 
 known_after h moment k step = record {
   model = network.after (tcp h) moment k.model step;
   duties =
-      noted_by h moment (network.after (tcp h) moment k.model step) (sight h moment k.model step) k.duties;
+      noted_by h moment (network.after (tcp h) moment k.model step) (observe h moment k.model step) k.duties;
 }
 
 abbrev pub known_after_all : Header → Known → List (Stamped tcp_shape) → Known

@@ -25,9 +25,9 @@ use Rattle.spec_tcp.specs.Heard.{as_read}
 use Rattle.spec_tcp.specs.HostTcp.{HostTcp}
 use Rattle.spec_tcp.specs.Machine.{tcp, tcp_shape}
 use Rattle.spec_tcp.specs.Same.{same_word}
-pub use Rattle.spec_duties.specs.declared.sights.Spared.{Spared}
-use Rattle.spec_duties.specs.declared.sights.Spared.TheVariants as spared
-pub use Rattle.spec_duties.specs.declared.sights.Dropping.{Dropping}
+pub use Rattle.spec_duties.specs.declared.observations.Droppable.{Droppable}
+use Rattle.spec_duties.specs.declared.observations.Droppable.TheVariants as droppable
+pub use Rattle.spec_duties.specs.declared.observations.Dropping.{Dropping}
 
 -- processing a segment with nothing chosen: `T h k 0 0 0`
 abbrev pub bare : TakeChoice
@@ -64,22 +64,22 @@ meets_closed_window e m = not (is_syn_sent e.state) && receive_window e == 0 && 
 
 -- what could be processed need not be: a listener's backlog is reached (RFC 9293, 3.9.1.2), a reset is challenged, or
 -- the receive window is closed
-abbrev pub spared_at_listener : HostTcp → (place : ℕ) → Spared
-spared_at_listener b l =
-    option_map_or (λ x. spared.IfFull l x.backlog) (slice_get b.listeners l) spared.No
+abbrev pub droppable_at_listener : HostTcp → (place : ℕ) → Droppable
+droppable_at_listener b l =
+    option_map_or (λ x. droppable.IfFull l x.backlog) (slice_get b.listeners l) droppable.No
 
-abbrev pub spared_by : HostTcp → Emission → Taker → Spared
-spared_by b m Nobody = spared.No
-spared_by b m (AtListener l) = spared_at_listener b l
-spared_by b m (AtEndpoint i e) = if is_challenged e m || meets_closed_window e m then spared.Yes else spared.No
+abbrev pub droppable_by : HostTcp → Emission → Taker → Droppable
+droppable_by b m Nobody = droppable.No
+droppable_by b m (AtListener l) = droppable_at_listener b l
+droppable_by b m (AtEndpoint i e) = if is_challenged e m || meets_closed_window e m then droppable.Yes else droppable.No
 
 -- what a step that drops a segment shows of it: it has to be answered with a reset if that is permitted, unless an
 -- acknowledgment is as good
-abbrev pub dropping_of : Host → (taking answering : Option Rule) → Spared → Dropping
-dropping_of host taking answering spares = record {
+abbrev pub dropping_of : Host → (taking answering : Option Rule) → Droppable → Dropping
+dropping_of host taking answering given = record {
   host = host;
   takeable = not (is_some taking);
-  spared = spares;
+  droppable = given;
   answerable = not (is_some answering) && not (is_unacceptable taking);
 }
 

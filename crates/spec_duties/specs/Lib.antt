@@ -11,7 +11,7 @@ pub mod Resent
 pub mod Excess
 pub mod Owed
 pub mod Dropped
-pub mod Sights
+pub mod Observations
 pub mod Watching
 pub mod End
 pub mod Cases

@@ -6,7 +6,7 @@ use Rattle.spec_network.specs.Hosts.{Stamped, World}
 use Rattle.spec_tcp.specs.Machine.{tcp_shape}
 use Rattle.spec_duties.specs.Watching.{Duties}
 use Rattle.spec_duties.specs.Cases.{Known, Dutiful, judged_rules, late_at_end, noted_by}
-use Rattle.spec_duties.specs.declared.sights.Sight.{Sight}
+use Rattle.spec_duties.specs.declared.observations.Observation.{Observation}
 
 -- the same header with another slack
 abbrev pub with_slack : Option ℕ → Header → Header
@@ -20,7 +20,7 @@ AtMost (Some less) (Some more) = less ≤ more
 
 -- with a greater slack, no step is refused that wasn't before, and nothing is late at the end that wasn't before
 pub record LessLateIsMoreAccepted (less more : Option ℕ) : Type 0 where
-  pub steps : (h : Header) (moment : ℕ) (d : Duties) (s : Sight)
+  pub steps : (h : Header) (moment : ℕ) (d : Duties) (s : Observation)
       → first_broken (judged_rules (with_slack less h) moment d s) ≡ None
       → first_broken (judged_rules (with_slack more h) moment d s) ≡ None
   pub end : (h : Header) (moment : ℕ) (k : Known) → late_at_end (with_slack less h) moment k ≡ None
@@ -29,11 +29,11 @@ pub record LessLateIsMoreAccepted (less more : Option ℕ) : Type 0 where
 -- what is kept doesn't depend on the slack that is given
 abbrev pub SlackIsNotNoted : Type 0
 SlackIsNotNoted =
-    (h : Header) (a b moment : ℕ) (w : World tcp_shape) (s : Sight) (d : Duties)
+    (h : Header) (a b moment : ℕ) (w : World tcp_shape) (s : Observation) (d : Duties)
     → noted_by (with_slack (Some a) h) moment w s d ≡ noted_by (with_slack (Some b) h) moment w s d
 
 -- without a slack nothing is judged
 pub record NothingIsJudged : Type 0 where
-  pub rules : (h : Header) (moment : ℕ) (d : Duties) (s : Sight) → h.slack ≡ None → judged_rules h moment d s ≡ []
+  pub rules : (h : Header) (moment : ℕ) (d : Duties) (s : Observation) → h.slack ≡ None → judged_rules h moment d s ≡ []
   pub runs : (h : Header) (k : Known) (xs : List (Stamped tcp_shape)) → h.slack ≡ None → Dutiful h k xs
   pub end : (h : Header) (moment : ℕ) (k : Known) → h.slack ≡ None → late_at_end h moment k ≡ None

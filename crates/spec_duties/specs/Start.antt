@@ -1,5 +1,5 @@
--- Duty start: what waits to be sent is sent within a second, if nothing is outstanding and no window holds it back (RFC
--- 9293, 3.8.6.2.1, 3.10.2 and 3.10.4).
+-- Duty start: for what waits to be sent, a segment is built within a second, if nothing is outstanding and no window
+-- holds it back (RFC 9293, 3.8.6.2.1, 3.10.2 and 3.10.4).
 use Rattle.std.specs.Prelude.{ℕ, ◌+◌, ◌==◌, nat_lt, Bool, not, ◌&&◌, ◌||◌, if◌then◌else◌, Option, None, Some}
 use Rattle.std.specs.Option.{option_or}
 use Rattle.case_forms.specs.States.{is_closed}

@@ -17,12 +17,12 @@ use Rattle.spec_duties.specs.Deadlines.{is_late}
 use Rattle.spec_duties.specs.Resent.{is_resent, is_resent_beyond}
 use Rattle.spec_duties.specs.Excess.{one_more, is_excess, is_mere_ack}
 use Rattle.spec_duties.specs.Owed.{Owed, nothing, lates_of, late_rules, owed_after}
-use Rattle.spec_duties.specs.Dropped.{Spared, Dropping}
-use Rattle.spec_duties.specs.Sights.{Mail, Post, Queueing, Sight, Touched}
-use Rattle.spec_duties.specs.declared.sights.Mail.TheVariants as mail
-use Rattle.spec_duties.specs.declared.sights.Post.TheVariants as post
-use Rattle.spec_duties.specs.declared.sights.Queueing.TheVariants as queueing
-use Rattle.spec_duties.specs.declared.sights.Spared.TheVariants as spared
+use Rattle.spec_duties.specs.Dropped.{Droppable, Dropping}
+use Rattle.spec_duties.specs.Observations.{InboxChange, BuiltChange, Queueing, Observation, TouchedEndpoint}
+use Rattle.spec_duties.specs.declared.observations.InboxChange.TheVariants as inbox_change
+use Rattle.spec_duties.specs.declared.observations.BuiltChange.TheVariants as built_change
+use Rattle.spec_duties.specs.declared.observations.Queueing.TheVariants as queueing
+use Rattle.spec_duties.specs.declared.observations.Droppable.TheVariants as droppable
 pub use Rattle.spec_duties.specs.declared.tables.Listening.{Listening}
 pub use Rattle.spec_duties.specs.declared.tables.Built.{Built}
 
@@ -58,26 +58,26 @@ abbrev pub listener_closed : Duties → Host → View → Option ℕ
 listener_closed d host v = option_map_or (λ l. (listening_at (pick d.listening host) l).closed) v.listener None
 
 -- what could be processed need not be
-abbrev pub is_spared : Duties → Host → Spared → Bool
-is_spared d host spared.No = false
-is_spared d host spared.Yes = true
-is_spared d host (spared.IfFull l backlog) = nat_le backlog (listening_at (pick d.listening host) l).children
+abbrev pub is_droppable : Duties → Host → Droppable → Bool
+is_droppable d host droppable.No = false
+is_droppable d host droppable.Yes = true
+is_droppable d host (droppable.IfFull l backlog) = nat_le backlog (listening_at (pick d.listening host) l).children
 
 -- a segment is dropped that has to be processed or answered (RFC 9293, 3.10.7)
 abbrev pub is_needed : Duties → Dropping → Bool
-is_needed d x = (x.takeable && not (is_spared d x.host x.spared)) || x.answerable
+is_needed d x = (x.takeable && not (is_droppable d x.host x.droppable)) || x.answerable
 
 abbrev pub drops_needed : Duties → Option Dropping → Bool
 drops_needed d dropping = option_map_or (is_needed d) dropping false
 
 -- duty process: what arrived leaves the inbox at once (RFC 9293, 3.10.7)
-abbrev pub leaves_late : (slack moment : ℕ) → Duties → Mail → Bool
-leaves_late slack moment d (mail.Leaves line) = is_late slack moment (waiting line d.inbox)
+abbrev pub leaves_late : (slack moment : ℕ) → Duties → InboxChange → Bool
+leaves_late slack moment d (inbox_change.Leaves line) = is_late slack moment (waiting line d.inbox)
 leaves_late slack moment d it = false
 
 -- duty send: what was built is sent at once (RFC 9293, 3.10.2 and 3.10.7)
-abbrev pub built_by : Duties → Post → Option Built
-built_by d (post.Sends number) = waiting number d.built
+abbrev pub built_by : Duties → BuiltChange → Option Built
+built_by d (built_change.Sends number) = waiting number d.built
 built_by d it = None
 
 abbrev pub sent_late : (slack moment : ℕ) → Option Built → Bool
@@ -88,28 +88,28 @@ abbrev pub counts_now : Option Built → Bool
 counts_now built = option_map_or (λ b. b.counts) built false
 
 -- the limits on repetition
-abbrev pub limit_rules : Header → Touched → (counts : Bool) → Owed → List (Rule × Bool)
+abbrev pub limit_rules : Header → TouchedEndpoint → (counts : Bool) → Owed → List (Rule × Bool)
 limit_rules h t counts o =
     (rules.Resent, is_resent h.congestion t.event t.before o.again)
     ∷ (rules.ResentBeyond, is_resent_beyond h.congestion t.event t.before)
     ∷ (rules.AckExcess, is_excess counts o.answers) ∷ []
 
 -- the rules of an endpoint that a step touches
-abbrev pub touched_rules : Header → (slack moment : ℕ) → Duties → (counts : Bool) → Touched → List (Rule × Bool)
+abbrev pub touched_rules : Header → (slack moment : ℕ) → Duties → (counts : Bool) → TouchedEndpoint → List (Rule × Bool)
 touched_rules h slack moment d counts t =
     late_rules (lates_of slack moment t.before (listener_closed d t.host t.before) (owed_by d t.host t.place))
     ++ limit_rules h t counts (owed_by d t.host t.place)
 
 -- all rules of duties at a step
-abbrev pub duty_rules : Header → (slack moment : ℕ) → Duties → Sight → List (Rule × Bool)
+abbrev pub duty_rules : Header → (slack moment : ℕ) → Duties → Observation → List (Rule × Bool)
 duty_rules h slack moment d s =
     (rules.Dropped, drops_needed d s.dropping) ∷ (rules.Discarded, s.discards)
-    ∷ (rules.ProcessLate, leaves_late slack moment d s.mail)
-    ∷ (rules.SendLate, sent_late slack moment (built_by d s.post))
-    ∷ on s.touched [] (touched_rules h slack moment d (counts_now (built_by d s.post)))
+    ∷ (rules.ProcessLate, leaves_late slack moment d s.inbox_change)
+    ∷ (rules.SendLate, sent_late slack moment (built_by d s.built_change))
+    ∷ on s.touched [] (touched_rules h slack moment d (counts_now (built_by d s.built_change)))
 
 -- what is owed after a step at an endpoint, which is then seen like this
-abbrev pub owed_table_after : (after : View) → (moment : ℕ) → (counts : Bool) → Duties → Touched
+abbrev pub owed_table_after : (after : View) → (moment : ℕ) → (counts : Bool) → Duties → TouchedEndpoint
     → Both (List (ℕ × Owed))
 owed_table_after after moment counts d t =
     with_host d.owed t.host
@@ -139,7 +139,7 @@ moved None (Some l) table = joined table l
 moved (Some l) None table = left table l
 moved (Some l) (Some m) table = table
 
-abbrev pub moved_by : (after : View) → Both (List (ℕ × Listening)) → Touched → Both (List (ℕ × Listening))
+abbrev pub moved_by : (after : View) → Both (List (ℕ × Listening)) → TouchedEndpoint → Both (List (ℕ × Listening))
 moved_by after both t =
     with_host both t.host (moved (counts_for t.before) (counts_for after) (pick both t.host))
 
@@ -148,18 +148,18 @@ queued moment queueing.Nothing both = both
 queued moment (queueing.Accepts host l) both = with_host both host (left (pick both host) l)
 queued moment (queueing.Closes host l) both = with_host both host (closed_at moment (pick both host) l)
 
-abbrev pub listening_after : (after : View) → (moment : ℕ) → Sight → Both (List (ℕ × Listening))
+abbrev pub listening_after : (after : View) → (moment : ℕ) → Observation → Both (List (ℕ × Listening))
     → Both (List (ℕ × Listening))
 listening_after after moment s both = queued moment s.queueing (on s.touched both (moved_by after both))
 
 -- the inbox after a step
-abbrev pub inbox_after : (moment : ℕ) → Mail → List (ℕ × Option ℕ) → List (ℕ × Option ℕ)
-inbox_after moment mail.Nothing inbox = inbox
-inbox_after moment (mail.Enters line) inbox = insert_entry nat_eq inbox line (Some moment)
-inbox_after moment (mail.Leaves line) inbox = settled line inbox
+abbrev pub inbox_after : (moment : ℕ) → InboxChange → List (ℕ × Option ℕ) → List (ℕ × Option ℕ)
+inbox_after moment inbox_change.Nothing inbox = inbox
+inbox_after moment (inbox_change.Enters line) inbox = insert_entry nat_eq inbox line (Some moment)
+inbox_after moment (inbox_change.Leaves line) inbox = settled line inbox
 
 -- whether a segment that is built now is a mere acknowledgment
-abbrev pub builds_mere_ack : (after : View) → Touched → Bool
+abbrev pub builds_mere_ack : (after : View) → TouchedEndpoint → Bool
 builds_mere_ack after t = by t.event
   where
     by : Event → Bool
@@ -167,19 +167,19 @@ builds_mere_ack after t = by t.event
     by event = false
 
 -- the built segments after a step
-abbrev pub built_after : (after : View) → (moment : ℕ) → Option Touched → Post → List (ℕ × Option Built)
+abbrev pub built_after : (after : View) → (moment : ℕ) → Option TouchedEndpoint → BuiltChange → List (ℕ × Option Built)
     → List (ℕ × Option Built)
-built_after after moment touched post.Nothing built = built
-built_after after moment touched (post.Builds number) built =
+built_after after moment touched built_change.Nothing built = built
+built_after after moment touched (built_change.Builds number) built =
     insert_entry nat_eq built number
     (Some (record { since = moment; counts = option_map_or (builds_mere_ack after) touched false }))
-built_after after moment touched (post.Sends number) built = settled number built
+built_after after moment touched (built_change.Sends number) built = settled number built
 
 -- what is kept after a step, if its endpoint is then seen like this
-abbrev pub duties_after : (after : View) → (moment : ℕ) → Sight → Duties → Duties
+abbrev pub duties_after : (after : View) → (moment : ℕ) → Observation → Duties → Duties
 duties_after after moment s d = record {
-  owed = on s.touched d.owed (owed_table_after after moment (counts_now (built_by d s.post)) d);
+  owed = on s.touched d.owed (owed_table_after after moment (counts_now (built_by d s.built_change)) d);
   listening = listening_after after moment s d.listening;
-  inbox = inbox_after moment s.mail d.inbox;
-  built = built_after after moment s.touched s.post d.built;
+  inbox = inbox_after moment s.inbox_change d.inbox;
+  built = built_after after moment s.touched s.built_change d.built;
 }

@@ -8,7 +8,7 @@
 //!
 //! - `views`: what duties read of an endpoint; `events`: what a step does at one
 //! - `owed`: what an endpoint owes; `tables`: what is kept for listeners and built segments
-//! - `sights`: all that duties read of the world at a step
+//! - `observations`: all that duties read of the world at a step
 //!
 //! The definitions:
 //!
@@ -17,19 +17,21 @@
 //!   endpoint each: when it arises, by when it is due, and what ends it
 //! - `specs/Resent`, `specs/Excess`: how often positions and acknowledgments are sent at most
 //! - `specs/Dropped`: which segments may be dropped, and which of them ask for an acknowledgment
-//! - `specs/Owed`: all that an endpoint owes; `specs/Sights`: what a step shows of the world
+//! - `specs/Owed`: all that an endpoint owes; `specs/Observations`: what a step shows of the world
 //! - `specs/Watching`: the rules of a step, and what is kept after it; `specs/End`: the comparison after the last step
 //! - `specs/Cases`: the model and its duties together; `specs/Slack`: what a greater slack accepts
 #![tactic(auto)]
 
 mod events;
+mod observations;
 mod owed;
-mod sights;
 mod tables;
 mod views;
 
 pub use events::{Event, Sending};
+pub use observations::{
+    BuiltChange, Droppable, Dropping, InboxChange, Observation, Queueing, TouchedEndpoint,
+};
 pub use owed::{Lates, Owed, Probing};
-pub use sights::{Dropping, Mail, Post, Queueing, Sight, Spared, Touched};
 pub use tables::{Built, Listening};
 pub use views::View;

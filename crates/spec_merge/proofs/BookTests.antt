@@ -68,13 +68,13 @@ abbrev pub is_own : Header → Host → World tcp_shape → Step tcp_shape → B
 is_own h me w (Begin line t call) = is_own_number me t && aims_here me (aim call)
 is_own h me w (Finish line t answer) = is_own_number me t
 is_own h me w (Effect t answer) = is_own_number me t && gives_own me (turn_of t w.threads) answer
-is_own h me w (At host deed) = host_is host me
+is_own h me w (At host host_step) = host_is host me
 
 own : (h : Header) (me : Host) (w : World tcp_shape) (step : Step tcp_shape) → is_own h me w step ≡ true → OwnStep (tcp h) me w step
 own h me w (Begin line t call) e = let p = and_parts _ _ e in (same_host (lane t) me p.0, aimed me (aim call) p.1)
 own h me w (Finish line t answer) e = same_host (lane t) me e
 own h me w (Effect t answer) e = let p = and_parts _ _ e in (same_host (lane t) me p.0, given_own me (turn_of t w.threads) answer p.1)
-own h me w (At host deed) e = same_host host me e
+own h me w (At host host_step) e = same_host host me e
 
 -- it is permitted, too
 abbrev pub fits : Header → Host → ℕ → World tcp_shape → Item tcp_shape → Bool

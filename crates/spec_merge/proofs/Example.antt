@@ -10,7 +10,7 @@ use Rattle.verdict.specs.declared.rule.Rule.TheVariants as rules
 use Rattle.verdict.specs.Rules.{first_broken}
 use Rattle.spec_network.specs.Tables.{gone_out, lane, unsent}
 use Rattle.spec_network.specs.Hosts.{Shape, Kernel, World, ThatHost, Idle, Called, Answered, Makes, Sends, Gets, Takes}
-use Rattle.spec_network.specs.Hosts.{Drops, Deed, Step, Begin, Finish, Effect, At, Stamped}
+use Rattle.spec_network.specs.Hosts.{Drops, HostStep, Step, Begin, Finish, Effect, At, Stamped}
 use Rattle.spec_network.specs.HostRules.{just, step_rules}
 use Rattle.spec_network.specs.HostSteps.{start, after, after_all}
 use Rattle.spec_merge.specs.Books.{Key, Item, Do, Bring, Entry}
@@ -148,7 +148,7 @@ sums_are = (refl, refl, refl)
 tables_are : (last.hosts.zero.made ≡ (1, gone_out (unsent 5)) ∷ []) × (last.hosts.zero.wire ≡ (7, 5) ∷ []) × (last.hosts.zero.inbox ≡ (10, None) ∷ [])
 tables_are = (refl, refl, refl)
 
-abbrev broken : Deed shape → Option Rule
+abbrev broken : HostStep shape → Option Rule
 broken d = first_broken (step_rules sums 5 last (At Zero d))
 
 -- a segment goes out once: the same bytes again are not made, other bytes differ; a number of the other host was not made here

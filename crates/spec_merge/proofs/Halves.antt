@@ -7,9 +7,9 @@ use Rattle.std.proofs.lemmas.Bool.Decides.{nat_tests}
 use Rattle.case_forms.specs.declared.calls.Host.{Host}
 use Rattle.case_forms.specs.declared.calls.Host.TheVariants.{One, Zero}
 use Rattle.spec_network.specs.Tables.{Both, Made, host_is, lane, on, other, pick, with_host}
-use Rattle.spec_network.specs.Hosts.{Answers, Deed, Does, Drops, Expires, Gets, Hears, HostState, Kernel, Makes, Sends, Takes}
-use Rattle.spec_network.specs.HostSteps.{deed_after}
-use Rattle.spec_merge.specs.Books.{Flying, deed_line}
+use Rattle.spec_network.specs.Hosts.{Answers, HostStep, Does, Drops, Expires, Gets, Hears, HostState, Kernel, Makes, Sends, Takes}
+use Rattle.spec_network.specs.HostSteps.{host_step_after}
+use Rattle.spec_merge.specs.Books.{Flying, host_step_line}
 use Rattle.spec_merge.specs.Merging.{Names}
 use Rattle.spec_network.proofs.Entries.{lookup_insert}
 use Rattle.spec_merge.proofs.Rename.{rehost}
@@ -119,15 +119,15 @@ hosts_brought k names h lw fw gw fn was x = record {
   bare = was.bare;
 }
 
--- what a deed puts on the wire
-pub deed_wire : (k : Kernel) (h : Host) (s fresh : ℕ) (far : List (ℕ × k.shape.Emission)) (x : HostState k.shape) (d : Deed k.shape)
-    → ((deed_after k h s fresh far x d).wire ≡ x.wire)
-    ⊎ ((line : ℕ) × (e : k.shape.Emission) × (deed_line k d ≡ Some line)
-    × ((deed_after k h s fresh far x d).wire ≡ insert_entry nat_eq x.wire line e))
-deed_wire k h s fresh far x (Does v) = inl refl
-deed_wire k h s fresh far x (Expires line v) = inl refl
-deed_wire k h s fresh far x (Makes v) = inl refl
-deed_wire k h s fresh far x (Sends line number wire) = go (lookup (nat_eq number) x.made)
+-- what a host's step puts on the wire
+pub host_step_wire : (k : Kernel) (h : Host) (s fresh : ℕ) (far : List (ℕ × k.shape.Emission)) (x : HostState k.shape) (d : HostStep k.shape)
+    → ((host_step_after k h s fresh far x d).wire ≡ x.wire)
+    ⊎ ((line : ℕ) × (e : k.shape.Emission) × (host_step_line k d ≡ Some line)
+    × ((host_step_after k h s fresh far x d).wire ≡ insert_entry nat_eq x.wire line e))
+host_step_wire k h s fresh far x (Does v) = inl refl
+host_step_wire k h s fresh far x (Expires line v) = inl refl
+host_step_wire k h s fresh far x (Makes v) = inl refl
+host_step_wire k h s fresh far x (Sends line number wire) = go (lookup (nat_eq number) x.made)
   where
     go : (o : Option (Made k.shape.Emission))
         → (on o x.wire (λ m. insert_entry nat_eq x.wire line (k.sent s wire m.emission)) ≡ x.wire)
@@ -136,11 +136,11 @@ deed_wire k h s fresh far x (Sends line number wire) = go (lookup (nat_eq number
         ≡ insert_entry nat_eq x.wire l e))
     go None = inl refl
     go (Some m) = inr (line, k.sent s wire m.emission, refl, refl)
-deed_wire k h s fresh far x (Gets line copied wire) = inl refl
-deed_wire k h s fresh far x (Hears line wire) = inl refl
-deed_wire k h s fresh far x (Takes line how) = inl refl
-deed_wire k h s fresh far x (Drops line) = inl refl
-deed_wire k h s fresh far x (Answers line) = inl refl
+host_step_wire k h s fresh far x (Gets line copied wire) = inl refl
+host_step_wire k h s fresh far x (Hears line wire) = inl refl
+host_step_wire k h s fresh far x (Takes line how) = inl refl
+host_step_wire k h s fresh far x (Drops line) = inl refl
+host_step_wire k h s fresh far x (Answers line) = inl refl
 
 -- what stands on the wire stays, and what joins has the next line
 pub wire_grows : (k : Kernel) (x y : HostState k.shape) (ln : ℕ) (l : Option ℕ) → ((line : ℕ) → l ≡ Some line → line ≡ ln)

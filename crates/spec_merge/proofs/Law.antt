@@ -4,10 +4,10 @@ use Rattle.std.proofs.lemmas.Option.{none-some}
 use Rattle.case_forms.specs.declared.calls.Host.{Host}
 use Rattle.case_forms.specs.declared.calls.Host.TheVariants.{One, Zero}
 use Rattle.spec_network.specs.Tables.{Both, lane, on, other, pick, with_host}
-use Rattle.spec_network.specs.Hosts.{Answers, At, Begin, Deed, Does, Drops, Effect, Expires, Finish, Gets, Hears, Kernel, Makes, Sends, Step, Takes, World}
+use Rattle.spec_network.specs.Hosts.{Answers, At, Begin, HostStep, Does, Drops, Effect, Expires, Finish, Gets, Hears, Kernel, Makes, Sends, Step, Takes, World}
 use Rattle.spec_network.specs.HostSteps.{Lawful, after, start}
-use Rattle.spec_merge.specs.Books.{Bring, Do, Entry, Item, Key, deed_line, next, step_line}
-use Rattle.spec_merge.specs.Merging.{Names, heads, line_turns, make_turns, names_of, redeed, restep, steps_of, with_step}
+use Rattle.spec_merge.specs.Books.{Bring, Do, Entry, Item, Key, host_step_line, next, step_line}
+use Rattle.spec_merge.specs.Merging.{Names, heads, line_turns, make_turns, names_of, restep_at, restep, steps_of, with_step}
 use Rattle.spec_merge.specs.Keys.{If}
 use Rattle.spec_merge.proofs.Joint.{Joint, LinesRise, count_on}
 use Rattle.spec_merge.proofs.Counting.{nth_apart, nth_heads}
@@ -33,24 +33,24 @@ halves k names ws lw gw ls ln n lt mt Zero a b One = b
 halves k names ws lw gw ls ln n lt mt One a b Zero = b
 halves k names ws lw gw ls ln n lt mt One a b One = a
 
-redeed_line : (k : Kernel) (names : Names) (h : Host) (d : Deed k.shape)
-    → deed_line k (redeed k names h d) ≡ on (deed_line k d) None (λ l. Some (names.line h l))
-redeed_line k names h (Does v) = refl
-redeed_line k names h (Expires line v) = refl
-redeed_line k names h (Makes v) = refl
-redeed_line k names h (Sends line number wire) = refl
-redeed_line k names h (Gets line copied wire) = refl
-redeed_line k names h (Hears line wire) = refl
-redeed_line k names h (Takes line how) = refl
-redeed_line k names h (Drops line) = refl
-redeed_line k names h (Answers line) = refl
+restep_at_line : (k : Kernel) (names : Names) (h : Host) (d : HostStep k.shape)
+    → host_step_line k (restep_at k names h d) ≡ on (host_step_line k d) None (λ l. Some (names.line h l))
+restep_at_line k names h (Does v) = refl
+restep_at_line k names h (Expires line v) = refl
+restep_at_line k names h (Makes v) = refl
+restep_at_line k names h (Sends line number wire) = refl
+restep_at_line k names h (Gets line copied wire) = refl
+restep_at_line k names h (Hears line wire) = refl
+restep_at_line k names h (Takes line how) = refl
+restep_at_line k names h (Drops line) = refl
+restep_at_line k names h (Answers line) = refl
 
 restep_line : (k : Kernel) (names : Names) (h : Host) (step : Step k.shape)
     → step_line k (restep k names h step) ≡ on (step_line k step) None (λ l. Some (names.line h l))
 restep_line k names h (Begin line t call) = refl
 restep_line k names h (Finish line t answer) = refl
 restep_line k names h (Effect t answer) = refl
-restep_line k names h (At side d) = redeed_line k names h d
+restep_line k names h (At side d) = restep_at_line k names h d
 
 line_rises : (P : ℕ → Type 0) (f : ℕ → ℕ) (n : ℕ) (o : Option ℕ) → ((l : ℕ) → o ≡ Some l → f l ≡ n)
     → P (on o n (λ l. suc n)) → If (on o None (λ l. Some (f l))) (P n) (λ line. (line ≡ n) × P (suc n))

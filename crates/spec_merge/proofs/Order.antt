@@ -10,12 +10,12 @@ use Rattle.case_forms.specs.declared.calls.Host.TheVariants.{One, Zero}
 use Rattle.spec_network.specs.Tables.{Both, on, other, pick, with_host}
 use Rattle.spec_network.specs.Hosts.{Answered, At, Begin, Called, Effect, Finish, HostState, Idle, Kernel, Turn, World, turn_of}
 use Rattle.spec_network.specs.HostRules.{aim_of}
-use Rattle.spec_network.specs.HostSteps.{call_after, deed_after, effect_after}
-use Rattle.spec_merge.specs.Books.{Bring, Do, Entry, FitsItem, HostRun, InLane, Item, Key, deed_line, end, item_line, next, next_item}
+use Rattle.spec_network.specs.HostSteps.{call_after, host_step_after, effect_after}
+use Rattle.spec_merge.specs.Books.{Bring, Do, Entry, FitsItem, HostRun, InLane, Item, Key, host_step_line, end, item_line, next, next_item}
 use Rattle.spec_merge.specs.Keys.{Book, EachEntry, If, NamesOne, Numbered, before, lesser, merge, merge_with, rank}
 use Rattle.spec_network.proofs.Entries.{lookup_insert}
 use Rattle.spec_merge.proofs.Joint.{Joint, NamedItem, NumberedItem, count_on}
-use Rattle.spec_merge.proofs.Halves.{pick_same, pick_far, deed_wire}
+use Rattle.spec_merge.proofs.Halves.{pick_same, pick_far, host_step_wire}
 
 -- 1. the order of keys
 
@@ -70,19 +70,20 @@ wire_step k h s w (Do (Effect t answer)) fits tag free = go (turn_of t w.threads
     go (Answered given) = refl
 wire_step k h s w (Do (At side d)) fits tag free =
     subst (λ (g : Host). lookup (nat_eq tag)
-    (pick (with_host w.hosts g (deed_after k g s (suc w.count) (pick w.hosts (other g)).wire (pick w.hosts g) d))
+    (pick (with_host w.hosts g (host_step_after k g s (suc w.count) (pick w.hosts (other g)).wire (pick w.hosts g) d))
     h).wire ≡ lookup (nat_eq tag) (pick w.hosts h).wire) (sym fits.1)
     (ap (λ (x : HostState k.shape). lookup (nat_eq tag) x.wire) (pick_same w.hosts h _)
-    ∙ go (deed_wire k h s (suc w.count) (pick w.hosts (other h)).wire (pick w.hosts h) d))
+    ∙ go (host_step_wire k h s (suc w.count) (pick w.hosts (other h)).wire (pick w.hosts h) d))
   where
     y : HostState k.shape
-    y = deed_after k h s (suc w.count) (pick w.hosts (other h)).wire (pick w.hosts h) d
+    y = host_step_after k h s (suc w.count) (pick w.hosts (other h)).wire (pick w.hosts h) d
 
-    go : ((deed_after k h s (suc w.count) (pick w.hosts (other h)).wire (pick w.hosts h) d).wire
-        ≡ (pick w.hosts h).wire) ⊎ ((line : ℕ) × (e : k.shape.Emission) × (deed_line k d ≡ Some line)
-        × ((deed_after k h s (suc w.count) (pick w.hosts (other h)).wire (pick w.hosts h) d).wire
+    go : ((host_step_after k h s (suc w.count) (pick w.hosts (other h)).wire (pick w.hosts h) d).wire
+        ≡ (pick w.hosts h).wire) ⊎ ((line : ℕ) × (e : k.shape.Emission) × (host_step_line k d ≡ Some line)
+        × ((host_step_after k h s (suc w.count) (pick w.hosts (other h)).wire (pick w.hosts h) d).wire
         ≡ insert_entry nat_eq (pick w.hosts h).wire line e))
-        → lookup (nat_eq tag) (deed_after k h s (suc w.count) (pick w.hosts (other h)).wire (pick w.hosts h) d).wire ≡ lookup (nat_eq tag) (pick w.hosts h).wire
+        → lookup (nat_eq tag) (host_step_after k h s (suc w.count) (pick w.hosts (other h)).wire (pick w.hosts h) d).wire
+        ≡ lookup (nat_eq tag) (pick w.hosts h).wire
     go (inl same) = ap (λ (ts : List (ℕ × k.shape.Emission)). lookup (nat_eq tag) ts) same
     go (inr new) =
         ap (λ (ts : List (ℕ × k.shape.Emission)). lookup (nat_eq tag) ts) new.3

@@ -8,12 +8,13 @@ use Rattle.std.proofs.lemmas.Bool.{cases_order}
 use Rattle.std.proofs.lemmas.Option.{none-some, same_Some}
 use Rattle.case_forms.specs.declared.calls.Host.TheVariants.{One, Zero}
 use Rattle.spec_network.specs.Tables.{on}
-use Rattle.spec_network.specs.Hosts.{Answers, At, Begin, Deed, Does, Drops, Effect, Expires, Finish, Gets, Hears, Kernel, Makes, Sends, Stamped, Step, Takes}
+use Rattle.spec_network.specs.Hosts.{Answers, At, Begin, HostStep, Does, Drops, Effect, Expires, Finish, Gets, Hears, Kernel, Makes, Sends, Stamped, Step}
+use Rattle.spec_network.specs.Hosts.{Takes}
 use Rattle.spec_network.specs.HostSteps.{Lawful, start}
-use Rattle.spec_merge.specs.Books.{Bring, Do, Entry, Item, Key, deed_line, step_line}
+use Rattle.spec_merge.specs.Books.{Bring, Do, Entry, Item, Key, host_step_line, step_line}
 use Rattle.spec_merge.specs.Merging.{Names, steps_of, with_step}
 use Rattle.spec_merge.specs.Keys.{EachEntry, If, KeysRise, before, lesser, merge, merge_with, rank}
-use Rattle.spec_merge.specs.Placing.{CallBegin, CallEnd, Event, Line, MomentsRise, NamesAt, Placement, deed_event, event_of, lines_of}
+use Rattle.spec_merge.specs.Placing.{CallBegin, CallEnd, Event, Line, MomentsRise, NamesAt, Placement, host_step_event, event_of, lines_of}
 use Rattle.spec_merge.proofs.Joint.{LinesRise}
 use Rattle.spec_network.proofs.Turns.{turns}
 
@@ -28,9 +29,9 @@ both_or_none k (Finish line t answer) = inr (line, CallEnd t answer, refl, refl)
 both_or_none k (Effect t answer) = inl (refl, refl)
 both_or_none k (At side d) = go d
   where
-    go : (d : Deed k.shape)
-        → ((deed_line k d ≡ None) × (deed_event k side d ≡ None))
-        ⊎ ((n : ℕ) × (e : Event k.shape) × (deed_line k d ≡ Some n) × (deed_event k side d ≡ Some e))
+    go : (d : HostStep k.shape)
+        → ((host_step_line k d ≡ None) × (host_step_event k side d ≡ None))
+        ⊎ ((n : ℕ) × (e : Event k.shape) × (host_step_line k d ≡ Some n) × (host_step_event k side d ≡ Some e))
     go (Does v) = inl (refl, refl)
     go (Expires line v) = inr (line, _, refl, refl)
     go (Makes v) = inl (refl, refl)

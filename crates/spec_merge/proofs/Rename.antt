@@ -9,10 +9,10 @@ use Rattle.verdict.specs.declared.rule.Rule.{Rule}
 use Rattle.verdict.specs.declared.rule.Rule.TheVariants as rules
 use Rattle.verdict.specs.Rules.{first_broken}
 use Rattle.spec_network.specs.Tables.{Made, gone_out, on, other, settled, unsent, waiting}
-use Rattle.spec_network.specs.Hosts.{Answers, Deed, Does, Drops, Expires, Gets, Hears, HostState, Kernel, Makes, Sends, Takes}
-use Rattle.spec_network.specs.HostRules.{deed_rules, just}
-use Rattle.spec_network.specs.HostSteps.{act_made, deed_after, makes}
-use Rattle.spec_merge.specs.Merging.{Names, redeed}
+use Rattle.spec_network.specs.Hosts.{Answers, HostStep, Does, Drops, Expires, Gets, Hears, HostState, Kernel, Makes, Sends, Takes}
+use Rattle.spec_network.specs.HostRules.{host_step_rules, just}
+use Rattle.spec_network.specs.HostSteps.{act_made, host_step_after, makes}
+use Rattle.spec_merge.specs.Merging.{Names, restep_at}
 use Rattle.spec_merge.proofs.Counting.{Apart}
 use Rattle.spec_merge.proofs.Retag.{insert_retag, lookup_retag, retag, waiting_retag}
 
@@ -36,31 +36,31 @@ pub record Apt (names : Names) : Type 0 where
   pub made : (h : Host) → Apart (names.made h)
 
 -- what it may do stays the same
-pub deed_may : (k : Kernel) (names : Names) (h : Host) → Apt names → (s : ℕ) (far gar : List (ℕ × k.shape.Emission))
-    → SameFar k names h far gar → (x : HostState k.shape) (d : Deed k.shape)
-    → first_broken (deed_rules k h s far x d) ≡ None
-    → first_broken (deed_rules k h s gar (rehost k names h x) (redeed k names h d)) ≡ None
-deed_may k names h apt s far gar same x (Does v) p = p
-deed_may k names h apt s far gar same x (Expires line v) p = p
-deed_may k names h apt s far gar same x (Makes v) p = p
-deed_may k names h apt s far gar same x (Sends line number wire) p =
+pub host_step_may : (k : Kernel) (names : Names) (h : Host) → Apt names → (s : ℕ) (far gar : List (ℕ × k.shape.Emission))
+    → SameFar k names h far gar → (x : HostState k.shape) (d : HostStep k.shape)
+    → first_broken (host_step_rules k h s far x d) ≡ None
+    → first_broken (host_step_rules k h s gar (rehost k names h x) (restep_at k names h d)) ≡ None
+host_step_may k names h apt s far gar same x (Does v) p = p
+host_step_may k names h apt s far gar same x (Expires line v) p = p
+host_step_may k names h apt s far gar same x (Makes v) p = p
+host_step_may k names h apt s far gar same x (Sends line number wire) p =
     subst (λ (o : Option (Made k.shape.Emission)).
     first_broken (on o (just rules.NotMade true) (λ m. k.out_rules wire m.emission ++ just rules.NotMade m.sent))
     ≡ None) (sym (lookup_retag (names.made h) (apt.made h) number x.made)) p
-deed_may k names h apt s far gar same x (Gets line copied wire) p =
+host_step_may k names h apt s far gar same x (Gets line copied wire) p =
     let got = on_passes (lookup (nat_eq copied) far) rules.NoEmission (λ e. k.in_rules s wire e) p in
     subst (λ (o : Option k.shape.Emission).
     first_broken (on o (just rules.NoEmission true) (λ e. k.in_rules s wire e)) ≡ None)
     (sym (same copied got.0 got.1)) got.2
-deed_may k names h apt s far gar same x (Hears line wire) p = p
-deed_may k names h apt s far gar same x (Takes line how) p =
+host_step_may k names h apt s far gar same x (Hears line wire) p = p
+host_step_may k names h apt s far gar same x (Takes line how) p =
     subst (λ (o : Option k.shape.Emission).
     first_broken (on o (just rules.Inbox true) (λ e. k.act_rules h s x.body (k.takes how e))) ≡ None)
     (sym (waiting_retag (names.line h) (apt.line h) line x.inbox)) p
-deed_may k names h apt s far gar same x (Drops line) p =
+host_step_may k names h apt s far gar same x (Drops line) p =
     subst (λ (o : Option k.shape.Emission). first_broken (on o (just rules.Inbox true) (λ e. [])) ≡ None)
     (sym (waiting_retag (names.line h) (apt.line h) line x.inbox)) p
-deed_may k names h apt s far gar same x (Answers line) p =
+host_step_may k names h apt s far gar same x (Answers line) p =
     subst (λ (o : Option k.shape.Emission).
     first_broken (on o (just rules.Inbox true) (λ e. k.act_rules h s x.body (k.answers e))) ≡ None)
     (sym (waiting_retag (names.line h) (apt.line h) line x.inbox)) p
@@ -87,14 +87,14 @@ made_retag {E} f apart fresh gresh is (Some e) ts =
     ap (λ (n : ℕ). insert_entry nat_eq (retag f ts) n (unsent e)) (sym is) ∙ insert_retag f apart fresh (unsent e) ts
 
 -- and so does what it does
-pub deed_does : (k : Kernel) (names : Names) (h : Host) → Apt names → (s : ℕ) (far gar : List (ℕ × k.shape.Emission))
-    → SameFar k names h far gar → (fresh gresh : ℕ) (x : HostState k.shape) (d : Deed k.shape)
-    → (makes k d ≡ true → names.made h fresh ≡ gresh) → first_broken (deed_rules k h s far x d) ≡ None
-    → deed_after k h s gresh gar (rehost k names h x) (redeed k names h d)
-    ≡ rehost k names h (deed_after k h s fresh far x d)
-deed_does k names h apt s far gar same fresh gresh x (Does v) is p = refl
-deed_does k names h apt s far gar same fresh gresh x (Expires line v) is p = refl
-deed_does k names h apt s far gar same fresh gresh x (Makes v) is p =
+pub host_step_does : (k : Kernel) (names : Names) (h : Host) → Apt names → (s : ℕ) (far gar : List (ℕ × k.shape.Emission))
+    → SameFar k names h far gar → (fresh gresh : ℕ) (x : HostState k.shape) (d : HostStep k.shape)
+    → (makes k d ≡ true → names.made h fresh ≡ gresh) → first_broken (host_step_rules k h s far x d) ≡ None
+    → host_step_after k h s gresh gar (rehost k names h x) (restep_at k names h d)
+    ≡ rehost k names h (host_step_after k h s fresh far x d)
+host_step_does k names h apt s far gar same fresh gresh x (Does v) is p = refl
+host_step_does k names h apt s far gar same fresh gresh x (Expires line v) is p = refl
+host_step_does k names h apt s far gar same fresh gresh x (Makes v) is p =
     ap (λ (m : List (ℕ × Made k.shape.Emission)).
     record {
       body = k.act_after h s x.body (k.making v);
@@ -103,7 +103,7 @@ deed_does k names h apt s far gar same fresh gresh x (Makes v) is p =
       inbox = retag (names.line h) x.inbox;
     })
     (made_retag (names.made h) (apt.made h) fresh gresh (is refl) (k.act_makes h s x.body (k.making v)) x.made)
-deed_does k names h apt s far gar same fresh gresh x (Sends line number wire) is p =
+host_step_does k names h apt s far gar same fresh gresh x (Sends line number wire) is p =
     ap sends (lookup_retag (names.made h) (apt.made h) number x.made) ∙ go (lookup (nat_eq number) x.made)
   where
     sends : Option (Made k.shape.Emission) → HostState k.shape
@@ -126,7 +126,7 @@ deed_does k names h apt s far gar same fresh gresh x (Sends line number wire) is
           made = retag (names.made h) (insert_entry nat_eq x.made number (gone_out m));
           wire = t;
         }) (insert_retag (names.line h) (apt.line h) line (k.sent s wire m.emission) x.wire)
-deed_does k names h apt s far gar same fresh gresh x (Gets line copied wire) is p =
+host_step_does k names h apt s far gar same fresh gresh x (Gets line copied wire) is p =
     let got = on_passes (lookup (nat_eq copied) far) rules.NoEmission (λ e. k.in_rules s wire e) p in
     let here =
     ap (λ (o : Option k.shape.Emission).
@@ -141,8 +141,8 @@ deed_does k names h apt s far gar same fresh gresh x (Gets line copied wire) is 
     rehost k names h (record x { inbox = on o x.inbox (λ e. insert_entry nat_eq x.inbox line (Some e)) }))
     got.1 in
     here ∙ (boxed k names h apt line (Some got.0) x ∙ sym there)
-deed_does k names h apt s far gar same fresh gresh x (Hears line wire) is p = boxed k names h apt line (Some (k.heard s wire)) x
-deed_does k names h apt s far gar same fresh gresh x (Takes line how) is p =
+host_step_does k names h apt s far gar same fresh gresh x (Hears line wire) is p = boxed k names h apt line (Some (k.heard s wire)) x
+host_step_does k names h apt s far gar same fresh gresh x (Takes line how) is p =
     ap takes (waiting_retag (names.line h) (apt.line h) line x.inbox) ∙ go (waiting line x.inbox)
   where
     takes : Option k.shape.Emission → HostState k.shape
@@ -160,7 +160,7 @@ deed_does k names h apt s far gar same fresh gresh x (Takes line how) is p =
         })
     go None = refl
     go (Some e) = boxed k names h apt line None (record x { body = k.act_after h s x.body (k.takes how e) })
-deed_does k names h apt s far gar same fresh gresh x (Drops line) is p =
+host_step_does k names h apt s far gar same fresh gresh x (Drops line) is p =
     ap (λ (o : Option k.shape.Emission).
     record (rehost k names h x) {
       inbox =
@@ -177,7 +177,7 @@ deed_does k names h apt s far gar same fresh gresh x (Drops line) is p =
         y) ≡ rehost k names h (record x { inbox = on o x.inbox (λ e. settled line x.inbox) })
     go None = refl
     go (Some e) = boxed k names h apt line None x
-deed_does k names h apt s far gar same fresh gresh x (Answers line) is p =
+host_step_does k names h apt s far gar same fresh gresh x (Answers line) is p =
     ap answers (waiting_retag (names.line h) (apt.line h) line x.inbox) ∙ go (waiting line x.inbox)
   where
     answers : Option k.shape.Emission → HostState k.shape

@@ -11,19 +11,19 @@ use Rattle.verdict.specs.declared.rule.Rule.{Rule}
 use Rattle.verdict.specs.declared.rule.Rule.TheVariants as rules
 use Rattle.verdict.specs.Rules.{first_broken}
 use Rattle.spec_network.specs.Tables.{Both, lane, on, other, pick}
-use Rattle.spec_network.specs.Hosts.{Aim, Answered, Answers, At, Begin, Called, Deed, Does, Drops, Effect, Expires}
+use Rattle.spec_network.specs.Hosts.{Aim, Answered, Answers, At, Begin, Called, HostStep, Does, Drops, Effect, Expires}
 use Rattle.spec_network.specs.Hosts.{Finish, Gets, Hears, HostState, Idle, Kernel, Makes, Sends, Step, Takes, ThatHost}
 use Rattle.spec_network.specs.Hosts.{ThatSocket, Turn, World, turn_of}
-use Rattle.spec_network.specs.HostRules.{Permitted, aim_of, begin_rules, call_rules, deed_rules, effect_rules, end_rules, fresh_rules, just}
-use Rattle.spec_network.specs.HostSteps.{after, call_after, deed_after, effect_after, makes}
-use Rattle.spec_merge.specs.Books.{Aims, InLane, OwnStep, deed_line, step_line}
-use Rattle.spec_merge.specs.Merging.{Names, redeed, restep, step_makes}
+use Rattle.spec_network.specs.HostRules.{Permitted, aim_of, begin_rules, call_rules, host_step_rules, effect_rules, end_rules, fresh_rules, just}
+use Rattle.spec_network.specs.HostSteps.{after, call_after, host_step_after, effect_after, makes}
+use Rattle.spec_merge.specs.Books.{Aims, InLane, OwnStep, host_step_line, step_line}
+use Rattle.spec_merge.specs.Merging.{Names, restep_at, restep, step_makes}
 use Rattle.spec_network.proofs.Turns.{effect_passes}
 use Rattle.spec_merge.proofs.Counting.{Counts, counts_mine, counts_other}
 use Rattle.spec_network.proofs.Entries.{turn_insert}
 use Rattle.spec_merge.proofs.Retag.{lookup_retag}
-use Rattle.spec_merge.proofs.Rename.{rehost, Apt, SameFar, deed_may, deed_does}
-use Rattle.spec_merge.proofs.Halves.{pick_same, host_self, host_other, hosts_apart, HostHalf, hosts_mine, hosts_theirs, deed_wire, wire_grows}
+use Rattle.spec_merge.proofs.Rename.{rehost, Apt, SameFar, host_step_may, host_step_does}
+use Rattle.spec_merge.proofs.Halves.{pick_same, host_self, host_other, hosts_apart, HostHalf, hosts_mine, hosts_theirs, host_step_wire, wire_grows}
 
 -- 1. threads
 
@@ -101,16 +101,16 @@ pub record Stepped (k : Kernel) (names : Names) (h : Host) (s : ℕ) (lw fw gw :
       (on (step_line k step) ln (λ l. suc ln)) (on (step_line k step) n (λ l. suc n)) lt mt
   pub theirs : Half k names (other h) h fw (after k s lw step) (after k s gw (restep k names h step)) fn (on (step_line k step) n (λ l. suc n)) lt mt
 
-redeed_makes : (k : Kernel) (names : Names) (h : Host) (d : Deed k.shape) → makes k (redeed k names h d) ≡ makes k d
-redeed_makes k names h (Does v) = refl
-redeed_makes k names h (Expires line v) = refl
-redeed_makes k names h (Makes v) = refl
-redeed_makes k names h (Sends line number wire) = refl
-redeed_makes k names h (Gets line copied wire) = refl
-redeed_makes k names h (Hears line wire) = refl
-redeed_makes k names h (Takes line how) = refl
-redeed_makes k names h (Drops line) = refl
-redeed_makes k names h (Answers line) = refl
+restep_at_makes : (k : Kernel) (names : Names) (h : Host) (d : HostStep k.shape) → makes k (restep_at k names h d) ≡ makes k d
+restep_at_makes k names h (Does v) = refl
+restep_at_makes k names h (Expires line v) = refl
+restep_at_makes k names h (Makes v) = refl
+restep_at_makes k names h (Sends line number wire) = refl
+restep_at_makes k names h (Gets line copied wire) = refl
+restep_at_makes k names h (Hears line wire) = refl
+restep_at_makes k names h (Takes line how) = refl
+restep_at_makes k names h (Drops line) = refl
+restep_at_makes k names h (Answers line) = refl
 
 -- what comes in here came in there
 far_same : (k : Kernel) (names : Names) (h : Host) → Apt names → (lw fw gw : Both (HostState k.shape)) (ln fn : ℕ)
@@ -122,44 +122,44 @@ far_same k names h apt lw fw gw ln fn m t tag e at =
 
 -- what the host does
 pub stepped_at : (k : Kernel) (names : Names) (h : Host) → Apt names
-    → (s : ℕ) (lw fw gw : World k.shape) (ln fn n : ℕ) (lt mt : List (Option Host)) (d : Deed k.shape)
-    → Half k names h (other h) lw fw gw ln n (on (deed_line k d) lt (λ l. Some h ∷ lt)) (if makes k d then Some h ∷ mt else mt)
-    → Half k names (other h) h fw lw gw fn n (on (deed_line k d) lt (λ l. Some h ∷ lt)) (if makes k d then Some h ∷ mt else mt)
-    → Permitted k s lw (At h d) → InLane k h (after k s lw (At h d)) → ((line : ℕ) → deed_line k d ≡ Some line → line ≡ ln)
+    → (s : ℕ) (lw fw gw : World k.shape) (ln fn n : ℕ) (lt mt : List (Option Host)) (d : HostStep k.shape)
+    → Half k names h (other h) lw fw gw ln n (on (host_step_line k d) lt (λ l. Some h ∷ lt)) (if makes k d then Some h ∷ mt else mt)
+    → Half k names (other h) h fw lw gw fn n (on (host_step_line k d) lt (λ l. Some h ∷ lt)) (if makes k d then Some h ∷ mt else mt)
+    → Permitted k s lw (At h d) → InLane k h (after k s lw (At h d)) → ((line : ℕ) → host_step_line k d ≡ Some line → line ≡ ln)
     → Stepped k names h s lw fw gw ln fn n lt mt (At h d)
 stepped_at k names h apt s lw fw gw ln fn n lt mt d m t p lanes numbered =
     let x = pick lw.hosts h in
     let far = (pick lw.hosts (other h)).wire in
     let gar = (pick gw.hosts (other h)).wire in
     let same = far_same k names h apt lw.hosts fw.hosts gw.hosts ln fn m.hosts t.hosts in
-    let y = deed_after k h s (suc lw.count) far x d in
-    let z = deed_after k h s (suc gw.count) gar (pick gw.hosts h) (redeed k names h d) in
+    let y = host_step_after k h s (suc lw.count) far x d in
+    let z = host_step_after k h s (suc gw.count) gar (pick gw.hosts h) (restep_at k names h d) in
     let counted = made_mine (names.made h) lw.count gw.count h (makes k d) mt m.made in
-    let lined = lines_mine (names.line h) ln n h (deed_line k d) lt m.lines numbered in
-    let grows = wire_grows k x y ln (deed_line k d) numbered (deed_wire k h s (suc lw.count) far x d) m.hosts.below in
+    let lined = lines_mine (names.line h) ln n h (host_step_line k d) lt m.lines numbered in
+    let grows = wire_grows k x y ln (host_step_line k d) numbered (host_step_wire k h s (suc lw.count) far x d) m.hosts.below in
     let does : z ≡ rehost k names h y =
-    ap (λ (v : HostState k.shape). deed_after k h s (suc gw.count) gar v (redeed k names h d)) m.hosts.host
-    ∙ deed_does k names h apt s far gar same (suc lw.count) (suc gw.count) x d counted.0 p in
+    ap (λ (v : HostState k.shape). host_step_after k h s (suc gw.count) gar v (restep_at k names h d)) m.hosts.host
+    ∙ host_step_does k names h apt s far gar same (suc lw.count) (suc gw.count) x d counted.0 p in
     let lanes_y : (i : ℕ) → k.given y.body i ≡ true → lane i ≡ h =
     subst (λ (v : HostState k.shape). (i : ℕ) → k.given v.body i ≡ true → lane i ≡ h)
     (pick_same lw.hosts h y) lanes in
     record {
-      may = subst (λ (v : HostState k.shape). first_broken (deed_rules k h s gar v (redeed k names h d)) ≡ None)
-          (sym m.hosts.host) (deed_may k names h apt s far gar same x d p);
+      may = subst (λ (v : HostState k.shape). first_broken (host_step_rules k h s gar v (restep_at k names h d)) ≡ None)
+          (sym m.hosts.host) (host_step_may k names h apt s far gar same x d p);
       line = lined.0;
       mine = record {
-        hosts = hosts_mine k names h lw.hosts fw.hosts gw.hosts ln (on (deed_line k d) ln (λ l. suc ln)) m.hosts y z does grows.1 lanes_y;
+        hosts = hosts_mine k names h lw.hosts fw.hosts gw.hosts ln (on (host_step_line k d) ln (λ l. suc ln)) m.hosts y z does grows.1 lanes_y;
         threads = m.threads;
         lines = lined.1;
         made = subst (λ (b : Bool). Counts (names.made h) (suc (if makes k d then suc lw.count else lw.count))
-            (suc (if b then suc gw.count else gw.count)) h mt) (sym (redeed_makes k names h d)) counted.1;
+            (suc (if b then suc gw.count else gw.count)) h mt) (sym (restep_at_makes k names h d)) counted.1;
       };
       theirs = record {
         hosts = hosts_theirs k names h lw.hosts fw.hosts gw.hosts fn t.hosts y z grows.0;
         threads = t.threads;
-        lines = lines_theirs (names.line (other h)) fn n h (deed_line k d) lt t.lines;
+        lines = lines_theirs (names.line (other h)) fn n h (host_step_line k d) lt t.lines;
         made = subst (λ (b : Bool). Counts (names.made (other h)) (suc fw.count)
-            (suc (if b then suc gw.count else gw.count)) (other h) mt) (sym (redeed_makes k names h d))
+            (suc (if b then suc gw.count else gw.count)) (other h) mt) (sym (restep_at_makes k names h d))
             (made_theirs (names.made (other h)) (suc fw.count) gw.count h (makes k d) mt t.made);
       };
     }

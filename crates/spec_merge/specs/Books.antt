@@ -3,7 +3,8 @@ use Rattle.std.specs.Prelude.{◌≡◌, ℕ, nat_eq, true, List, [], ◌∷◌,
 use Rattle.indexmap.specs.IndexMap.{insert_entry}
 use Rattle.case_forms.specs.declared.calls.Host.{Host}
 use Rattle.spec_network.specs.Tables.{pick, other, with_host, lane}
-use Rattle.spec_network.specs.Hosts.{Aim, ThatHost, ThatSocket, Shape, Kernel, World, Deed, Expires, Sends, Gets, Hears}
+use Rattle.spec_network.specs.Hosts.{Aim, ThatHost, ThatSocket, Shape, Kernel, World, HostStep, Expires, Sends, Gets}
+use Rattle.spec_network.specs.Hosts.{Hears}
 use Rattle.spec_network.specs.Hosts.{Step, Begin, Finish, Effect, At, Called, turn_of}
 use Rattle.spec_network.specs.HostRules.{Permitted}
 use Rattle.spec_network.specs.HostSteps.{after}
@@ -83,20 +84,20 @@ abbrev pub HostRun : (k : Kernel) → Host → World k.shape → List (Entry k.s
 HostRun k h w [] = Unit {0}
 HostRun k h w (x ∷ xs) = FitsItem k h x.key.moment w x.item × InLane k h (next k h w x) × HostRun k h (next k h w x) xs
 
--- the line that a host's deed uses
-abbrev pub deed_line : (k : Kernel) → Deed k.shape → Option ℕ
-deed_line k (Expires line x) = Some line
-deed_line k (Sends line number wire) = Some line
-deed_line k (Gets line copied wire) = Some line
-deed_line k (Hears line wire) = Some line
-deed_line k d = None
+-- the line that a host's step uses
+abbrev pub host_step_line : (k : Kernel) → HostStep k.shape → Option ℕ
+host_step_line k (Expires line x) = Some line
+host_step_line k (Sends line number wire) = Some line
+host_step_line k (Gets line copied wire) = Some line
+host_step_line k (Hears line wire) = Some line
+host_step_line k d = None
 
 -- the line that a step uses
 abbrev pub step_line : (k : Kernel) → Step k.shape → Option ℕ
 step_line k (Begin line t call) = Some line
 step_line k (Finish line t answer) = Some line
 step_line k (Effect t answer) = None
-step_line k (At host d) = deed_line k d
+step_line k (At host d) = host_step_line k d
 
 -- the line that an item uses
 abbrev pub item_line : (k : Kernel) → Item k.shape → Option ℕ

@@ -2,7 +2,7 @@
 use Rattle.std.specs.Prelude.{ℕ, zero, suc, Bool, true, false, if◌then◌else◌, List, [], ◌∷◌, Option, None, Some}
 use Rattle.case_forms.specs.declared.calls.Host.{Host}
 use Rattle.spec_network.specs.Tables.{other, host_is, on}
-use Rattle.spec_network.specs.Hosts.{Kernel, Deed, Does, Expires, Makes, Sends, Gets, Hears, Takes, Drops, Answers}
+use Rattle.spec_network.specs.Hosts.{Kernel, HostStep, Does, Expires, Makes, Sends, Gets, Hears, Takes, Drops, Answers}
 use Rattle.spec_network.specs.Hosts.{Step, Begin, Finish, Effect, At, Stamped}
 use Rattle.spec_network.specs.HostSteps.{makes}
 use Rattle.spec_merge.specs.Books.{Key, Item, Do, Bring, Entry, item_line}
@@ -60,24 +60,24 @@ abbrev pub names_of : (k : Kernel) → ℕ → List (Entry k.shape) → Names
 names_of k first xs =
     record { line = λ h. nth h (heads first (line_turns k xs)); made = λ h. nth h (heads 1 (make_turns k xs)) }
 
--- the deed of host h, under new numbers
-abbrev pub redeed : (k : Kernel) → Names → Host → Deed k.shape → Deed k.shape
-redeed k names h (Does x) = Does x
-redeed k names h (Expires line x) = Expires (names.line h line) x
-redeed k names h (Makes x) = Makes x
-redeed k names h (Sends line number wire) = Sends (names.line h line) (names.made h number) wire
-redeed k names h (Gets line copied wire) = Gets (names.line h line) (names.line (other h) copied) wire
-redeed k names h (Hears line wire) = Hears (names.line h line) wire
-redeed k names h (Takes line how) = Takes (names.line h line) how
-redeed k names h (Drops line) = Drops (names.line h line)
-redeed k names h (Answers line) = Answers (names.line h line)
+-- the step of host h alone, under new numbers
+abbrev pub restep_at : (k : Kernel) → Names → Host → HostStep k.shape → HostStep k.shape
+restep_at k names h (Does x) = Does x
+restep_at k names h (Expires line x) = Expires (names.line h line) x
+restep_at k names h (Makes x) = Makes x
+restep_at k names h (Sends line number wire) = Sends (names.line h line) (names.made h number) wire
+restep_at k names h (Gets line copied wire) = Gets (names.line h line) (names.line (other h) copied) wire
+restep_at k names h (Hears line wire) = Hears (names.line h line) wire
+restep_at k names h (Takes line how) = Takes (names.line h line) how
+restep_at k names h (Drops line) = Drops (names.line h line)
+restep_at k names h (Answers line) = Answers (names.line h line)
 
 -- a step of host h under new numbers
 abbrev pub restep : (k : Kernel) → Names → Host → Step k.shape → Step k.shape
 restep k names h (Begin line t call) = Begin (names.line h line) t call
 restep k names h (Finish line t answer) = Finish (names.line h line) t answer
 restep k names h (Effect t answer) = Effect t answer
-restep k names h (At host d) = At host (redeed k names h d)
+restep k names h (At host d) = At host (restep_at k names h d)
 
 -- the step of an item before others; a segment that is delivered is no step
 abbrev pub with_step : (k : Kernel) → Names → Key → Item k.shape → List (Stamped k.shape) → List (Stamped k.shape)

@@ -3,7 +3,7 @@ use Rattle.std.specs.Prelude.{◌≡◌, ℕ, ◌+◌, ◌<◌, ◌≤◌, List,
 use Rattle.std.specs.List.{slice_get}
 use Rattle.case_forms.specs.declared.calls.Host.{Host}
 use Rattle.spec_network.specs.Tables.{on}
-use Rattle.spec_network.specs.Hosts.{Shape, Kernel, Idle, Deed, Expires, Sends, Gets, Hears, Step, Begin, Finish}
+use Rattle.spec_network.specs.Hosts.{Shape, Kernel, Idle, HostStep, Expires, Sends, Gets, Hears, Step, Begin, Finish}
 use Rattle.spec_network.specs.Hosts.{Effect, At, Stamped}
 use Rattle.spec_network.specs.HostSteps.{start, Lawful}
 use Rattle.spec_network.specs.Turns.{Turns}
@@ -24,20 +24,20 @@ pub record Line (s : Shape) : Type 0 where
   pub moment : ℕ
   pub event : Event s
 
--- the content of the line that a host's deed uses
-abbrev pub deed_event : (k : Kernel) → Host → Deed k.shape → Option (Event k.shape)
-deed_event k host (Expires line x) = Some (Expired host (k.expiry x))
-deed_event k host (Sends line number wire) = Some (Sent host wire)
-deed_event k host (Gets line copied wire) = Some (Came host wire)
-deed_event k host (Hears line wire) = Some (Came host wire)
-deed_event k host d = None
+-- the content of the line that a host's step uses
+abbrev pub host_step_event : (k : Kernel) → Host → HostStep k.shape → Option (Event k.shape)
+host_step_event k host (Expires line x) = Some (Expired host (k.expiry x))
+host_step_event k host (Sends line number wire) = Some (Sent host wire)
+host_step_event k host (Gets line copied wire) = Some (Came host wire)
+host_step_event k host (Hears line wire) = Some (Came host wire)
+host_step_event k host d = None
 
 -- the content of the line that a step uses
 abbrev pub event_of : (k : Kernel) → Step k.shape → Option (Event k.shape)
 event_of k (Begin line t call) = Some (CallBegin t call)
 event_of k (Finish line t answer) = Some (CallEnd t answer)
 event_of k (Effect t answer) = None
-event_of k (At host d) = deed_event k host d
+event_of k (At host d) = host_step_event k host d
 
 -- the lines that these steps use, each at its step's moment
 abbrev pub lines_of : (k : Kernel) → List (Stamped k.shape) → List (Line k.shape)

@@ -9,7 +9,8 @@ use Rattle.verdict.specs.declared.rule.Rule.TheVariants as rules
 use Rattle.verdict.specs.Rules.{first_broken}
 use Rattle.spec_network.specs.Tables.{Both, Made, pick, other, on, waiting}
 use Rattle.spec_network.specs.Hosts.{Aim, ThatHost, ThatSocket, Shape, Kernel, HostState, Turn, Idle, Called, Answered}
-use Rattle.spec_network.specs.Hosts.{World, Deed, Does, Expires, Makes, Sends, Gets, Hears, Takes, Drops, Answers, Step}
+use Rattle.spec_network.specs.Hosts.{World, HostStep, Does, Expires, Makes, Sends, Gets, Hears, Takes, Drops, Answers}
+use Rattle.spec_network.specs.Hosts.{Step}
 use Rattle.spec_network.specs.Hosts.{Begin, Finish, Effect, At, turn_of}
 
 -- one rule alone
@@ -29,19 +30,20 @@ sending_rules out_rules made number wire =
 abbrev pub arrival_rules : {E W : Type 0} → (W → E → List (Rule × Bool)) → List (ℕ × E) → ℕ → W → List (Rule × Bool)
 arrival_rules in_rules far copied wire = on (lookup (nat_eq copied) far) (just rules.NoEmission true) (in_rules wire)
 
--- the rules of an act of this host; `far` is the wire of the other host
-abbrev pub deed_rules : (k : Kernel) → Host → ℕ → List (ℕ × k.shape.Emission) → HostState k.shape → Deed k.shape
+-- the rules of a step of this host; `far` is the wire of the other host
+abbrev pub host_step_rules : (k : Kernel) → Host → ℕ → List (ℕ × k.shape.Emission) → HostState k.shape
+    → HostStep k.shape
     → List (Rule × Bool)
-deed_rules k me moment far h (Does x) = k.act_rules me moment h.body (k.does x)
-deed_rules k me moment far h (Expires line x) = k.act_rules me moment h.body (k.expires x)
-deed_rules k me moment far h (Makes x) = k.act_rules me moment h.body (k.making x)
-deed_rules k me moment far h (Sends line number wire) = sending_rules k.out_rules h.made number wire
-deed_rules k me moment far h (Gets line copied wire) = arrival_rules (k.in_rules moment) far copied wire
-deed_rules k me moment far h (Hears line wire) = just rules.NoEmission (not k.half)
-deed_rules k me moment far h (Takes line how) =
+host_step_rules k me moment far h (Does x) = k.act_rules me moment h.body (k.does x)
+host_step_rules k me moment far h (Expires line x) = k.act_rules me moment h.body (k.expires x)
+host_step_rules k me moment far h (Makes x) = k.act_rules me moment h.body (k.making x)
+host_step_rules k me moment far h (Sends line number wire) = sending_rules k.out_rules h.made number wire
+host_step_rules k me moment far h (Gets line copied wire) = arrival_rules (k.in_rules moment) far copied wire
+host_step_rules k me moment far h (Hears line wire) = just rules.NoEmission (not k.half)
+host_step_rules k me moment far h (Takes line how) =
     on (waiting line h.inbox) (just rules.Inbox true) (λ e. k.act_rules me moment h.body (k.takes how e))
-deed_rules k me moment far h (Drops line) = on (waiting line h.inbox) (just rules.Inbox true) (λ e. [])
-deed_rules k me moment far h (Answers line) =
+host_step_rules k me moment far h (Drops line) = on (waiting line h.inbox) (just rules.Inbox true) (λ e. [])
+host_step_rules k me moment far h (Answers line) =
     on (waiting line h.inbox) (just rules.Inbox true) (λ e. k.act_rules me moment h.body (k.answers e))
 
 -- the host that a call applies to: for a socket number, the host that returned it
@@ -109,7 +111,7 @@ abbrev pub step_rules : (k : Kernel) → ℕ → World k.shape → Step k.shape 
 step_rules k moment w (Begin line t call) = begin_rules (turn_of t w.threads)
 step_rules k moment w (Finish line t answer) = end_rules k.differs (turn_of t w.threads) answer
 step_rules k moment w (Effect t answer) = effect_rules k moment w.hosts (turn_of t w.threads) answer
-step_rules k moment w (At host d) = deed_rules k host moment (pick w.hosts (other host)).wire (pick w.hosts host) d
+step_rules k moment w (At host d) = host_step_rules k host moment (pick w.hosts (other host)).wire (pick w.hosts host) d
 
 -- no rule is broken
 abbrev pub Permitted : (k : Kernel) → ℕ → World k.shape → Step k.shape → Type 0

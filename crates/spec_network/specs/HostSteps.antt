@@ -4,7 +4,8 @@ use Rattle.std.specs.Map.{lookup}
 use Rattle.indexmap.specs.IndexMap.{insert_entry}
 use Rattle.case_forms.specs.declared.calls.Host.{Host}
 use Rattle.spec_network.specs.Tables.{Both, pick, other, with_host, on, Made, unsent, gone_out, waiting, settled}
-use Rattle.spec_network.specs.Hosts.{Kernel, HostState, Turn, Idle, Called, Answered, World, Deed, Does, Expires, Makes}
+use Rattle.spec_network.specs.Hosts.{Kernel, HostState, Turn, Idle, Called, Answered, World, HostStep, Does, Expires}
+use Rattle.spec_network.specs.Hosts.{Makes}
 use Rattle.spec_network.specs.Hosts.{Sends, Gets, Hears, Takes, Drops, Answers, Step, Begin, Finish, Effect, At}
 use Rattle.spec_network.specs.Hosts.{Stamped, turn_of}
 use Rattle.spec_network.specs.HostRules.{aim_of, Permitted}
@@ -32,34 +33,37 @@ inbox_after far line copied inbox = on (lookup (nat_eq copied) far) inbox (λ e.
 abbrev pub inbox_settled : {E : Type 0} → ℕ → List (ℕ × Option E) → List (ℕ × Option E)
 inbox_settled line inbox = on (waiting line inbox) inbox (λ e. settled line inbox)
 
--- a host after its act: a sent line marks its segment and puts it on the wire, a line that arrives joins the inbox, and
--- a processed segment no longer waits there
-abbrev pub deed_after : (k : Kernel) → Host → ℕ → ℕ → List (ℕ × k.shape.Emission) → HostState k.shape → Deed k.shape
+-- a host after its step: a sent line marks its segment and puts it on the wire, a line that arrives joins the inbox,
+-- and a processed segment no longer waits there
+abbrev pub host_step_after : (k : Kernel) → Host → ℕ → ℕ → List (ℕ × k.shape.Emission) → HostState k.shape
+    → HostStep k.shape
     → HostState k.shape
-deed_after k me moment fresh far h (Does x) = record h { body = k.act_after me moment h.body (k.does x) }
-deed_after k me moment fresh far h (Expires line x) = record h { body = k.act_after me moment h.body (k.expires x) }
-deed_after k me moment fresh far h (Makes x) =
+host_step_after k me moment fresh far h (Does x) = record h { body = k.act_after me moment h.body (k.does x) }
+host_step_after k me moment fresh far h (Expires line x) =
+    record h { body = k.act_after me moment h.body (k.expires x) }
+host_step_after k me moment fresh far h (Makes x) =
     record h { body = k.act_after me moment h.body (k.making x); made = act_made k me moment fresh h (k.making x) }
-deed_after k me moment fresh far h (Sends line number wire) =
+host_step_after k me moment fresh far h (Sends line number wire) =
     record h { made = made_gone_out number h.made; wire = wire_after k.sent h.made line number wire moment h.wire }
-deed_after k me moment fresh far h (Gets line copied wire) = record h { inbox = inbox_after far line copied h.inbox }
-deed_after k me moment fresh far h (Hears line wire) =
+host_step_after k me moment fresh far h (Gets line copied wire) =
+    record h { inbox = inbox_after far line copied h.inbox }
+host_step_after k me moment fresh far h (Hears line wire) =
     record h { inbox = insert_entry nat_eq h.inbox line (Some (k.heard moment wire)) }
-deed_after k me moment fresh far h (Takes line how) =
+host_step_after k me moment fresh far h (Takes line how) =
     record h {
       body = on (waiting line h.inbox) h.body (λ e. k.act_after me moment h.body (k.takes how e));
       inbox =
           inbox_settled line h.inbox;
     }
-deed_after k me moment fresh far h (Drops line) = record h { inbox = inbox_settled line h.inbox }
-deed_after k me moment fresh far h (Answers line) = record h {
+host_step_after k me moment fresh far h (Drops line) = record h { inbox = inbox_settled line h.inbox }
+host_step_after k me moment fresh far h (Answers line) = record h {
   body = on (waiting line h.inbox) h.body (λ e. k.act_after me moment h.body (k.answers e));
   made = on (waiting line h.inbox) h.made (λ e. act_made k me moment fresh h (k.answers e));
   inbox = inbox_settled line h.inbox;
 }
 
 -- whether it uses a number for a built segment
-abbrev pub makes : (k : Kernel) → Deed k.shape → Bool
+abbrev pub makes : (k : Kernel) → HostStep k.shape → Bool
 makes k (Makes x) = true
 makes k (Answers line) = true
 makes k d = false
@@ -92,7 +96,7 @@ after k moment w (Finish line t answer) = with_turn k w t Idle
 after k moment w (Effect t answer) = effect_after k moment w t answer (turn_of t w.threads)
 after k moment w (At host d) = record w {
   hosts =
-      with_host w.hosts host (deed_after k host moment (suc w.count) (pick w.hosts (other host)).wire
+      with_host w.hosts host (host_step_after k host moment (suc w.count) (pick w.hosts (other host)).wire
       (pick w.hosts host) d);
   count = if makes k d then suc w.count else w.count;
 }

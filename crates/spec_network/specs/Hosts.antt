@@ -79,26 +79,26 @@ pub record World (s : Shape) : Type 0 where
   pub threads : List (ℕ × Turn s)
   pub count : ℕ
 
--- the acts of one host: a step that looks nothing up; a timer's line; building a segment; the line of sending one,
+-- a step of one host: one that looks nothing up; a timer's line; building a segment; the line of sending one,
 -- built under that number; the line of one that arrives, a copy of the other host's line; the line of one heard from a
 -- host that isn't recorded; and processing, dropping or answering what arrived with that line
-pub data Deed (s : Shape) : Type 0 where
-  Does : (plain : s.Plain) → Deed s
-  Expires : (line : ℕ) (expiring : s.Expiring) → Deed s
-  Makes : (making : s.Making) → Deed s
-  Sends : (line number : ℕ) (wire : s.Wire) → Deed s
-  Gets : (line copied : ℕ) (wire : s.Wire) → Deed s
-  Hears : (line : ℕ) (wire : s.Wire) → Deed s
-  Takes : (line : ℕ) (how : s.How) → Deed s
-  Drops : (line : ℕ) → Deed s
-  Answers : (line : ℕ) → Deed s
+pub data HostStep (s : Shape) : Type 0 where
+  Does : (plain : s.Plain) → HostStep s
+  Expires : (line : ℕ) (expiring : s.Expiring) → HostStep s
+  Makes : (making : s.Making) → HostStep s
+  Sends : (line number : ℕ) (wire : s.Wire) → HostStep s
+  Gets : (line copied : ℕ) (wire : s.Wire) → HostStep s
+  Hears : (line : ℕ) (wire : s.Wire) → HostStep s
+  Takes : (line : ℕ) (how : s.How) → HostStep s
+  Drops : (line : ℕ) → HostStep s
+  Answers : (line : ℕ) → HostStep s
 
--- a step: the line that begins a call, the line that ends one, the call's effect, and an act of one host
+-- a step: the line that begins a call, the line that ends one, the call's effect, and a step of one host
 pub data Step (s : Shape) : Type 0 where
   Begin : (line thread : ℕ) (call : s.Call) → Step s
   Finish : (line thread : ℕ) (answer : s.Answer) → Step s
   Effect : (thread : ℕ) (answer : s.Answer) → Step s
-  At : (host : Host) (deed : Deed s) → Step s
+  At : (host : Host) (host_step : HostStep s) → Step s
 
 -- a step at its moment
 pub record Stamped (s : Shape) : Type 0 where

@@ -7,6 +7,8 @@
 //! - `line`: a step that takes a line; `hidden`: a step that takes none
 //! - `wires`: what is on a host's wire under a line, and putting a segment there, which isn't a step
 //! - `laws`: the less of congestion control is judged, the more is accepted
+//!
+//! Functions that only hand a step on are inlined, which saves a copy of it.
 #![tactic(auto)]
 
 mod hidden;

@@ -12,7 +12,8 @@ use Rattle.case_forms.specs.declared.calls.Call.{Call}
 use Rattle.case_forms.specs.declared.calls.Call.TheVariants as calls
 use Rattle.case_forms.specs.declared.calls.State.TheVariants as states
 use Rattle.spec_tcp.specs.Endpoints.{Endpoint, SocketTarget, ListenerAt, EndpointAt, new_endpoint}
-use Rattle.spec_tcp.specs.HostTcp.{HostTcp, is_connected, with_endpoint, is_listening, queue_of, thing_of, with_socket}
+use Rattle.spec_tcp.specs.HostTcp.{HostTcp, is_connected, with_endpoint, is_listening, queue_of, socket_target}
+use Rattle.spec_tcp.specs.HostTcp.{with_socket}
 use Rattle.spec_tcp.specs.Same.{same_state}
 use Rattle.window_rules.specs.declared.control.Profile.{Profile}
 use Rattle.spec_tcp.specs.Calls.Await.{is_not_connected, await_allows}
@@ -33,9 +34,9 @@ endpoint_allows e (calls.Abort n) answers.Done = true
 endpoint_allows e (calls.Status n) (answers.State s) = same_state s e.state
 endpoint_allows e _ _ = false
 
-abbrev pub thing_allows : HostTcp → Call → Answer → SocketTarget → Bool
-thing_allows b call answer (ListenerAt l) = listener_allows (queue_of b l) call answer
-thing_allows b call answer (EndpointAt i) =
+abbrev pub target_allows : HostTcp → Call → Answer → SocketTarget → Bool
+target_allows b call answer (ListenerAt l) = listener_allows (queue_of b l) call answer
+target_allows b call answer (EndpointAt i) =
     option_map_or (λ e. endpoint_allows e call answer) (slice_get b.endpoints i) false
 
 -- the only answer to a call on a socket number that is not live
@@ -44,7 +45,7 @@ is_bad_socket answers.BadSocket = true
 is_bad_socket _ = false
 
 abbrev pub socket_allows : HostTcp → ℕ → Call → Answer → Bool
-socket_allows b n call answer = option_map_or (thing_allows b call answer) (thing_of b n) (is_bad_socket answer)
+socket_allows b n call answer = option_map_or (target_allows b call answer) (socket_target b n) (is_bad_socket answer)
 
 -- a socket number is returned, or the port or the pair of ports is in use
 abbrev pub gives_or_in_use : Bool → Answer → Bool
@@ -66,12 +67,12 @@ call_allows b (calls.Abort n) answer = socket_allows b n (calls.Abort n) answer
 call_allows b (calls.Status n) answer = socket_allows b n (calls.Status n) answer
 
 -- the endpoint of a live socket number changes
-abbrev pub change_thing : HostTcp → (Endpoint → Endpoint) → SocketTarget → HostTcp
-change_thing b f (ListenerAt l) = b
-change_thing b f (EndpointAt i) = with_endpoint b i f
+abbrev pub change_target : HostTcp → (Endpoint → Endpoint) → SocketTarget → HostTcp
+change_target b f (ListenerAt l) = b
+change_target b f (EndpointAt i) = with_endpoint b i f
 
 abbrev pub change : HostTcp → ℕ → (Endpoint → Endpoint) → HostTcp
-change b n f = option_map_or (change_thing b f) (thing_of b n) b
+change b n f = option_map_or (change_target b f) (socket_target b n) b
 
 -- the host afterwards; every other answer changes nothing
 abbrev pub after_call : Profile → HostTcp → Call → Answer → HostTcp
@@ -85,7 +86,7 @@ after_call profile b (calls.Connect host lport rport) (answers.Given n) =
       endpoints = b.endpoints ++ new_endpoint lport rport None states.SynSent profile
           ∷ [];
     }) n (EndpointAt (length b.endpoints))
-after_call profile b (calls.Accept h) (answers.Given n) = option_map_or (after_accept b n) (thing_of b h) b
+after_call profile b (calls.Accept h) (answers.Given n) = option_map_or (after_accept b n) (socket_target b h) b
 after_call profile b (calls.Send h bytes) (answers.Given n) = change b h (after_send bytes n)
 after_call profile b (calls.Recv h most) (answers.Bytes bytes) = change b h (after_recv bytes)
 after_call profile b (calls.Shut h) answers.Done = change b h after_shut

@@ -2,7 +2,7 @@
 -- RFC 7323, 2).
 pub use Rattle.spec_tcp.specs.declared.endpoint.EndpointId.{EndpointId}
 pub use Rattle.spec_tcp.specs.declared.endpoint.Stream.{Stream}
-pub use Rattle.spec_tcp.specs.declared.endpoint.SendWindow.{SendWindow}
+pub use Rattle.spec_tcp.specs.declared.endpoint.Windows.{Windows}
 pub use Rattle.spec_tcp.specs.declared.endpoint.Fault.{Fault}
 pub use Rattle.spec_tcp.specs.declared.endpoint.Fault.TheVariants.{Refused, Reset, Timeout}
 pub use Rattle.spec_tcp.specs.declared.endpoint.Endpoint.{Endpoint}

@@ -70,15 +70,16 @@ abbrev pub given : HostTcp → ℕ → Bool
 given b n = is_some (lookup (nat_eq n) b.sockets)
 
 abbrev pub if_live : Socket → Option SocketTarget
-if_live s = if s.live then Some s.thing else None
+if_live s = if s.live then Some s.target else None
 
 -- what a live socket number names
-abbrev pub thing_of : HostTcp → ℕ → Option SocketTarget
-thing_of b n = option_map_or if_live (lookup (nat_eq n) b.sockets) None
+abbrev pub socket_target : HostTcp → ℕ → Option SocketTarget
+socket_target b n = option_map_or if_live (lookup (nat_eq n) b.sockets) None
 
 -- a socket number is returned
 abbrev pub with_socket : HostTcp → ℕ → SocketTarget → HostTcp
-with_socket b n thing = record b { sockets = insert_entry nat_eq b.sockets n (record { thing = thing; live = true }) }
+with_socket b n target =
+    record b { sockets = insert_entry nat_eq b.sockets n (record { target = target; live = true }) }
 
 -- the socket number is no longer live
 abbrev pub dead : List (ℕ × Socket) → ℕ → List (ℕ × Socket)

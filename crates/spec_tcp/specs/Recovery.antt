@@ -14,7 +14,8 @@ greatest_at_recovery e moment =
     let ssthresh : ℕ = min ((greatest e.control (recovery_signal e 0) (at_moment e moment)).1) greatest_window in
     ((greatest e.control (recovery_signal e ssthresh) (at_moment e moment)).0, ssthresh)
 
--- fast recovery begins with the third duplicate acknowledgment (RFC 5681, 3.2, steps 2 and 3)
+-- fast recovery before the third duplicate acknowledgment, with nothing outstanding, or with a greater ssthresh or cwnd
+-- than is permitted (RFC 5681, 3.2, steps 2 and 3)
 abbrev pub is_bad_recovery : Endpoint → (cwnd ssthresh moment : ℕ) → Bool
 is_bad_recovery e cwnd ssthresh moment =
     not (may_recover e.control) || e.stream.snd_una == snd_max e

@@ -11,8 +11,8 @@ use Rattle.spec_tcp.specs.Endpoints.{EndpointId}
 abbrev pub same_bool : Bool → Bool → Bool
 same_bool a b = if a then b else not b
 
-abbrev pub same_name : EndpointId → EndpointId → Bool
-same_name a b = host_is a.host b.host && a.number == b.number
+abbrev pub same_endpoint : EndpointId → EndpointId → Bool
+same_endpoint a b = host_is a.host b.host && a.number == b.number
 
 abbrev pub same_word : Word → Word → Bool
 same_word a b = a.0 == b.0

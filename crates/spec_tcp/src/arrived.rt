@@ -1,4 +1,5 @@
-//! A segment as its receiving endpoint reads it.
+//! A segment as its receiving endpoint reads it, when it is processed: since it arrived, RCV.NXT may have advanced, so
+//! that the same number means another position.
 
 ghost use Rattle.std.specs.Prelude.{◌≡◌, ◌<◌, ◌≤◌, ◌^◌, IfSome, None};
 ghost use Rattle.spec_tcp.specs.Bounds.{IsSmallEmission, greatest_position};

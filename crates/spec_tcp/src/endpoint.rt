@@ -39,14 +39,14 @@ pub struct Stream {
 
 /// The window that the peer offers, and how far the endpoint's own windows reached (RFC 9293, 3.3.1).
 #[derive(Clone, Copy, Debug)]
-pub struct SendWindow {
+pub struct Windows {
     /// The offered window in bytes (SND.WND).
     pub snd_wnd: u32,
     /// The position of the segment that last updated it (SND.WL1).
     pub snd_wl1: u64,
     /// The position that this segment acknowledged (SND.WL2).
     pub snd_wl2: u64,
-    /// The greatest position that one of its own windows reached (RCV.NXT + RCV.WND).
+    /// The right edge of its own windows: the greatest RCV.NXT + RCV.WND that it offered.
     pub rcv_adv: u64,
 }
 
@@ -86,9 +86,9 @@ pub struct Endpoint {
     /// Whether its socket was closed.
     pub closed: bool,
     pub stream: Stream,
-    /// When each position was first sent.
+    /// When each position was first built.
     pub transmissions: Transmissions,
-    pub window: SendWindow,
+    pub window: Windows,
     pub control: Control,
     /// Outstanding positions below this one may be retransmitted.
     pub recover: u64,
@@ -136,7 +136,7 @@ impl Endpoint {
                 snd_una: 0,
             },
             transmissions: Transmissions::new(alloc),
-            window: SendWindow {
+            window: Windows {
                 snd_wnd: 0,
                 snd_wl1: 0,
                 snd_wl2: 0,
@@ -246,6 +246,7 @@ pub struct Emission {
     pub ack_seq: Word,
     pub flags: Flags,
     pub window: u16,
+    /// Also in `bytes`, but never shared: rules compare the two.
     pub payload: Bytes,
     /// The shift, in bits, of the windows that its sender offers, if it gave one (RFC 7323, 2.2).
     pub shift: Option<u8>,
@@ -331,7 +332,8 @@ pub enum SocketTarget {
 /// A socket number that a call returned.
 #[derive(Clone, Copy)]
 pub struct Socket {
-    pub thing: SocketTarget,
+    /// The listener or endpoint that the number names.
+    pub target: SocketTarget,
     /// Whether it was not closed or aborted since.
     pub live: bool,
 }

@@ -14,9 +14,9 @@ use Rattle.verdict.specs.declared.rule.Rule.{Rule}
 use Rattle.verdict.specs.declared.rule.Rule.TheVariants as rules
 use Rattle.verdict.specs.Rules.{first_broken}
 use Rattle.spec_network.specs.Tables.{Both, pick, other, on, waiting}
-use Rattle.spec_network.specs.Hosts.{HostState, Turn, Idle, Called, Answered, Deed, Does, Expires, Makes, Sends, Gets}
+use Rattle.spec_network.specs.Hosts.{HostState, Turn, Idle, Called, Answered, HostStep, Does, Expires, Makes, Sends, Gets}
 use Rattle.spec_network.specs.Hosts.{Hears, Takes, Drops, Answers, Begin, Finish, Effect, At, turn_of}
-use Rattle.spec_network.specs.HostRules.{deed_rules, call_rules, effect_rules, fresh_rules, aim_of, just}
+use Rattle.spec_network.specs.HostRules.{host_step_rules, call_rules, effect_rules, fresh_rules, aim_of, just}
 use Rattle.spec_tcp.specs.declared.endpoint.Emission.{Emission}
 use Rattle.spec_tcp.specs.HostTcp.{HostTcp, endpoint_of}
 use Rattle.case_forms.specs.States.{is_syn_sent}
@@ -73,21 +73,21 @@ ascend_call h moment both call answer o = fin o
     fin None = go None (gives call answer)
     fin (Some host) = go (Some host) (gives call answer)
 
-ascend_deed : (h : Header) (host : Host) (moment : ℕ) (far : List (ℕ × Emission)) (k : HostState tcp_shape) (d : Deed tcp_shape)
-    → ascend 6 (deed_rules (tcp h) host moment far k d) ≡ true
-ascend_deed h host moment far k (Does x) =
+ascend_host_step : (h : Header) (host : Host) (moment : ℕ) (far : List (ℕ × Emission)) (k : HostState tcp_shape) (d : HostStep tcp_shape)
+    → ascend 6 (host_step_rules (tcp h) host moment far k d) ≡ true
+ascend_host_step h host moment far k (Does x) =
     ascend_or (λ e. recovery_rules e x.cwnd x.ssthresh moment) ((rules.NoEndpoint, true) ∷ []) (endpoint_of k.body x.lport x.rport) refl (λ e. refl)
-ascend_deed h host moment far k (Expires line x) =
+ascend_host_step h host moment far k (Expires line x) =
     ascend_or (λ e. expiry_rules h moment e x.expired) ((rules.NoEndpoint, true) ∷ []) (endpoint_of k.body x.lport x.rport) refl (λ e. refl)
-ascend_deed h host moment far k (Makes m) =
+ascend_host_step h host moment far k (Makes m) =
     ascend_or (λ e. making_rules e m) ((rules.NoEndpoint, true) ∷ []) (endpoint_of k.body m.lport m.rport) refl (λ e. refl)
-ascend_deed h host moment far k (Sends line number wire) = ascend_on _ ((rules.NotMade, true) ∷ []) (lookup (nat_eq number) k.made) refl (λ m. refl)
-ascend_deed h host moment far k (Gets line copied wire) = ascend_on _ ((rules.NoEmission, true) ∷ []) (lookup (nat_eq copied) far) refl (λ m. refl)
-ascend_deed h host moment far k (Hears line wire) = refl
-ascend_deed h host moment far k (Takes line how) =
+ascend_host_step h host moment far k (Sends line number wire) = ascend_on _ ((rules.NotMade, true) ∷ []) (lookup (nat_eq number) k.made) refl (λ m. refl)
+ascend_host_step h host moment far k (Gets line copied wire) = ascend_on _ ((rules.NoEmission, true) ∷ []) (lookup (nat_eq copied) far) refl (λ m. refl)
+ascend_host_step h host moment far k (Hears line wire) = refl
+ascend_host_step h host moment far k (Takes line how) =
     ascend_on _ ((rules.Inbox, true) ∷ []) (waiting line k.inbox) refl (λ m. ascend_taker h host k.body how m moment (taker k.body m))
-ascend_deed h host moment far k (Drops line) = ascend_on _ ((rules.Inbox, true) ∷ []) (waiting line k.inbox) refl (λ m. refl)
-ascend_deed h host moment far k (Answers line) = ascend_on _ ((rules.Inbox, true) ∷ []) (waiting line k.inbox) refl (λ m. refl)
+ascend_host_step h host moment far k (Drops line) = ascend_on _ ((rules.Inbox, true) ∷ []) (waiting line k.inbox) refl (λ m. refl)
+ascend_host_step h host moment far k (Answers line) = ascend_on _ ((rules.Inbox, true) ∷ []) (waiting line k.inbox) refl (λ m. refl)
 
 pub rules_ascend : RulesAscend
 rules_ascend h moment w (Begin line t call) = refl
@@ -98,7 +98,7 @@ rules_ascend h moment w (Effect t answer) = go (turn_of t w.threads)
     go Idle = refl
     go (Called call) = ascend_call h moment w.hosts call answer (aim_of (tcp h) w.hosts (aim call))
     go (Answered given) = refl
-rules_ascend h moment w (At host d) = ascend_deed h host moment (pick w.hosts (other host)).wire (pick w.hosts host) d
+rules_ascend h moment w (At host d) = ascend_host_step h host moment (pick w.hosts (other host)).wire (pick w.hosts host) d
 
 -- in a list that ascends, no number is below the first
 above : (low : ℕ) (rules : List (Rule × Bool)) → ascend low rules ≡ true → AllByRecursion (λ r. low ≤ rule_number r.0) rules

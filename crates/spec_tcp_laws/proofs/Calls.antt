@@ -31,14 +31,14 @@ use Rattle.spec_tcp.specs.declared.endpoint.Socket.{Socket}
 use Rattle.spec_tcp.specs.declared.endpoint.Fault.TheVariants.{Refused, Reset, Timeout}
 use Rattle.spec_tcp.specs.declared.endpoint.SocketTarget.TheVariants.{ListenerAt, EndpointAt}
 use Rattle.spec_tcp.specs.Endpoints.{new_endpoint}
-use Rattle.spec_tcp.specs.HostTcp.{HostTcp, given, if_live, thing_of, queue_of, dead}
+use Rattle.spec_tcp.specs.HostTcp.{HostTcp, given, if_live, socket_target, queue_of, dead}
 use Rattle.case_forms.specs.States.{is_syn_sent}
 use Rattle.spec_tcp.specs.Calls.Await.{tells}
 use Rattle.spec_tcp.specs.Calls.Send.{send_allows, open_send_allows, after_send}
 use Rattle.spec_tcp.specs.Calls.Accept.{listener_allows, accepted_from, after_accept}
-use Rattle.spec_tcp.specs.Calls.{is_bad_socket, endpoint_allows, thing_allows, socket_allows, call_allows, change_thing, after_call}
+use Rattle.spec_tcp.specs.Calls.{is_bad_socket, endpoint_allows, target_allows, socket_allows, call_allows, change_target, after_call}
 use Rattle.spec_tcp.specs.Calls.Receive.{after_recv}
-use Rattle.spec_tcp.specs.Calls.Close.{shut_down, ended_state, after_shut, after_close, after_abort, orphaned, without_listener, thing_gone}
+use Rattle.spec_tcp.specs.Calls.Close.{shut_down, ended_state, after_shut, after_close, after_abort, orphaned, without_listener, target_gone}
 use Rattle.spec_tcp_laws.specs.Runs.{endpoint_place, owner, is_socket_of, call_accepted, call_ended}
 use Rattle.spec_tcp_laws.proofs.Rules.{map_or_cases, both_true, number_same, number_self, is_not}
 use Rattle.spec_tcp_laws.proofs.Later.{Hosts, name, all_cells, Later}
@@ -72,7 +72,7 @@ Apart hosts = (n : ℕ) → given hosts.zero.body n ≡ true → given hosts.one
 not_given : (b : HostTcp) (n : ℕ) → (given b n ≡ true → ⊥) → owner b n ≡ None
 not_given b n h = go (lookup (nat_eq n) b.sockets) h
   where
-    go : (o : Option Socket) → (is_some o ≡ true → ⊥) → option_map_or (λ s. endpoint_place s.thing) o None ≡ None
+    go : (o : Option Socket) → (is_some o ≡ true → ⊥) → option_map_or (λ s. endpoint_place s.target) o None ≡ None
     go None = λ h. refl
     go (Some s) = λ h. absurd (h refl)
 
@@ -82,16 +82,16 @@ owner_elsewhere a Zero n apart g = not_given a.one.body n (λ h. apart n g h)
 owner_elsewhere a One n apart g = not_given a.zero.body n (λ h. apart n h g)
 
 -- what a live socket number names is what it was given to
-pub owner_of : (b : HostTcp) (n : ℕ) (thing : SocketTarget) → thing_of b n ≡ Some thing → (owner b n ≡ endpoint_place thing) × (given b n ≡ true)
-owner_of b n thing e = go (lookup (nat_eq n) b.sockets) e
+pub owner_of : (b : HostTcp) (n : ℕ) (target : SocketTarget) → socket_target b n ≡ Some target → (owner b n ≡ endpoint_place target) × (given b n ≡ true)
+owner_of b n target e = go (lookup (nat_eq n) b.sockets) e
   where
-    by : (s : Socket) (live : Bool) → (if live then Some s.thing else None) ≡ Some thing → endpoint_place s.thing ≡ endpoint_place thing
-    by s true e = ap endpoint_place (same_Some s.thing thing e)
-    by s false e = absurd (none-some thing e)
+    by : (s : Socket) (live : Bool) → (if live then Some s.target else None) ≡ Some target → endpoint_place s.target ≡ endpoint_place target
+    by s true e = ap endpoint_place (same_Some s.target target e)
+    by s false e = absurd (none-some target e)
 
-    go : (o : Option Socket) → option_map_or if_live o None ≡ Some thing
-        → (option_map_or (λ s. endpoint_place s.thing) o None ≡ endpoint_place thing) × (is_some o ≡ true)
-    go None e = absurd (none-some thing e)
+    go : (o : Option Socket) → option_map_or if_live o None ≡ Some target
+        → (option_map_or (λ s. endpoint_place s.target) o None ≡ endpoint_place target) × (is_some o ≡ true)
+    go None e = absurd (none-some target e)
     go (Some s) e = (by s s.live e, refl)
 
 pub socket_here : (a : Hosts) (host : Host) (n i : ℕ) → owner (pick a host).body n ≡ Some i → is_socket_of a n (name host i) ≡ true
@@ -106,8 +106,8 @@ socket_none a host n i e = ap (λ (o : Option ℕ). option_map_or (λ k. k == i)
 -- a socket number names an endpoint that allows the answer
 pub named : (b : HostTcp) (n : ℕ) (call : Call) (answer : Answer) → socket_allows b n call answer ≡ true
     → is_bad_socket answer ≡ false → ((queue : List ℕ) → listener_allows queue call answer ≡ false)
-    → (i : ℕ) × (thing_of b n ≡ Some (EndpointAt i)) × (e : Endpoint) × (slice_get b.endpoints i ≡ Some e) × (endpoint_allows e call answer ≡ true)
-named b n call answer may good refused = go (thing_of b n) refl may
+    → (i : ℕ) × (socket_target b n ≡ Some (EndpointAt i)) × (e : Endpoint) × (slice_get b.endpoints i ≡ Some e) × (endpoint_allows e call answer ≡ true)
+named b n call answer may good refused = go (socket_target b n) refl may
   where
     there : (i : ℕ) (o : Option Endpoint) → slice_get b.endpoints i ≡ o
         → option_map_or (λ e. endpoint_allows e call answer) o false ≡ true
@@ -115,8 +115,8 @@ named b n call answer may good refused = go (thing_of b n) refl may
     there i None at may = absurd cc
     there i (Some e) at may = (e, at, may)
 
-    go : (o : Option SocketTarget) → thing_of b n ≡ o → option_map_or (thing_allows b call answer) o (is_bad_socket answer) ≡ true
-        → (i : ℕ) × (thing_of b n ≡ Some (EndpointAt i)) × (e : Endpoint) × (slice_get b.endpoints i ≡ Some e) × (endpoint_allows e call answer ≡ true)
+    go : (o : Option SocketTarget) → socket_target b n ≡ o → option_map_or (target_allows b call answer) o (is_bad_socket answer) ≡ true
+        → (i : ℕ) × (socket_target b n ≡ Some (EndpointAt i)) × (e : Endpoint) × (slice_get b.endpoints i ≡ Some e) × (endpoint_allows e call answer ≡ true)
     go None is may = absurd cc
     go (Some (ListenerAt l)) is may = absurd (let x = refused (queue_of b l) in cc)
     go (Some (EndpointAt i)) is may = let x = there i (slice_get b.endpoints i) refl may in (i, is, x.0, x.1, x.2)
@@ -248,8 +248,8 @@ grown_listener : (comes : Coming) (host : Host) (b : HostTcp) (l : ℕ) → OwnE
     → Grown comes host silent b.endpoints (without_listener b l).endpoints
 grown_listener comes host b l g = grown_map comes host b.endpoints (orphaned l) g (plain_orphan l)
 
-grown_accept : (comes : Coming) (host : Host) (b : HostTcp) (n : ℕ) (thing : SocketTarget) → OwnEnds b.endpoints
-    → Grown comes host silent b.endpoints (after_accept b n thing).endpoints
+grown_accept : (comes : Coming) (host : Host) (b : HostTcp) (n : ℕ) (target : SocketTarget) → OwnEnds b.endpoints
+    → Grown comes host silent b.endpoints (after_accept b n target).endpoints
 grown_accept comes host b n (EndpointAt i) g = grown_not comes host silent b.endpoints (λ i. refl) g
 grown_accept comes host b n (ListenerAt l) g = go (queue_of b l)
   where
@@ -273,14 +273,14 @@ grown_call p comes a host (calls.Listen at port backlog) (answers.Given n) g may
 grown_call p comes a host (calls.Connect at lport rport) (answers.Given n) g may =
     grown_push comes host (pick a host).body.endpoints (new_endpoint lport rport None states.SynSent p) g (bare_endpoint p lport rport)
 grown_call p comes a host (calls.Accept h) (answers.Given n) g may = let b = (pick a host).body in
-    map_or_cases (λ (x : HostTcp). Grown comes host silent b.endpoints x.endpoints) (thing_of b h) b (after_accept b n)
-    (λ e. grown_not comes host silent b.endpoints (λ i. refl) g) (λ thing e. grown_accept comes host b n thing g)
+    map_or_cases (λ (x : HostTcp). Grown comes host silent b.endpoints x.endpoints) (socket_target b h) b (after_accept b n)
+    (λ e. grown_not comes host silent b.endpoints (λ i. refl) g) (λ target e. grown_accept comes host b n target g)
 grown_call p comes a host (calls.Send h bytes) (answers.Given n) g may =
     let b = (pick a host).body in
     let x = named b h (calls.Send h bytes) (answers.Given n) may refl (λ queue. refused queue) in
     subst (λ (o : Option SocketTarget).
     Grown comes host (λ j. call_adds a (calls.Send h bytes) (answers.Given n) (name host j)) b.endpoints
-    (option_map_or (change_thing b (after_send bytes n)) o b).endpoints) (sym x.1)
+    (option_map_or (change_target b (after_send bytes n)) o b).endpoints) (sym x.1)
     (grown_socket comes a host h x.0 (after_send bytes n)
     (λ c. record { told = []; accepted = if c then take n bytes else []; ended = false }) refl
     (owner_of b h (EndpointAt x.0) x.1).0 g
@@ -299,7 +299,7 @@ grown_call p comes a host (calls.Recv h most) (answers.Bytes bytes) g may =
     (starts bytes (waiting x.2.stream.receive)) x.4).1 in
     subst (λ (o : Option SocketTarget).
     Grown comes host (λ j. call_adds a (calls.Recv h most) (answers.Bytes bytes) (name host j)) b.endpoints
-    (option_map_or (change_thing b (after_recv bytes)) o b).endpoints) (sym x.1)
+    (option_map_or (change_target b (after_recv bytes)) o b).endpoints) (sym x.1)
     (grown_socket comes a host h x.0 (after_recv bytes)
     (λ c. record { told = if c then bytes else []; accepted = []; ended = false }) refl
     (owner_of b h (EndpointAt x.0) x.1).0 g
@@ -314,19 +314,19 @@ grown_call p comes a host (calls.Shut h) answers.Done g may =
     let x = named b h (calls.Shut h) answers.Done may refl (λ queue. refused queue) in
     subst (λ (o : Option SocketTarget).
     Grown comes host (λ j. call_adds a (calls.Shut h) answers.Done (name host j)) b.endpoints
-    (option_map_or (change_thing b after_shut) o b).endpoints) (sym x.1)
+    (option_map_or (change_target b after_shut) o b).endpoints) (sym x.1)
     (grown_socket comes a host h x.0 after_shut (λ c. record { told = []; accepted = []; ended = c }) refl
     (owner_of b h (EndpointAt x.0) x.1).0 g (λ e at. grows_shut (comes (name host x.0)) e (g x.0 e at)))
   where
     refused : (queue : List ℕ) → listener_allows queue (calls.Shut h) answers.Done ≡ false
     refused [] = refl
     refused (c ∷ queue) = refl
-grown_call p comes a host (calls.Close h) answers.Done g may = go (thing_of (pick a host).body h) refl may
+grown_call p comes a host (calls.Close h) answers.Done g may = go (socket_target (pick a host).body h) refl may
   where
-    go : (o : Option SocketTarget) → thing_of (pick a host).body h ≡ o
-        → option_map_or (thing_allows (pick a host).body (calls.Close h) answers.Done) o false ≡ true
+    go : (o : Option SocketTarget) → socket_target (pick a host).body h ≡ o
+        → option_map_or (target_allows (pick a host).body (calls.Close h) answers.Done) o false ≡ true
         → Grown comes host (λ j. call_adds a (calls.Close h) answers.Done (name host j)) (pick a host).body.endpoints
-        (option_map_or (λ thing. record (thing_gone (pick a host).body thing after_close) {
+        (option_map_or (λ target. record (target_gone (pick a host).body target after_close) {
           sockets = dead (pick a host).body.sockets h;
         }) o (pick a host).body).endpoints
     go None is may = absurd cc
@@ -340,12 +340,12 @@ grown_call p comes a host (calls.Close h) answers.Done g may = go (thing_of (pic
         grown_socket comes a host h i after_close (λ c. record { told = []; accepted = []; ended = c }) refl
         (owner_of (pick a host).body h (EndpointAt i) is).0 g (λ e at. grows_close (comes (name host i)) e (g i e at))
 grown_call p comes a host (calls.Abort h) answers.Done g may = let b = (pick a host).body in
-    map_or_cases (λ (x : HostTcp). Grown comes host silent b.endpoints x.endpoints) (thing_of b h) b
-    (λ thing. record (thing_gone b thing after_abort) { sockets = dead b.sockets h })
+    map_or_cases (λ (x : HostTcp). Grown comes host silent b.endpoints x.endpoints) (socket_target b h) b
+    (λ target. record (target_gone b target after_abort) { sockets = dead b.sockets h })
     (λ e. grown_not comes host silent b.endpoints (λ i. refl) g)
-    (λ thing e. go thing)
+    (λ target e. go target)
   where
-    go : (thing : SocketTarget) → Grown comes host silent (pick a host).body.endpoints (thing_gone (pick a host).body thing after_abort).endpoints
+    go : (target : SocketTarget) → Grown comes host silent (pick a host).body.endpoints (target_gone (pick a host).body target after_abort).endpoints
     go (ListenerAt l) = grown_listener comes host (pick a host).body l g
     go (EndpointAt i) = grown_plain comes host (pick a host).body.endpoints i after_abort g (λ e. record { stream = refl; irs = refl; waits = λ x. absurd cc })
 grown_call p comes a host call answer g may = grown_not comes host silent (pick a host).body.endpoints (λ i. refl) g
@@ -367,28 +367,28 @@ keeps_abort e = record { peer = refl; taken = refl; snd_una = refl; waits = λ x
 
 moves_change : (a : Hosts) (host : Host) (b : HostTcp) (n : ℕ) (f : Endpoint → Endpoint) → GoodEnds a host b.endpoints
     → ((e : Endpoint) → KeepsPeer e (f e))
-    → Moves a host b.endpoints (option_map_or (change_thing b f) (thing_of b n) b).endpoints
+    → Moves a host b.endpoints (option_map_or (change_target b f) (socket_target b n) b).endpoints
 moves_change a host b n f g keeps =
-    map_or_cases (λ (x : HostTcp). Moves a host b.endpoints x.endpoints) (thing_of b n) b (change_thing b f)
-    (λ e. moves_not a host b.endpoints g) (λ thing e. go thing)
+    map_or_cases (λ (x : HostTcp). Moves a host b.endpoints x.endpoints) (socket_target b n) b (change_target b f)
+    (λ e. moves_not a host b.endpoints g) (λ target e. go target)
   where
-    go : (thing : SocketTarget) → Moves a host b.endpoints (change_thing b f thing).endpoints
+    go : (target : SocketTarget) → Moves a host b.endpoints (change_target b f target).endpoints
     go (ListenerAt l) = moves_not a host b.endpoints g
     go (EndpointAt i) = moves_keeps a host b.endpoints i f g keeps
 
 moves_gone : (a : Hosts) (host : Host) (b : HostTcp) (n : ℕ) (f : Endpoint → Endpoint) → GoodEnds a host b.endpoints → ((e : Endpoint) → KeepsPeer e (f e))
-    → Moves a host b.endpoints (option_map_or (λ thing. record (thing_gone b thing f) { sockets = dead b.sockets n }) (thing_of b n) b).endpoints
+    → Moves a host b.endpoints (option_map_or (λ target. record (target_gone b target f) { sockets = dead b.sockets n }) (socket_target b n) b).endpoints
 moves_gone a host b n f g keeps =
-    map_or_cases (λ (x : HostTcp). Moves a host b.endpoints x.endpoints) (thing_of b n) b
-    (λ thing. record (thing_gone b thing f) { sockets = dead b.sockets n }) (λ e. moves_not a host b.endpoints g)
-    (λ thing e. go thing)
+    map_or_cases (λ (x : HostTcp). Moves a host b.endpoints x.endpoints) (socket_target b n) b
+    (λ target. record (target_gone b target f) { sockets = dead b.sockets n }) (λ e. moves_not a host b.endpoints g)
+    (λ target e. go target)
   where
-    go : (thing : SocketTarget) → Moves a host b.endpoints (thing_gone b thing f).endpoints
+    go : (target : SocketTarget) → Moves a host b.endpoints (target_gone b target f).endpoints
     go (ListenerAt l) = moves_map a host b.endpoints (orphaned l) g (λ e. plain_keeps e (orphaned l e) (plain_orphan l e))
     go (EndpointAt i) = moves_keeps a host b.endpoints i f g keeps
 
-moves_accept : (a : Hosts) (host : Host) (b : HostTcp) (n : ℕ) (thing : SocketTarget) → GoodEnds a host b.endpoints
-    → Moves a host b.endpoints (after_accept b n thing).endpoints
+moves_accept : (a : Hosts) (host : Host) (b : HostTcp) (n : ℕ) (target : SocketTarget) → GoodEnds a host b.endpoints
+    → Moves a host b.endpoints (after_accept b n target).endpoints
 moves_accept a host b n (EndpointAt i) g = moves_not a host b.endpoints g
 moves_accept a host b n (ListenerAt l) g = go (queue_of b l)
   where
@@ -413,8 +413,8 @@ moves_call p a host b (calls.Listen at port backlog) (answers.Given n) g = moves
 moves_call p a host b (calls.Connect at lport rport) (answers.Given n) g =
     moves_push a host b.endpoints (new_endpoint lport rport None states.SynSent p) g (fresh_endpoint p a _ lport rport)
 moves_call p a host b (calls.Accept h) (answers.Given n) g =
-    map_or_cases (λ (x : HostTcp). Moves a host b.endpoints x.endpoints) (thing_of b h) b (after_accept b n)
-    (λ e. moves_not a host b.endpoints g) (λ thing e. moves_accept a host b n thing g)
+    map_or_cases (λ (x : HostTcp). Moves a host b.endpoints x.endpoints) (socket_target b h) b (after_accept b n)
+    (λ e. moves_not a host b.endpoints g) (λ target e. moves_accept a host b n target g)
 moves_call p a host b (calls.Send h bytes) (answers.Given n) g =
     moves_change a host b h (after_send bytes n) g (λ e. record { peer = refl; taken = refl; snd_una = refl; waits = λ x. x })
 moves_call p a host b (calls.Recv h most) (answers.Bytes bytes) g =

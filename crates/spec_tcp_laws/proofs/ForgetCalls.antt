@@ -14,10 +14,10 @@ use Rattle.spec_tcp.specs.declared.endpoint.Endpoint.{Endpoint}
 use Rattle.spec_tcp.specs.declared.endpoint.SocketTarget.{SocketTarget}
 use Rattle.spec_tcp.specs.declared.endpoint.SocketTarget.TheVariants.{ListenerAt, EndpointAt}
 use Rattle.spec_tcp.specs.Endpoints.{new_endpoint}
-use Rattle.spec_tcp.specs.HostTcp.{HostTcp, endpoint_of, is_connected, queue_of, thing_of, dead}
+use Rattle.spec_tcp.specs.HostTcp.{HostTcp, endpoint_of, is_connected, queue_of, socket_target, dead}
 use Rattle.case_forms.specs.States.{is_closed}
-use Rattle.spec_tcp.specs.Calls.Close.{shut_allows, orphaned, thing_gone, after_gone, after_shut, after_close, after_abort}
-use Rattle.spec_tcp.specs.Calls.{endpoint_allows, thing_allows, socket_allows, gives_or_in_use, is_bad_socket, call_allows, change_thing, change, after_call}
+use Rattle.spec_tcp.specs.Calls.Close.{shut_allows, orphaned, target_gone, after_gone, after_shut, after_close, after_abort}
+use Rattle.spec_tcp.specs.Calls.{endpoint_allows, target_allows, socket_allows, gives_or_in_use, is_bad_socket, call_allows, change_target, change, after_call}
 use Rattle.spec_tcp.specs.Calls.Send.{after_send}
 use Rattle.spec_tcp.specs.Calls.Receive.{after_recv}
 use Rattle.spec_tcp.specs.Calls.Accept.{accepted_from, after_accept}
@@ -41,22 +41,22 @@ endpoint_allows-forget (calls.Close n) answers.Done e = refl
 endpoint_allows-forget (calls.Abort n) answers.Done e = refl
 endpoint_allows-forget _ _ e = refl
 
-thing-forget : (b : HostTcp) (call : Call) (answer : Answer) (thing : SocketTarget)
-    → thing_allows (forget_body b) call answer thing ≡ thing_allows b call answer thing
-thing-forget b call answer (ListenerAt l) = refl
-thing-forget b call answer (EndpointAt i) =
+target-forget : (b : HostTcp) (call : Call) (answer : Answer) (target : SocketTarget)
+    → target_allows (forget_body b) call answer target ≡ target_allows b call answer target
+target-forget b call answer (ListenerAt l) = refl
+target-forget b call answer (EndpointAt i) =
     rw (slice_get-map forget_endpoint b.endpoints i)
     (each-forget (λ e. endpoint_allows e call answer) (λ e. endpoint_allows e call answer)
     (slice_get b.endpoints i) false (endpoint_allows-forget call answer))
 
 socket-forget : (b : HostTcp) (n : ℕ) (call : Call) (answer : Answer) → socket_allows (forget_body b) n call answer ≡ socket_allows b n call answer
-socket-forget b n call answer = by (thing_of b n)
+socket-forget b n call answer = by (socket_target b n)
   where
     by : (o : Option SocketTarget)
-        → option_map_or (thing_allows (forget_body b) call answer) o (is_bad_socket answer)
-        ≡ option_map_or (thing_allows b call answer) o (is_bad_socket answer)
+        → option_map_or (target_allows (forget_body b) call answer) o (is_bad_socket answer)
+        ≡ option_map_or (target_allows b call answer) o (is_bad_socket answer)
     by None = refl
-    by (Some thing) = thing-forget b call answer thing
+    by (Some target) = target-forget b call answer target
 
 connected-forget : (b : HostTcp) (lport rport : ℕ) → is_connected (forget_body b) lport rport ≡ is_connected b lport rport
 connected-forget b lport rport =
@@ -77,22 +77,22 @@ call_allows-forget b (calls.Abort n) answer = socket-forget b n (calls.Abort n) 
 call_allows-forget b (calls.Status n) answer = socket-forget b n (calls.Status n) answer
 
 change-forgets : (b : HostTcp) (n : ℕ) (f : Endpoint → Endpoint) → Forgets f → forget_body (change (forget_body b) n f) ≡ forget_body (change b n f)
-change-forgets b n f same = by (thing_of b n)
+change-forgets b n f same = by (socket_target b n)
   where
     by : (o : Option SocketTarget)
-        → forget_body (option_map_or (change_thing (forget_body b) f) o (forget_body b))
-        ≡ forget_body (option_map_or (change_thing b f) o b)
+        → forget_body (option_map_or (change_target (forget_body b) f) o (forget_body b))
+        ≡ forget_body (option_map_or (change_target b f) o b)
     by None = body-forget b
     by (Some (ListenerAt l)) = body-forget b
     by (Some (EndpointAt i)) = place-forgets b i f same
 
 gone-forgets : (b : HostTcp) (n : ℕ) (f : Endpoint → Endpoint) → Forgets f → forget_body (after_gone (forget_body b) n f) ≡ forget_body (after_gone b n f)
-gone-forgets b n f same = by (thing_of b n)
+gone-forgets b n f same = by (socket_target b n)
   where
     by : (o : Option SocketTarget)
-        → forget_body (option_map_or (λ thing.
-        record (thing_gone (forget_body b) thing f) { sockets = dead b.sockets n }) o (forget_body b))
-        ≡ forget_body (option_map_or (λ thing. record (thing_gone b thing f) { sockets = dead b.sockets n }) o b)
+        → forget_body (option_map_or (λ target.
+        record (target_gone (forget_body b) target f) { sockets = dead b.sockets n }) o (forget_body b))
+        ≡ forget_body (option_map_or (λ target. record (target_gone b target f) { sockets = dead b.sockets n }) o b)
     by None = body-forget b
     by (Some (ListenerAt l)) = rw (map-forgets b.endpoints (orphaned l) (orphaned-forgets l)) refl
     by (Some (EndpointAt i)) = rw (modify-forgets b.endpoints i f same) refl
@@ -113,7 +113,7 @@ pub call-forgets : (p : Profile) (b : HostTcp) (call : Call) (answer : Answer)
 call-forgets p b (calls.Listen host port backlog) (answers.Given n) = rw (all-forget b.endpoints) refl
 call-forgets p b (calls.Connect host lport rport) (answers.Given n) =
     rw (length-map b.endpoints forget_endpoint, append-forgets b.endpoints (new_endpoint lport rport None states.SynSent p ∷ [])) refl
-call-forgets p b (calls.Accept h) (answers.Given n) = accept-forgets b n (thing_of b h)
+call-forgets p b (calls.Accept h) (answers.Given n) = accept-forgets b n (socket_target b h)
 call-forgets p b (calls.Send h bytes) (answers.Given n) = change-forgets b h (after_send bytes n) (send-forgets bytes n)
 call-forgets p b (calls.Recv h most) (answers.Bytes bytes) = change-forgets b h (after_recv bytes) (recv-forgets bytes)
 call-forgets p b (calls.Shut h) answers.Done = change-forgets b h after_shut shut-forgets

@@ -9,11 +9,11 @@ use Rattle.case_forms.specs.declared.trace.Header.{Header}
 use Rattle.verdict.specs.declared.rule.Rule.TheVariants as rules
 use Rattle.verdict.specs.Rules.{first_broken}
 use Rattle.spec_network.specs.Tables.{Both, pick, on, Made, waiting, settled}
-use Rattle.spec_network.specs.Hosts.{Aim, ThatHost, ThatSocket, HostState, Turn, Idle, Called, Answered, World, Deed}
+use Rattle.spec_network.specs.Hosts.{Aim, ThatHost, ThatSocket, HostState, Turn, Idle, Called, Answered, World, HostStep}
 use Rattle.spec_network.specs.Hosts.{Does, Expires, Makes, Sends, Gets, Hears, Takes, Drops, Answers, Step, Begin}
 use Rattle.spec_network.specs.Hosts.{Finish, Effect, At, turn_of}
-use Rattle.spec_network.specs.HostRules.{just, deed_rules, aim_of, fresh_rules, call_rules, effect_rules, step_rules, Permitted}
-use Rattle.spec_network.specs.HostSteps.{act_made, deed_after, call_after, effect_after, after, made_gone_out, wire_after, inbox_after, inbox_settled}
+use Rattle.spec_network.specs.HostRules.{just, host_step_rules, aim_of, fresh_rules, call_rules, effect_rules, step_rules, Permitted}
+use Rattle.spec_network.specs.HostSteps.{act_made, host_step_after, call_after, effect_after, after, made_gone_out, wire_after, inbox_after, inbox_settled}
 use Rattle.spec_tcp.specs.declared.endpoint.Emission.{Emission}
 use Rattle.spec_tcp.specs.Machine.{Act, aim, gives, tcp, tcp_shape}
 use Rattle.spec_tcp.specs.Machine as acts
@@ -32,21 +32,21 @@ on-same : {A B : Type 0} (o : Option A) (none : B) (f g : A → B) → ((x : A) 
 on-same None none f g same = refl
 on-same (Some x) none f g same = same x
 
-deed_rules-forget : (h : Header) (me : Host) (moment : ℕ) (far : List (ℕ × Emission)) (s : HostState tcp_shape) (d : Deed tcp_shape)
-    → deed_rules (tcp h) me moment far (forget_host s) d ≡ deed_rules (tcp h) me moment far s d
-deed_rules-forget h me moment far s (Does x) = act_rules-forget h me moment s.body (acts.Recovers x)
-deed_rules-forget h me moment far s (Expires line x) = act_rules-forget h me moment s.body (acts.Expires x)
-deed_rules-forget h me moment far s (Makes x) = act_rules-forget h me moment s.body (acts.Makes x)
-deed_rules-forget h me moment far s (Sends line number wire) = refl
-deed_rules-forget h me moment far s (Gets line copied wire) = refl
-deed_rules-forget h me moment far s (Hears line wire) = refl
-deed_rules-forget h me moment far s (Takes line how) =
+host_step_rules-forget : (h : Header) (me : Host) (moment : ℕ) (far : List (ℕ × Emission)) (s : HostState tcp_shape) (d : HostStep tcp_shape)
+    → host_step_rules (tcp h) me moment far (forget_host s) d ≡ host_step_rules (tcp h) me moment far s d
+host_step_rules-forget h me moment far s (Does x) = act_rules-forget h me moment s.body (acts.Recovers x)
+host_step_rules-forget h me moment far s (Expires line x) = act_rules-forget h me moment s.body (acts.Expires x)
+host_step_rules-forget h me moment far s (Makes x) = act_rules-forget h me moment s.body (acts.Makes x)
+host_step_rules-forget h me moment far s (Sends line number wire) = refl
+host_step_rules-forget h me moment far s (Gets line copied wire) = refl
+host_step_rules-forget h me moment far s (Hears line wire) = refl
+host_step_rules-forget h me moment far s (Takes line how) =
     on-same (waiting line s.inbox) (just rules.Inbox true)
     (λ e. acts.act_rules h me moment (forget_body s.body) (acts.Takes how e))
     (λ e. acts.act_rules h me moment s.body (acts.Takes how e))
     (λ e. act_rules-forget h me moment s.body (acts.Takes how e))
-deed_rules-forget h me moment far s (Drops line) = refl
-deed_rules-forget h me moment far s (Answers line) =
+host_step_rules-forget h me moment far s (Drops line) = refl
+host_step_rules-forget h me moment far s (Answers line) =
     on-same (waiting line s.inbox) (just rules.Inbox true)
     (λ e. acts.act_rules h me moment (forget_body s.body) (acts.Resets e))
     (λ e. acts.act_rules h me moment s.body (acts.Resets e))
@@ -88,28 +88,28 @@ pub step_rules-forget : (h : Header) (moment : ℕ) (w : World tcp_shape) (step 
 step_rules-forget h moment w (Begin line t call) = refl
 step_rules-forget h moment w (Finish line t answer) = refl
 step_rules-forget h moment w (Effect t answer) = effect_rules-forget h moment w.hosts (turn_of t w.threads) answer
-step_rules-forget h moment w (At Zero d) = deed_rules-forget h Zero moment w.hosts.one.wire w.hosts.zero d
-step_rules-forget h moment w (At One d) = deed_rules-forget h One moment w.hosts.zero.wire w.hosts.one d
+step_rules-forget h moment w (At Zero d) = host_step_rules-forget h Zero moment w.hosts.one.wire w.hosts.zero d
+step_rules-forget h moment w (At One d) = host_step_rules-forget h One moment w.hosts.zero.wire w.hosts.one d
 
 host-forget : (s : HostState tcp_shape) → forget_host (forget_host s) ≡ forget_host s
 host-forget s = rw (body-forget s.body) refl
 
--- where the deed changes no endpoint
+-- where the host's step changes no endpoint
 tables-forgets : (s : HostState tcp_shape) (made : List (ℕ × Made Emission)) (wire : List (ℕ × Emission)) (inbox : List (ℕ × Option Emission))
     → forget_host (record (forget_host s) { made = made; wire = wire; inbox = inbox }) ≡ forget_host (record s { made = made; wire = wire; inbox = inbox })
 tables-forgets s made wire inbox = rw (body-forget s.body) refl
 
-deed-forgets : (h : Header) (me : Host) (moment fresh : ℕ) (far : List (ℕ × Emission)) (s : HostState tcp_shape) (d : Deed tcp_shape)
-    → IfMaking d (first_broken (deed_rules (tcp h) me moment far s d) ≡ None)
-    → forget_host (deed_after (tcp h) me moment fresh far (forget_host s) d) ≡ forget_host (deed_after (tcp h) me moment fresh far s d)
-deed-forgets h me moment fresh far s (Does x) ok = rw (act-forgets h me moment s.body (acts.Recovers x)) refl
-deed-forgets h me moment fresh far s (Expires line x) ok = rw (act-forgets h me moment s.body (acts.Expires x)) refl
-deed-forgets h me moment fresh far s (Makes x) ok = rw (act-forgets h me moment s.body (acts.Makes x), makes-forget h me moment s.body x ok) refl
-deed-forgets h me moment fresh far s (Sends line number wire) ok =
+host_step-forgets : (h : Header) (me : Host) (moment fresh : ℕ) (far : List (ℕ × Emission)) (s : HostState tcp_shape) (d : HostStep tcp_shape)
+    → IfMaking d (first_broken (host_step_rules (tcp h) me moment far s d) ≡ None)
+    → forget_host (host_step_after (tcp h) me moment fresh far (forget_host s) d) ≡ forget_host (host_step_after (tcp h) me moment fresh far s d)
+host_step-forgets h me moment fresh far s (Does x) ok = rw (act-forgets h me moment s.body (acts.Recovers x)) refl
+host_step-forgets h me moment fresh far s (Expires line x) ok = rw (act-forgets h me moment s.body (acts.Expires x)) refl
+host_step-forgets h me moment fresh far s (Makes x) ok = rw (act-forgets h me moment s.body (acts.Makes x), makes-forget h me moment s.body x ok) refl
+host_step-forgets h me moment fresh far s (Sends line number wire) ok =
     tables-forgets s (made_gone_out number s.made) (wire_after wires.sent s.made line number wire moment s.wire) s.inbox
-deed-forgets h me moment fresh far s (Gets line copied wire) ok = tables-forgets s s.made s.wire (inbox_after far line copied s.inbox)
-deed-forgets h me moment fresh far s (Hears line wire) ok = tables-forgets s s.made s.wire (insert_entry nat_eq s.inbox line (Some (heard moment wire)))
-deed-forgets h me moment fresh far s (Takes line how) ok = by (waiting line s.inbox)
+host_step-forgets h me moment fresh far s (Gets line copied wire) ok = tables-forgets s s.made s.wire (inbox_after far line copied s.inbox)
+host_step-forgets h me moment fresh far s (Hears line wire) ok = tables-forgets s s.made s.wire (insert_entry nat_eq s.inbox line (Some (heard moment wire)))
+host_step-forgets h me moment fresh far s (Takes line how) ok = by (waiting line s.inbox)
   where
     after : HostState tcp_shape → Option Emission → HostState tcp_shape
     after s o = record s { body = on o s.body (λ e. acts.act_after h me moment s.body (acts.Takes how e)); inbox = on o s.inbox (λ e. settled line s.inbox) }
@@ -117,8 +117,8 @@ deed-forgets h me moment fresh far s (Takes line how) ok = by (waiting line s.in
     by : (o : Option Emission) → forget_host (after (forget_host s) o) ≡ forget_host (after s o)
     by None = host-forget s
     by (Some e) = rw (act-forgets h me moment s.body (acts.Takes how e)) refl
-deed-forgets h me moment fresh far s (Drops line) ok = tables-forgets s s.made s.wire (inbox_settled line s.inbox)
-deed-forgets h me moment fresh far s (Answers line) ok = by (waiting line s.inbox)
+host_step-forgets h me moment fresh far s (Drops line) ok = tables-forgets s s.made s.wire (inbox_settled line s.inbox)
+host_step-forgets h me moment fresh far s (Answers line) ok = by (waiting line s.inbox)
   where
     after : HostState tcp_shape → Option Emission → HostState tcp_shape
     after s o = record s {
@@ -155,8 +155,8 @@ pub after-forgets : (h : Header) (moment : ℕ) (w : World tcp_shape) (step : St
 after-forgets h moment w (Begin line t call) ok = turn-forgets w (insert_entry nat_eq w.threads t (Called call))
 after-forgets h moment w (Finish line t answer) ok = turn-forgets w (insert_entry nat_eq w.threads t Idle)
 after-forgets h moment w (Effect t answer) ok = effect-forgets h moment w t answer (turn_of t w.threads)
-after-forgets h moment w (At Zero d) ok = rw (deed-forgets h Zero moment (suc w.count) w.hosts.one.wire w.hosts.zero d ok, host-forget w.hosts.one) refl
-after-forgets h moment w (At One d) ok = rw (deed-forgets h One moment (suc w.count) w.hosts.zero.wire w.hosts.one d ok, host-forget w.hosts.zero) refl
+after-forgets h moment w (At Zero d) ok = rw (host_step-forgets h Zero moment (suc w.count) w.hosts.one.wire w.hosts.zero d ok, host-forget w.hosts.one) refl
+after-forgets h moment w (At One d) ok = rw (host_step-forgets h One moment (suc w.count) w.hosts.zero.wire w.hosts.one d ok, host-forget w.hosts.zero) refl
 
 -- forgetting leaves the tables as they stand
 tables-same : (v w : World tcp_shape) → forget v ≡ forget w → (host : Host) → SameTables (pick v.hosts host) (pick w.hosts host)
@@ -182,7 +182,7 @@ besides-same v w same =
     }
 
 -- a permitted step that makes a segment is permitted
-if_making : (d : Deed tcp_shape) (P : Type 0) → P → IfMaking d P
+if_making : (d : HostStep tcp_shape) (P : Type 0) → P → IfMaking d P
 if_making (Does x) P p = tt
 if_making (Expires line x) P p = tt
 if_making (Makes x) P p = p

@@ -15,14 +15,14 @@ use Rattle.window_rules.specs.declared.control.Profile.{Profile}
 use Rattle.spec_tcp.specs.declared.endpoint.Endpoint.{Endpoint}
 use Rattle.spec_tcp.specs.declared.endpoint.SocketTarget.{SocketTarget}
 use Rattle.spec_tcp.specs.declared.endpoint.SocketTarget.TheVariants.{EndpointAt, ListenerAt}
-use Rattle.spec_tcp.specs.Calls.{after_call, call_allows, change, change_thing, endpoint_allows, gives_or_in_use, is_bad_socket, socket_allows, thing_allows}
+use Rattle.spec_tcp.specs.Calls.{after_call, call_allows, change, change_target, endpoint_allows, gives_or_in_use, is_bad_socket, socket_allows, target_allows}
 use Rattle.spec_tcp.specs.Calls.Accept.{accepted_from, after_accept}
 use Rattle.spec_tcp.specs.Calls.Await.{await_allows}
-use Rattle.spec_tcp.specs.Calls.Close.{after_abort, after_close, after_gone, after_shut, orphaned, shut_allows, thing_gone}
+use Rattle.spec_tcp.specs.Calls.Close.{after_abort, after_close, after_gone, after_shut, orphaned, shut_allows, target_gone}
 use Rattle.spec_tcp.specs.Calls.Receive.{after_recv, recv_allows}
 use Rattle.spec_tcp.specs.Calls.Send.{after_send}
 use Rattle.spec_tcp.specs.Endpoints.{new_endpoint}
-use Rattle.spec_tcp.specs.HostTcp.{HostTcp, at_ports, dead, endpoint_of, has_ports, is_connected, last_from, place_of, queue_of, thing_of, with_endpoint}
+use Rattle.spec_tcp.specs.HostTcp.{HostTcp, at_ports, dead, endpoint_of, has_ports, is_connected, last_from, place_of, queue_of, socket_target, with_endpoint}
 use Rattle.spec_tcp_laws.specs.Judging.{body_by, endpoint_by}
 use Rattle.spec_tcp_laws.proofs.JudgedEffects.{Keeps, abort_kept, adopted_kept, close_kept, orphaned_kept, recv_kept, send_kept, shut_kept}
 
@@ -107,21 +107,22 @@ endpoint_allows_by p (calls.Close n) answers.Done e = refl
 endpoint_allows_by p (calls.Abort n) answers.Done e = refl
 endpoint_allows_by p _ _ e = refl
 
-thing_allows_by : (p : Profile) (b : HostTcp) (call : Call) (answer : Answer) (thing : SocketTarget)
-    → thing_allows (body_by p b) call answer thing ≡ thing_allows b call answer thing
-thing_allows_by p b call answer (ListenerAt l) = refl
-thing_allows_by p b call answer (EndpointAt i) =
+target_allows_by : (p : Profile) (b : HostTcp) (call : Call) (answer : Answer) (target : SocketTarget)
+    → target_allows (body_by p b) call answer target ≡ target_allows b call answer target
+target_allows_by p b call answer (ListenerAt l) = refl
+target_allows_by p b call answer (EndpointAt i) =
     rw (slice_get-map (endpoint_by p) b.endpoints i)
     (each_by p (λ e. endpoint_allows e call answer) (slice_get b.endpoints i) false (endpoint_allows_by p call answer))
 
 socket_allows_by : (p : Profile) (b : HostTcp) (n : ℕ) (call : Call) (answer : Answer)
     → socket_allows (body_by p b) n call answer ≡ socket_allows b n call answer
-socket_allows_by p b n call answer = by (thing_of b n)
+socket_allows_by p b n call answer = by (socket_target b n)
   where
     by : (o : Option SocketTarget)
-        → option_map_or (thing_allows (body_by p b) call answer) o (is_bad_socket answer) ≡ option_map_or (thing_allows b call answer) o (is_bad_socket answer)
+        → option_map_or (target_allows (body_by p b) call answer) o (is_bad_socket answer)
+        ≡ option_map_or (target_allows b call answer) o (is_bad_socket answer)
     by None = refl
-    by (Some thing) = thing_allows_by p b call answer thing
+    by (Some target) = target_allows_by p b call answer target
 
 connected_by : (p : Profile) (b : HostTcp) (lport rport : ℕ) → is_connected (body_by p b) lport rport ≡ is_connected b lport rport
 connected_by p b lport rport = rw (endpoint_of_by p b lport rport) (each_by p (λ e. not (is_closed e.state)) (endpoint_of b lport rport) false (λ e. refl))
@@ -140,21 +141,22 @@ call_allows_by p b (calls.Status n) answer = socket_allows_by p b n (calls.Statu
 
 -- effects
 change_kept : (p : Profile) (b : HostTcp) (n : ℕ) (f : Endpoint → Endpoint) → Keeps p f f → change (body_by p b) n f ≡ body_by p (change b n f)
-change_kept p b n f same = by (thing_of b n)
+change_kept p b n f same = by (socket_target b n)
   where
-    by : (o : Option SocketTarget) → option_map_or (change_thing (body_by p b) f) o (body_by p b) ≡ body_by p (option_map_or (change_thing b f) o b)
+    by : (o : Option SocketTarget) → option_map_or (change_target (body_by p b) f) o (body_by p b) ≡ body_by p (option_map_or (change_target b f) o b)
     by None = refl
     by (Some (ListenerAt l)) = refl
     by (Some (EndpointAt i)) = place_kept p b i f f same
 
 gone_kept : (p : Profile) (b : HostTcp) (n : ℕ) (f : Endpoint → Endpoint) → Keeps p f f → after_gone (body_by p b) n f ≡ body_by p (after_gone b n f)
-gone_kept p b n f same = by (thing_of b n)
+gone_kept p b n f same = by (socket_target b n)
   where
-    by : (o : Option SocketTarget) → option_map_or (λ thing. record (thing_gone (body_by p b) thing f) { sockets = dead b.sockets n }) o (body_by p b)
-        ≡ body_by p (option_map_or (λ thing. record (thing_gone b thing f) { sockets = dead b.sockets n }) o b)
+    by : (o : Option SocketTarget) → option_map_or (λ target. record (target_gone (body_by p b) target f) { sockets = dead b.sockets n }) o (body_by p b)
+        ≡ body_by p (option_map_or (λ target. record (target_gone b target f) { sockets = dead b.sockets n }) o b)
     by None = refl
     by (Some (ListenerAt l)) =
-        ap (λ es. record (thing_gone b (ListenerAt l) f) { endpoints = es; sockets = dead b.sockets n }) (map_by p b.endpoints (orphaned l) (orphaned_kept p l))
+        ap (λ es. record (target_gone b (ListenerAt l) f) { endpoints = es; sockets = dead b.sockets n })
+        (map_by p b.endpoints (orphaned l) (orphaned_kept p l))
     by (Some (EndpointAt i)) = ap (λ es. record b { endpoints = es; sockets = dead b.sockets n }) (modify_by p b.endpoints i f f same)
 
 accepted_kept : (p : Profile) (b : HostTcp) (l n : ℕ) (queue : List ℕ) → accepted_from (body_by p b) l n queue ≡ body_by p (accepted_from b l n queue)
@@ -176,7 +178,7 @@ call_kept p q b (calls.Connect host lport rport) (answers.Given n) =
     rw (length-map b.endpoints (endpoint_by p))
     (ap (λ es. record (after_call q b (calls.Connect host lport rport) (answers.Given n)) { endpoints = es })
     (append_by p b.endpoints (new_endpoint lport rport None states.SynSent q)))
-call_kept p q b (calls.Accept h) (answers.Given n) = accept_kept p b n (thing_of b h)
+call_kept p q b (calls.Accept h) (answers.Given n) = accept_kept p b n (socket_target b h)
 call_kept p q b (calls.Send h bytes) (answers.Given n) = change_kept p b h (after_send bytes n) (send_kept p bytes n)
 call_kept p q b (calls.Recv h most) (answers.Bytes bytes) = change_kept p b h (after_recv bytes) (recv_kept p bytes)
 call_kept p q b (calls.Shut h) answers.Done = change_kept p b h after_shut (shut_kept p)

@@ -12,9 +12,10 @@ use Rattle.verdict.specs.declared.rule.Rule.TheVariants as rules
 use Rattle.verdict.proofs.RuleLemmas.{first_broken-append_none, none_both}
 use Rattle.window_rules.specs.Judging.{JudgesAtMost}
 use Rattle.window_rules.specs.declared.control.Profile.{Profile}
-use Rattle.spec_network.specs.HostRules.{Permitted, aim_of, call_rules, deed_rules, fresh_rules, just, open_rules, pending_rules}
-use Rattle.spec_network.specs.HostSteps.{after, call_after, deed_after, effect_after, inbox_settled}
-use Rattle.spec_network.specs.Hosts.{Aim, Answered, Answers, At, Begin, Called, Deed, Does, Drops, Effect, Expires, Finish, Gets, Hears, HostState, Idle, Makes}
+use Rattle.spec_network.specs.HostRules.{Permitted, aim_of, call_rules, host_step_rules, fresh_rules, just, open_rules, pending_rules}
+use Rattle.spec_network.specs.HostSteps.{after, call_after, host_step_after, effect_after, inbox_settled}
+use Rattle.spec_network.specs.Hosts.{Aim, Answered, Answers, At, Begin, Called, HostStep, Does, Drops, Effect, Expires, Finish, Gets, Hears, HostState, Idle}
+use Rattle.spec_network.specs.Hosts.{Makes}
 use Rattle.spec_network.specs.Hosts.{Sends, Step, Takes, ThatHost, ThatSocket, Turn, World, turn_of}
 use Rattle.spec_network.specs.Tables.{Both, on, pick, waiting}
 use Rattle.spec_tcp.specs.HostTcp.{HostTcp}
@@ -42,21 +43,23 @@ both_pass xs ys zs passes passed = let parts = none_both xs ys passed in first_b
 abbrev pub hosts_by : Profile → Both (HostState tcp_shape) → Both (HostState tcp_shape)
 hosts_by p hosts = record { zero = host_by p hosts.zero; one = host_by p hosts.one }
 
-deed_passes : (p : Profile) (j : Judged) (h : Header) (me : Host) (moment : ℕ) (far : List (ℕ × Emission)) (s : HostState tcp_shape) (d : Deed tcp_shape)
+host_step_passes : (p : Profile) (j : Judged) (h : Header) (me : Host) (moment : ℕ) (far : List (ℕ × Emission)) (s : HostState tcp_shape)
+    (d : HostStep tcp_shape)
     → MayJudgeAll p s.body
-    → first_broken (deed_rules (tcp h) me moment far s d) ≡ None → first_broken (deed_rules (tcp (header_by j h)) me moment far (host_by p s) d) ≡ None
-deed_passes p j h me moment far s (Does x) may passed = act_passes p j h me moment s.body (acts.Recovers x) may passed
-deed_passes p j h me moment far s (Expires line x) may passed = act_passes p j h me moment s.body (acts.Expires x) may passed
-deed_passes p j h me moment far s (Makes x) may passed = act_passes p j h me moment s.body (acts.Makes x) may passed
-deed_passes p j h me moment far s (Sends line number wire) may passed = passed
-deed_passes p j h me moment far s (Gets line copied wire) may passed = passed
-deed_passes p j h me moment far s (Hears line wire) may passed = passed
-deed_passes p j h me moment far s (Takes line how) may passed =
+    → first_broken (host_step_rules (tcp h) me moment far s d) ≡ None
+    → first_broken (host_step_rules (tcp (header_by j h)) me moment far (host_by p s) d) ≡ None
+host_step_passes p j h me moment far s (Does x) may passed = act_passes p j h me moment s.body (acts.Recovers x) may passed
+host_step_passes p j h me moment far s (Expires line x) may passed = act_passes p j h me moment s.body (acts.Expires x) may passed
+host_step_passes p j h me moment far s (Makes x) may passed = act_passes p j h me moment s.body (acts.Makes x) may passed
+host_step_passes p j h me moment far s (Sends line number wire) may passed = passed
+host_step_passes p j h me moment far s (Gets line copied wire) may passed = passed
+host_step_passes p j h me moment far s (Hears line wire) may passed = passed
+host_step_passes p j h me moment far s (Takes line how) may passed =
     on_pass (waiting line s.inbox) (just rules.Inbox true) (λ e. acts.act_rules h me moment s.body (acts.Takes how e))
     (λ e. acts.act_rules (header_by j h) me moment (body_by p s.body) (acts.Takes how e))
     (λ e. act_passes p j h me moment s.body (acts.Takes how e) may) passed
-deed_passes p j h me moment far s (Drops line) may passed = passed
-deed_passes p j h me moment far s (Answers line) may passed =
+host_step_passes p j h me moment far s (Drops line) may passed = passed
+host_step_passes p j h me moment far s (Answers line) may passed =
     on_pass (waiting line s.inbox) (just rules.Inbox true) (λ e. acts.act_rules h me moment s.body (acts.Resets e))
     (λ e. acts.act_rules (header_by j h) me moment (body_by p s.body) (acts.Resets e))
     (λ e. act_passes p j h me moment s.body (acts.Resets e) may) passed
@@ -114,22 +117,22 @@ step_passes j h moment w (Effect t answer) le is passed =
     (open_rules (tcp (header_by j h)) moment (world_judged j h w).hosts (turn_of t w.threads) answer)
     (open_passes (profile_of (header_by j h)) j h moment w.hosts (turn_of t w.threads) answer (may_judge j h w le is)) passed
 step_passes j h moment w (At Zero d) le is passed =
-    deed_passes (profile_of (header_by j h)) j h Zero moment w.hosts.one.wire w.hosts.zero d (may_judge j h w le is Zero) passed
+    host_step_passes (profile_of (header_by j h)) j h Zero moment w.hosts.one.wire w.hosts.zero d (may_judge j h w le is Zero) passed
 step_passes j h moment w (At One d) le is passed =
-    deed_passes (profile_of (header_by j h)) j h One moment w.hosts.zero.wire w.hosts.one d (may_judge j h w le is One) passed
+    host_step_passes (profile_of (header_by j h)) j h One moment w.hosts.zero.wire w.hosts.one d (may_judge j h w le is One) passed
 
 -- what follows
-deed_kept : (j : Judged) (h : Header) (me : Host) (moment fresh : ℕ) (far : List (ℕ × Emission)) (s : HostState tcp_shape) (d : Deed tcp_shape)
-    → deed_after (tcp (header_by j h)) me moment fresh far (host_by (profile_of (header_by j h)) s) d
-    ≡ host_by (profile_of (header_by j h)) (deed_after (tcp h) me moment fresh far s d)
-deed_kept j h me moment fresh far s (Does x) = rw (act_kept j h me moment s.body (acts.Recovers x)) refl
-deed_kept j h me moment fresh far s (Expires line x) = rw (act_kept j h me moment s.body (acts.Expires x)) refl
-deed_kept j h me moment fresh far s (Makes x) =
+host_step_kept : (j : Judged) (h : Header) (me : Host) (moment fresh : ℕ) (far : List (ℕ × Emission)) (s : HostState tcp_shape) (d : HostStep tcp_shape)
+    → host_step_after (tcp (header_by j h)) me moment fresh far (host_by (profile_of (header_by j h)) s) d
+    ≡ host_by (profile_of (header_by j h)) (host_step_after (tcp h) me moment fresh far s d)
+host_step_kept j h me moment fresh far s (Does x) = rw (act_kept j h me moment s.body (acts.Recovers x)) refl
+host_step_kept j h me moment fresh far s (Expires line x) = rw (act_kept j h me moment s.body (acts.Expires x)) refl
+host_step_kept j h me moment fresh far s (Makes x) =
     rw (act_kept j h me moment s.body (acts.Makes x), makes_same (profile_of (header_by j h)) me s.body (acts.Makes x)) refl
-deed_kept j h me moment fresh far s (Sends line number wire) = refl
-deed_kept j h me moment fresh far s (Gets line copied wire) = refl
-deed_kept j h me moment fresh far s (Hears line wire) = refl
-deed_kept j h me moment fresh far s (Takes line how) =
+host_step_kept j h me moment fresh far s (Sends line number wire) = refl
+host_step_kept j h me moment fresh far s (Gets line copied wire) = refl
+host_step_kept j h me moment fresh far s (Hears line wire) = refl
+host_step_kept j h me moment fresh far s (Takes line how) =
     ap (λ (b : HostTcp). record s { body = b; inbox = inbox_settled line s.inbox }) (by (waiting line s.inbox))
   where
     by : (o : Option Emission)
@@ -138,9 +141,9 @@ deed_kept j h me moment fresh far s (Takes line how) =
         ≡ body_by (profile_of (header_by j h)) (on o s.body (λ e. acts.act_after h me moment s.body (acts.Takes how e)))
     by None = refl
     by (Some e) = act_kept j h me moment s.body (acts.Takes how e)
-deed_kept j h me moment fresh far s (Drops line) = refl
-deed_kept j h me moment fresh far s (Answers line) =
-    ap (λ (b : HostTcp). record (deed_after (tcp h) me moment fresh far s (Answers line)) { body = b }) (by (waiting line s.inbox))
+host_step_kept j h me moment fresh far s (Drops line) = refl
+host_step_kept j h me moment fresh far s (Answers line) =
+    ap (λ (b : HostTcp). record (host_step_after (tcp h) me moment fresh far s (Answers line)) { body = b }) (by (waiting line s.inbox))
   where
     by : (o : Option Emission)
         → on o (body_by (profile_of (header_by j h)) s.body) (λ e. body_by (profile_of (header_by j h)) s.body)
@@ -168,5 +171,5 @@ pub after_kept : (j : Judged) (h : Header) (moment : ℕ) (w : World tcp_shape) 
 after_kept j h moment w (Begin line t call) = refl
 after_kept j h moment w (Finish line t answer) = refl
 after_kept j h moment w (Effect t answer) = effect_kept j h moment w t answer (turn_of t w.threads)
-after_kept j h moment w (At Zero d) = rw (deed_kept j h Zero moment (suc w.count) w.hosts.one.wire w.hosts.zero d) refl
-after_kept j h moment w (At One d) = rw (deed_kept j h One moment (suc w.count) w.hosts.zero.wire w.hosts.one d) refl
+after_kept j h moment w (At Zero d) = rw (host_step_kept j h Zero moment (suc w.count) w.hosts.one.wire w.hosts.zero d) refl
+after_kept j h moment w (At One d) = rw (host_step_kept j h One moment (suc w.count) w.hosts.zero.wire w.hosts.one d) refl

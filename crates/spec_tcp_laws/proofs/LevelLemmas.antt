@@ -22,8 +22,8 @@ use Rattle.verdict.proofs.RuleLemmas.{none_all}
 use Rattle.window_rules.specs.Control.{counts_duplicates, greatest, may_recover}
 use Rattle.window_rules.specs.declared.control.Profile.{Profile}
 use Rattle.window_rules.specs.declared.control.Signal.{Signal}
-use Rattle.spec_network.specs.HostRules.{aim_of, call_rules, deed_rules, just, open_rules, pending_rules, step_rules}
-use Rattle.spec_network.specs.Hosts.{Answered, Answers, At, Begin, Called, Deed, Does, Drops, Effect, Expires, Finish, Gets, Hears, HostState, Idle, Makes}
+use Rattle.spec_network.specs.HostRules.{aim_of, call_rules, host_step_rules, just, open_rules, pending_rules, step_rules}
+use Rattle.spec_network.specs.Hosts.{Answered, Answers, At, Begin, Called, HostStep, Does, Drops, Effect, Expires, Finish, Gets, Hears, HostState, Idle, Makes}
 use Rattle.spec_network.specs.Hosts.{Sends, Step, Takes, Turn, World, turn_of}
 use Rattle.spec_network.specs.Tables.{Both, on, waiting}
 use Rattle.spec_tcp.specs.Arrives.{AtEndpoint, AtListener, Nobody, Taker, taker, taker_rules}
@@ -115,19 +115,20 @@ on_alike : {A : Type 0} (o : Option A) (none : List (Rule × Bool)) (f g : A →
 on_alike None none f g same = refl
 on_alike (Some x) none f g same = same x
 
-deed_alike : (p : Profile) (j : Judged) (h : Header) (me : Host) (moment : ℕ) (far : List (ℕ × Emission)) (s : HostState tcp_shape) (d : Deed tcp_shape)
-    → Alike (deed_rules (tcp (header_by j h)) me moment far (host_by p s) d) (deed_rules (tcp h) me moment far s d)
-deed_alike p j h me moment far s (Does x) = act_alike p j h me moment s.body (acts.Recovers x)
-deed_alike p j h me moment far s (Expires line x) = act_alike p j h me moment s.body (acts.Expires x)
-deed_alike p j h me moment far s (Makes x) = act_alike p j h me moment s.body (acts.Makes x)
-deed_alike p j h me moment far s (Sends line number wire) = refl
-deed_alike p j h me moment far s (Gets line copied wire) = refl
-deed_alike p j h me moment far s (Hears line wire) = refl
-deed_alike p j h me moment far s (Takes line how) =
+host_step_alike : (p : Profile) (j : Judged) (h : Header) (me : Host) (moment : ℕ) (far : List (ℕ × Emission)) (s : HostState tcp_shape)
+    (d : HostStep tcp_shape)
+    → Alike (host_step_rules (tcp (header_by j h)) me moment far (host_by p s) d) (host_step_rules (tcp h) me moment far s d)
+host_step_alike p j h me moment far s (Does x) = act_alike p j h me moment s.body (acts.Recovers x)
+host_step_alike p j h me moment far s (Expires line x) = act_alike p j h me moment s.body (acts.Expires x)
+host_step_alike p j h me moment far s (Makes x) = act_alike p j h me moment s.body (acts.Makes x)
+host_step_alike p j h me moment far s (Sends line number wire) = refl
+host_step_alike p j h me moment far s (Gets line copied wire) = refl
+host_step_alike p j h me moment far s (Hears line wire) = refl
+host_step_alike p j h me moment far s (Takes line how) =
     on_alike (waiting line s.inbox) (just rules.Inbox true) (λ e. act_rules h me moment s.body (acts.Takes how e))
     (λ e. act_rules (header_by j h) me moment (body_by p s.body) (acts.Takes how e)) (λ e. act_alike p j h me moment s.body (acts.Takes how e))
-deed_alike p j h me moment far s (Drops line) = refl
-deed_alike p j h me moment far s (Answers line) =
+host_step_alike p j h me moment far s (Drops line) = refl
+host_step_alike p j h me moment far s (Answers line) =
     on_alike (waiting line s.inbox) (just rules.Inbox true) (λ e. act_rules h me moment s.body (acts.Resets e))
     (λ e. act_rules (header_by j h) me moment (body_by p s.body) (acts.Resets e)) (λ e. act_alike p j h me moment s.body (acts.Resets e))
 
@@ -153,8 +154,8 @@ step_alike p j h moment w (Begin line t call) = refl
 step_alike p j h moment w (Finish line t answer) = refl
 step_alike p j h moment w (Effect t answer) =
     ap (λ (xs : List (Rule × Bool)). other_rules (pending_rules (turn_of t w.threads) ++ xs)) (open_same p j h moment w.hosts (turn_of t w.threads) answer)
-step_alike p j h moment w (At Zero d) = deed_alike p j h Zero moment w.hosts.one.wire w.hosts.zero d
-step_alike p j h moment w (At One d) = deed_alike p j h One moment w.hosts.zero.wire w.hosts.one d
+step_alike p j h moment w (At Zero d) = host_step_alike p j h Zero moment w.hosts.one.wire w.hosts.zero d
+step_alike p j h moment w (At One d) = host_step_alike p j h One moment w.hosts.zero.wire w.hosts.one d
 
 listener_alike : (p : Profile) (j : Judged) (h : Header) (me : Host) (moment : ℕ) (b : HostTcp) (how : TakeChoice) (m : Emission) (place : ℕ) (t : Taker)
     → t ≡ AtListener place → taker_rules (header_by j h) me (body_by p b) how m moment (taker_by p t) ≡ taker_rules h me b how m moment t

@@ -11,7 +11,7 @@ use Rattle.verdict.specs.Rules.{first_broken}
 use Rattle.spec_network.specs.Tables.{on, host_is}
 use Rattle.spec_network.specs.HostRules.{just}
 use Rattle.spec_tcp.specs.declared.endpoint.EndpointId.{EndpointId}
-use Rattle.spec_tcp.specs.Same.{same_name}
+use Rattle.spec_tcp.specs.Same.{same_endpoint}
 
 -- the thing is there, and the rules on it pass
 pub on_passes : {A : Type 0} (o : Option A) (r : Rule) (f : A → List (Rule × Bool))
@@ -110,7 +110,7 @@ host_same Zero One e = absurd cc
 host_same One Zero e = absurd cc
 host_same One One e = refl
 
-pub name_same : (a b : EndpointId) → same_name a b ≡ true → a ≡ b
+pub name_same : (a b : EndpointId) → same_endpoint a b ≡ true → a ≡ b
 name_same a b e =
     let parts = both_true (host_is a.host b.host) (a.number == b.number) e in
     let hosts : a.host ≡ b.host = host_same a.host b.host parts.0 in
@@ -118,11 +118,11 @@ name_same a b e =
     λ i. record { host = hosts i; number = numbers i }
 
 -- the one that is there has this name
-pub some_name : (p : Option EndpointId) (n : EndpointId) → option_map_or (λ q. same_name q n) p false ≡ true → p ≡ Some n
+pub some_name : (p : Option EndpointId) (n : EndpointId) → option_map_or (λ q. same_endpoint q n) p false ≡ true → p ≡ Some n
 some_name None n e = absurd cc
 some_name (Some p) n e = ap (λ (x : EndpointId). Some x) (name_same p n e)
 
 -- the one that is there, if one is, has this name
-pub any_name : (p : Option EndpointId) (n q : EndpointId) → option_map_or (λ r. same_name r n) p true ≡ true → p ≡ Some q → p ≡ Some n
+pub any_name : (p : Option EndpointId) (n q : EndpointId) → option_map_or (λ r. same_endpoint r n) p true ≡ true → p ≡ Some q → p ≡ Some n
 any_name None n q e f = absurd (none-some q f)
 any_name (Some p) n q e f = ap (λ (x : EndpointId). Some x) (name_same p n e)

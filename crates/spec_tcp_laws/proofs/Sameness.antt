@@ -11,7 +11,7 @@ use Rattle.case_forms.specs.declared.calls.State.{State}
 use Rattle.case_forms.specs.declared.calls.State.TheVariants as states
 use Rattle.spec_network.specs.Tables.{host_is}
 use Rattle.spec_tcp.specs.declared.endpoint.EndpointId.{EndpointId}
-use Rattle.spec_tcp.specs.Same.{same_answer, same_bool, same_bytes, same_name, same_state, same_word, state_place}
+use Rattle.spec_tcp.specs.Same.{same_answer, same_bool, same_bytes, same_endpoint, same_state, same_word, state_place}
 use Rattle.spec_tcp_laws.specs.Sameness.{SamenessIsEquality}
 
 -- a test that answers true of each value and itself tells every equality
@@ -107,12 +107,12 @@ host_same : (a : Host) → host_is a a ≡ true
 host_same Zero = refl
 host_same One = refl
 
-name_equal : (a b : EndpointId) → same_name a b ≡ true → a ≡ b
+name_equal : (a b : EndpointId) → same_endpoint a b ≡ true → a ≡ b
 name_equal a b same =
     let parts = both (host_is a.host b.host) (a.number == b.number) same in
     ap₂ (λ (host : Host) (number : ℕ). record { host = host; number = number }) (host_equal a.host b.host parts.0) (number_equal a.number b.number parts.1)
 
-name_same : (a : EndpointId) → same_name a a ≡ true
+name_same : (a : EndpointId) → same_endpoint a a ≡ true
 name_same a = rw (host_same a.host, number_same a.number) refl
 
 flag_equal : (a b : Bool) → same_bool a b ≡ true → a ≡ b
@@ -131,6 +131,6 @@ sameness = record {
   bytes = λ a b. (bytes_equal a b, of_equal (List ℕ) same_bytes bytes_same a b);
   states = λ a b. (state_equal a b, of_equal State same_state (λ s. number_same (state_place s)) a b);
   words = λ a b. (word_equal a b, of_equal Word same_word (λ w. number_same w.0) a b);
-  names = λ a b. (name_equal a b, of_equal EndpointId same_name name_same a b);
+  names = λ a b. (name_equal a b, of_equal EndpointId same_endpoint name_same a b);
   flags = λ a b. (flag_equal a b, of_equal Bool same_bool flag_same a b);
 }

@@ -108,13 +108,13 @@ keeps_at_ports b lport rport f g stay =
 
 -- what a number names after one was given
 pub owner_insert : (b : HostTcp) (n : ℕ) (s : Socket) (m : ℕ)
-    → option_map_or (λ x. endpoint_place x.thing) (lookup (nat_eq m) (insert_entry nat_eq b.sockets n s)) None
-    ≡ (if nat_eq m n then endpoint_place s.thing else owner b m)
-owner_insert b n s m = ap (λ (o : Option Socket). option_map_or (λ x. endpoint_place x.thing) o None) (lookup_insert m n s b.sockets) ∙ go (nat_eq m n)
+    → option_map_or (λ x. endpoint_place x.target) (lookup (nat_eq m) (insert_entry nat_eq b.sockets n s)) None
+    ≡ (if nat_eq m n then endpoint_place s.target else owner b m)
+owner_insert b n s m = ap (λ (o : Option Socket). option_map_or (λ x. endpoint_place x.target) o None) (lookup_insert m n s b.sockets) ∙ go (nat_eq m n)
   where
     go : (c : Bool)
-        → option_map_or (λ x. endpoint_place x.thing) (cond c (Some s) (lookup (nat_eq m) b.sockets)) None
-        ≡ (if c then endpoint_place s.thing else owner b m)
+        → option_map_or (λ x. endpoint_place x.target) (cond c (Some s) (lookup (nat_eq m) b.sockets)) None
+        ≡ (if c then endpoint_place s.target else owner b m)
     go true = refl
     go false = refl
 
@@ -131,7 +131,7 @@ given_insert sockets n s m e = go (nat_eq m n) refl (sym (ap is_some (lookup_ins
 pub owner_given : (b : HostTcp) (n i : ℕ) → owner b n ≡ Some i → given b n ≡ true
 owner_given b n i e = go (lookup (nat_eq n) b.sockets) e
   where
-    go : (o : Option Socket) → option_map_or (λ s. endpoint_place s.thing) o None ≡ Some i → is_some o ≡ true
+    go : (o : Option Socket) → option_map_or (λ s. endpoint_place s.target) o None ≡ Some i → is_some o ≡ true
     go None e = absurd (none-some i e)
     go (Some s) e = refl
 
@@ -141,25 +141,25 @@ not_owner b n i h e = true_false (owner_given b n i e) h
 
 -- a number that was given names what it named
 stays_given : (b : HostTcp) (n : ℕ) (s : Socket) (m i : ℕ) → given b n ≡ false → owner b m ≡ Some i
-    → (if nat_eq m n then endpoint_place s.thing else owner b m) ≡ Some i
+    → (if nat_eq m n then endpoint_place s.target else owner b m) ≡ Some i
 stays_given b n s m i new e = go (nat_eq m n) refl
   where
-    go : (c : Bool) → nat_eq m n ≡ c → (if c then endpoint_place s.thing else owner b m) ≡ Some i
+    go : (c : Bool) → nat_eq m n ≡ c → (if c then endpoint_place s.target else owner b m) ≡ Some i
     go true is = absurd (not_owner b n i new (subst (λ k. owner b k ≡ Some i) (number_same m n is) e))
     go false is = e
 
 -- closing a number leaves what it names
-pub dead_owner : (b : HostTcp) (n m : ℕ) → option_map_or (λ x. endpoint_place x.thing) (lookup (nat_eq m) (dead b.sockets n)) None ≡ owner b m
+pub dead_owner : (b : HostTcp) (n m : ℕ) → option_map_or (λ x. endpoint_place x.target) (lookup (nat_eq m) (dead b.sockets n)) None ≡ owner b m
 dead_owner b n m = go (lookup (nat_eq n) b.sockets) refl
   where
-    by : (s : Socket) (c : Bool) → lookup (nat_eq n) b.sockets ≡ Some s → nat_eq m n ≡ c → (if c then endpoint_place s.thing else owner b m) ≡ owner b m
+    by : (s : Socket) (c : Bool) → lookup (nat_eq n) b.sockets ≡ Some s → nat_eq m n ≡ c → (if c then endpoint_place s.target else owner b m) ≡ owner b m
     by s true at is =
-        sym (ap (λ (o : Option Socket). option_map_or (λ x. endpoint_place x.thing) o None)
+        sym (ap (λ (o : Option Socket). option_map_or (λ x. endpoint_place x.target) o None)
         (subst (λ k. lookup (nat_eq k) b.sockets ≡ Some s) (sym (number_same m n is)) at))
     by s false at is = refl
 
     go : (o : Option Socket) → lookup (nat_eq n) b.sockets ≡ o
-        → option_map_or (λ x. endpoint_place x.thing)
+        → option_map_or (λ x. endpoint_place x.target)
         (lookup (nat_eq m) (option_map_or
         (λ s. insert_entry nat_eq b.sockets n (record s { live = false })) o b.sockets)) None ≡ owner b m
     go None at = refl
@@ -183,9 +183,10 @@ pub keeps_listener : (b : HostTcp) (n l : ℕ) → Sound b → given b n ≡ fal
 keeps_listener b n l g new = record {
   sound =
       keeps_stay b (with_socket b n (ListenerAt l)) g (λ i e at. (e, at, stays_not e))
-      (λ m. owner_insert b n (record { thing = ListenerAt l; live = true }) m ∙ by m (nat_eq m n) refl) (λ k. refl);
-  stays = λ m i e. owner_insert b n (record { thing = ListenerAt l; live = true }) m ∙ stays_given b n (record { thing = ListenerAt l; live = true }) m i new e;
-  given = λ m e. given_insert b.sockets n (record { thing = ListenerAt l; live = true }) m e;
+      (λ m. owner_insert b n (record { target = ListenerAt l; live = true }) m ∙ by m (nat_eq m n) refl) (λ k. refl);
+  stays = λ m i e. owner_insert b n (record { target = ListenerAt l; live = true }) m
+      ∙ stays_given b n (record { target = ListenerAt l; live = true }) m i new e;
+  given = λ m e. given_insert b.sockets n (record { target = ListenerAt l; live = true }) m e;
 }
   where
     none : (o : Option ℕ) → ((i : ℕ) → o ≡ Some i → ⊥) → None ≡ o
@@ -212,7 +213,7 @@ keeps_socket b n j x g new at free bare = record {
 }
   where
     s : Socket
-    s = record { thing = EndpointAt j; live = true }
+    s = record { target = EndpointAt j; live = true }
 
     named : (m i : ℕ) (c : Bool) → nat_eq m n ≡ c → (if c then Some j else owner b m) ≡ Some i
         → (e : Endpoint) × (slice_get b.endpoints i ≡ Some e) × (e.listener ≡ None)

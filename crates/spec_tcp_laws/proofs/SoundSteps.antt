@@ -17,10 +17,10 @@ use Rattle.verdict.specs.Rules.{first_broken}
 use Rattle.verdict.proofs.RuleLemmas.{none_all}
 use Rattle.streams.specs.Lists.{modify}
 use Rattle.spec_network.specs.Tables.{pick, other, with_host, waiting}
-use Rattle.spec_network.specs.Hosts.{HostState, Turn, Idle, Called, Answered, World, Deed, Does, Expires, Makes, Sends}
+use Rattle.spec_network.specs.Hosts.{HostState, Turn, Idle, Called, Answered, World, HostStep, Does, Expires, Makes, Sends}
 use Rattle.spec_network.specs.Hosts.{Gets, Hears, Takes, Drops, Answers, Step, Begin, Finish, Effect, At, turn_of}
 use Rattle.spec_network.specs.HostRules.{aim_of, fresh_rules, effect_rules, Permitted}
-use Rattle.spec_network.specs.HostSteps.{deed_after, call_after, effect_after, after}
+use Rattle.spec_network.specs.HostSteps.{host_step_after, call_after, effect_after, after}
 use Rattle.window_rules.specs.declared.control.Profile.{Profile}
 use Rattle.spec_tcp.specs.Signals.{profile_of}
 use Rattle.spec_tcp.specs.declared.endpoint.Endpoint.{Endpoint}
@@ -28,13 +28,13 @@ use Rattle.spec_tcp.specs.declared.endpoint.Emission.{Emission}
 use Rattle.spec_tcp.specs.declared.endpoint.SocketTarget.{SocketTarget}
 use Rattle.spec_tcp.specs.declared.endpoint.SocketTarget.TheVariants.{ListenerAt, EndpointAt}
 use Rattle.spec_tcp.specs.Endpoints.{new_endpoint}
-use Rattle.spec_tcp.specs.HostTcp.{HostTcp, given, thing_of, queue_of, with_endpoint, dead}
+use Rattle.spec_tcp.specs.HostTcp.{HostTcp, given, socket_target, queue_of, with_endpoint, dead}
 use Rattle.case_forms.specs.States.{is_syn_sent, is_syn_received}
 use Rattle.spec_tcp.specs.Calls.Send.{after_send}
 use Rattle.spec_tcp.specs.Calls.Receive.{after_recv}
-use Rattle.spec_tcp.specs.Calls.Close.{shut_down, ended_state, after_shut, after_close, after_abort, orphaned, without_listener, thing_gone, after_gone}
+use Rattle.spec_tcp.specs.Calls.Close.{shut_down, ended_state, after_shut, after_close, after_abort, orphaned, without_listener, target_gone, after_gone}
 use Rattle.spec_tcp.specs.Calls.Accept.{accepted_from, after_accept}
-use Rattle.spec_tcp.specs.Calls.{change_thing, change, after_call}
+use Rattle.spec_tcp.specs.Calls.{change_target, change, after_call}
 use Rattle.case_forms.specs.declared.steps.SegmentPlan.{SegmentPlan}
 use Rattle.spec_tcp.specs.Makes.{endpoint_made, after_making}
 use Rattle.case_forms.specs.declared.steps.TakeChoice.{TakeChoice}
@@ -243,10 +243,10 @@ keeps_dead b c n g stay queues = record {
 
 keeps_gone : (b : HostTcp) (n : ℕ) (f : Endpoint → Endpoint) → ((e : Endpoint) → Stays e (f e)) → Sound b → Keeps b (after_gone b n f) None
 keeps_gone b n f stay g =
-    map_or_cases (λ (c : HostTcp). Keeps b c None) (thing_of b n) b
-    (λ thing. record (thing_gone b thing f) { sockets = dead b.sockets n }) (λ e. keeps_not b g) (λ thing e. go thing)
+    map_or_cases (λ (c : HostTcp). Keeps b c None) (socket_target b n) b
+    (λ target. record (target_gone b target f) { sockets = dead b.sockets n }) (λ e. keeps_not b g) (λ target e. go target)
   where
-    go : (thing : SocketTarget) → Keeps b (record (thing_gone b thing f) { sockets = dead b.sockets n }) None
+    go : (target : SocketTarget) → Keeps b (record (target_gone b target f) { sockets = dead b.sockets n }) None
     go (ListenerAt l) = keeps_dead b (without_listener b l) n g
         (stay_map (orphaned l) b.endpoints
         (λ e. stays_either (option_map_or (λ holder. holder == l) e.listener false) e (after_abort e) e
@@ -255,9 +255,10 @@ keeps_gone b n f stay g =
     go (EndpointAt i) = keeps_dead b (with_endpoint b i f) n g (stay_modify f b.endpoints i (λ e at. stay e)) (λ k. refl)
 
 keeps_change : (b : HostTcp) (n : ℕ) (f : Endpoint → Endpoint) → ((e : Endpoint) → Stays e (f e)) → Sound b → Keeps b (change b n f) None
-keeps_change b n f stay g = map_or_cases (λ (c : HostTcp). Keeps b c None) (thing_of b n) b (change_thing b f) (λ e. keeps_not b g) (λ thing e. go thing)
+keeps_change b n f stay g =
+    map_or_cases (λ (c : HostTcp). Keeps b c None) (socket_target b n) b (change_target b f) (λ e. keeps_not b g) (λ target e. go target)
   where
-    go : (thing : SocketTarget) → Keeps b (change_thing b f thing) None
+    go : (target : SocketTarget) → Keeps b (change_target b f target) None
     go (ListenerAt l) = keeps_not b g
     go (EndpointAt i) = keeps_endpoints b (modify b.endpoints i f) g (stay_modify f b.endpoints i (λ e at. stay e))
 
@@ -265,7 +266,7 @@ get_push : (xs : List Endpoint) (y : Endpoint) → slice_get (xs ++ y ∷ []) (l
 get_push [] y = refl
 get_push (x ∷ xs) y = get_push xs y
 
-keeps_accept : (b : HostTcp) (n : ℕ) (thing : SocketTarget) → Sound b → given b n ≡ false → Keeps b (after_accept b n thing) (Some n)
+keeps_accept : (b : HostTcp) (n : ℕ) (target : SocketTarget) → Sound b → given b n ≡ false → Keeps b (after_accept b n target) (Some n)
 keeps_accept b n (EndpointAt i) g new = keeps_same b (Some n) g
 keeps_accept b n (ListenerAt l) g new = go (queue_of b l) refl
   where
@@ -293,8 +294,8 @@ keeps_call p b (calls.Connect host lport rport) (answers.Given n) g new =
     (λ m own. let y = g.named m (length b.endpoints) own in let within = slice_get_within b.endpoints (length b.endpoints) y.0 y.1 in omega arith) in
     record { sound = x.sound; stays = x.stays; given = x.given }
 keeps_call p b (calls.Accept h) (answers.Given n) g new =
-    map_or_cases (λ (c : HostTcp). Keeps b c (Some n)) (thing_of b h) b (after_accept b n)
-    (λ e. keeps_same b (Some n) g) (λ thing e. keeps_accept b n thing g (new n refl))
+    map_or_cases (λ (c : HostTcp). Keeps b c (Some n)) (socket_target b h) b (after_accept b n)
+    (λ e. keeps_same b (Some n) g) (λ target e. keeps_accept b n target g (new n refl))
 keeps_call p b (calls.Send h bytes) (answers.Given n) g new = keeps_change b h (after_send bytes n) (λ e. record { listener = refl; late = λ x. x }) g
 keeps_call p b (calls.Recv h most) (answers.Bytes bytes) g new = keeps_change b h (after_recv bytes) (λ e. record { listener = refl; late = λ x. x }) g
 keeps_call p b (calls.Shut h) answers.Done g new = keeps_change b h after_shut stays_shut g
@@ -304,24 +305,24 @@ keeps_call p b call answer g new = keeps_same b (gives call answer) g
 
 -- 3. steps
 
-keeps_deed : (h : Header) (s : ℕ) (w : World tcp_shape) (host : Host) (d : Deed tcp_shape)
+keeps_host_step : (h : Header) (s : ℕ) (w : World tcp_shape) (host : Host) (d : HostStep tcp_shape)
     → Sound (pick w.hosts host).body
     → Keeps (pick w.hosts host).body
-    (deed_after (tcp h) host s (suc w.count) (pick w.hosts (other host)).wire (pick w.hosts host) d).body None
-keeps_deed h s w host (Does x) g =
+    (host_step_after (tcp h) host s (suc w.count) (pick w.hosts (other host)).wire (pick w.hosts host) d).body None
+keeps_host_step h s w host (Does x) g =
     keeps_at_ports (pick w.hosts host).body x.lport x.rport (λ e. after_recovery e x.cwnd x.ssthresh s) g (λ e. record { listener = refl; late = λ y. y })
-keeps_deed h s w host (Expires line x) g =
+keeps_host_step h s w host (Expires line x) g =
     keeps_at_ports (pick w.hosts host).body x.lport x.rport (λ e. after_expiry e x.expired s) g
     (λ e. stays_expiry e x.expired s)
-keeps_deed h s w host (Makes m) g = keeps_at_ports (pick w.hosts host).body m.lport m.rport (λ e. after_making e m s) g (λ e. stays_making e m s)
-keeps_deed h s w host (Sends line number wire) g = keeps_not (pick w.hosts host).body g
-keeps_deed h s w host (Gets line copied wire) g = keeps_not (pick w.hosts host).body g
-keeps_deed h s w host (Hears line wire) g = keeps_not (pick w.hosts host).body g
-keeps_deed h s w host (Takes line how) g = let k = pick w.hosts host in
+keeps_host_step h s w host (Makes m) g = keeps_at_ports (pick w.hosts host).body m.lport m.rport (λ e. after_making e m s) g (λ e. stays_making e m s)
+keeps_host_step h s w host (Sends line number wire) g = keeps_not (pick w.hosts host).body g
+keeps_host_step h s w host (Gets line copied wire) g = keeps_not (pick w.hosts host).body g
+keeps_host_step h s w host (Hears line wire) g = keeps_not (pick w.hosts host).body g
+keeps_host_step h s w host (Takes line how) g = let k = pick w.hosts host in
     on_cases (λ (b : HostTcp). Keeps k.body b None) (waiting line k.inbox) k.body _ (keeps_not k.body g)
     (λ m e. keeps_taking h k.body how m s g)
-keeps_deed h s w host (Drops line) g = keeps_not (pick w.hosts host).body g
-keeps_deed h s w host (Answers line) g = let k = pick w.hosts host in
+keeps_host_step h s w host (Drops line) g = keeps_not (pick w.hosts host).body g
+keeps_host_step h s w host (Answers line) g = let k = pick w.hosts host in
     on_cases (λ (b : HostTcp). Keeps k.body b None) (waiting line k.inbox) k.body _ (keeps_not k.body g)
     (λ m e. keeps_not k.body g)
 
@@ -394,5 +395,5 @@ sound_step h s w (Begin line t call) g apart may = sound_not w.hosts g apart
 sound_step h s w (Finish line t answer) g apart may = sound_not w.hosts g apart
 sound_step h s w (Effect t answer) g apart may = sound_effect h s w t answer g apart may
 sound_step h s w (At host d) g apart may =
-    sound_host w.hosts host (deed_after (tcp h) host s (suc w.count) (pick w.hosts (other host)).wire
-    (pick w.hosts host) d) None g apart (λ n e. absurd (none-some n e)) (keeps_deed h s w host d (g host))
+    sound_host w.hosts host (host_step_after (tcp h) host s (suc w.count) (pick w.hosts (other host)).wire
+    (pick w.hosts host) d) None g apart (λ n e. absurd (none-some n e)) (keeps_host_step h s w host d (g host))

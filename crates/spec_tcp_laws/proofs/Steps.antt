@@ -17,17 +17,17 @@ use Rattle.verdict.specs.declared.rule.Rule.TheVariants as rules
 use Rattle.verdict.specs.Rules.{first_broken}
 use Rattle.verdict.proofs.RuleLemmas.{none_all, none_both}
 use Rattle.spec_network.specs.Tables.{pick, other, with_host, on, Made, unsent, gone_out, waiting, settled}
-use Rattle.spec_network.specs.Hosts.{HostState, Turn, Idle, Called, Answered, World, Deed, Does, Expires, Makes, Sends}
+use Rattle.spec_network.specs.Hosts.{HostState, Turn, Idle, Called, Answered, World, HostStep, Does, Expires, Makes, Sends}
 use Rattle.spec_network.specs.Hosts.{Gets, Hears, Takes, Drops, Answers, Step, Begin, Finish, Effect, At, turn_of}
 use Rattle.spec_network.specs.HostRules.{aim_of, just, fresh_rules, call_rules, effect_rules, Permitted}
-use Rattle.spec_network.specs.HostSteps.{deed_after, call_after, effect_after, after}
+use Rattle.spec_network.specs.HostSteps.{host_step_after, call_after, effect_after, after}
 use Rattle.window_rules.specs.declared.control.Profile.{Profile}
 use Rattle.spec_tcp.specs.Signals.{profile_of}
 use Rattle.spec_tcp.specs.declared.endpoint.EndpointId.{EndpointId}
 use Rattle.spec_tcp.specs.declared.endpoint.Emission.{Emission}
 use Rattle.spec_tcp.specs.declared.endpoint.SocketTarget.{SocketTarget}
-use Rattle.spec_tcp.specs.HostTcp.{HostTcp, given, thing_of}
-use Rattle.spec_tcp.specs.Calls.{is_bad_socket, thing_allows, socket_allows, call_allows, after_call}
+use Rattle.spec_tcp.specs.HostTcp.{HostTcp, given, socket_target}
+use Rattle.spec_tcp.specs.Calls.{is_bad_socket, target_allows, socket_allows, call_allows, after_call}
 use Rattle.case_forms.specs.declared.steps.SegmentPlan.{SegmentPlan}
 use Rattle.spec_tcp.specs.Wire.{sent}
 use Rattle.case_forms.specs.declared.steps.TakeChoice.{TakeChoice}
@@ -73,8 +73,8 @@ made_after : (c : Hosts) (made : List (ℕ × Made Emission)) (fresh : ℕ) (o :
 made_after c made fresh None new old = old
 made_after c made fresh (Some x) new old = all_insert (λ (y : Made Emission). GoodEmission c y.emission) made fresh (unsent x) (new x refl) old
 
--- each deed keeps what is good, where endpoints become what they may become
-abbrev Keeps : (h : Header) → ℕ → World tcp_shape → Host → Deed tcp_shape → Type 0
+-- each step of a host keeps what is good, where endpoints become what they may become
+abbrev Keeps : (h : Header) → ℕ → World tcp_shape → Host → HostStep tcp_shape → Type 0
 Keeps h s w host d = AllLater w.hosts (after (tcp h) s w (At host d)).hosts → Kept w.hosts (after (tcp h) s w (At host d)).hosts
 
 kept_sends : (h : Header) (s : ℕ) (w : World tcp_shape) (host : Host) (line number : ℕ) (wire : Wire) → Good w.hosts → Keeps h s w host (Sends line number wire)
@@ -168,14 +168,14 @@ kept_takes h whole s w host line how g may = let a = w.hosts in let k = pick a h
     (λ m e up.
     let t = on_passes (waiting line k.inbox) rules.Inbox (λ x. taker_rules h host k.body how x s (taker k.body x)) may in
     let one : t.0 ≡ m = same_Some t.0 m (sym t.1 ∙ e) in
-    kept_host a host (deed_taken m) g up
+    kept_host a host (host_step_taken m) g up
     (moves_taking a h whole host k.body how m s (ends a host g) ((g host).tables.inbox line m e)
     (subst (λ (x : Emission). first_broken (taker_rules h host k.body how x s (taker k.body x)) ≡ None) one
     t.2))
     (λ c later t. record { made = t.made; wire = t.wire; inbox = inbox_settled (GoodEmission c) k.inbox line t.inbox }))
   where
-    deed_taken : Emission → HostState tcp_shape
-    deed_taken m =
+    host_step_taken : Emission → HostState tcp_shape
+    host_step_taken m =
         record (pick w.hosts host) {
           body = (tcp h).act_after host s (pick w.hosts host).body ((tcp h).takes how m);
           inbox = settled line (pick w.hosts host).inbox;
@@ -184,7 +184,7 @@ kept_takes h whole s w host line how g may = let a = w.hosts in let k = pick a h
 kept_makes : (h : Header) (s : ℕ) (w : World tcp_shape) (host : Host) (m : SegmentPlan) → Good w.hosts
     → Permitted (tcp h) s w (At host (Makes m)) → Keeps h s w host (Makes m)
 kept_makes h s w host m g may up = let a = w.hosts in let k = pick a host in
-    kept_host a host (deed_after (tcp h) host s (suc w.count) (pick a (other host)).wire k (Makes m)) g up
+    kept_host a host (host_step_after (tcp h) host s (suc w.count) (pick a (other host)).wire k (Makes m)) g up
     (moves_at_ports a host k.body m.lport m.rport (λ e. after_making e m s) (ends a host g) (plain_making m s))
     (λ c later t. record {
       made = made_after c k.made (suc w.count) ((tcp h).act_makes host s k.body ((tcp h).making m))
@@ -198,34 +198,34 @@ pub heard_nothing : (h : Header) → is_half h.version ≡ false → first_broke
 heard_nothing h whole may = let e : first_broken (just rules.NoEmission true) ≡ None =
     subst (λ (b : Bool). first_broken (just rules.NoEmission (not b)) ≡ None) whole may in absurd cc
 
-kept_deed : (h : Header) → is_half h.version ≡ false → (s : ℕ) (w : World tcp_shape) (host : Host) (d : Deed tcp_shape)
+kept_host_step : (h : Header) → is_half h.version ≡ false → (s : ℕ) (w : World tcp_shape) (host : Host) (d : HostStep tcp_shape)
     → Good w.hosts → Permitted (tcp h) s w (At host d) → Keeps h s w host d
-kept_deed h whole s w host (Does x) g may up = let k = pick w.hosts host in
-    kept_host w.hosts host (deed_after (tcp h) host s (suc w.count) (pick w.hosts (other host)).wire k (Does x)) g up
+kept_host_step h whole s w host (Does x) g may up = let k = pick w.hosts host in
+    kept_host w.hosts host (host_step_after (tcp h) host s (suc w.count) (pick w.hosts (other host)).wire k (Does x)) g up
     (moves_at_ports w.hosts host k.body x.lport x.rport (λ e. after_recovery e x.cwnd x.ssthresh s)
     (ends w.hosts host g) (plain_recovery x.cwnd x.ssthresh s))
     (λ c later t. record { made = t.made; wire = t.wire; inbox = t.inbox })
-kept_deed h whole s w host (Expires line x) g may up = let k = pick w.hosts host in
-    kept_host w.hosts host (deed_after (tcp h) host s (suc w.count) (pick w.hosts (other host)).wire k (Expires line x)) g up
+kept_host_step h whole s w host (Expires line x) g may up = let k = pick w.hosts host in
+    kept_host w.hosts host (host_step_after (tcp h) host s (suc w.count) (pick w.hosts (other host)).wire k (Expires line x)) g up
     (moves_at_ports w.hosts host k.body x.lport x.rport (λ e. after_expiry e x.expired s) (ends w.hosts host g)
     (plain_expiry x.expired s)) (λ c later t. record { made = t.made; wire = t.wire; inbox = t.inbox })
-kept_deed h whole s w host (Makes m) g may up = kept_makes h s w host m g may up
-kept_deed h whole s w host (Sends line number wire) g may up = kept_sends h s w host line number wire g up
-kept_deed h whole s w host (Gets line copied wire) g may up = kept_gets h s w host line copied wire g up
-kept_deed h whole s w host (Hears line wire) g may up = absurd (heard_nothing h whole may)
-kept_deed h whole s w host (Takes line how) g may up = kept_takes h whole s w host line how g may up
-kept_deed h whole s w host (Drops line) g may up = kept_drops h s w host line g up
-kept_deed h whole s w host (Answers line) g may up = kept_answers h s w host line g up
+kept_host_step h whole s w host (Makes m) g may up = kept_makes h s w host m g may up
+kept_host_step h whole s w host (Sends line number wire) g may up = kept_sends h s w host line number wire g up
+kept_host_step h whole s w host (Gets line copied wire) g may up = kept_gets h s w host line copied wire g up
+kept_host_step h whole s w host (Hears line wire) g may up = absurd (heard_nothing h whole may)
+kept_host_step h whole s w host (Takes line how) g may up = kept_takes h whole s w host line how g may up
+kept_host_step h whole s w host (Drops line) g may up = kept_drops h s w host line g up
+kept_host_step h whole s w host (Answers line) g may up = kept_answers h s w host line g up
 
 -- 2. calls
 
 -- an answer other than that of a dead number is to a live one
 live : (b : HostTcp) (n : ℕ) (call : Call) (answer : Answer) → socket_allows b n call answer ≡ true → is_bad_socket answer ≡ false → given b n ≡ true
-live b n call answer may good = go (thing_of b n) refl may
+live b n call answer may good = go (socket_target b n) refl may
   where
-    go : (o : Option SocketTarget) → thing_of b n ≡ o → option_map_or (thing_allows b call answer) o (is_bad_socket answer) ≡ true → given b n ≡ true
+    go : (o : Option SocketTarget) → socket_target b n ≡ o → option_map_or (target_allows b call answer) o (is_bad_socket answer) ≡ true → given b n ≡ true
     go None is may = absurd cc
-    go (Some thing) is may = (owner_of b n thing is).1
+    go (Some target) is may = (owner_of b n target is).1
 
 -- nothing is added at the other host
 adds_elsewhere : (a : Hosts) (host : Host) (call : Call) (answer : Answer) → Apart a
@@ -281,28 +281,28 @@ effect_allowed h s hosts call answer (Some host) may = let x = none_both (fresh_
 )
 
 -- endpoints by themselves, in every case
-grown_deed : (h : Header) (s : ℕ) (w : World tcp_shape) (host : Host) (d : Deed tcp_shape) → AllOwn w.hosts → Permitted (tcp h) s w (At host d)
+grown_host_step : (h : Header) (s : ℕ) (w : World tcp_shape) (host : Host) (d : HostStep tcp_shape) → AllOwn w.hosts → Permitted (tcp h) s w (At host d)
     → Grown (Carries h w (At host d)) host silent (pick w.hosts host).body.endpoints
-    (deed_after (tcp h) host s (suc w.count) (pick w.hosts (other host)).wire (pick w.hosts host) d).body.endpoints
-grown_deed h s w host (Does x) g may =
+    (host_step_after (tcp h) host s (suc w.count) (pick w.hosts (other host)).wire (pick w.hosts host) d).body.endpoints
+grown_host_step h s w host (Does x) g may =
     grown_at_ports (Carries h w (At host (Does x))) host (pick w.hosts host).body x.lport x.rport
     (λ e. after_recovery e x.cwnd x.ssthresh s) (g host) (plain_recovery x.cwnd x.ssthresh s)
-grown_deed h s w host (Expires line x) g may =
+grown_host_step h s w host (Expires line x) g may =
     grown_at_ports (Carries h w (At host (Expires line x))) host (pick w.hosts host).body x.lport x.rport
     (λ e. after_expiry e x.expired s) (g host) (plain_expiry x.expired s)
-grown_deed h s w host (Makes m) g may =
+grown_host_step h s w host (Makes m) g may =
     grown_at_ports (Carries h w (At host (Makes m))) host (pick w.hosts host).body m.lport m.rport
     (λ e. after_making e m s) (g host) (plain_making m s)
-grown_deed h s w host (Sends line number wire) g may =
+grown_host_step h s w host (Sends line number wire) g may =
     grown_not (Carries h w (At host (Sends line number wire))) host silent (pick w.hosts host).body.endpoints
     (λ i. refl) (g host)
-grown_deed h s w host (Gets line copied wire) g may =
+grown_host_step h s w host (Gets line copied wire) g may =
     grown_not (Carries h w (At host (Gets line copied wire))) host silent (pick w.hosts host).body.endpoints (λ i. refl)
     (g host)
-grown_deed h s w host (Hears line wire) g may =
+grown_host_step h s w host (Hears line wire) g may =
     grown_not (Carries h w (At host (Hears line wire))) host silent (pick w.hosts host).body.endpoints (λ i. refl)
     (g host)
-grown_deed h s w host (Takes line how) g may = let k = pick w.hosts host in let step : Step tcp_shape = At host (Takes line how) in
+grown_host_step h s w host (Takes line how) g may = let k = pick w.hosts host in let step : Step tcp_shape = At host (Takes line how) in
     on_cases (λ (b : HostTcp). Grown (Carries h w step) host silent k.body.endpoints b.endpoints)
     (waiting line k.inbox) k.body _
     (grown_not (Carries h w step) host silent k.body.endpoints (λ i. refl) (g host))
@@ -310,8 +310,9 @@ grown_deed h s w host (Takes line how) g may = let k = pick w.hosts host in let 
     let t = on_passes (waiting line k.inbox) rules.Inbox (λ x. taker_rules h host k.body how x s (taker k.body x)) may in
     let one : t.0 ≡ m = same_Some t.0 m (sym t.1 ∙ e) in
     grown_taking h s w host line how m g e (subst (λ (x : Emission). first_broken (taker_rules h host k.body how x s (taker k.body x)) ≡ None) one t.2))
-grown_deed h s w host (Drops line) g may = grown_not (Carries h w (At host (Drops line))) host silent (pick w.hosts host).body.endpoints (λ i. refl) (g host)
-grown_deed h s w host (Answers line) g may = let k = pick w.hosts host in let step : Step tcp_shape = At host (Answers line) in
+grown_host_step h s w host (Drops line) g may =
+    grown_not (Carries h w (At host (Drops line))) host silent (pick w.hosts host).body.endpoints (λ i. refl) (g host)
+grown_host_step h s w host (Answers line) g may = let k = pick w.hosts host in let step : Step tcp_shape = At host (Answers line) in
     on_cases (λ (b : HostTcp). Grown (Carries h w step) host silent k.body.endpoints b.endpoints)
     (waiting line k.inbox) k.body _
     (grown_not (Carries h w step) host silent k.body.endpoints (λ i. refl) (g host))
@@ -353,8 +354,8 @@ grown_step h s w (Finish line t answer) g apart may = all_grown_not (Carries h w
 grown_step h s w (Effect t answer) g apart may = grown_effect h s w t answer g apart may
 grown_step h s w (At host d) g apart may =
     all_grown_host (Carries h w (At host d)) w.hosts host
-    (deed_after (tcp h) host s (suc w.count) (pick w.hosts (other host)).wire (pick w.hosts host) d) all_silent g
-    (grown_deed h s w host d g may) (λ i. refl)
+    (host_step_after (tcp h) host s (suc w.count) (pick w.hosts (other host)).wire (pick w.hosts host) d) all_silent g
+    (grown_host_step h s w host d g may) (λ i. refl)
 
 -- and with their peers, in a whole case
 kept_effect : (h : Header) (s : ℕ) (w : World tcp_shape) (t : ℕ) (answer : Answer) → Good w.hosts
@@ -378,4 +379,4 @@ pub kept_step : (h : Header) → is_half h.version ≡ false → (s : ℕ) (w : 
 kept_step h whole s w (Begin line t call) g up may = kept_not w.hosts g
 kept_step h whole s w (Finish line t answer) g up may = kept_not w.hosts g
 kept_step h whole s w (Effect t answer) g up may = kept_effect h s w t answer g up
-kept_step h whole s w (At host d) g up may = kept_deed h whole s w host d g may up
+kept_step h whole s w (At host d) g up may = kept_host_step h whole s w host d g may up

@@ -33,7 +33,7 @@ use Rattle.spec_network.specs.Tables.{pick, waiting}
 use Rattle.spec_network.specs.Hosts.{World, Takes, At}
 use Rattle.spec_tcp.specs.Arrives.OtherStates.Sequence.{is_bad_number, reads_as}
 use Rattle.spec_tcp.specs.HostTcp.{HostTcp, place_of, listener_on}
-use Rattle.spec_tcp.specs.Same.{same_name}
+use Rattle.spec_tcp.specs.Same.{same_endpoint}
 use Rattle.case_forms.specs.States.{is_closed, is_syn_sent}
 use Rattle.case_forms.specs.declared.steps.Flags.{Flags}
 use Rattle.case_forms.specs.declared.steps.TakeChoice.{TakeChoice}
@@ -387,7 +387,7 @@ from_peer a h whole b me e how m moment good r may =
     let t = none_all (connected_rules h b me e how m moment) may in
     let plain : m.is_reset_reply ≡ false = is_not m.is_reset_reply (λ x. let y = good.resets x in cc) in
     let from =
-    both_true (option_map_or (λ peer. same_name peer m.sender) e.stream.peer false) _
+    both_true (option_map_or (λ peer. same_endpoint peer m.sender) e.stream.peer false) _
     (other m.is_reset_reply plain (not_false _ (whole_case h whole (is_from_peer me e m) t.0))) in
     let acks = neither (not m.flags.ack || nat_lt (snd_max e) m.ack) _ (and_false (not m.flags.rst) _ t.1.1.1.0 (flip m.flags.rst r)) in
     record {
@@ -398,11 +398,11 @@ from_peer a h whole b me e how m moment good r may =
     }
   where
     other : (c : Bool) → c ≡ false
-        → (if c then same_name m.sender me
-        else option_map_or (λ peer. same_name peer m.sender) e.stream.peer false
-        && option_map_or (λ peer_at_send. same_name peer_at_send me) m.peer_at_send true) ≡ true
-        → (option_map_or (λ peer. same_name peer m.sender) e.stream.peer false
-        && option_map_or (λ peer_at_send. same_name peer_at_send me) m.peer_at_send true) ≡ true
+        → (if c then same_endpoint m.sender me
+        else option_map_or (λ peer. same_endpoint peer m.sender) e.stream.peer false
+        && option_map_or (λ peer_at_send. same_endpoint peer_at_send me) m.peer_at_send true) ≡ true
+        → (option_map_or (λ peer. same_endpoint peer m.sender) e.stream.peer false
+        && option_map_or (λ peer_at_send. same_endpoint peer_at_send me) m.peer_at_send true) ≡ true
     other true is x = absurd cc
     other false is x = x
 

@@ -27,11 +27,11 @@ use Rattle.streams.specs.Transmissions.{made, mark, once}
 use Rattle.streams.specs.Received.{is_ended}
 use Rattle.streams.proofs.Places.{get_append, all_push, all_modify}
 use Rattle.spec_network.specs.Tables.{pick, other, with_host, waiting}
-use Rattle.spec_network.specs.Hosts.{HostState, Turn, Idle, Called, Answered, World, Deed, Does, Expires, Makes, Sends}
+use Rattle.spec_network.specs.Hosts.{HostState, Turn, Idle, Called, Answered, World, HostStep, Does, Expires, Makes, Sends}
 use Rattle.spec_network.specs.Hosts.{Gets, Hears, Takes, Drops, Answers, Step, Begin, Finish, Effect, At, Stamped}
 use Rattle.spec_network.specs.Hosts.{turn_of}
 use Rattle.spec_network.specs.HostRules.{aim_of, Permitted}
-use Rattle.spec_network.specs.HostSteps.{deed_after, call_after, effect_after, after, start, Lawful}
+use Rattle.spec_network.specs.HostSteps.{host_step_after, call_after, effect_after, after, start, Lawful}
 use Rattle.window_rules.specs.declared.control.Profile.{Profile}
 use Rattle.spec_tcp.specs.Signals.{profile_of}
 use Rattle.spec_tcp.specs.declared.endpoint.EndpointId.{EndpointId}
@@ -39,14 +39,14 @@ use Rattle.spec_tcp.specs.declared.endpoint.Endpoint.{Endpoint}
 use Rattle.spec_tcp.specs.declared.endpoint.Emission.{Emission}
 use Rattle.spec_tcp.specs.declared.endpoint.SocketTarget.{SocketTarget}
 use Rattle.spec_tcp.specs.declared.endpoint.SocketTarget.TheVariants.{ListenerAt, EndpointAt}
-use Rattle.spec_tcp.specs.declared.endpoint.SendWindow.{SendWindow}
+use Rattle.spec_tcp.specs.declared.endpoint.Windows.{Windows}
 use Rattle.spec_tcp.specs.Endpoints.{snd_max, rcv_nxt, new_endpoint}
-use Rattle.spec_tcp.specs.HostTcp.{HostTcp, place_of, at_ports, with_endpoint, thing_of, queue_of, dead}
+use Rattle.spec_tcp.specs.HostTcp.{HostTcp, place_of, at_ports, with_endpoint, socket_target, queue_of, dead}
 use Rattle.spec_tcp.specs.Calls.Send.{after_send}
 use Rattle.spec_tcp.specs.Calls.Receive.{after_recv}
-use Rattle.spec_tcp.specs.Calls.Close.{shut_down, ended_state, after_shut, after_close, after_abort, orphaned, thing_gone}
+use Rattle.spec_tcp.specs.Calls.Close.{shut_down, ended_state, after_shut, after_close, after_abort, orphaned, target_gone}
 use Rattle.spec_tcp.specs.Calls.Accept.{accepted_from, after_accept}
-use Rattle.spec_tcp.specs.Calls.{change_thing, after_call}
+use Rattle.spec_tcp.specs.Calls.{change_target, after_call}
 use Rattle.spec_tcp.specs.Makes.Payload.{making_length}
 use Rattle.spec_tcp.specs.Makes.Edges.{own_window}
 use Rattle.spec_tcp.specs.Makes.{endpoint_made, after_making, timed}
@@ -255,7 +255,7 @@ finished_leads s passed = inl refl
 taken_edge : (e : Endpoint) (m : Emission) → e.window.rcv_adv ≤ (window_after_segment e m).rcv_adv
 taken_edge e m = go (takes_window e m) _ refl
   where
-    go : (b : Bool) (new : SendWindow) → new.rcv_adv ≡ e.window.rcv_adv → e.window.rcv_adv ≤ (if b then new else e.window).rcv_adv
+    go : (b : Bool) (new : Windows) → new.rcv_adv ≡ e.window.rcv_adv → e.window.rcv_adv ≤ (if b then new else e.window).rcv_adv
     go true new same = subst (λ n. e.window.rcv_adv ≤ n) (sym same) (le_refl e.window.rcv_adv)
     go false new same = le_refl e.window.rcv_adv
 
@@ -378,25 +378,26 @@ gone_taking h s w host line how m waits = go (taker (pick w.hosts host).body m) 
         taking_goes h w (At host (Takes line how)) (name host i) x how m (as_read h.version e m) s (same_reset h e m)
         (line, how, refl, waits, is ∙ ap (λ (y : Endpoint). AtEndpoint i y) one))
 
-gone_deed : (h : Header) (s : ℕ) (w : World tcp_shape) (host : Host) (d : Deed tcp_shape)
+gone_host_step : (h : Header) (s : ℕ) (w : World tcp_shape) (host : Host) (d : HostStep tcp_shape)
     → Gone w (At host d) host (pick w.hosts host).body.endpoints
-    (deed_after (tcp h) host s (suc w.count) (pick w.hosts (other host)).wire (pick w.hosts host) d).body.endpoints
-gone_deed h s w host (Does x) = gone_at_ports w (At host (Does x)) host (pick w.hosts host).body x.lport x.rport (λ e. after_recovery e x.cwnd x.ssthresh s)
+    (host_step_after (tcp h) host s (suc w.count) (pick w.hosts (other host)).wire (pick w.hosts host) d).body.endpoints
+gone_host_step h s w host (Does x) =
+    gone_at_ports w (At host (Does x)) host (pick w.hosts host).body x.lport x.rport (λ e. after_recovery e x.cwnd x.ssthresh s)
     (λ i e at. stays w (At host (Does x)) (name host i) e (after_recovery e x.cwnd x.ssthresh s) refl (level e) refl)
-gone_deed h s w host (Expires line x) =
+gone_host_step h s w host (Expires line x) =
     gone_at_ports w (At host (Expires line x)) host (pick w.hosts host).body x.lport x.rport
     (λ e. after_expiry e x.expired s)
     (λ i e at. expiry_goes w s host line x i e at)
-gone_deed h s w host (Makes m) = gone_at_ports w (At host (Makes m)) host (pick w.hosts host).body m.lport m.rport (λ e. after_making e m s)
+gone_host_step h s w host (Makes m) = gone_at_ports w (At host (Makes m)) host (pick w.hosts host).body m.lport m.rport (λ e. after_making e m s)
     (λ i e at. making_goes w s host m i e at)
-gone_deed h s w host (Sends line number wire) = gone_not w (At host (Sends line number wire)) host (pick w.hosts host).body.endpoints
-gone_deed h s w host (Gets line copied wire) = gone_not w (At host (Gets line copied wire)) host (pick w.hosts host).body.endpoints
-gone_deed h s w host (Hears line wire) = gone_not w (At host (Hears line wire)) host (pick w.hosts host).body.endpoints
-gone_deed h s w host (Takes line how) = let k = pick w.hosts host in let step : Step tcp_shape = At host (Takes line how) in
+gone_host_step h s w host (Sends line number wire) = gone_not w (At host (Sends line number wire)) host (pick w.hosts host).body.endpoints
+gone_host_step h s w host (Gets line copied wire) = gone_not w (At host (Gets line copied wire)) host (pick w.hosts host).body.endpoints
+gone_host_step h s w host (Hears line wire) = gone_not w (At host (Hears line wire)) host (pick w.hosts host).body.endpoints
+gone_host_step h s w host (Takes line how) = let k = pick w.hosts host in let step : Step tcp_shape = At host (Takes line how) in
     on_cases (λ (b : HostTcp). Gone w step host k.body.endpoints b.endpoints) (waiting line k.inbox) k.body _
     (gone_not w step host k.body.endpoints) (λ m e. gone_taking h s w host line how m e)
-gone_deed h s w host (Drops line) = gone_not w (At host (Drops line)) host (pick w.hosts host).body.endpoints
-gone_deed h s w host (Answers line) = let k = pick w.hosts host in let step : Step tcp_shape = At host (Answers line) in
+gone_host_step h s w host (Drops line) = gone_not w (At host (Drops line)) host (pick w.hosts host).body.endpoints
+gone_host_step h s w host (Answers line) = let k = pick w.hosts host in let step : Step tcp_shape = At host (Answers line) in
     on_cases (λ (b : HostTcp). Gone w step host k.body.endpoints b.endpoints) (waiting line k.inbox) k.body _
     (gone_not w step host k.body.endpoints) (λ m e. gone_not w step host k.body.endpoints)
 
@@ -404,18 +405,18 @@ gone_deed h s w host (Answers line) = let k = pick w.hosts host in let step : St
 
 -- the endpoint that a socket number names changes
 abbrev AtNumber : World tcp_shape → Step tcp_shape → Host → ℕ → (Endpoint → Endpoint) → Type 0
-AtNumber w step host n f = (i : ℕ) (e : Endpoint) → thing_of (pick w.hosts host).body n ≡ Some (EndpointAt i) → Goes w step (name host i) e (f e)
+AtNumber w step host n f = (i : ℕ) (e : Endpoint) → socket_target (pick w.hosts host).body n ≡ Some (EndpointAt i) → Goes w step (name host i) e (f e)
 
 gone_change : (w : World tcp_shape) (step : Step tcp_shape) (host : Host) (n : ℕ) (f : Endpoint → Endpoint) → AtNumber w step host n f
     → Gone w step host (pick w.hosts host).body.endpoints
-    (option_map_or (change_thing (pick w.hosts host).body f) (thing_of (pick w.hosts host).body n)
+    (option_map_or (change_target (pick w.hosts host).body f) (socket_target (pick w.hosts host).body n)
     (pick w.hosts host).body).endpoints
 gone_change w step host n f new = let b = (pick w.hosts host).body in
-    map_or_cases (λ (x : HostTcp). Gone w step host b.endpoints x.endpoints) (thing_of b n) b (change_thing b f)
-    (λ e. gone_not w step host b.endpoints) (λ thing e. go thing e)
+    map_or_cases (λ (x : HostTcp). Gone w step host b.endpoints x.endpoints) (socket_target b n) b (change_target b f)
+    (λ e. gone_not w step host b.endpoints) (λ target e. go target e)
   where
-    go : (thing : SocketTarget) → thing_of (pick w.hosts host).body n ≡ Some thing
-        → Gone w step host (pick w.hosts host).body.endpoints (change_thing (pick w.hosts host).body f thing).endpoints
+    go : (target : SocketTarget) → socket_target (pick w.hosts host).body n ≡ Some target
+        → Gone w step host (pick w.hosts host).body.endpoints (change_target (pick w.hosts host).body f target).endpoints
     go (ListenerAt l) is = gone_not w step host (pick w.hosts host).body.endpoints
     go (EndpointAt i) is = gone_one w step host (pick w.hosts host).body.endpoints i f (λ e at. new i e is)
 
@@ -457,24 +458,24 @@ orphan_goes w step me e l c = go (option_map_or (λ holder. holder == l) e.liste
     go false is = calm w step me e
 
 gone_gone : (w : World tcp_shape) (step : Step tcp_shape) (host : Host) (n : ℕ) (f : Endpoint → Endpoint) → AtNumber w step host n f
-    → ((l : ℕ) → thing_of (pick w.hosts host).body n ≡ Some (ListenerAt l) → CallsOn left_number w step host (ListenerAt l))
+    → ((l : ℕ) → socket_target (pick w.hosts host).body n ≡ Some (ListenerAt l) → CallsOn left_number w step host (ListenerAt l))
     → Gone w step host (pick w.hosts host).body.endpoints
-    (option_map_or (λ thing. record (thing_gone (pick w.hosts host).body thing f) {
+    (option_map_or (λ target. record (target_gone (pick w.hosts host).body target f) {
       sockets = dead (pick w.hosts host).body.sockets n;
-    }) (thing_of (pick w.hosts host).body n)
+    }) (socket_target (pick w.hosts host).body n)
     (pick w.hosts host).body).endpoints
 gone_gone w step host n f new left = let b = (pick w.hosts host).body in
-    map_or_cases (λ (x : HostTcp). Gone w step host b.endpoints x.endpoints) (thing_of b n) b
-    (λ thing. record (thing_gone b thing f) { sockets = dead b.sockets n })
-    (λ e. gone_not w step host b.endpoints) (λ thing e. go thing e)
+    map_or_cases (λ (x : HostTcp). Gone w step host b.endpoints x.endpoints) (socket_target b n) b
+    (λ target. record (target_gone b target f) { sockets = dead b.sockets n })
+    (λ e. gone_not w step host b.endpoints) (λ target e. go target e)
   where
-    go : (thing : SocketTarget) → thing_of (pick w.hosts host).body n ≡ Some thing
-        → Gone w step host (pick w.hosts host).body.endpoints (thing_gone (pick w.hosts host).body thing f).endpoints
+    go : (target : SocketTarget) → socket_target (pick w.hosts host).body n ≡ Some target
+        → Gone w step host (pick w.hosts host).body.endpoints (target_gone (pick w.hosts host).body target f).endpoints
     go (ListenerAt l) is = gone_map w step host (pick w.hosts host).body.endpoints (orphaned l) (λ i e. orphan_goes w step (name host i) e l (left l is))
     go (EndpointAt i) is = gone_one w step host (pick w.hosts host).body.endpoints i f (λ e at. new i e is)
 
-gone_accept : (w : World tcp_shape) (step : Step tcp_shape) (host : Host) (b : HostTcp) (n : ℕ) (thing : SocketTarget)
-    → Gone w step host b.endpoints (after_accept b n thing).endpoints
+gone_accept : (w : World tcp_shape) (step : Step tcp_shape) (host : Host) (b : HostTcp) (n : ℕ) (target : SocketTarget)
+    → Gone w step host b.endpoints (after_accept b n target).endpoints
 gone_accept w step host b n (EndpointAt i) = gone_not w step host b.endpoints
 gone_accept w step host b n (ListenerAt l) = go (queue_of b l)
   where
@@ -492,8 +493,8 @@ gone_call p w thread host (calls.Connect at lport rport) (answers.Given n) turn 
     gone_push w (Effect thread (answers.Given n)) host (pick w.hosts host).body.endpoints (new_endpoint lport rport None states.SynSent p) (inl refl)
 gone_call p w thread host (calls.Accept h) (answers.Given n) turn =
     let b = (pick w.hosts host).body in let step : Step tcp_shape = Effect thread (answers.Given n) in
-    map_or_cases (λ (x : HostTcp). Gone w step host b.endpoints x.endpoints) (thing_of b h) b (after_accept b n)
-    (λ e. gone_not w step host b.endpoints) (λ thing e. gone_accept w step host b n thing)
+    map_or_cases (λ (x : HostTcp). Gone w step host b.endpoints x.endpoints) (socket_target b h) b (after_accept b n)
+    (λ e. gone_not w step host b.endpoints) (λ target e. gone_accept w step host b n target)
 gone_call p w thread host (calls.Send h bytes) (answers.Given n) turn =
     gone_change w (Effect thread (answers.Given n)) host h (after_send bytes n)
     (λ i e is. stays w (Effect thread (answers.Given n)) (name host i) e (after_send bytes n e) refl
@@ -547,8 +548,8 @@ both_step h s w (Effect t answer) = go (turn_of t w.threads) refl
     go (Called call) is = by call (aim_of (tcp h) w.hosts (aim call)) is
     go (Answered x) is = both_not w (Effect t answer)
 both_step h s w (At host d) =
-    both_host w (At host d) host (deed_after (tcp h) host s (suc w.count) (pick w.hosts (other host)).wire
-    (pick w.hosts host) d) (gone_deed h s w host d)
+    both_host w (At host d) host (host_step_after (tcp h) host s (suc w.count) (pick w.hosts (other host)).wire
+    (pick w.hosts host) d) (gone_host_step h s w host d)
 
 -- from TIME-WAIT no arrow leads but to CLOSED
 from_time_wait : (w : World tcp_shape) (step : Step tcp_shape) (me : EndpointId) (e : Endpoint) (t : State)

@@ -25,10 +25,10 @@ use Rattle.window_rules.proofs.ControlLemmas.{chosen_cwnd, kept_ssthresh, same_p
 use Rattle.streams.specs.Lists.{modify}
 use Rattle.streams.proofs.Places.{get_append, all_push, all_modify}
 use Rattle.spec_network.specs.Tables.{pick, other, with_host, waiting, on}
-use Rattle.spec_network.specs.Hosts.{HostState, Turn, Idle, Called, Answered, World, Deed, Does, Expires, Makes, Sends}
+use Rattle.spec_network.specs.Hosts.{HostState, Turn, Idle, Called, Answered, World, HostStep, Does, Expires, Makes, Sends}
 use Rattle.spec_network.specs.Hosts.{Gets, Hears, Takes, Drops, Answers, Step, Begin, Finish, Effect, At, turn_of}
 use Rattle.spec_network.specs.HostRules.{aim_of, Permitted}
-use Rattle.spec_network.specs.HostSteps.{deed_after, call_after, effect_after, after}
+use Rattle.spec_network.specs.HostSteps.{host_step_after, call_after, effect_after, after}
 use Rattle.spec_tcp.specs.declared.endpoint.EndpointId.{EndpointId}
 use Rattle.spec_tcp.specs.declared.endpoint.Endpoint.{Endpoint}
 use Rattle.spec_tcp.specs.declared.endpoint.Emission.{Emission}
@@ -36,13 +36,13 @@ use Rattle.spec_tcp.specs.declared.endpoint.SocketTarget.{SocketTarget}
 use Rattle.spec_tcp.specs.declared.endpoint.SocketTarget.TheVariants.{ListenerAt, EndpointAt}
 use Rattle.spec_tcp.specs.Endpoints.{new_endpoint, snd_max}
 use Rattle.spec_tcp.specs.Signals.{at_moment, profile_of, recovery_signal, signal_of, timeout_signal}
-use Rattle.spec_tcp.specs.HostTcp.{HostTcp, place_of, endpoint_at, endpoint_of, at_ports, with_endpoint, thing_of, queue_of, dead}
+use Rattle.spec_tcp.specs.HostTcp.{HostTcp, place_of, endpoint_at, endpoint_of, at_ports, with_endpoint, socket_target, queue_of, dead}
 use Rattle.case_forms.specs.States.{is_syn_sent}
 use Rattle.spec_tcp.specs.Calls.Send.{after_send}
 use Rattle.spec_tcp.specs.Calls.Receive.{after_recv}
-use Rattle.spec_tcp.specs.Calls.Close.{shut_down, after_shut, after_close, after_abort, orphaned, thing_gone}
+use Rattle.spec_tcp.specs.Calls.Close.{shut_down, after_shut, after_close, after_abort, orphaned, target_gone}
 use Rattle.spec_tcp.specs.Calls.Accept.{accepted_from, after_accept}
-use Rattle.spec_tcp.specs.Calls.{change_thing, after_call}
+use Rattle.spec_tcp.specs.Calls.{change_target, after_call}
 use Rattle.spec_tcp.specs.Makes.{endpoint_made, after_making}
 use Rattle.case_forms.specs.declared.steps.TakeChoice.{TakeChoice}
 use Rattle.spec_tcp.specs.Arrives.OtherStates.{connected_rules, taken as segment_taken}
@@ -202,34 +202,34 @@ follows_taking h s w host line how m waits may = go (taker (pick w.hosts host).b
         let one : e ≡ x = same_Some e x (sym (taker_there b m i e is) ∙ there) in
         taken m (line, how, refl, waits, is ∙ ap (λ (y : Endpoint). AtEndpoint i y) one) (chosen h x how (as_read h.version e m) s).2)
 
-follows_deed : (h : Header) (s : ℕ) (w : World tcp_shape) (host : Host) (d : Deed tcp_shape) → Permitted (tcp h) s w (At host d)
+follows_host_step : (h : Header) (s : ℕ) (w : World tcp_shape) (host : Host) (d : HostStep tcp_shape) → Permitted (tcp h) s w (At host d)
     → Follows (profile_of h) w (At host d) host (pick w.hosts host).body.endpoints
-    (deed_after (tcp h) host s (suc w.count) (pick w.hosts (other host)).wire (pick w.hosts host) d).body.endpoints
-follows_deed h s w host (Does x) may = let b = (pick w.hosts host).body in
+    (host_step_after (tcp h) host s (suc w.count) (pick w.hosts (other host)).wire (pick w.hosts host) d).body.endpoints
+follows_host_step h s w host (Does x) may = let b = (pick w.hosts host).body in
     follows_at_ports (profile_of h) w (At host (Does x)) host b x.lport x.rport (λ e. after_recovery e x.cwnd x.ssthresh s)
     (λ i e at there. recovered (x, refl, at) (same_profile e.control (recovery_signal e x.ssthresh) (at_moment e s) x.cwnd x.ssthresh))
-follows_deed h s w host (Expires line x) may = let b = (pick w.hosts host).body in
+follows_host_step h s w host (Expires line x) may = let b = (pick w.hosts host).body in
     follows_at_ports (profile_of h) w (At host (Expires line x)) host b x.lport x.rport (λ e. after_expiry e x.expired s)
     (λ i e at there. expiry_moves w s host line x i e at)
-follows_deed h s w host (Makes m) may = let b = (pick w.hosts host).body in
+follows_host_step h s w host (Makes m) may = let b = (pick w.hosts host).body in
     follows_at_ports (profile_of h) w (At host (Makes m)) host b m.lport m.rport (λ e. after_making e m s)
     (λ i e at there. unmoved w (At host (Makes m)) (name host i) e (after_making e m s)
     (either_windows m.flags.rst (record (shut_down (endpoint_made e m s)) { reset_due = false })
     (endpoint_made e m s) e refl refl))
-follows_deed h s w host (Sends line number wire) may =
+follows_host_step h s w host (Sends line number wire) may =
     follows_not (profile_of h) w (At host (Sends line number wire)) host (pick w.hosts host).body.endpoints
-follows_deed h s w host (Gets line copied wire) may =
+follows_host_step h s w host (Gets line copied wire) may =
     follows_not (profile_of h) w (At host (Gets line copied wire)) host (pick w.hosts host).body.endpoints
-follows_deed h s w host (Hears line wire) may = follows_not (profile_of h) w (At host (Hears line wire)) host (pick w.hosts host).body.endpoints
-follows_deed h s w host (Takes line how) may = let k = pick w.hosts host in let step : Step tcp_shape = At host (Takes line how) in
+follows_host_step h s w host (Hears line wire) may = follows_not (profile_of h) w (At host (Hears line wire)) host (pick w.hosts host).body.endpoints
+follows_host_step h s w host (Takes line how) may = let k = pick w.hosts host in let step : Step tcp_shape = At host (Takes line how) in
     on_cases (λ (b : HostTcp). Follows (profile_of h) w step host k.body.endpoints b.endpoints)
     (waiting line k.inbox) k.body _ (follows_not (profile_of h) w step host k.body.endpoints)
     (λ m e.
     let t = on_passes (waiting line k.inbox) rules.Inbox (λ x. taker_rules h host k.body how x s (taker k.body x)) may in
     let one : t.0 ≡ m = same_Some t.0 m (sym t.1 ∙ e) in
     follows_taking h s w host line how m e (subst (λ (x : Emission). first_broken (taker_rules h host k.body how x s (taker k.body x)) ≡ None) one t.2))
-follows_deed h s w host (Drops line) may = follows_not (profile_of h) w (At host (Drops line)) host (pick w.hosts host).body.endpoints
-follows_deed h s w host (Answers line) may = let k = pick w.hosts host in let step : Step tcp_shape = At host (Answers line) in
+follows_host_step h s w host (Drops line) may = follows_not (profile_of h) w (At host (Drops line)) host (pick w.hosts host).body.endpoints
+follows_host_step h s w host (Answers line) may = let k = pick w.hosts host in let step : Step tcp_shape = At host (Answers line) in
     on_cases (λ (b : HostTcp). Follows (profile_of h) w step host k.body.endpoints b.endpoints)
     (waiting line k.inbox) k.body _ (follows_not (profile_of h) w step host k.body.endpoints)
     (λ m e. follows_not (profile_of h) w step host k.body.endpoints)
@@ -241,32 +241,33 @@ follows_same : (p : Profile) (w : World tcp_shape) (step : Step tcp_shape) (host
 follows_same p w step host b i f same = follows_one p w step host b.endpoints i f (λ e at. unmoved w step (name host i) e (f e) (same e))
 
 follows_change : (p : Profile) (w : World tcp_shape) (step : Step tcp_shape) (host : Host) (b : HostTcp) (n : ℕ) (f : Endpoint → Endpoint)
-    → ((e : Endpoint) → (f e).control ≡ e.control) → Follows p w step host b.endpoints (option_map_or (change_thing b f) (thing_of b n) b).endpoints
+    → ((e : Endpoint) → (f e).control ≡ e.control) → Follows p w step host b.endpoints (option_map_or (change_target b f) (socket_target b n) b).endpoints
 follows_change p w step host b n f same =
-    map_or_cases (λ (x : HostTcp). Follows p w step host b.endpoints x.endpoints) (thing_of b n) b (change_thing b f)
-    (λ e. follows_not p w step host b.endpoints) (λ thing e. go thing)
+    map_or_cases (λ (x : HostTcp). Follows p w step host b.endpoints x.endpoints) (socket_target b n) b (change_target b f)
+    (λ e. follows_not p w step host b.endpoints) (λ target e. go target)
   where
-    go : (thing : SocketTarget) → Follows p w step host b.endpoints (change_thing b f thing).endpoints
+    go : (target : SocketTarget) → Follows p w step host b.endpoints (change_target b f target).endpoints
     go (ListenerAt l) = follows_not p w step host b.endpoints
     go (EndpointAt i) = follows_same p w step host b i f same
 
 follows_gone : (p : Profile) (w : World tcp_shape) (step : Step tcp_shape) (host : Host) (b : HostTcp) (n : ℕ) (f : Endpoint → Endpoint)
     → ((e : Endpoint) → (f e).control ≡ e.control)
-    → Follows p w step host b.endpoints (option_map_or (λ thing. record (thing_gone b thing f) { sockets = dead b.sockets n }) (thing_of b n) b).endpoints
+    → Follows p w step host b.endpoints
+    (option_map_or (λ target. record (target_gone b target f) { sockets = dead b.sockets n }) (socket_target b n) b).endpoints
 follows_gone p w step host b n f same =
-    map_or_cases (λ (x : HostTcp). Follows p w step host b.endpoints x.endpoints) (thing_of b n) b
-    (λ thing. record (thing_gone b thing f) { sockets = dead b.sockets n })
-    (λ e. follows_not p w step host b.endpoints) (λ thing e. go thing)
+    map_or_cases (λ (x : HostTcp). Follows p w step host b.endpoints x.endpoints) (socket_target b n) b
+    (λ target. record (target_gone b target f) { sockets = dead b.sockets n })
+    (λ e. follows_not p w step host b.endpoints) (λ target e. go target)
   where
-    go : (thing : SocketTarget) → Follows p w step host b.endpoints (thing_gone b thing f).endpoints
+    go : (target : SocketTarget) → Follows p w step host b.endpoints (target_gone b target f).endpoints
     go (ListenerAt l) =
         follows_map p w step host b.endpoints (orphaned l)
         (λ e. either_windows (option_map_or (λ holder. holder == l) e.listener false)
         (after_abort e) e e refl refl)
     go (EndpointAt i) = follows_same p w step host b i f same
 
-follows_accept : (p : Profile) (w : World tcp_shape) (step : Step tcp_shape) (host : Host) (b : HostTcp) (n : ℕ) (thing : SocketTarget)
-    → Follows p w step host b.endpoints (after_accept b n thing).endpoints
+follows_accept : (p : Profile) (w : World tcp_shape) (step : Step tcp_shape) (host : Host) (b : HostTcp) (n : ℕ) (target : SocketTarget)
+    → Follows p w step host b.endpoints (after_accept b n target).endpoints
 follows_accept p w step host b n (EndpointAt i) = follows_not p w step host b.endpoints
 follows_accept p w step host b n (ListenerAt l) = go (queue_of b l)
   where
@@ -280,8 +281,8 @@ follows_call p w step host b (calls.Listen at port backlog) (answers.Given n) = 
 follows_call p w step host b (calls.Connect at lport rport) (answers.Given n) =
     follows_push p w step host b.endpoints (new_endpoint lport rport None states.SynSent p) (refl, refl, refl)
 follows_call p w step host b (calls.Accept h) (answers.Given n) =
-    map_or_cases (λ (x : HostTcp). Follows p w step host b.endpoints x.endpoints) (thing_of b h) b (after_accept b n)
-    (λ e. follows_not p w step host b.endpoints) (λ thing e. follows_accept p w step host b n thing)
+    map_or_cases (λ (x : HostTcp). Follows p w step host b.endpoints x.endpoints) (socket_target b h) b (after_accept b n)
+    (λ e. follows_not p w step host b.endpoints) (λ target e. follows_accept p w step host b n target)
 follows_call p w step host b (calls.Send h bytes) (answers.Given n) = follows_change p w step host b h (after_send bytes n) (λ e. refl)
 follows_call p w step host b (calls.Recv h most) (answers.Bytes bytes) = follows_change p w step host b h (after_recv bytes) (λ e. refl)
 follows_call p w step host b (calls.Shut h) answers.Done = follows_change p w step host b h after_shut (λ e. refl)
@@ -329,8 +330,8 @@ both_step h s w (Effect t answer) may = go (turn_of t w.threads)
     go (Answered x) = both_not (profile_of h) w (Effect t answer)
 both_step h s w (At host d) may =
     both_host (profile_of h) w (At host d) host
-    (deed_after (tcp h) host s (suc w.count) (pick w.hosts (other host)).wire (pick w.hosts host) d)
-    (follows_deed h s w host d may)
+    (host_step_after (tcp h) host s (suc w.count) (pick w.hosts (other host)).wire (pick w.hosts host) d)
+    (follows_host_step h s w host d may)
 
 -- 4. what the steps that may change windows leave
 
@@ -410,7 +411,7 @@ taking_leaves h s w host line how m i e may waits is =
 
     left : find (after (tcp h) s w (At host (Takes line how))).hosts (name host i) ≡ Some (endpoint_taken h e how r s)
     left = ap (λ (x : HostState tcp_shape). slice_get x.body.endpoints i)
-        (pick_with w.hosts host (deed_after (tcp h) host s (suc w.count) (pick w.hosts (other host)).wire k
+        (pick_with w.hosts host (host_step_after (tcp h) host s (suc w.count) (pick w.hosts (other host)).wire k
         (Takes line how)))
         ∙ (ap (λ (o : Option Emission). slice_get (on o b (λ y. after_taking h b how y s (taker b y))).endpoints i) waits ∙ here)
 

@@ -8,7 +8,7 @@ use Rattle.case_forms.specs.declared.trace.Line as lines
 use Rattle.case_forms.specs.declared.steps.Step as witness
 use Rattle.verdict.specs.declared.rule.Rule.{Rule}
 use Rattle.spec_network.specs.Tables.{pick}
-use Rattle.spec_network.specs.Hosts.{HostState, World, Deed, Does, Expires, Makes, Sends, Gets, Hears, Takes, Drops}
+use Rattle.spec_network.specs.Hosts.{HostState, World, HostStep, Does, Expires, Makes, Sends, Gets, Hears, Takes, Drops}
 use Rattle.spec_network.specs.Hosts.{Answers, Step, Begin, Finish, Effect, At, Stamped}
 use Rattle.spec_network.specs.HostRules.{step_rules, Permitted}
 use Rattle.spec_network.specs.HostSteps.{after, after_all, start, Lawful}
@@ -16,8 +16,8 @@ use Rattle.spec_tcp.specs.Machine.{tcp, tcp_shape}
 use Rattle.spec_tcp.specs.Steps.{rule_broken, world_after, broken_from, first_broken_step}
 use Rattle.spec_tcp.specs.Forgetting.{forget}
 
--- the deed builds a segment of an endpoint's stream
-abbrev pub IfMaking : Deed tcp_shape → Type 0 → Type 0
+-- the host's step builds a segment of an endpoint's stream
+abbrev pub IfMaking : HostStep tcp_shape → Type 0 → Type 0
 IfMaking (Does x) holds = Unit {0}
 IfMaking (Expires line x) holds = Unit {0}
 IfMaking (Makes x) holds = holds
@@ -34,7 +34,7 @@ abbrev pub MakesPermitted : Header → ℕ → World tcp_shape → Step tcp_shap
 MakesPermitted h moment w (Begin line t call) = Unit {0}
 MakesPermitted h moment w (Finish line t answer) = Unit {0}
 MakesPermitted h moment w (Effect t answer) = Unit {0}
-MakesPermitted h moment w (At host deed) = IfMaking deed (Permitted (tcp h) moment w (At host deed))
+MakesPermitted h moment w (At host host_step) = IfMaking host_step (Permitted (tcp h) moment w (At host host_step))
 
 -- the tables of a host are exactly those of another
 pub record SameTables (a b : HostState tcp_shape) : Type 0 where

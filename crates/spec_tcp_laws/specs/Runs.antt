@@ -29,7 +29,7 @@ endpoint_place (EndpointAt i) = Some i
 
 -- the endpoint that this socket number was returned for at this host, if it was; live or not
 abbrev pub owner : HostTcp → ℕ → Option ℕ
-owner b socket = option_map_or (λ s. endpoint_place s.thing) (lookup (nat_eq socket) b.sockets) None
+owner b socket = option_map_or (λ s. endpoint_place s.target) (lookup (nat_eq socket) b.sockets) None
 
 -- the socket number was returned for that endpoint
 abbrev pub is_socket_of : Both (HostState tcp_shape) → ℕ → EndpointId → Bool
@@ -68,7 +68,7 @@ abbrev pub of_effect : {X : Type 0} → Header → World tcp_shape → Step tcp_
 of_effect h w (Begin line t call) none f = none
 of_effect h w (Finish line t answer) none f = none
 of_effect h w (Effect t answer) none f = of_turn (turn_of t w.threads) none (λ call. f call answer)
-of_effect h w (At host deed) none f = none
+of_effect h w (At host host_step) none f = none
 
 -- the bytes that the steps from this world on returned to the reads on a socket number, in order
 abbrev pub told_from : Header → ℕ → World tcp_shape → List (Stamped tcp_shape) → List ℕ

@@ -18,7 +18,7 @@ use Rattle.spec_tcp.specs.declared.endpoint.Endpoint.{Endpoint}
 use Rattle.spec_tcp.specs.declared.endpoint.Emission.{Emission}
 use Rattle.spec_tcp.specs.declared.endpoint.SocketTarget.{SocketTarget}
 use Rattle.spec_tcp.specs.declared.endpoint.SocketTarget.TheVariants.{ListenerAt, EndpointAt}
-use Rattle.spec_tcp.specs.HostTcp.{place_of, thing_of}
+use Rattle.spec_tcp.specs.HostTcp.{place_of, socket_target}
 use Rattle.spec_tcp.specs.Endpoints.{snd_max, rcv_nxt}
 use Rattle.spec_tcp.specs.Machine.{Expiring, tcp, tcp_shape}
 use Rattle.spec_tcp_laws.specs.Runs.{world_at_end}
@@ -72,10 +72,10 @@ left_number _ = None
 
 -- the step is the effect of such a call, whose socket number names this at that host
 abbrev pub CallsOn : (Call → Option ℕ) → World tcp_shape → Step tcp_shape → Host → SocketTarget → Type 0
-CallsOn number w step host thing =
+CallsOn number w step host target =
     (thread : ℕ) × (answer : Answer) × (call : Call) × (n : ℕ) × (step ≡ Effect thread answer)
     × (turn_of thread w.threads ≡ Called call) × (number call ≡ Some n)
-    × (thing_of (pick w.hosts host).body n ≡ Some thing)
+    × (socket_target (pick w.hosts host).body n ≡ Some target)
 
 -- TIME-WAIT is over, or the endpoint gives up (RFC 9293, 3.6.1 and 3.8.3)
 abbrev pub closes : Expired → Bool

@@ -15,10 +15,10 @@ use Rattle.case_forms.specs.declared.steps.TakeChoice.{TakeChoice}
 use Rattle.case_forms.specs.declared.trace.Header.{Header}
 use Rattle.streams.specs.Lists.{modify}
 use Rattle.spec_network.specs.Tables.{Both, on, other, pick, waiting, with_host}
-use Rattle.spec_network.specs.Hosts.{HostState, Deed, Does, Expires, Makes, Sends, Gets, Hears, Takes, Drops, Answers}
+use Rattle.spec_network.specs.Hosts.{HostState, HostStep, Does, Expires, Makes, Sends, Gets, Hears, Takes, Drops, Answers}
 use Rattle.spec_network.specs.Hosts.{Turn, Idle, Called, Answered, World, Step, Begin, Finish, Effect, At, turn_of}
 use Rattle.spec_network.specs.HostRules.{aim_of}
-use Rattle.spec_network.specs.HostSteps.{after, call_after, deed_after, effect_after, start}
+use Rattle.spec_network.specs.HostSteps.{after, call_after, host_step_after, effect_after, start}
 use Rattle.window_rules.specs.declared.control.Profile.{Profile}
 use Rattle.spec_tcp.specs.Signals.{profile_of}
 use Rattle.spec_tcp.specs.declared.endpoint.Emission.{Emission}
@@ -26,10 +26,10 @@ use Rattle.spec_tcp.specs.declared.endpoint.Endpoint.{Endpoint}
 use Rattle.spec_tcp.specs.declared.endpoint.SocketTarget.{SocketTarget}
 use Rattle.spec_tcp.specs.declared.endpoint.SocketTarget.TheVariants.{ListenerAt, EndpointAt}
 use Rattle.spec_tcp.specs.Arrives.{Nobody, AtListener, AtEndpoint, after_taking, endpoint_taker, listener_taker, taker}
-use Rattle.spec_tcp.specs.HostTcp.{HostTcp, at_ports, dead, listener_on, place_of, queue_of, thing_of, with_endpoint}
-use Rattle.spec_tcp.specs.Calls.{after_call, change, change_thing}
+use Rattle.spec_tcp.specs.HostTcp.{HostTcp, at_ports, dead, listener_on, place_of, queue_of, socket_target, with_endpoint}
+use Rattle.spec_tcp.specs.Calls.{after_call, change, change_target}
 use Rattle.spec_tcp.specs.Calls.Accept.{accepted_from, after_accept}
-use Rattle.spec_tcp.specs.Calls.Close.{after_abort, after_close, after_gone, after_shut, orphaned, thing_gone}
+use Rattle.spec_tcp.specs.Calls.Close.{after_abort, after_close, after_gone, after_shut, orphaned, target_gone}
 use Rattle.spec_tcp.specs.Calls.Receive.{after_recv}
 use Rattle.spec_tcp.specs.Calls.Send.{after_send}
 use Rattle.spec_tcp.specs.Forgetting.{forget_body}
@@ -42,7 +42,8 @@ use Rattle.stack_core.specs.declared.deadline_queue.Affected.TheVariants as kind
 use Rattle.stack_core.specs.DeadlineQueues.{Leaves}
 use Rattle.stack_core.specs.ArrivalEvents.{IsHeld}
 use Rattle.stack_core.specs.Cores.{Core, own_body, world}
-use Rattle.stack_core.specs.Affected.{affected_by_accept, affected_by_call, affected_by_deed, affected_by_end, affected_in_queue, affected_target, affected_at}
+use Rattle.stack_core.specs.Affected.{affected_by_accept, affected_by_call, affected_by_host_step, affected_by_end, affected_in_queue, affected_target}
+use Rattle.stack_core.specs.Affected.{affected_at}
 use Rattle.stack_core.specs.Affected.{affected_by}
 
 -- 1. lists
@@ -89,7 +90,7 @@ map_length (e ∷ es) f = ap suc (map_length es f)
 leaves_map : (es : List Endpoint) (f : Endpoint → Endpoint) → Leaves kinds.All es (map f es)
 leaves_map es f = record { back = λ i x less at. inl tt; count = let same = map_length es f in omega arith }
 
--- 2. deeds
+-- 2. steps of a host
 
 at_leaves : (b : HostTcp) (l r : ℕ) (f : Endpoint → Endpoint) → Leaves (affected_at (place_of b l r)) b.endpoints (at_ports b l r f).endpoints
 at_leaves b l r f = by (place_of b l r)
@@ -127,24 +128,24 @@ taking_leaves h b how m moment = by (place_of b m.rport m.lport)
     by None = at_listener kinds.Nobody (listener_on b m.rport)
     by (Some i) = at_place i (slice_get b.endpoints i)
 
-deed_leaves : (h : Header) (me : Host) (moment fresh : ℕ) (far : List (ℕ × Emission)) (s : HostState tcp_shape)
-    (d : Deed tcp_shape) → Leaves (affected_by_deed s d) s.body.endpoints
-    (deed_after (tcp h) me moment fresh far s d).body.endpoints
-deed_leaves h me moment fresh far s (Does x) = at_leaves s.body x.lport x.rport _
-deed_leaves h me moment fresh far s (Expires line x) = at_leaves s.body x.lport x.rport _
-deed_leaves h me moment fresh far s (Makes plan) = at_leaves s.body plan.lport plan.rport _
-deed_leaves h me moment fresh far s (Sends line number wire) = leaves_same kinds.Nobody s.body.endpoints
-deed_leaves h me moment fresh far s (Gets line copied wire) = leaves_same kinds.Nobody s.body.endpoints
-deed_leaves h me moment fresh far s (Hears line wire) = leaves_same kinds.Nobody s.body.endpoints
-deed_leaves h me moment fresh far s (Takes line how) = by (waiting line s.inbox)
+host_step_leaves : (h : Header) (me : Host) (moment fresh : ℕ) (far : List (ℕ × Emission)) (s : HostState tcp_shape)
+    (d : HostStep tcp_shape) → Leaves (affected_by_host_step s d) s.body.endpoints
+    (host_step_after (tcp h) me moment fresh far s d).body.endpoints
+host_step_leaves h me moment fresh far s (Does x) = at_leaves s.body x.lport x.rport _
+host_step_leaves h me moment fresh far s (Expires line x) = at_leaves s.body x.lport x.rport _
+host_step_leaves h me moment fresh far s (Makes plan) = at_leaves s.body plan.lport plan.rport _
+host_step_leaves h me moment fresh far s (Sends line number wire) = leaves_same kinds.Nobody s.body.endpoints
+host_step_leaves h me moment fresh far s (Gets line copied wire) = leaves_same kinds.Nobody s.body.endpoints
+host_step_leaves h me moment fresh far s (Hears line wire) = leaves_same kinds.Nobody s.body.endpoints
+host_step_leaves h me moment fresh far s (Takes line how) = by (waiting line s.inbox)
   where
     by : (o : Option Emission)
         → Leaves (on o kinds.Nobody (λ m. affected_at (place_of s.body m.rport m.lport))) s.body.endpoints
         (on o s.body (λ m. after_taking h s.body how m moment (taker s.body m))).endpoints
     by None = leaves_same kinds.Nobody s.body.endpoints
     by (Some m) = taking_leaves h s.body how m moment
-deed_leaves h me moment fresh far s (Drops line) = leaves_same kinds.Nobody s.body.endpoints
-deed_leaves h me moment fresh far s (Answers line) = by (waiting line s.inbox)
+host_step_leaves h me moment fresh far s (Drops line) = leaves_same kinds.Nobody s.body.endpoints
+host_step_leaves h me moment fresh far s (Answers line) = by (waiting line s.inbox)
   where
     by : (o : Option Emission) → Leaves kinds.Nobody s.body.endpoints (on o s.body (λ m. s.body)).endpoints
     by None = leaves_same kinds.Nobody s.body.endpoints
@@ -153,29 +154,29 @@ deed_leaves h me moment fresh far s (Answers line) = by (waiting line s.inbox)
 -- 3. calls
 
 change_leaves : (b : HostTcp) (n : ℕ) (f : Endpoint → Endpoint)
-    → Leaves (option_map_or affected_target (thing_of b n) kinds.Nobody) b.endpoints (change b n f).endpoints
-change_leaves b n f = by (thing_of b n)
+    → Leaves (option_map_or affected_target (socket_target b n) kinds.Nobody) b.endpoints (change b n f).endpoints
+change_leaves b n f = by (socket_target b n)
   where
-    by : (o : Option SocketTarget) → Leaves (option_map_or affected_target o kinds.Nobody) b.endpoints (option_map_or (change_thing b f) o b).endpoints
+    by : (o : Option SocketTarget) → Leaves (option_map_or affected_target o kinds.Nobody) b.endpoints (option_map_or (change_target b f) o b).endpoints
     by None = leaves_same kinds.Nobody b.endpoints
     by (Some (ListenerAt l)) = leaves_same kinds.Nobody b.endpoints
     by (Some (EndpointAt i)) = leaves_modify b.endpoints i f
 
 gone_leaves : (b : HostTcp) (n : ℕ) (f : Endpoint → Endpoint)
-    → Leaves (option_map_or affected_by_end (thing_of b n) kinds.Nobody) b.endpoints (after_gone b n f).endpoints
-gone_leaves b n f = by (thing_of b n)
+    → Leaves (option_map_or affected_by_end (socket_target b n) kinds.Nobody) b.endpoints (after_gone b n f).endpoints
+gone_leaves b n f = by (socket_target b n)
   where
     by : (o : Option SocketTarget)
         → Leaves (option_map_or affected_by_end o kinds.Nobody) b.endpoints
-        (option_map_or (λ thing. record (thing_gone b thing f) { sockets = dead b.sockets n }) o b).endpoints
+        (option_map_or (λ target. record (target_gone b target f) { sockets = dead b.sockets n }) o b).endpoints
     by None = leaves_same kinds.Nobody b.endpoints
     by (Some (ListenerAt l)) = leaves_map b.endpoints (orphaned l)
     by (Some (EndpointAt i)) = leaves_modify b.endpoints i f
 
 accept_leaves : (b : HostTcp) (h n : ℕ)
-    → Leaves (option_map_or (affected_by_accept b) (thing_of b h) kinds.Nobody) b.endpoints
-    (option_map_or (after_accept b n) (thing_of b h) b).endpoints
-accept_leaves b h n = by (thing_of b h)
+    → Leaves (option_map_or (affected_by_accept b) (socket_target b h) kinds.Nobody) b.endpoints
+    (option_map_or (after_accept b n) (socket_target b h) b).endpoints
+accept_leaves b h n = by (socket_target b h)
   where
     queued : (l : ℕ) (queue : List ℕ) → Leaves (affected_in_queue queue) b.endpoints (accepted_from b l n queue).endpoints
     queued l [] = leaves_same kinds.Nobody b.endpoints
@@ -211,10 +212,10 @@ call_at p Zero One hosts call answer = leaves_same _ hosts.zero.body.endpoints
 call_at p One Zero hosts call answer = leaves_same _ hosts.one.body.endpoints
 call_at p One One hosts call answer = call_leaves p hosts.one.body call answer
 
-deed_at : (h : Header) (me : Host) (moment : ℕ) (w : World tcp_shape) (d : Deed tcp_shape)
-    → Leaves (affected_by_deed (pick w.hosts me) d) (ends me w) (ends me (after (tcp h) moment w (At me d)))
-deed_at h Zero moment w d = deed_leaves h Zero moment (suc w.count) w.hosts.one.wire w.hosts.zero d
-deed_at h One moment w d = deed_leaves h One moment (suc w.count) w.hosts.zero.wire w.hosts.one d
+host_step_at : (h : Header) (me : Host) (moment : ℕ) (w : World tcp_shape) (d : HostStep tcp_shape)
+    → Leaves (affected_by_host_step (pick w.hosts me) d) (ends me w) (ends me (after (tcp h) moment w (At me d)))
+host_step_at h Zero moment w d = host_step_leaves h Zero moment (suc w.count) w.hosts.one.wire w.hosts.zero d
+host_step_at h One moment w d = host_step_leaves h One moment (suc w.count) w.hosts.zero.wire w.hosts.one d
 
 module _ (h : Header) (me : Host) (moment : ℕ) (w : World tcp_shape) where
   effect_leaves : (t : ℕ) (answer : Answer) (u : Turn tcp_shape)
@@ -230,14 +231,14 @@ module _ (h : Header) (me : Host) (moment : ℕ) (w : World tcp_shape) where
       by None = leaves_same _ (ends me w)
       by (Some host) = call_at (profile_of h) me host w.hosts call answer
 
-  pub step_leaves : (step : Step tcp_shape) → ((host : Host) (d : Deed tcp_shape) → step ≡ At host d → host ≡ me)
+  pub step_leaves : (step : Step tcp_shape) → ((host : Host) (d : HostStep tcp_shape) → step ≡ At host d → host ≡ me)
       → Leaves (affected_by me w step) (ends me w) (ends me (after (tcp h) moment w step))
   step_leaves (Begin line t call) own = leaves_same kinds.Nobody (ends me w)
   step_leaves (Finish line t answer) own = leaves_same kinds.Nobody (ends me w)
   step_leaves (Effect t answer) own = effect_leaves t answer (turn_of t w.threads)
   step_leaves (At host d) own =
-      subst (λ (x : Host). Leaves (affected_by_deed (pick w.hosts me) d) (ends me w)
-      (ends me (after (tcp h) moment w (At x d)))) (sym (own host d refl)) (deed_at h me moment w d)
+      subst (λ (x : Host). Leaves (affected_by_host_step (pick w.hosts me) d) (ends me w)
+      (ends me (after (tcp h) moment w (At x d)))) (sym (own host d refl)) (host_step_at h me moment w d)
 
 pub bring_leaves : (h : Header) (me : Host) (f : Flying tcp_shape) (w : World tcp_shape) → ends me (bring (tcp h) (other me) f w) ≡ ends me w
 bring_leaves h Zero f w = refl
@@ -259,7 +260,7 @@ affected_by_call-forget b (calls.Shut n) = refl
 affected_by_call-forget b (calls.Close n) = refl
 affected_by_call-forget b (calls.Abort n) = refl
 affected_by_call-forget b (calls.Status n) = refl
-affected_by_call-forget b (calls.Accept n) = by (thing_of b n)
+affected_by_call-forget b (calls.Accept n) = by (socket_target b n)
   where
     by : (o : Option SocketTarget) → option_map_or (affected_by_accept (forget_body b)) o kinds.Nobody ≡ option_map_or (affected_by_accept b) o kinds.Nobody
     by None = refl

@@ -28,8 +28,8 @@ use Rattle.spec_tcp.specs.declared.endpoint.Endpoint.{Endpoint}
 use Rattle.spec_tcp.specs.declared.endpoint.Socket.{Socket}
 use Rattle.spec_tcp.specs.declared.endpoint.SocketTarget.{SocketTarget}
 use Rattle.spec_tcp.specs.declared.endpoint.SocketTarget.TheVariants.{EndpointAt}
-use Rattle.spec_tcp.specs.HostTcp.{HostTcp, given, if_live, thing_of}
-use Rattle.spec_tcp.specs.Calls.{call_allows, is_bad_socket, socket_allows, thing_allows}
+use Rattle.spec_tcp.specs.HostTcp.{HostTcp, given, if_live, socket_target}
+use Rattle.spec_tcp.specs.Calls.{call_allows, is_bad_socket, socket_allows, target_allows}
 use Rattle.spec_tcp.specs.Forgetting.{forget, forget_body, forget_endpoint}
 use Rattle.spec_tcp.specs.Machine.{aim, gives, tcp, tcp_shape}
 use Rattle.spec_tcp_laws.specs.ForgettingLaws.{ForgettingIsFree}
@@ -44,7 +44,7 @@ use Rattle.case_forms.specs.Traces.{first_event_line}
 use Rattle.spec_merge.proofs.Lines.{next_more}
 use Rattle.stack_core.specs.declared.tick.Tick.{Tick}
 use Rattle.stack_core.specs.CallEvents.{answered}
-use Rattle.stack_core.specs.Cores.{Core, Fits, GivesNext, IsOwn, line_to_come, next_socket, opened, own_body, with_step, world}
+use Rattle.stack_core.specs.Cores.{Core, Fits, GivesNext, IsOwn, line_to_come, next_socket, event_begun, own_body, with_step, world}
 use Rattle.stack_core.specs.Entries.{entry_at}
 use Rattle.stack_core.specs.Recordings.{Recorded, world_left}
 use Rattle.stack_core.proofs.Cores.{leads}
@@ -128,15 +128,15 @@ run_sound : (h : Header) (me : Host) (w : World tcp_shape) (xs : List (Entry tcp
 run_sound h me w [] are runs = are
 run_sound h me w (x ∷ xs) are runs = run_sound h me (next (tcp h) me w x) xs (item_sound h me x.key.moment w x.item are runs.0) runs.2
 
-live_owner : (b : HostTcp) (n i : ℕ) → thing_of b n ≡ Some (EndpointAt i) → owner b n ≡ Some i
+live_owner : (b : HostTcp) (n i : ℕ) → socket_target b n ≡ Some (EndpointAt i) → owner b n ≡ Some i
 live_owner b n i is = by (lookup (nat_eq n) b.sockets) is
   where
-    live : (alive : Bool) (s : Socket) → (if alive then Some s.thing else None) ≡ Some (EndpointAt i)
-        → option_map_or (λ x. endpoint_place x.thing) (Some s) None ≡ Some i
+    live : (alive : Bool) (s : Socket) → (if alive then Some s.target else None) ≡ Some (EndpointAt i)
+        → option_map_or (λ x. endpoint_place x.target) (Some s) None ≡ Some i
     live true s is = ap (λ o. option_map_or endpoint_place o None) is
     live false s is = absurd cc
 
-    by : (o : Option Socket) → option_map_or if_live o None ≡ Some (EndpointAt i) → option_map_or (λ x. endpoint_place x.thing) o None ≡ Some i
+    by : (o : Option Socket) → option_map_or if_live o None ≡ Some (EndpointAt i) → option_map_or (λ x. endpoint_place x.target) o None ≡ Some i
     by None is = absurd cc
     by (Some s) is = live s.live s is
 
@@ -159,7 +159,7 @@ named_left h me xs runs n i is =
 
 -- 3. the effect is permitted
 
-not_live : (b : HostTcp) (n : ℕ) → given b n ≡ false → thing_of b n ≡ None
+not_live : (b : HostTcp) (n : ℕ) → given b n ≡ false → socket_target b n ≡ None
 not_live b n is = by (lookup (nat_eq n) b.sockets) is
   where
     by : (o : Option Socket) → is_some o ≡ false → option_map_or if_live o None ≡ None
@@ -179,7 +179,7 @@ module _ (h : Header) (me : Host) (moment : ℕ) (v : World tcp_shape) (own : Is
   fresh_passes None first second may is = rw is refl
   fresh_passes (Some n) first second may is = rw (first n refl, second n refl, is) refl
 
-  nobody : (n : ℕ) → aim_of (tcp h) v.hosts (ThatSocket n) ≡ None → thing_of b n ≡ None
+  nobody : (n : ℕ) → aim_of (tcp h) v.hosts (ThatSocket n) ≡ None → socket_target b n ≡ None
   nobody n is = not_live b n (by me)
     where
       first : (x y : Bool) → (if x then Some Zero else if y then Some One else None) ≡ None → x ≡ false
@@ -196,7 +196,7 @@ module _ (h : Header) (me : Host) (moment : ℕ) (v : World tcp_shape) (own : Is
       by One = second (given v.hosts.zero.body n) (given v.hosts.one.body n) is
 
   at_socket : (n : ℕ) (c : Call) → aim_of (tcp h) v.hosts (ThatSocket n) ≡ None → socket_allows b n c answer ≡ true → is_bad_socket answer ≡ true
-  at_socket n c is may = subst (λ (o : Option SocketTarget). option_map_or (thing_allows b c answer) o (is_bad_socket answer) ≡ true) (nobody n is) may
+  at_socket n c is may = subst (λ (o : Option SocketTarget). option_map_or (target_allows b c answer) o (is_bad_socket answer) ≡ true) (nobody n is) may
 
   stray : (c : Call) → aim_of (tcp h) v.hosts (aim c) ≡ None → call_allows b c answer ≡ true → is_bad_socket answer ≡ true
   stray (calls.Listen host port backlog) is may = absurd (none-some host (sym is))
@@ -306,12 +306,12 @@ lanes : (me : Host) (b : HostTcp) (u : Turn tcp_shape) (a : Answer) → GivesNex
     → u ≡ Called call → (n : ℕ) → gives call a ≡ Some n → lane n ≡ me
 lanes me b u a next call is n e = ap lane (subst (λ (u : Turn tcp_shape). GivesNext me b u a) is next n e) ∙ lane_next me b
 
-pub effect_fits : (c d : Core) (tick : Tick) (t : ℕ) (a b : Answer) → d ≡ opened c tick → b ≡ a
+pub effect_fits : (c d : Core) (tick : Tick) (t : ℕ) (a b : Answer) → d ≡ event_begun c tick → b ≡ a
     → ((moment : ℕ) → Permitted (tcp c.recorded.header) moment (world c) (Effect t a))
     → GivesNext c.recorded.me (own_body c) (turn_of t (world c).threads) a → lane t ≡ c.recorded.me → Fits d (Effect t b)
 effect_fits c d tick t a b is same may next lane_is =
     subst (λ (x : Core). Fits x (Effect t b)) (sym is)
-    (subst (λ (x : Answer). Fits (opened c tick) (Effect t x)) (sym same)
+    (subst (λ (x : Answer). Fits (event_begun c tick) (Effect t x)) (sym same)
     (may tick.moment, (lane_is, lanes c.recorded.me (own_body c) (turn_of t (world c).threads) a next)))
 
 turn_after : (h : Header) (moment : ℕ) (w : World tcp_shape) (t : ℕ) (a : Answer)
@@ -329,30 +329,31 @@ ends : (h : Header) (me : Host) (moment : ℕ) (w : World tcp_shape) (n t : ℕ)
     → turn_of t w.threads ≡ Answered a → lane t ≡ me → FitsItem (tcp h) me moment w (Do (Finish n t a))
 ends h me moment w n t a is lane_is = (rw (is, answer_same a) refl, lane_is)
 
-pub finish_fits : (c d e : Core) (tick : Tick) (n t : ℕ) (a b x : Answer) → d ≡ opened c tick → b ≡ a → x ≡ a
+pub finish_fits : (c d e : Core) (tick : Tick) (n t : ℕ) (a b x : Answer) → d ≡ event_begun c tick → b ≡ a → x ≡ a
     → ((moment : ℕ) → Permitted (tcp c.recorded.header) moment (world c) (Effect t a)) → lane t ≡ c.recorded.me
     → e ≡ with_step d (Effect t b) → Fits e (Finish n t x)
 finish_fits c d e tick n t a b x is same last may lane_is made =
-    let there : e ≡ with_step (opened c tick) (Effect t a) =
+    let there : e ≡ with_step (event_begun c tick) (Effect t a) =
     made ∙ ap (λ (k : Core). with_step k (Effect t b)) is
-    ∙ ap (λ (y : Answer). with_step (opened c tick) (Effect t y)) same in
-    subst (λ (k : Core). Fits k (Finish n t x)) (sym there) (subst (λ (y : Answer). Fits (with_step (opened c tick) (Effect t a)) (Finish n t y)) (sym last)
-    (ends c.recorded.header c.recorded.me tick.moment (world (with_step (opened c tick) (Effect t a))) n t a
+    ∙ ap (λ (y : Answer). with_step (event_begun c tick) (Effect t y)) same in
+    subst (λ (k : Core). Fits k (Finish n t x)) (sym there)
+    (subst (λ (y : Answer). Fits (with_step (event_begun c tick) (Effect t a)) (Finish n t y)) (sym last)
+    (ends c.recorded.header c.recorded.me tick.moment (world (with_step (event_begun c tick) (Effect t a))) n t a
     (ap (λ (w : World tcp_shape). turn_of t w.threads)
-    (leads (opened c tick) (with_step (opened c tick) (Effect t a)) (Effect t a) refl)
+    (leads (event_begun c tick) (with_step (event_begun c tick) (Effect t a)) (Effect t a) refl)
     ∙ turn_after c.recorded.header tick.moment (world c) t a (may tick.moment)) lane_is))
 
 -- an effect takes no line
-pub same_line : (c d e : Core) (tick : Tick) (t : ℕ) (a : Answer) → d ≡ opened c tick → e ≡ with_step d (Effect t a) → line_to_come e ≡ line_to_come c
+pub same_line : (c d e : Core) (tick : Tick) (t : ℕ) (a : Answer) → d ≡ event_begun c tick → e ≡ with_step d (Effect t a) → line_to_come e ≡ line_to_come c
 same_line c d e tick t a is made =
     ap line_to_come (made ∙ ap (λ (x : Core). with_step x (Effect t a)) is)
     ∙ next_more c.recorded.header (first_event_line c.recorded.header) c.recorded.entries
     (entry_at c.recorded.me tick (Do (Effect t a)) ∷ [])
 
-pub ended_call : (c d e f : Core) (tick : Tick) (n t : ℕ) (a b x : Answer) → d ≡ opened c tick
+pub ended_call : (c d e f : Core) (tick : Tick) (n t : ℕ) (a b x : Answer) → d ≡ event_begun c tick
     → e ≡ with_step d (Effect t b) → f ≡ with_step e (Finish n t x) → b ≡ a → x ≡ a → n ≡ line_to_come e
     → f ≡ answered c tick t a
 ended_call c d e f tick n t a b x is made last same ending number =
     last ∙ ap (λ (y : Answer). with_step e (Finish n t y)) ending ∙ ap (λ (m : ℕ). with_step e (Finish m t a)) (number ∙ same_line c d e tick t b is made)
     ∙ ap (λ (k : Core). with_step k (Finish (line_to_come c) t a)) (made ∙ ap (λ (k : Core). with_step k (Effect t b)) is)
-    ∙ ap (λ (y : Answer). with_step (with_step (opened c tick) (Effect t y)) (Finish (line_to_come c) t a)) same
+    ∙ ap (λ (y : Answer). with_step (with_step (event_begun c tick) (Effect t y)) (Finish (line_to_come c) t a)) same

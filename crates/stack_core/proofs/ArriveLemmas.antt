@@ -30,7 +30,7 @@ use Rattle.stack_core.specs.declared.tick.Tick.{Tick}
 use Rattle.stack_core.specs.ArrivalEvents.{Brought, Came, Dropped, Taken, Ticked, Took, IsArrived, IsArrivedShort}
 use Rattle.stack_core.specs.ArrivalEvents.{IsCameIn, IsChoice, IsHeld, IsRecovered, IsRecoveryAt, IsSettled}
 use Rattle.stack_core.specs.ArrivalEvents.{IsSettledShort, MayDrop, MayRecover, MayTake, came, ports_of}
-use Rattle.stack_core.specs.Cores.{Core, Fits, MayDo, line_to_come, opened, with_item, with_step, world}
+use Rattle.stack_core.specs.Cores.{Core, Fits, MayDo, line_to_come, event_begun, with_item, with_step, world}
 use Rattle.stack_core.specs.Entries.{entry_at, steps_in}
 use Rattle.stack_core.proofs.Cores.{leads}
 use Rattle.stack_core.proofs.Growing.{steps_more}
@@ -150,7 +150,7 @@ module _ (c d e : Core) (f : Flying tcp_shape) (wire : Wire) (me : Host) (line :
 
 -- 3. the event
 
-pub arrived : (c o d e : Core) (tick : Tick) (f : Flying tcp_shape) (line : ℕ) (ports : Ports) → o ≡ opened c tick
+pub arrived : (c o d e : Core) (tick : Tick) (f : Flying tcp_shape) (line : ℕ) (ports : Ports) → o ≡ event_begun c tick
     → IsCameIn o f d → line ≡ line_to_come o → ports ≡ ports_of f.emission → IsSettled d line ports e
     → IsArrived c tick f e
 arrived c o d e tick f line ports is came_d line_is ports_is settled =
@@ -165,11 +165,12 @@ arrived c o d e tick f line ports is came_d line_is ports_is settled =
           (subst (λ (x : Core). IsSettled x line ports e) d_is settled));
     }
 
-pub came_short : (c o d : Core) (tick : Tick) (f : Flying tcp_shape) → o ≡ opened c tick → (d ≡ o) ⊎ (d ≡ with_item o (Bring f)) → IsArrivedShort c tick f d
+pub came_short : (c o d : Core) (tick : Tick) (f : Flying tcp_shape) → o ≡ event_begun c tick
+    → (d ≡ o) ⊎ (d ≡ with_item o (Bring f)) → IsArrivedShort c tick f d
 came_short c o d tick f is (inl row) = Ticked (row ∙ is)
 came_short c o d tick f is (inr row) = Brought (row ∙ ap (λ (x : Core). with_item x (Bring f)) is)
 
-pub settled_short : (c o d e : Core) (tick : Tick) (f : Flying tcp_shape) (line : ℕ) (ports : Ports) → o ≡ opened c tick
+pub settled_short : (c o d e : Core) (tick : Tick) (f : Flying tcp_shape) (line : ℕ) (ports : Ports) → o ≡ event_begun c tick
     → IsCameIn o f d → line ≡ line_to_come o → ports ≡ ports_of f.emission → IsSettledShort d line ports e
     → IsArrivedShort c tick f e
 settled_short c o d e tick f line ports is came_d line_is ports_is short = by

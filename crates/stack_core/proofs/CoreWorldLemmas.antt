@@ -19,7 +19,7 @@ use Rattle.stack_core.specs.ArrivalEvents.IsSettled.{Taken, Reset, Dropped}
 use Rattle.stack_core.specs.ArrivalEvents.IsArrivedShort.{Ticked, Brought, Came, Took}
 use Rattle.stack_core.specs.CoreWorlds.{CoreCall, Event, IsCalled, IsCoreWorld, Lead, Leaves, MayCall, Side, entries_of, flown_in, new_side}
 use Rattle.stack_core.specs.CoreWorlds.CoreCall.{Begin, Attempt, Arrive, Pump, Timers}
-use Rattle.stack_core.specs.Cores.{Core, IsRecorded, line_to_come, opened, with_item, with_step, world}
+use Rattle.stack_core.specs.Cores.{Core, IsRecorded, line_to_come, event_begun, with_item, with_step, world}
 use Rattle.stack_core.specs.Entries.{entry_at}
 use Rattle.stack_core.specs.Flown.{HasFlown, IsAbove}
 use Rattle.stack_core.specs.Outgoing.{GoesOut}
@@ -87,7 +87,7 @@ module _ (h : Header) (theirs : Recorded) (c : Core) where
 
   module _ (me : Host) (is_me : c.recorded.me ≡ me) (f : Flying tcp_shape) (flew : HasFlown theirs f) where
     brings : (tick : Tick) → IsAbove f tick → Grew h theirs c (brought c tick f)
-    brings tick above = grew_item (opened c tick) (Bring f) ((named theirs c.recorded.me f tick flew above).0, flew) (grew_none (opened c tick) refl)
+    brings tick above = grew_item (event_begun c tick) (Bring f) ((named theirs c.recorded.me f tick flew above).0, flew) (grew_none (event_begun c tick) refl)
 
     grew_came : (tick : Tick) → IsAbove f tick → (wire : _) → Grew h theirs c (came c tick f wire)
     grew_came tick above wire = grew_step (brought c tick f) _ (brings tick above)
@@ -96,7 +96,7 @@ module _ (h : Header) (theirs : Recorded) (c : Core) where
     grew_arrived tick d above a = grew_settled (came c tick f a.wire) d (line_to_come c) (ports_of f.emission) a.settled (grew_came tick above a.wire)
 
     grew_short : (tick : Tick) (d : Core) → IsAbove f tick → IsArrivedShort c tick f d → Grew h theirs c d
-    grew_short tick d above (Ticked row) = grew_to (opened c tick) d row (grew_none (opened c tick) refl)
+    grew_short tick d above (Ticked row) = grew_to (event_begun c tick) d row (grew_none (event_begun c tick) refl)
     grew_short tick d above (Brought row) = grew_to (brought c tick f) d row (brings tick above)
     grew_short tick d above (Came wire bytes row) = grew_to (came c tick f wire) d row (grew_came tick above wire)
     grew_short tick d above (Took wire bytes choice keep may due row) =
@@ -106,36 +106,37 @@ module _ (h : Header) (theirs : Recorded) (c : Core) where
   grew_out : (d e : Core) (number : ℕ) (f : Flying tcp_shape) → GoesOut d number f e → Grew h theirs c d → Grew h theirs c e
   grew_out d e number f out g = grew_to (with_step d _) e out.row (grew_step d _ g)
 
-  grew_opened : (tick : Tick) → Grew h theirs c (opened c tick)
-  grew_opened tick = grew_none (opened c tick) refl
+  grew_event : (tick : Tick) → Grew h theirs c (event_begun c tick)
+  grew_event tick = grew_none (event_begun c tick) refl
 
   grew_same : (d : Core) → d ≡ c → Grew h theirs c d
   grew_same d is = grew_none d (ap (λ (x : Core). x.recorded) is)
 
   grew_made : (tick : Tick) (plan : _) → Grew h theirs c (made c tick plan)
-  grew_made tick plan = grew_step (opened c tick) _ (grew_opened tick)
+  grew_made tick plan = grew_step (event_begun c tick) _ (grew_event tick)
 
   grew : (flown : List (Flying tcp_shape)) → All (HasFlown theirs) flown → (tick : Tick) (call : CoreCall) (d : Core)
       → MayCall c flown tick call → Leaves c tick call d → Grew h theirs c d
-  grew flown flew tick (Begin thread call (Ok done)) d may row = grew_to _ d row (grew_step (opened c tick) _ (grew_opened tick))
-  grew flown flew tick (Begin thread call (Err memory)) d may row = grew_to (opened c tick) d row (grew_opened tick)
+  grew flown flew tick (Begin thread call (Ok done)) d may row = grew_to _ d row (grew_step (event_begun c tick) _ (grew_event tick))
+  grew flown flew tick (Begin thread call (Err memory)) d may row = grew_to (event_begun c tick) d row (grew_event tick)
   grew flown flew tick (Attempt thread (Ok (Some a))) d may row =
-      grew_to _ d row.1 (grew_step (with_step (opened c tick) _) _ (grew_step (opened c tick) _ (grew_opened tick)))
+      grew_to _ d row.1 (grew_step (with_step (event_begun c tick) _) _ (grew_step (event_begun c tick) _ (grew_event tick)))
   grew flown flew tick (Attempt thread (Ok None)) d may row = grew_same d row.0
-  grew flown flew tick (Attempt thread (Err memory)) d may (inl row) = grew_to (opened c tick) d row (grew_opened tick)
-  grew flown flew tick (Attempt thread (Err memory)) d may (inr row) = grew_to _ d row.2 (grew_step (opened c tick) (Effect thread row.0) (grew_opened tick))
+  grew flown flew tick (Attempt thread (Err memory)) d may (inl row) = grew_to (event_begun c tick) d row (grew_event tick)
+  grew flown flew tick (Attempt thread (Err memory)) d may (inr row) =
+      grew_to _ d row.2 (grew_step (event_begun c tick) (Effect thread row.0) (grew_event tick))
   grew flown flew tick (Arrive f (Ok true)) d may row = grew_arrived c.recorded.me refl f (All-contains (HasFlown theirs) flown f flew may.0) tick d may.1 row
   grew flown flew tick (Arrive f (Ok false)) d may row = grew_same d row.0
   grew flown flew tick (Arrive f (Err memory)) d may row = grew_short c.recorded.me refl f (All-contains (HasFlown theirs) flown f flew may.0) tick d may.1 row
-  grew flown flew tick (Pump (Ok (Some f))) d may (ResetGoes number waited out) = grew_out (opened c tick) d number f out (grew_opened tick)
+  grew flown flew tick (Pump (Ok (Some f))) d may (ResetGoes number waited out) = grew_out (event_begun c tick) d number f out (grew_event tick)
   grew flown flew tick (Pump (Ok (Some f))) d may (MadeGoes free plan out) =
       grew_out (made c tick plan) d (world (made c tick plan)).count f out (grew_made tick plan)
   grew flown flew tick (Pump (Ok None)) d may row = grew_same d row.0
-  grew flown flew tick (Pump (Err memory)) d may (inl row) = grew_to (opened c tick) d row (grew_opened tick)
+  grew flown flew tick (Pump (Err memory)) d may (inl row) = grew_to (event_begun c tick) d row (grew_event tick)
   grew flown flew tick (Pump (Err memory)) d may (inr row) = grew_to (made c tick row.1.0) d row.1.1 (grew_made tick row.1.0)
-  grew flown flew tick (Timers (Ok true)) d may row = grew_to _ d row.2 (grew_step (opened c tick) _ (grew_opened tick))
+  grew flown flew tick (Timers (Ok true)) d may row = grew_to _ d row.2 (grew_step (event_begun c tick) _ (grew_event tick))
   grew flown flew tick (Timers (Ok false)) d may row = grew_same d row.0
-  grew flown flew tick (Timers (Err memory)) d may row = grew_to (opened c tick) d row (grew_opened tick)
+  grew flown flew tick (Timers (Err memory)) d may row = grew_to (event_begun c tick) d row (grew_event tick)
 
 -- 2. what flew stays
 
@@ -152,7 +153,7 @@ flies c d tick (Begin thread call answer) row kept = All-nil (HasFlown d.recorde
 flies c d tick (Attempt thread answer) row kept = All-nil (HasFlown d.recorded)
 flies c d tick (Arrive f answer) row kept = All-nil (HasFlown d.recorded)
 flies c d tick (Pump (Ok (Some f))) (ResetGoes number waited out) kept =
-    All-cons (HasFlown d.recorded) f [] (gone_flown (opened c tick) d number f out kept) (All-nil (HasFlown d.recorded))
+    All-cons (HasFlown d.recorded) f [] (gone_flown (event_begun c tick) d number f out kept) (All-nil (HasFlown d.recorded))
 flies c d tick (Pump (Ok (Some f))) (MadeGoes free plan out) kept =
     All-cons (HasFlown d.recorded) f [] (gone_flown (made c tick plan) d (world (made c tick plan)).count f out kept)
     (All-nil (HasFlown d.recorded))

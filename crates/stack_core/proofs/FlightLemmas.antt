@@ -14,23 +14,23 @@ use Rattle.case_forms.specs.declared.calls.Host.TheVariants.{Zero, One}
 use Rattle.case_forms.specs.declared.trace.Header.{Header}
 use Rattle.case_forms.specs.declared.trace.Wire.{Wire}
 use Rattle.spec_network.specs.Tables.{Both, Made, on, other, pick, with_host}
-use Rattle.spec_network.specs.Hosts.{Deed, Does, Expires, Makes, Sends, Gets, Hears, Takes, Drops, Answers, HostState}
+use Rattle.spec_network.specs.Hosts.{HostStep, Does, Expires, Makes, Sends, Gets, Hears, Takes, Drops, Answers, HostState}
 use Rattle.spec_network.specs.Hosts.{Turn, Idle, Called, Answered, World, Step, Begin, Finish, Effect, At, turn_of}
 use Rattle.spec_network.specs.HostRules.{aim_of}
-use Rattle.spec_network.specs.HostSteps.{after, call_after, deed_after, effect_after, start}
+use Rattle.spec_network.specs.HostSteps.{after, call_after, host_step_after, effect_after, start}
 use Rattle.spec_network.proofs.Entries.{lookup_insert}
 use Rattle.spec_tcp.specs.HostTcp.{HostTcp}
 use Rattle.spec_tcp.specs.declared.endpoint.Emission.{Emission}
 use Rattle.spec_tcp.specs.Machine.{aim, tcp, tcp_shape}
 use Rattle.spec_tcp.specs.Machine as acts
 use Rattle.spec_tcp.specs.Wire.{sent}
-use Rattle.spec_merge.specs.Books.{Bring, Do, FitsItem, Flying, HostRun, Item, Key, deed_line, end, item_line, next, next_item, step_line}
+use Rattle.spec_merge.specs.Books.{Bring, Do, FitsItem, Flying, HostRun, Item, Key, host_step_line, end, item_line, next, next_item, step_line}
 use Rattle.spec_merge.specs.Keys.{EachEntry, If, NamesOne, Numbered, lesser, rank}
 use Rattle.spec_merge.specs.Recordings.{IsKept, TcpEntry, next_line, world_of}
 use Rattle.spec_merge.proofs.Growing.{end_more}
 use Rattle.spec_merge.proofs.Lines.{next_more}
 use Rattle.stack_core.specs.declared.tick.Tick.{Tick}
-use Rattle.stack_core.specs.Cores.{Core, IsRecorded, line_to_come, opened, with_step, world}
+use Rattle.stack_core.specs.Cores.{Core, IsRecorded, line_to_come, event_begun, with_step, world}
 use Rattle.stack_core.specs.PumpEvents.{IsPumped, made}
 use Rattle.stack_core.specs.PumpEvents.IsPumped.{Answered as ResetGoes, Made as MadeGoes}
 use Rattle.stack_core.specs.Entries.{entry_at}
@@ -144,19 +144,19 @@ called_wire Zero One hosts b = refl
 called_wire One Zero hosts b = refl
 called_wire One One hosts b = refl
 
-deed_kept : (h : Header) (me : Host) (moment fresh : ℕ) (far : List (ℕ × Emission)) (s : HostState tcp_shape)
-    (d : Deed tcp_shape) (line : ℕ) (e : Option Emission)
-    → If (deed_line (tcp h) d) (Unit {0}) (λ l. nat_eq line l ≡ false)
-    → lookup (nat_eq line) s.wire ≡ e → lookup (nat_eq line) (deed_after (tcp h) me moment fresh far s d).wire ≡ e
-deed_kept h me moment fresh far s (Does x) line e at is = is
-deed_kept h me moment fresh far s (Expires l x) line e at is = is
-deed_kept h me moment fresh far s (Makes plan) line e at is = is
-deed_kept h me moment fresh far s (Sends l number wire) line e at is = wire_kept line l moment number wire s.made s.wire e at is
-deed_kept h me moment fresh far s (Gets l copied wire) line e at is = is
-deed_kept h me moment fresh far s (Hears l wire) line e at is = is
-deed_kept h me moment fresh far s (Takes l choice) line e at is = is
-deed_kept h me moment fresh far s (Drops l) line e at is = is
-deed_kept h me moment fresh far s (Answers l) line e at is = is
+host_step_kept : (h : Header) (me : Host) (moment fresh : ℕ) (far : List (ℕ × Emission)) (s : HostState tcp_shape)
+    (d : HostStep tcp_shape) (line : ℕ) (e : Option Emission)
+    → If (host_step_line (tcp h) d) (Unit {0}) (λ l. nat_eq line l ≡ false)
+    → lookup (nat_eq line) s.wire ≡ e → lookup (nat_eq line) (host_step_after (tcp h) me moment fresh far s d).wire ≡ e
+host_step_kept h me moment fresh far s (Does x) line e at is = is
+host_step_kept h me moment fresh far s (Expires l x) line e at is = is
+host_step_kept h me moment fresh far s (Makes plan) line e at is = is
+host_step_kept h me moment fresh far s (Sends l number wire) line e at is = wire_kept line l moment number wire s.made s.wire e at is
+host_step_kept h me moment fresh far s (Gets l copied wire) line e at is = is
+host_step_kept h me moment fresh far s (Hears l wire) line e at is = is
+host_step_kept h me moment fresh far s (Takes l choice) line e at is = is
+host_step_kept h me moment fresh far s (Drops l) line e at is = is
+host_step_kept h me moment fresh far s (Answers l) line e at is = is
 
 module _ (h : Header) (me : Host) (moment : ℕ) (w : World tcp_shape) (line : ℕ) (e : Option Emission)
     (is : lookup (nat_eq line) (pick w.hosts me).wire ≡ e) where
@@ -169,7 +169,7 @@ module _ (h : Header) (me : Host) (moment : ℕ) (w : World tcp_shape) (line : �
       by None = is
       by (Some host) = subst (λ (out : List (ℕ × Emission)). lookup (nat_eq line) out ≡ e) (sym (called_wire me host w.hosts _)) is
 
-  step_kept : (step : Step tcp_shape) → ((host : Host) (d : Deed tcp_shape) → step ≡ At host d → host ≡ me)
+  step_kept : (step : Step tcp_shape) → ((host : Host) (d : HostStep tcp_shape) → step ≡ At host d → host ≡ me)
       → If (step_line (tcp h) step) (Unit {0}) (λ l. nat_eq line l ≡ false)
       → lookup (nat_eq line) (pick (after (tcp h) moment w step).hosts me).wire ≡ e
   step_kept (Begin l t call) own at = is
@@ -177,12 +177,12 @@ module _ (h : Header) (me : Host) (moment : ℕ) (w : World tcp_shape) (line : �
   step_kept (Effect t answer) own at = effect_kept t answer (turn_of t w.threads)
   step_kept (At host d) own at =
       subst (λ (x : Host). lookup (nat_eq line)
-      (pick (with_host w.hosts x (deed_after (tcp h) x moment (suc w.count) (pick w.hosts (other x)).wire
+      (pick (with_host w.hosts x (host_step_after (tcp h) x moment (suc w.count) (pick w.hosts (other x)).wire
       (pick w.hosts x) d)) me).wire ≡ e) (sym (own host d refl))
       (subst (λ (s : HostState tcp_shape). lookup (nat_eq line) s.wire ≡ e)
-      (sym (picked me w.hosts (deed_after (tcp h) me moment (suc w.count) (pick w.hosts (other me)).wire
+      (sym (picked me w.hosts (host_step_after (tcp h) me moment (suc w.count) (pick w.hosts (other me)).wire
       (pick w.hosts me) d)))
-      (deed_kept h me moment (suc w.count) (pick w.hosts (other me)).wire (pick w.hosts me) d line e at is))
+      (host_step_kept h me moment (suc w.count) (pick w.hosts (other me)).wire (pick w.hosts me) d line e at is))
 
   item_kept : (x : Item tcp_shape) → FitsItem (tcp h) me moment w x
       → If (item_line (tcp h) x) (Unit {0}) (λ l. nat_eq line l ≡ false)
@@ -321,5 +321,5 @@ pub pumped_flown : {E : Type 0} (c d : Core) (tick : Tick) (res : Result (Option
     → IfOk res (λ o. IfSome o (λ f. HasFlown d.recorded f))
 pumped_flown c d tick (Err e) is kept = tt
 pumped_flown c d tick (Ok None) is kept = tt
-pumped_flown c d tick (Ok (Some f)) (ResetGoes number waited out) kept = gone_flown (opened c tick) d number f out kept
+pumped_flown c d tick (Ok (Some f)) (ResetGoes number waited out) kept = gone_flown (event_begun c tick) d number f out kept
 pumped_flown c d tick (Ok (Some f)) (MadeGoes free plan out) kept = gone_flown (made c tick plan) d (world (made c tick plan)).count f out kept

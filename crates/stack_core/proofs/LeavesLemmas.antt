@@ -12,12 +12,12 @@ use Rattle.stack_core.specs.ArrivalEvents.{IsArrival, IsArrivedShort}
 use Rattle.stack_core.specs.CallEvents.{IsAttempted, IsAttemptShort, NoAnswer, begun}
 use Rattle.stack_core.specs.CoreWorlds.{Leaves}
 use Rattle.stack_core.specs.CoreWorlds.CoreCall.{Begin, Attempt, Arrive, Pump, Timers}
-use Rattle.stack_core.specs.Cores.{Core, opened}
+use Rattle.stack_core.specs.Cores.{Core, event_begun}
 use Rattle.stack_core.specs.PumpEvents.{IsPumped, IsPumpedShort, NothingToPump}
 use Rattle.stack_core.specs.TimerEvents.{IsTimed}
 
 module _ (c d : Core) (tick : Tick) where
-  pub begin_leaves : (thread : ℕ) (call : Call) (r : Result (Unit {0}) AllocError) → OnOk r (d ≡ begun c tick thread call) → OnErr r (d ≡ opened c tick)
+  pub begin_leaves : (thread : ℕ) (call : Call) (r : Result (Unit {0}) AllocError) → OnOk r (d ≡ begun c tick thread call) → OnErr r (d ≡ event_begun c tick)
       → Leaves c tick (Begin thread call r) d
   begin_leaves thread call (Ok done) ok err = ok
   begin_leaves thread call (Err memory) ok err = err
@@ -39,6 +39,6 @@ module _ (c d : Core) (tick : Tick) where
   pump_leaves (Ok None) some none err = none
   pump_leaves (Err memory) some none err = err
 
-  pub timers_leaves : (r : Result Bool AllocError) → IfOk r (λ found. IsTimed c tick found d) → OnErr r (d ≡ opened c tick) → Leaves c tick (Timers r) d
+  pub timers_leaves : (r : Result Bool AllocError) → IfOk r (λ found. IsTimed c tick found d) → OnErr r (d ≡ event_begun c tick) → Leaves c tick (Timers r) d
   timers_leaves (Ok found) ok err = ok
   timers_leaves (Err memory) ok err = err

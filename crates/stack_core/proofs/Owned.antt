@@ -13,7 +13,7 @@ use Rattle.case_forms.specs.declared.trace.Header.{Header}
 use Rattle.spec_network.specs.Tables.{lane, other, pick, with_host}
 use Rattle.spec_network.specs.Hosts.{Aim, ThatHost, ThatSocket, HostState, Turn, Idle, Called, Answered, World, Step, Begin, Finish, Effect, At, turn_of}
 use Rattle.spec_network.specs.HostRules.{aim_of}
-use Rattle.spec_network.specs.HostSteps.{after, call_after, deed_after, effect_after}
+use Rattle.spec_network.specs.HostSteps.{after, call_after, host_step_after, effect_after}
 use Rattle.spec_network.proofs.Entries.{turn_insert}
 use Rattle.spec_tcp.specs.Signals.{profile_of}
 use Rattle.spec_tcp.specs.HostTcp.{HostTcp, given}
@@ -23,7 +23,7 @@ use Rattle.spec_tcp.specs.Machine as acts
 use Rattle.spec_tcp_laws.proofs.Sound.{dead_given, given_insert}
 use Rattle.spec_merge.specs.Books.{Aims, Do, FitsItem, Flying, bring}
 use Rattle.stack_core.specs.Cores.{GivesNext, IsCallWithin, IsOrderly, IsOwn, first_socket, next_socket}
-use Rattle.stack_core.proofs.Sockets.{Sockets, SocketsAfter, call_sockets, dead_length, deed_sockets, new_length}
+use Rattle.stack_core.proofs.Sockets.{Sockets, SocketsAfter, call_sockets, dead_length, host_step_sockets, new_length}
 
 -- 1. threads
 
@@ -215,9 +215,9 @@ module _ (h : Header) (me : Host) (moment : ℕ) (w : World tcp_shape) (own : Is
   own_step (Finish line t answer) fits orderly = turns (insert_entry nat_eq w.threads t Idle) (turn_own h me w.threads t Idle calls_own (λ c none. absurd cc))
   own_step (Effect t answer) fits next = effect_own t answer (turn_of t w.threads) refl fits.1.1 next
   own_step (At host d) fits orderly =
-      let s : HostState tcp_shape = deed_after (tcp h) host moment (suc w.count) (pick w.hosts (other host)).wire (pick w.hosts host) d in
+      let s : HostState tcp_shape = host_step_after (tcp h) host moment (suc w.count) (pick w.hosts (other host)).wire (pick w.hosts host) d in
       let same : s.body.sockets ≡ (pick w.hosts me).body.sockets =
-      deed_sockets h host moment (suc w.count) (pick w.hosts (other host)).wire (pick w.hosts host) d
+      host_step_sockets h host moment (suc w.count) (pick w.hosts (other host)).wire (pick w.hosts host) d
       ∙ ap (λ (x : Host). (pick w.hosts x).body.sockets) fits.1 in
       changed host s w.threads _ fits.1 (same_numbers me (pick w.hosts me).body s.body same numbers_own)
       (let count = ap (λ (es : Sockets). length es) same in omega arith) calls_own

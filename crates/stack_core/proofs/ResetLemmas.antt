@@ -13,10 +13,10 @@ use Rattle.case_forms.specs.declared.calls.Host.TheVariants.{Zero, One}
 use Rattle.case_forms.specs.declared.steps.SegmentPlan.{SegmentPlan}
 use Rattle.case_forms.specs.declared.trace.Header.{Header}
 use Rattle.spec_network.specs.Tables.{Both, Made, gone_out, on, other, pick, unsent, waiting, with_host}
-use Rattle.spec_network.specs.Hosts.{Deed, Does, Expires, Makes, Sends, Gets, Hears, Takes, Drops, Answers, HostState}
+use Rattle.spec_network.specs.Hosts.{HostStep, Does, Expires, Makes, Sends, Gets, Hears, Takes, Drops, Answers, HostState}
 use Rattle.spec_network.specs.Hosts.{Turn, Idle, Called, Answered, World, Step, Begin, Finish, Effect, At, turn_of}
 use Rattle.spec_network.specs.HostRules.{aim_of}
-use Rattle.spec_network.specs.HostSteps.{after, call_after, deed_after, effect_after, made_gone_out, start}
+use Rattle.spec_network.specs.HostSteps.{after, call_after, host_step_after, effect_after, made_gone_out, start}
 use Rattle.spec_network.proofs.Entries.{lookup_insert}
 use Rattle.spec_tcp.specs.HostTcp.{HostTcp, place_of}
 use Rattle.spec_tcp.specs.declared.endpoint.Emission.{Emission}
@@ -30,7 +30,7 @@ use Rattle.spec_merge.proofs.Growing.{end_more}
 use Rattle.stack_core.specs.declared.tick.Tick.{Tick}
 use Rattle.stack_core.specs.Entries.{entry_at}
 use Rattle.stack_core.specs.Recordings.{Recorded, with_entry, world_left}
-use Rattle.stack_core.specs.Cores.{Core, opened}
+use Rattle.stack_core.specs.Cores.{Core, event_begun}
 use Rattle.stack_core.specs.Outgoing.{WaitsToGo}
 use Rattle.stack_core.specs.Resets.{AreAwaited, IsAmong, IsResetToGo, IsWaitingReset, awaited, made_of}
 
@@ -101,7 +101,7 @@ gone made xs number are = by (lookup (nat_eq number) made)
             differ is = absurd cc
         at n e waits false is = are n e (record { found = is; answers = waits.answers })
 
--- 3. a deed
+-- 3. a host's step
 
 making_joins : (me : Host) (b : HostTcp) (m : SegmentPlan) (made : Table) (xs : List ℕ) (fresh : ℕ) → AreAwaited made xs
     → AreAwaited (on (act_makes me b (acts.Makes m)) made (λ e. insert_entry nat_eq made fresh (unsent e))) xs
@@ -124,18 +124,18 @@ answering_joins : (me : Host) (b : HostTcp) (o : Option Emission) (made : Table)
 answering_joins me b None made xs fresh are = more_awaited made xs (fresh ∷ []) are
 answering_joins me b (Some e) made xs fresh are = answer_joins made xs fresh (reset_of e) refl are
 
-deed_awaited : (h : Header) (me : Host) (moment fresh : ℕ) (far : List (ℕ × Emission)) (s : HostState tcp_shape)
-    (xs : List ℕ) (d : Deed tcp_shape) → AreAwaited s.made xs
-    → AreAwaited (deed_after (tcp h) me moment fresh far s d).made (awaited xs (At me d) fresh)
-deed_awaited h me moment fresh far s xs (Does x) are = are
-deed_awaited h me moment fresh far s xs (Expires line x) are = are
-deed_awaited h me moment fresh far s xs (Makes plan) are = making_joins me s.body plan s.made xs fresh are
-deed_awaited h me moment fresh far s xs (Sends line number wire) are = gone s.made xs number are
-deed_awaited h me moment fresh far s xs (Gets line copied wire) are = are
-deed_awaited h me moment fresh far s xs (Hears line wire) are = are
-deed_awaited h me moment fresh far s xs (Takes line choice) are = are
-deed_awaited h me moment fresh far s xs (Drops line) are = are
-deed_awaited h me moment fresh far s xs (Answers line) are = answering_joins me s.body (waiting line s.inbox) s.made xs fresh are
+host_step_awaited : (h : Header) (me : Host) (moment fresh : ℕ) (far : List (ℕ × Emission)) (s : HostState tcp_shape)
+    (xs : List ℕ) (d : HostStep tcp_shape) → AreAwaited s.made xs
+    → AreAwaited (host_step_after (tcp h) me moment fresh far s d).made (awaited xs (At me d) fresh)
+host_step_awaited h me moment fresh far s xs (Does x) are = are
+host_step_awaited h me moment fresh far s xs (Expires line x) are = are
+host_step_awaited h me moment fresh far s xs (Makes plan) are = making_joins me s.body plan s.made xs fresh are
+host_step_awaited h me moment fresh far s xs (Sends line number wire) are = gone s.made xs number are
+host_step_awaited h me moment fresh far s xs (Gets line copied wire) are = are
+host_step_awaited h me moment fresh far s xs (Hears line wire) are = are
+host_step_awaited h me moment fresh far s xs (Takes line choice) are = are
+host_step_awaited h me moment fresh far s xs (Drops line) are = are
+host_step_awaited h me moment fresh far s xs (Answers line) are = answering_joins me s.body (waiting line s.inbox) s.made xs fresh are
 
 -- 4. a step
 
@@ -160,19 +160,19 @@ module _ (h : Header) (me : Host) (moment : ℕ) (w : World tcp_shape) (xs : Lis
       by None = are
       by (Some host) = subst (λ (made : Table). AreAwaited made xs) (sym (called_made me host w.hosts _)) are
 
-  pub step_awaited : (step : Step tcp_shape) → ((host : Host) (d : Deed tcp_shape) → step ≡ At host d → host ≡ me)
+  pub step_awaited : (step : Step tcp_shape) → ((host : Host) (d : HostStep tcp_shape) → step ≡ At host d → host ≡ me)
       → AreAwaited (pick (after (tcp h) moment w step).hosts me).made (awaited xs step (suc w.count))
   step_awaited (Begin line t call) own = are
   step_awaited (Finish line t answer) own = are
   step_awaited (Effect t answer) own = effect_awaited t answer (turn_of t w.threads)
   step_awaited (At host d) own =
       subst (λ (x : Host). AreAwaited
-      (pick (with_host w.hosts x (deed_after (tcp h) x moment (suc w.count) (pick w.hosts (other x)).wire
+      (pick (with_host w.hosts x (host_step_after (tcp h) x moment (suc w.count) (pick w.hosts (other x)).wire
       (pick w.hosts x) d)) me).made (awaited xs (At x d) (suc w.count))) (sym (own host d refl))
       (subst (λ (s : HostState tcp_shape). AreAwaited s.made (awaited xs (At me d) (suc w.count)))
-      (sym (picked me w.hosts (deed_after (tcp h) me moment (suc w.count) (pick w.hosts (other me)).wire
+      (sym (picked me w.hosts (host_step_after (tcp h) me moment (suc w.count) (pick w.hosts (other me)).wire
       (pick w.hosts me) d)))
-      (deed_awaited h me moment (suc w.count) (pick w.hosts (other me)).wire (pick w.hosts me) xs d are))
+      (host_step_awaited h me moment (suc w.count) (pick w.hosts (other me)).wire (pick w.hosts me) xs d are))
 
 pub bring_awaited : (h : Header) (me : Host) (f : Flying tcp_shape) (w : World tcp_shape) (xs : List ℕ)
     → AreAwaited (pick w.hosts me).made xs → AreAwaited (pick (bring (tcp h) (other me) f w).hosts me).made xs
@@ -243,7 +243,7 @@ waits_not made n m found is e waits =
 -- 6. a core
 
 pub own_host : (h : Header) (me : Host) (w : World tcp_shape) (step : Step tcp_shape) → OwnStep (tcp h) me w step
-    → (host : Host) (d : Deed tcp_shape) → step ≡ At host d → host ≡ me
+    → (host : Host) (d : HostStep tcp_shape) → step ≡ At host d → host ≡ me
 own_host h me w step own host d is = subst (λ (x : Step tcp_shape). OwnStep (tcp h) me w x) is own
 
 pub core_awaits : (r s : Recorded) (last : Tick) (step : Step tcp_shape) (xs ys : List ℕ) (count : ℕ)
@@ -275,7 +275,7 @@ pub core_tried : (made : Table) (xs ys : List ℕ) (step : Step tcp_shape) (n : 
 core_tried made xs ys step n is are = subst (λ (numbers : List ℕ). AreAwaited made numbers) (sym is) (tried_awaited made xs step n are)
 
 -- the reset that goes waits in an event that began
-pub reset_waits : (c d : Core) (tick : Tick) (n : ℕ) → IsResetToGo c.recorded n → d ≡ opened c tick → WaitsToGo d n
+pub reset_waits : (c d : Core) (tick : Tick) (n : ℕ) → IsResetToGo c.recorded n → d ≡ event_begun c tick → WaitsToGo d n
 reset_waits c d tick n is same =
     subst (λ (x : Core). WaitsToGo x n) (sym same)
     (let empty = is.empty in record { emission = is.emission; found = is.waits.found; short = omega arith })

@@ -12,8 +12,8 @@ use Rattle.case_forms.specs.declared.calls.Call.TheVariants as calls
 use Rattle.case_forms.specs.declared.steps.TakeChoice.{TakeChoice}
 use Rattle.case_forms.specs.declared.trace.Header.{Header}
 use Rattle.spec_network.specs.Tables.{waiting}
-use Rattle.spec_network.specs.Hosts.{HostState, Deed, Does, Expires, Makes, Sends, Gets, Hears, Takes, Drops, Answers}
-use Rattle.spec_network.specs.HostSteps.{deed_after}
+use Rattle.spec_network.specs.Hosts.{HostState, HostStep, Does, Expires, Makes, Sends, Gets, Hears, Takes, Drops, Answers}
+use Rattle.spec_network.specs.HostSteps.{host_step_after}
 use Rattle.window_rules.specs.declared.control.Profile.{Profile}
 use Rattle.spec_tcp.specs.declared.endpoint.Emission.{Emission}
 use Rattle.spec_tcp.specs.declared.endpoint.Endpoint.{Endpoint}
@@ -21,10 +21,10 @@ use Rattle.spec_tcp.specs.declared.endpoint.Socket.{Socket}
 use Rattle.spec_tcp.specs.declared.endpoint.SocketTarget.{SocketTarget}
 use Rattle.spec_tcp.specs.declared.endpoint.SocketTarget.TheVariants.{ListenerAt, EndpointAt}
 use Rattle.spec_tcp.specs.Arrives.{Taker, Nobody, AtListener, AtEndpoint, taker, after_taking}
-use Rattle.spec_tcp.specs.HostTcp.{HostTcp, at_ports, dead, place_of, queue_of, thing_of, with_endpoint}
-use Rattle.spec_tcp.specs.Calls.{after_call, change, change_thing}
+use Rattle.spec_tcp.specs.HostTcp.{HostTcp, at_ports, dead, place_of, queue_of, socket_target, with_endpoint}
+use Rattle.spec_tcp.specs.Calls.{after_call, change, change_target}
 use Rattle.spec_tcp.specs.Calls.Accept.{accepted_from, after_accept}
-use Rattle.spec_tcp.specs.Calls.Close.{after_abort, after_close, after_gone, after_shut, thing_gone}
+use Rattle.spec_tcp.specs.Calls.Close.{after_abort, after_close, after_gone, after_shut, target_gone}
 use Rattle.spec_tcp.specs.Calls.Receive.{after_recv}
 use Rattle.spec_tcp.specs.Calls.Send.{after_send}
 use Rattle.spec_tcp.specs.Machine.{gives, tcp, tcp_shape}
@@ -43,19 +43,20 @@ taking_sockets h b how m moment Nobody = refl
 taking_sockets h b how m moment (AtListener l) = refl
 taking_sockets h b how m moment (AtEndpoint i e) = refl
 
-pub deed_sockets : (h : Header) (me : Host) (moment fresh : ℕ) (far : List (ℕ × Emission)) (s : HostState tcp_shape)
-    (d : Deed tcp_shape) → (deed_after (tcp h) me moment fresh far s d).body.sockets ≡ s.body.sockets
-deed_sockets h me moment fresh far s (Does x) = at_sockets s.body x.lport x.rport _
-deed_sockets h me moment fresh far s (Expires line x) = at_sockets s.body x.lport x.rport _
-deed_sockets h me moment fresh far s (Makes plan) = at_sockets s.body plan.lport plan.rport _
-deed_sockets h me moment fresh far s (Sends line number wire) = refl
-deed_sockets h me moment fresh far s (Gets line copied wire) = refl
-deed_sockets h me moment fresh far s (Hears line wire) = refl
-deed_sockets h me moment fresh far s (Takes line how) =
+pub host_step_sockets : (h : Header) (me : Host) (moment fresh : ℕ) (far : List (ℕ × Emission)) (s : HostState tcp_shape)
+    (d : HostStep tcp_shape) → (host_step_after (tcp h) me moment fresh far s d).body.sockets ≡ s.body.sockets
+host_step_sockets h me moment fresh far s (Does x) = at_sockets s.body x.lport x.rport _
+host_step_sockets h me moment fresh far s (Expires line x) = at_sockets s.body x.lport x.rport _
+host_step_sockets h me moment fresh far s (Makes plan) = at_sockets s.body plan.lport plan.rport _
+host_step_sockets h me moment fresh far s (Sends line number wire) = refl
+host_step_sockets h me moment fresh far s (Gets line copied wire) = refl
+host_step_sockets h me moment fresh far s (Hears line wire) = refl
+host_step_sockets h me moment fresh far s (Takes line how) =
     on_cases (λ (b : HostTcp). b.sockets ≡ s.body.sockets) (waiting line s.inbox) s.body _ refl
     (λ m e. taking_sockets h s.body how m moment (taker s.body m))
-deed_sockets h me moment fresh far s (Drops line) = refl
-deed_sockets h me moment fresh far s (Answers line) = on_cases (λ (b : HostTcp). b.sockets ≡ s.body.sockets) (waiting line s.inbox) s.body _ refl (λ m e. refl)
+host_step_sockets h me moment fresh far s (Drops line) = refl
+host_step_sockets h me moment fresh far s (Answers line) =
+    on_cases (λ (b : HostTcp). b.sockets ≡ s.body.sockets) (waiting line s.inbox) s.body _ refl (λ m e. refl)
 
 -- 2. what calls do
 
@@ -64,32 +65,34 @@ abbrev pub SocketsAfter : Sockets → Sockets → Option ℕ → Type 0
 SocketsAfter old new given = (new ≡ old) ⊎ (((n : ℕ) × (new ≡ dead old n)) ⊎ ((n : ℕ) × (s : Socket) × (given ≡ Some n) × (new ≡ insert_entry nat_eq old n s)))
 
 change_sockets : (b : HostTcp) (n : ℕ) (f : Endpoint → Endpoint) → (change b n f).sockets ≡ b.sockets
-change_sockets b n f = map_or_cases (λ (c : HostTcp). c.sockets ≡ b.sockets) (thing_of b n) b (change_thing b f) (λ e. refl) (λ thing e. by thing)
+change_sockets b n f = map_or_cases (λ (c : HostTcp). c.sockets ≡ b.sockets) (socket_target b n) b (change_target b f) (λ e. refl) (λ target e. by target)
   where
-    by : (thing : SocketTarget) → (change_thing b f thing).sockets ≡ b.sockets
+    by : (target : SocketTarget) → (change_target b f target).sockets ≡ b.sockets
     by (ListenerAt l) = refl
     by (EndpointAt i) = refl
 
 gone_sockets : (b : HostTcp) (n : ℕ) (f : Endpoint → Endpoint) → SocketsAfter b.sockets (after_gone b n f).sockets None
 gone_sockets b n f =
-    map_or_cases (λ (c : HostTcp). SocketsAfter b.sockets c.sockets None) (thing_of b n) b
-    (λ thing. record (thing_gone b thing f) { sockets = dead b.sockets n }) (λ e. inl refl)
-    (λ thing e. inr (inl (n, refl)))
+    map_or_cases (λ (c : HostTcp). SocketsAfter b.sockets c.sockets None) (socket_target b n) b
+    (λ target. record (target_gone b target f) { sockets = dead b.sockets n }) (λ e. inl refl)
+    (λ target e. inr (inl (n, refl)))
 
-accept_sockets : (b : HostTcp) (n : ℕ) (thing : SocketTarget) → SocketsAfter b.sockets (after_accept b n thing).sockets (Some n)
+accept_sockets : (b : HostTcp) (n : ℕ) (target : SocketTarget) → SocketsAfter b.sockets (after_accept b n target).sockets (Some n)
 accept_sockets b n (EndpointAt i) = inl refl
 accept_sockets b n (ListenerAt l) = by (queue_of b l)
   where
     by : (queue : List ℕ) → SocketsAfter b.sockets (accepted_from b l n queue).sockets (Some n)
     by [] = inl refl
-    by (child ∷ queue) = inr (inr (n, record { thing = EndpointAt child; live = true }, refl, refl))
+    by (child ∷ queue) = inr (inr (n, record { target = EndpointAt child; live = true }, refl, refl))
 
 pub call_sockets : (p : Profile) (b : HostTcp) (call : Call) (answer : Answer) → SocketsAfter b.sockets (after_call p b call answer).sockets (gives call answer)
-call_sockets p b (calls.Listen host port backlog) (answers.Given n) = inr (inr (n, record { thing = ListenerAt (length b.listeners); live = true }, refl, refl))
-call_sockets p b (calls.Connect host lport rport) (answers.Given n) = inr (inr (n, record { thing = EndpointAt (length b.endpoints); live = true }, refl, refl))
+call_sockets p b (calls.Listen host port backlog) (answers.Given n) =
+    inr (inr (n, record { target = ListenerAt (length b.listeners); live = true }, refl, refl))
+call_sockets p b (calls.Connect host lport rport) (answers.Given n) =
+    inr (inr (n, record { target = EndpointAt (length b.endpoints); live = true }, refl, refl))
 call_sockets p b (calls.Accept h) (answers.Given n) =
-    map_or_cases (λ (c : HostTcp). SocketsAfter b.sockets c.sockets (Some n)) (thing_of b h) b (after_accept b n)
-    (λ e. inl refl) (λ thing e. accept_sockets b n thing)
+    map_or_cases (λ (c : HostTcp). SocketsAfter b.sockets c.sockets (Some n)) (socket_target b h) b (after_accept b n)
+    (λ e. inl refl) (λ target e. accept_sockets b n target)
 call_sockets p b (calls.Send h bytes) (answers.Given n) = inl (change_sockets b h (after_send bytes n))
 call_sockets p b (calls.Recv h most) (answers.Bytes bytes) = inl (change_sockets b h (after_recv bytes))
 call_sockets p b (calls.Shut h) answers.Done = inl (change_sockets b h after_shut)

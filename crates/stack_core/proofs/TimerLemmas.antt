@@ -22,7 +22,7 @@ use Rattle.spec_tcp.specs.Timeouts.{expiry_rules, greatest_values}
 use Rattle.spec_tcp.specs.declared.endpoint.Endpoint.{Endpoint}
 use Rattle.stack_core.specs.Recordings.{Recorded, world_left}
 use Rattle.stack_core.specs.declared.tick.Tick.{Tick}
-use Rattle.stack_core.specs.Cores.{Core, Fits, opened, world}
+use Rattle.stack_core.specs.Cores.{Core, Fits, event_begun, world}
 use Rattle.stack_core.specs.TimerEvents.{IsNotDueAt, IsRefused, NoneDueAt, expiry_step}
 use Rattle.stack_core.proofs.MakingLemmas.{of_ports}
 
@@ -94,7 +94,7 @@ none_due r moment b is refused x not may = by (endpoint_of (pick (world_left r).
         (timer_may r.header moment e x.expired (at_ports r moment x (Some e) at may)))
 
 -- the line of a timer that may expire fits
-pub expiry_fits : (c d : Core) (tick : Tick) (n : ℕ) (me : Host) (ports : Ports) (e : Expired) → d ≡ opened c tick → me ≡ d.recorded.me
+pub expiry_fits : (c d : Core) (tick : Tick) (n : ℕ) (me : Host) (ports : Ports) (e : Expired) → d ≡ event_begun c tick → me ≡ d.recorded.me
     → ((m : ℕ) → Permitted (tcp c.recorded.header) tick.moment (world c) (expiry_step c.recorded.me m ports e)) → Fits d (expiry_step me n ports e)
 expiry_fits c d tick n me ports e is me_is may =
     subst (λ (h : Host). Fits d (expiry_step h n ports e)) (sym me_is)

@@ -6,26 +6,26 @@ use Rattle.std.proofs.lemmas.Option.{none-some, slice_get-map}
 use Rattle.case_forms.specs.declared.calls.Call.{Call}
 use Rattle.case_forms.specs.declared.calls.Call.TheVariants as calls
 use Rattle.case_forms.specs.declared.calls.Answer.TheVariants as answers
-use Rattle.spec_tcp.specs.HostTcp.{HostTcp, thing_of}
+use Rattle.spec_tcp.specs.HostTcp.{HostTcp, socket_target}
 use Rattle.spec_tcp.specs.declared.endpoint.Endpoint.{Endpoint}
 use Rattle.spec_tcp.specs.declared.endpoint.SocketTarget.{SocketTarget}
 use Rattle.spec_tcp.specs.declared.endpoint.SocketTarget.TheVariants.{ListenerAt, EndpointAt}
 use Rattle.spec_tcp.specs.Forgetting.{forget_body, forget_endpoint}
 use Rattle.spec_tcp_laws.proofs.ForgetCalls.{call_allows-forget}
 use Rattle.spec_tcp_laws.proofs.ForgetReads.{end_of-forget}
-use Rattle.stack_core.specs.Answers.{SendWaits, Waits, endpoint_named, thing_endpoint}
+use Rattle.stack_core.specs.Answers.{SendWaits, Waits, endpoint_named, target_endpoint}
 use Rattle.stack_core.specs.CallEvents.{KeptNoAnswer, NoAnswer}
 use Rattle.stack_core.specs.Cores.{Core, own_body}
 
 named_forget : (b : HostTcp) (n : ℕ) (e : Endpoint) → endpoint_named b n ≡ Some e → endpoint_named (forget_body b) n ≡ Some (forget_endpoint e)
-named_forget b n e = by (thing_of b n)
+named_forget b n e = by (socket_target b n)
   where
-    at : (t : SocketTarget) → thing_endpoint b t ≡ Some e → thing_endpoint (forget_body b) t ≡ Some (forget_endpoint e)
+    at : (t : SocketTarget) → target_endpoint b t ≡ Some e → target_endpoint (forget_body b) t ≡ Some (forget_endpoint e)
     at (ListenerAt l) is = absurd (none-some e is)
     at (EndpointAt i) is = slice_get-map forget_endpoint b.endpoints i ∙ ap (option_map forget_endpoint) is
 
-    by : (o : Option SocketTarget) → option_map_or (thing_endpoint b) o None ≡ Some e
-        → option_map_or (thing_endpoint (forget_body b)) o None ≡ Some (forget_endpoint e)
+    by : (o : Option SocketTarget) → option_map_or (target_endpoint b) o None ≡ Some e
+        → option_map_or (target_endpoint (forget_body b)) o None ≡ Some (forget_endpoint e)
     by None is = absurd (none-some e is)
     by (Some t) is = at t is
 

@@ -8,7 +8,7 @@ use Rattle.case_forms.specs.declared.calls.Call.TheVariants as calls
 use Rattle.case_forms.specs.declared.calls.State.{State}
 use Rattle.case_forms.specs.declared.calls.State.TheVariants as states
 use Rattle.streams.specs.Sent.{end_of}
-use Rattle.spec_tcp.specs.HostTcp.{HostTcp, thing_of}
+use Rattle.spec_tcp.specs.HostTcp.{HostTcp, socket_target}
 use Rattle.spec_tcp.specs.Calls.{call_allows}
 use Rattle.spec_tcp.specs.declared.endpoint.Endpoint.{Endpoint}
 use Rattle.spec_tcp.specs.declared.endpoint.SocketTarget.{SocketTarget}
@@ -44,12 +44,12 @@ IfSendWaits ring e (calls.Send n bytes) = SendWaits ring e
 IfSendWaits ring e call = Unit {0}
 
 -- the endpoint that a live socket number names
-abbrev pub thing_endpoint : HostTcp → SocketTarget → Option Endpoint
-thing_endpoint b (ListenerAt l) = None
-thing_endpoint b (EndpointAt i) = slice_get b.endpoints i
+abbrev pub target_endpoint : HostTcp → SocketTarget → Option Endpoint
+target_endpoint b (ListenerAt l) = None
+target_endpoint b (EndpointAt i) = slice_get b.endpoints i
 
 abbrev pub endpoint_named : HostTcp → ℕ → Option Endpoint
-endpoint_named b n = option_map_or (thing_endpoint b) (thing_of b n) None
+endpoint_named b n = option_map_or (target_endpoint b) (socket_target b n) None
 
 -- a send on this socket number waits at the endpoint that it names
 abbrev pub WaitsAt : ℕ → HostTcp → ℕ → Call → Type 0
@@ -65,4 +65,4 @@ Waits ring b call = (call_allows b call answers.Again ≡ true) × IfSendingWait
 
 -- each live socket number of an endpoint has its endpoint
 abbrev pub IsNamed : HostTcp → Type 0
-IsNamed b = (n i : ℕ) → thing_of b n ≡ Some (EndpointAt i) → IsSomeAnd (slice_get b.endpoints i) (λ e. Unit {0})
+IsNamed b = (n i : ℕ) → socket_target b n ≡ Some (EndpointAt i) → IsSomeAnd (slice_get b.endpoints i) (λ e. Unit {0})

@@ -10,11 +10,11 @@ use Rattle.spec_tcp.specs.declared.endpoint.Emission.{Emission}
 use Rattle.spec_tcp.specs.Machine.{tcp_shape}
 use Rattle.spec_merge.specs.Books.{Bring, Flying}
 use Rattle.stack_core.specs.declared.tick.Tick.{Tick}
-use Rattle.stack_core.specs.Cores.{Core, MayDo, line_to_come, opened, with_item, with_step, world}
+use Rattle.stack_core.specs.Cores.{Core, MayDo, line_to_come, event_begun, with_item, with_step, world}
 
 -- it is brought
 abbrev pub brought : Core → Tick → Flying tcp_shape → Core
-brought c tick f = with_item (opened c tick) (Bring f)
+brought c tick f = with_item (event_begun c tick) (Bring f)
 
 -- it arrives: its line
 abbrev pub came : Core → Tick → Flying tcp_shape → Wire → Core
@@ -106,7 +106,7 @@ IsNotLetIn c tick f =
 -- what may be left if memory ran out: the tick has passed; it was brought; it arrived; it was taken with its bytes too,
 -- if fast recovery was to begin
 pub data IsArrivedShort (c : Core) (tick : Tick) (f : Flying tcp_shape) (d : Core) : Type 0 where
-  Ticked : (row : d ≡ opened c tick) → IsArrivedShort c tick f d
+  Ticked : (row : d ≡ event_begun c tick) → IsArrivedShort c tick f d
   Brought : (row : d ≡ brought c tick f) → IsArrivedShort c tick f d
   Came : (wire : Wire) (bytes : wire.bytes ≡ f.emission.bytes) (row : d ≡ came c tick f wire)
       → IsArrivedShort c tick f d

@@ -9,11 +9,11 @@ use Rattle.spec_tcp.specs.Machine.{tcp}
 use Rattle.stack_core.specs.declared.answered.Answered.{Answered}
 use Rattle.stack_core.specs.declared.tick.Tick.{Tick}
 use Rattle.stack_core.specs.Answers.{Waits, is_again}
-use Rattle.stack_core.specs.Cores.{Core, line_to_come, opened, own_body, with_step, world}
+use Rattle.stack_core.specs.Cores.{Core, line_to_come, event_begun, own_body, with_step, world}
 
 -- a call began: its line
 abbrev pub begun : Core → Tick → ℕ → Call → Core
-begun c tick thread call = with_step (opened c tick) (Begin (line_to_come c) thread call)
+begun c tick thread call = with_step (event_begun c tick) (Begin (line_to_come c) thread call)
 
 -- a thread's call may have this effect, at any moment
 abbrev pub MayAnswer : Core → ℕ → Answer → Type 0
@@ -21,7 +21,7 @@ MayAnswer c thread answer = (moment : ℕ) → Permitted (tcp c.recorded.header)
 
 -- a call had its effect
 abbrev pub effected : Core → Tick → ℕ → Answer → Core
-effected c tick thread answer = with_step (opened c tick) (Effect thread answer)
+effected c tick thread answer = with_step (event_begun c tick) (Effect thread answer)
 
 -- and ended with that answer: its line
 abbrev pub answered : Core → Tick → ℕ → Answer → Core
@@ -34,7 +34,7 @@ IsAttempted c tick thread a d = (a.thread ≡ thread) × (d ≡ answered c tick 
 -- what may be left if memory ran out: the tick has passed, and perhaps an effect, which isn't `again`
 abbrev pub IsAttemptShort : Core → Tick → ℕ → Core → Type 0
 IsAttemptShort c tick thread d =
-    (d ≡ opened c tick) ⊎ ((answer : Answer) × (is_again answer ≡ false) × (d ≡ effected c tick thread answer))
+    (d ≡ event_begun c tick) ⊎ ((answer : Answer) × (is_again answer ≡ false) × (d ≡ effected c tick thread answer))
 
 -- no call of the thread is open without effect, or it waits
 abbrev pub NoAnswer : Core → ℕ → Type 0

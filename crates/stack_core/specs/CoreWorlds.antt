@@ -15,7 +15,7 @@ use Rattle.stack_core.specs.declared.answered.Answered.{Answered}
 use Rattle.stack_core.specs.declared.tick.Tick.{Tick}
 use Rattle.stack_core.specs.ArrivalEvents.{IsArrival, IsArrivedShort}
 use Rattle.stack_core.specs.CallEvents.{IsAttempted, IsAttemptShort, NoAnswer, begun}
-use Rattle.stack_core.specs.Cores.{Core, IsAfter, IsCallWithin, IsRecorded, new_core, opened, world}
+use Rattle.stack_core.specs.Cores.{Core, IsAfter, IsCallWithin, IsRecorded, new_core, event_begun, world}
 use Rattle.stack_core.specs.Flown.{IsAbove}
 use Rattle.stack_core.specs.PumpEvents.{IsPumped, IsPumpedShort, NothingToPump}
 use Rattle.stack_core.specs.TimerEvents.{IsTimed}
@@ -45,7 +45,7 @@ MayCall c theirs tick (Timers answer) = Unit {0}
 -- what the call makes of the core, with that answer
 abbrev pub Leaves : Core → Tick → CoreCall → Core → Type 0
 Leaves c tick (Begin thread call (Ok done)) d = d ≡ begun c tick thread call
-Leaves c tick (Begin thread call (Err memory)) d = d ≡ opened c tick
+Leaves c tick (Begin thread call (Err memory)) d = d ≡ event_begun c tick
 Leaves c tick (Attempt thread (Ok (Some a))) d = IsAttempted c tick thread a d
 Leaves c tick (Attempt thread (Ok None)) d = (d ≡ c) × NoAnswer c thread
 Leaves c tick (Attempt thread (Err memory)) d = IsAttemptShort c tick thread d
@@ -55,7 +55,7 @@ Leaves c tick (Pump (Ok (Some f))) d = IsPumped c tick f d
 Leaves c tick (Pump (Ok None)) d = (d ≡ c) × NothingToPump c
 Leaves c tick (Pump (Err memory)) d = IsPumpedShort c tick d
 Leaves c tick (Timers (Ok found)) d = IsTimed c tick found d
-Leaves c tick (Timers (Err memory)) d = d ≡ opened c tick
+Leaves c tick (Timers (Err memory)) d = d ≡ event_begun c tick
 
 -- the segment that was sent in the call
 abbrev pub flown_in : CoreCall → List (Flying tcp_shape)

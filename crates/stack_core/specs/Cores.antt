@@ -9,7 +9,8 @@ use Rattle.case_forms.specs.declared.calls.Call.TheVariants as calls
 use Rattle.case_forms.specs.declared.trace.Header.{Header}
 use Rattle.spec_network.specs.HostRules.{Permitted}
 use Rattle.spec_network.specs.Tables.{lane, other, pick}
-use Rattle.spec_network.specs.Hosts.{Deed, Does, Drops, Expires, Gets, Hears, Makes, Sends, Takes, Answers, At, Begin}
+use Rattle.spec_network.specs.Hosts.{HostStep, Does, Drops, Expires, Gets, Hears, Makes, Sends, Takes, Answers, At}
+use Rattle.spec_network.specs.Hosts.{Begin}
 use Rattle.spec_network.specs.Hosts.{Called, Effect, Finish, Idle, Answered, Step, Turn, World, turn_of}
 use Rattle.spec_merge.specs.Books.{Aims, Do, FitsItem, Item, Key, step_line}
 use Rattle.spec_merge.specs.Keys.{EachEntry, If}
@@ -62,8 +63,8 @@ new_core header me ring =
     }
 
 -- an event began, with this tick
-abbrev pub opened : Core → Tick → Core
-opened c tick = record c { last = tick; events = suc c.events }
+abbrev pub event_begun : Core → Tick → Core
+event_begun c tick = record c { last = tick; events = suc c.events }
 
 -- an item was added, at the last tick
 abbrev pub with_item : Core → Item tcp_shape → Core
@@ -85,23 +86,23 @@ Fits c step = FitsItem (tcp c.recorded.header) c.recorded.me c.last.moment (worl
 abbrev pub IsNextLine : Core → Step tcp_shape → Type 0
 IsNextLine c step = If (step_line (tcp c.recorded.header) step) (Unit {0}) (λ line. line ≡ line_to_come c)
 
--- how many lines a deed takes, and a step
-abbrev pub deed_lines : Deed tcp_shape → ℕ
-deed_lines (Does x) = 0
-deed_lines (Expires line x) = 1
-deed_lines (Makes plan) = 0
-deed_lines (Sends line number wire) = 1
-deed_lines (Gets line copied wire) = 1
-deed_lines (Hears line wire) = 1
-deed_lines (Takes line choice) = 0
-deed_lines (Drops line) = 0
-deed_lines (Answers line) = 0
+-- how many lines a host's step takes, and a step
+abbrev pub host_step_lines : HostStep tcp_shape → ℕ
+host_step_lines (Does x) = 0
+host_step_lines (Expires line x) = 1
+host_step_lines (Makes plan) = 0
+host_step_lines (Sends line number wire) = 1
+host_step_lines (Gets line copied wire) = 1
+host_step_lines (Hears line wire) = 1
+host_step_lines (Takes line choice) = 0
+host_step_lines (Drops line) = 0
+host_step_lines (Answers line) = 0
 
 abbrev pub lines_taken : Step tcp_shape → ℕ
 lines_taken (Begin line t call) = 1
 lines_taken (Finish line t answer) = 1
 lines_taken (Effect t answer) = 0
-lines_taken (At host d) = deed_lines d
+lines_taken (At host d) = host_step_lines d
 
 -- host 0 gives even socket numbers from 2, host 1 odd ones from 3
 abbrev pub first_socket : Host → ℕ
@@ -129,7 +130,7 @@ abbrev pub IsOrderly : Host → World tcp_shape → Step tcp_shape → Type 0
 IsOrderly me w (Begin line t call) = IsCallWithin call
 IsOrderly me w (Finish line t answer) = Unit {0}
 IsOrderly me w (Effect t answer) = GivesNext me (pick w.hosts me).body (turn_of t w.threads) answer
-IsOrderly me w (At host deed) = Unit {0}
+IsOrderly me w (At host host_step) = Unit {0}
 
 -- the host gave socket numbers of its own below the next one, the other host none; and calls that are open are its own,
 -- within limits

@@ -13,7 +13,7 @@ use Rattle.spec_tcp.specs.declared.endpoint.Endpoint.{Endpoint}
 use Rattle.spec_tcp.specs.Forgetting.{forget_body}
 use Rattle.spec_tcp.specs.Machine.{Expiring, tcp, tcp_shape}
 use Rattle.stack_core.specs.declared.tick.Tick.{Tick}
-use Rattle.stack_core.specs.Cores.{Core, line_to_come, opened, with_step}
+use Rattle.stack_core.specs.Cores.{Core, line_to_come, event_begun, with_step}
 use Rattle.stack_core.specs.Recordings.{Recorded, world_left}
 
 -- the line of a timer that expires
@@ -30,7 +30,7 @@ abbrev pub IsNotDueAt : Recorded → ℕ → Ports → Expired → Type 0
 IsNotDueAt r moment ports e = Permitted (tcp r.header) moment (world_left r) (expiry_step r.me 0 ports e) → ⊥
 
 abbrev pub expired : Core → Tick → Ports → Expired → Core
-expired c tick ports e = with_step (opened c tick) (expiry_step c.recorded.me (line_to_come c) ports e)
+expired c tick ports e = with_step (event_begun c tick) (expiry_step c.recorded.me (line_to_come c) ports e)
 
 -- twelve timers of an endpoint expired since it took a segment, and it is not in FIN-WAIT-2
 pub record HasTried (r : Recorded) (ports : Ports) : Type 0 where

@@ -4,7 +4,8 @@ use Rattle.case_forms.specs.Versions.{scales}
 use Rattle.case_forms.specs.Witnesses.{IsShift}
 use Rattle.case_forms.specs.declared.steps.SegmentPlan.{SegmentPlan}
 use Rattle.case_forms.specs.declared.version.Version.{Version}
-use Rattle.spec_network.specs.Hosts.{Answers, At, Begin, Deed, Does, Drops, Effect, Expires, Finish, Gets, Hears, Makes}
+use Rattle.spec_network.specs.Hosts.{Answers, At, Begin, HostStep, Does, Drops, Effect, Expires, Finish, Gets, Hears}
+use Rattle.spec_network.specs.Hosts.{Makes}
 use Rattle.spec_network.specs.Hosts.{Sends, Step, Takes}
 use Rattle.spec_tcp.specs.Bounds.{greatest_position}
 use Rattle.spec_tcp.specs.Machine.{tcp_shape}
@@ -22,22 +23,22 @@ TellsWell v m = IfSome m.shift (IsShift v m.iss)
 
 -- a segment is made at a position that a text may name, with a payload that fits into a segment beside its options, and
 -- with a shift that may be stated
-abbrev pub IsToldDeed : Version → Deed tcp_shape → Type 0
-IsToldDeed v (Does x) = Unit {0}
-IsToldDeed v (Expires line x) = Unit {0}
-IsToldDeed v (Makes m) = (m.pos ≤ greatest_position) × (m.len ≤ 65487) × TellsWell v m
-IsToldDeed v (Sends line number wire) = Unit {0}
-IsToldDeed v (Gets line copied wire) = Unit {0}
-IsToldDeed v (Hears line wire) = Unit {0}
-IsToldDeed v (Takes line choice) = Unit {0}
-IsToldDeed v (Drops line) = Unit {0}
-IsToldDeed v (Answers line) = Unit {0}
+abbrev pub IsToldHostStep : Version → HostStep tcp_shape → Type 0
+IsToldHostStep v (Does x) = Unit {0}
+IsToldHostStep v (Expires line x) = Unit {0}
+IsToldHostStep v (Makes m) = (m.pos ≤ greatest_position) × (m.len ≤ 65487) × TellsWell v m
+IsToldHostStep v (Sends line number wire) = Unit {0}
+IsToldHostStep v (Gets line copied wire) = Unit {0}
+IsToldHostStep v (Hears line wire) = Unit {0}
+IsToldHostStep v (Takes line choice) = Unit {0}
+IsToldHostStep v (Drops line) = Unit {0}
+IsToldHostStep v (Answers line) = Unit {0}
 
 abbrev pub IsToldStep : Version → Step tcp_shape → Type 0
 IsToldStep v (Begin line t call) = Unit {0}
 IsToldStep v (Finish line t answer) = Unit {0}
 IsToldStep v (Effect t answer) = Unit {0}
-IsToldStep v (At host deed) = IsToldDeed v deed
+IsToldStep v (At host host_step) = IsToldHostStep v host_step
 
 abbrev pub IsToldItem : Version → Item tcp_shape → Type 0
 IsToldItem v (Do step) = IsToldStep v step

@@ -55,14 +55,14 @@ fn affected_by_call(body: &HostTcp, call: &Call) -> Affected
     ensures { result ≡ affected_by_call body.now call.now }
 {
     match call {
-        Call::Accept(number) => match body.thing(*number) {
+        Call::Accept(number) => match body.target(*number) {
             Some(SocketTarget::ListenerAt(place)) => affected_in_queue(body, place),
             Some(SocketTarget::EndpointAt(_)) | None => Affected::Nobody,
         },
         Call::Send(number, _) | Call::Recv(number, _) | Call::Shut(number) => {
-            affected_target(body.thing(*number))
+            affected_target(body.target(*number))
         }
-        Call::Close(number) | Call::Abort(number) => affected_by_end(body.thing(*number)),
+        Call::Close(number) | Call::Abort(number) => affected_by_end(body.target(*number)),
         Call::Listen(_, _, _) | Call::Connect(_, _, _) | Call::Await(_) | Call::Status(_) => {
             Affected::Nobody
         }
@@ -81,19 +81,19 @@ fn affected_in_queue(body: &HostTcp, place: u32) -> Affected
     }
 }
 
-fn affected_target(thing: Option<SocketTarget>) -> Affected
-    ensures { result ≡ option_map_or affected_target thing Nobody }
+fn affected_target(target: Option<SocketTarget>) -> Affected
+    ensures { result ≡ option_map_or affected_target target Nobody }
 {
-    match thing {
+    match target {
         Some(SocketTarget::EndpointAt(place)) => Affected::Place(place),
         Some(SocketTarget::ListenerAt(_)) | None => Affected::Nobody,
     }
 }
 
-fn affected_by_end(thing: Option<SocketTarget>) -> Affected
-    ensures { result ≡ option_map_or affected_by_end thing Nobody }
+fn affected_by_end(target: Option<SocketTarget>) -> Affected
+    ensures { result ≡ option_map_or affected_by_end target Nobody }
 {
-    match thing {
+    match target {
         Some(SocketTarget::EndpointAt(place)) => Affected::Place(place),
         Some(SocketTarget::ListenerAt(_)) => Affected::All,
         None => Affected::Nobody,

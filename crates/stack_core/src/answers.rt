@@ -75,7 +75,7 @@ fn on_socket(
     ensures none { IfOk result (λ o. IfNone o ((socket_allows body.now number call.now answers.Again ≡ true)
         × WaitsAt ring body.now number call.now)) }
 {
-    match body.thing(number) {
+    match body.target(number) {
         None => Ok(on_no_socket()),
         Some(SocketTarget::ListenerAt(place)) => Ok(at_listener(body, place, call, next)),
         Some(SocketTarget::EndpointAt(place)) => match body.endpoint_at(place) {

@@ -18,11 +18,11 @@ ghost use Rattle.stack_core.specs.Cores.{IsAfter, IsRecorded, MayDo, line_to_com
 ghost use Rattle.stack_core.specs.Entries.{steps_in};
 
 use crate::deadline_queue::Affected;
-use crate::flying::Flying;
 use crate::greatest::{at_recovery, cwnd_at_arrival};
 use crate::host_core::HostCore;
 use crate::send_states::{Before, Seen};
 use crate::tick::Tick;
+use crate::transit::Flying;
 use case_forms::{OutOfMemory, Ports, Recovery, RtoChoice, TakeChoice, TakenLine};
 use endpoint::is_past_lifetime;
 use recording_parts::{choice_if, is_own, with_bytes};
@@ -61,7 +61,7 @@ impl HostCore {
             return Ok(false);
         }
         self.bounds();
-        self.open_with_room(tick)?;
+        self.begin_event_with_room(tick)?;
         let line = self.line();
         let ports = ports_of(flying.emission());
         let before = self.before(flying.emission(), ports);
@@ -86,7 +86,7 @@ impl HostCore {
                 }
                 None => 0,
             },
-            seen: endpoint.map(Seen::of),
+            seen: endpoint.map(Seen::new),
             asks,
             syn: m.flags.syn,
         }
@@ -103,7 +103,7 @@ impl HostCore {
         if let Some(endpoint) = body.endpoint_at(place) {
             let send_state = self
                 .send_states
-                .of(place)
+                .at(place)
                 .after_arrival(place, &before, endpoint);
             self.send_states.set(place, send_state);
         }

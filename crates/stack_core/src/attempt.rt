@@ -76,12 +76,12 @@ impl HostCore {
             Ok(Some(answer)) => answer,
             Ok(None) => return Ok(None),
             Err(error) => {
-                self.open(tick);
+                self.begin_event(tick);
                 return Err(error);
             }
         };
         let subject = self.subject(thread);
-        self.open_with_room(tick)?;
+        self.begin_event_with_room(tick)?;
         let effect = Label::D {
             thread,
             answer: answer.copy()?,
@@ -106,7 +106,7 @@ impl HostCore {
             | Call::Recv(number, _)
             | Call::Shut(number)
             | Call::Close(number)
-            | Call::Abort(number) => match self.recording.body().thing(*number) {
+            | Call::Abort(number) => match self.recording.body().target(*number) {
                 Some(SocketTarget::EndpointAt(place)) => Subject::At(place),
                 Some(SocketTarget::ListenerAt(_)) | None => Subject::Nothing,
             },
@@ -132,7 +132,7 @@ impl HostCore {
         if let Some(endpoint) = body.endpoint_at(place) {
             let send_state = self
                 .send_states
-                .of(place)
+                .at(place)
                 .after_call(endpoint, answer, self.config.ring);
             self.send_states.set(place, send_state);
         }

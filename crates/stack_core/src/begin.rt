@@ -5,7 +5,7 @@ ghost use Rattle.spec_network.specs.Hosts.{Idle, turn_of};
 ghost use Rattle.spec_network.specs.Tables.{lane};
 ghost use Rattle.spec_tcp.specs.Machine.{aim};
 ghost use Rattle.spec_merge.specs.Books.{Aims};
-ghost use Rattle.stack_core.specs.Cores.{IsAfter, IsCallWithin, IsRecorded, opened, world};
+ghost use Rattle.stack_core.specs.Cores.{IsAfter, IsCallWithin, IsRecorded, event_begun, world};
 ghost use Rattle.stack_core.specs.CallEvents.{begun};
 ghost use Rattle.stack_core.specs.CoreWorlds.{Leaves};
 ghost use Rattle.stack_core.specs.CoreWorlds.CoreCall.{Begin};
@@ -27,7 +27,7 @@ impl HostCore {
         requires aims { Aims self.old.recorded.me (aim call.now) }
         requires within { IsCallWithin call.now }
         ensures ok { OnOk result (self.new ≡ begun self.old tick thread call.now) }
-        ensures err { OnErr result (self.new ≡ opened self.old tick) }
+        ensures err { OnErr result (self.new ≡ event_begun self.old tick) }
         ensures leaves { Leaves self.old tick (Begin thread call.now result) self.new }
         ensures kept { IsRecorded self.new }
     {
@@ -45,9 +45,9 @@ impl HostCore {
         requires aims { Aims self.old.recorded.me (aim call.now) }
         requires within { IsCallWithin call.now }
         ensures ok { OnOk result (self.new ≡ begun self.old tick thread call.now) }
-        ensures err { OnErr result (self.new ≡ opened self.old tick) }
+        ensures err { OnErr result (self.new ≡ event_begun self.old tick) }
     {
-        self.open(tick);
+        self.begin_event(tick);
         let line = TakenLine::CallBegin {
             line: self.line(),
             thread,

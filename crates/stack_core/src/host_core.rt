@@ -8,17 +8,17 @@ ghost use Rattle.spec_tcp.specs.Steps.{step_of};
 ghost use Rattle.spec_merge.specs.Books.{Bring};
 ghost use Rattle.spec_merge.specs.Keys.{EachEntry};
 ghost use Rattle.stack_core.specs.Cores.{Fits, IsAfter, IsBelow, IsNextLine, IsOrderly, IsOwn, IsRecorded};
-ghost use Rattle.stack_core.specs.Cores.{line_to_come, lines_taken, new_core, opened, with_item, with_step, world};
+ghost use Rattle.stack_core.specs.Cores.{line_to_come, lines_taken, new_core, event_begun, with_item, with_step, world};
 ghost use Rattle.stack_core.specs.Entries.{steps_in};
 ghost use Rattle.stack_core.specs.Told.{AllTold, IsToldStep};
 ghost use Rattle.stack_core.specs.Affected.{affected_by};
 
 use crate::deadline_queue::{Affected, DeadlineQueue};
-use crate::flying::Flying;
 use crate::recording::Recording;
 use crate::resets::await_reset;
 use crate::send_states::SendStates;
 use crate::tick::Tick;
+use crate::transit::Flying;
 use case_forms::{Header, Host, OutOfMemory};
 use spec_step::Label;
 use std::alloc::Global;
@@ -165,11 +165,11 @@ impl HostCore {
         let _ = &self.line;
     }
 
-    // An event begins.
-    pub(crate) fn open(&mut self, tick: Tick)
+    // An event begins, at this tick.
+    pub(crate) fn begin_event(&mut self, tick: Tick)
         requires tick { IsAfter self.old.last tick }
         requires events { self.old.events < 10000000 }
-        ensures opened { self.new ≡ opened self.old tick }
+        ensures begun { self.new ≡ event_begun self.old tick }
         ensures room { steps_in self.new.recorded.entries + 4 ≤ 4 * self.new.events }
         ensures events { self.new.events ≤ 10000000 }
     {
@@ -179,14 +179,14 @@ impl HostCore {
 
     // The same for an event that may create an endpoint; there is then room to remember its duties. The error is that
     // memory ran out; the event began all the same.
-    pub(crate) fn open_with_room(&mut self, tick: Tick) -> Result<(), OutOfMemory>
+    pub(crate) fn begin_event_with_room(&mut self, tick: Tick) -> Result<(), OutOfMemory>
         requires tick { IsAfter self.old.last tick }
         requires events { self.old.events < 10000000 }
-        ensures opened { self.new ≡ opened self.old tick }
+        ensures begun { self.new ≡ event_begun self.old tick }
         ensures room { steps_in self.new.recorded.entries + 4 ≤ 4 * self.new.events }
         ensures events { self.new.events ≤ 10000000 }
     {
-        self.open(tick);
+        self.begin_event(tick);
         self.send_states.make_room()?;
         Ok(())
     }

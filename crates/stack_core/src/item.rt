@@ -1,6 +1,6 @@
 //! The items of a recording.
 
-use crate::flying::Flying;
+use crate::transit::Flying;
 use spec_step::Label;
 
 /// A step of the host, or a segment of the other host that was put on its wire here.

@@ -9,11 +9,11 @@
 //! (crate `spec_merge`). Contracts don't say which of the permitted steps a core chooses, except where the pages on
 //! recording hosts do.
 //!
-//! - `tick`, `flying`, `item`, `entry`: when events are, segments in transit, and the entries of a recording
+//! - `tick`, `transit`, `item`, `entry`: when events are, segments in transit, and the entries of a recording
 //! - `recording`: the entries of one host, with the world that they leave
 //! - `host_core`: the core, and what every event uses
 //! - `begin`, `attempt`, `answers`, `answered`: calls, and the answer that a call has now, never `again`
-//! - `pump`, `makings`, `outgoing`: a segment is made and sent; `resets`: resets that answer a segment, and wait
+//! - `pump`, `next_segment`, `outgoing`: a segment is made and sent; `resets`: resets that answer a segment, and wait
 //! - `deadline_queue`, `affected`: which endpoints are to be visited, and which a step may change
 //! - `send_states`, `plans`, `greatest`: what a core remembers of its endpoints, what it would make at one, and its
 //!   choice of windows
@@ -30,12 +30,11 @@ mod attempt;
 mod begin;
 mod deadline_queue;
 mod entry;
-mod flying;
 mod greatest;
 mod host_core;
 mod item;
 mod laws;
-mod makings;
+mod next_segment;
 mod outgoing;
 mod plans;
 mod pump;
@@ -44,12 +43,13 @@ mod resets;
 mod send_states;
 mod tick;
 mod timers;
+mod transit;
 
 pub use answered::Answered;
 pub use entry::Entry;
-pub use flying::Flying;
 pub use host_core::{CoreConfig, HostCore};
 pub use item::Item;
 pub use laws::{core_worlds_are_books, what_flew_is_named};
 pub use recording::Recording;
 pub use tick::{Key, Tick};
+pub use transit::Flying;

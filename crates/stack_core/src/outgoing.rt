@@ -6,7 +6,7 @@ ghost use Rattle.segment.specs.Layout.{IsSegment};
 ghost use Rattle.spec_tcp.specs.Wire.{matches_sent};
 ghost use Rattle.stack_core.specs.Outgoing.{flag_bits, greatest_payload, segment_of};
 
-use crate::flying::Flying;
+use crate::transit::Flying;
 use case_forms::{Flags, OutOfMemory, Wire};
 use recording_parts::payload_of;
 use segment::{Bytes, EncFault, SegFault, Segment, decode, encode};
@@ -27,7 +27,7 @@ pub(crate) fn wire_of(alloc: Global, m: &Emission, mss: Option<u16>) -> Result<W
     ensures shows { IfOk result (λ w. (h : Header) → matches_sent h w m.now ≡ true) }
     ensures reads { IfOk result (λ w. IsSegment w.bytes w.seg) }
 {
-    let segment = written(alloc, m, mss)?;
+    let segment = segment_of(alloc, m, mss)?;
     let bytes = match encode(alloc, &segment) {
         Ok(bytes) => bytes,
         Err(EncFault::OutOfMemory) => return Err(AllocError),
@@ -45,7 +45,8 @@ pub(crate) fn wire_of(alloc: Global, m: &Emission, mss: Option<u16>) -> Result<W
     })
 }
 
-fn written(alloc: Global, m: &Emission, mss: Option<u16>) -> Result<Segment, OutOfMemory>
+// The fields of the segment that is sent.
+fn segment_of(alloc: Global, m: &Emission, mss: Option<u16>) -> Result<Segment, OutOfMemory>
     ensures { IfOk result (λ s. s ≡ segment_of m.now mss) }
 {
     Ok(Segment {

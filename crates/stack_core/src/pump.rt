@@ -18,13 +18,13 @@ ghost use Rattle.stack_core.specs.Flown.{HasFlown};
 ghost use Rattle.stack_core.specs.Outgoing.{GoesOut, MayGo, WaitsToGo, greatest_payload};
 
 use crate::deadline_queue::Affected;
-use crate::flying::Flying;
 use crate::host_core::HostCore;
-use crate::makings::find_plan;
+use crate::next_segment::find_plan;
 use crate::outgoing::{Outgoing, wire_of};
 use crate::plans::SynOptions;
 use crate::resets::next_reset;
 use crate::tick::Tick;
+use crate::transit::Flying;
 use case_forms::{OutOfMemory, SegmentPlan, TakenLine};
 use endpoint::sent;
 use seqno::Word;
@@ -61,14 +61,14 @@ impl HostCore {
     {
         self.bounds();
         if let Some(number) = self.reset_to_go() {
-            self.open(tick);
+            self.begin_event(tick);
             let flying = self.send(number)?;
             return Ok(Some(flying));
         }
         let Some(plan) = self.plan() else {
             return Ok(None);
         };
-        self.open(tick);
+        self.begin_event(tick);
         self.make(plan)?;
         self.spend_iss(plan);
         self.update_after_making(plan);
@@ -148,7 +148,7 @@ impl HostCore {
         ensures { self.new ≡ self.old }
     {
         if let Some(place) = self.recording.body().place_of(plan.lport, plan.rport) {
-            let send_state = self.send_states.of(place).after_making(&plan);
+            let send_state = self.send_states.at(place).after_making(&plan);
             self.send_states.set(place, send_state);
         }
     }

@@ -21,9 +21,9 @@ ghost use Rattle.stack_core.specs.Entries.{entry_at, steps_in};
 ghost use Rattle.stack_core.specs.Recordings.{Joins, with_entry, world_left};
 
 use crate::entry::Entry;
-use crate::flying::Flying;
 use crate::item::Item;
 use crate::tick::Tick;
+use crate::transit::Flying;
 use case_forms::{Call, Header, Host, OutOfMemory};
 use endpoint_state::{HostTcp, Made, World};
 use spec_merge::books_grow;
@@ -184,6 +184,7 @@ impl Recording {
     {
         forgetting_is_free();
         books_grow();
+        // Room comes first, so that entries and world agree even if memory runs out.
         self.entries.reserve(1)?;
         match apply(&mut self.world, tick.moment, &label) {
             Ok(()) => {}

@@ -60,7 +60,7 @@ impl SendStates {
     }
 
     /// What is remembered of the endpoint at a place.
-    pub(crate) fn of(&self, place: u32) -> SendState {
+    pub(crate) fn at(&self, place: u32) -> SendState {
         self.all.get(place as usize).copied().unwrap_or(NOTHING)
     }
 
@@ -110,7 +110,7 @@ pub(crate) struct Seen {
 
 impl Seen {
     /// What is remembered of this endpoint now.
-    pub(crate) fn of(endpoint: &Endpoint) -> Seen {
+    pub(crate) fn new(endpoint: &Endpoint) -> Seen {
         Seen {
             snd_una: endpoint.stream.snd_una,
             snd_wnd: endpoint.window.snd_wnd,

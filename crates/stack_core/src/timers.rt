@@ -7,7 +7,7 @@ ghost use Rattle.spec_tcp.specs.Bounds.{most_steps};
 ghost use Rattle.spec_tcp.specs.declared.endpoint.Endpoint.{Endpoint};
 ghost use Rattle.stack_core.specs.CoreWorlds.{Leaves};
 ghost use Rattle.stack_core.specs.CoreWorlds.CoreCall.{Timers};
-ghost use Rattle.stack_core.specs.Cores.{IsAfter, IsRecorded, opened};
+ghost use Rattle.stack_core.specs.Cores.{IsAfter, IsRecorded, event_begun};
 ghost use Rattle.stack_core.specs.Entries.{steps_in};
 ghost use Rattle.stack_core.specs.TimerEvents.{HasTried, IfGivesUp, IsDueAt, IsNotDueAt, IsRefused, IsTimed, NoneDue};
 ghost use Rattle.stack_core.specs.TimerEvents.{NoneDueAt};
@@ -35,7 +35,7 @@ impl HostCore {
         requires tick { IsAfter self.old.last tick }
         requires events { self.old.events < 10000000 }
         ensures ok { IfOk result (λ found. IsTimed self.old tick found self.new) }
-        ensures err { OnErr result (self.new ≡ opened self.old tick) }
+        ensures err { OnErr result (self.new ≡ event_begun self.old tick) }
         ensures leaves { Leaves self.old tick (Timers result) self.new }
         ensures kept { IsRecorded self.new }
     {
@@ -49,13 +49,13 @@ impl HostCore {
         requires tick { IsAfter self.old.last tick }
         requires events { self.old.events < 10000000 }
         ensures ok { IfOk result (λ found. IsTimed self.old tick found self.new) }
-        ensures err { OnErr result (self.new ≡ opened self.old tick) }
+        ensures err { OnErr result (self.new ≡ event_begun self.old tick) }
     {
         self.bounds();
         let Some(due) = self.due(tick.moment) else {
             return Ok(false);
         };
-        self.open(tick);
+        self.begin_event(tick);
         let line = TakenLine::Expired {
             line: self.line(),
             host: self.me(),
@@ -79,7 +79,7 @@ impl HostCore {
         if let Some(endpoint) = body.endpoint_at(place) {
             let send_state = self
                 .send_states
-                .of(place)
+                .at(place)
                 .after_expiry(endpoint, due.expired);
             self.send_states.set(place, send_state);
         }

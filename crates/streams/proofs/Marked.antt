@@ -8,7 +8,7 @@ use Rattle.streams.specs.declared.cell.Cell.{Cell}
 use Rattle.streams.specs.declared.cell.Cell.TheVariants.{Byte, Fin}
 use Rattle.streams.specs.Cells.{body, cells_of, is_fin, put, put_all}
 use Rattle.streams.specs.Received.{body_kept, has_end}
-use Rattle.streams.specs.Views.{bytes_then, fin_alone, marked_bytes, ones}
+use Rattle.streams.specs.Views.{bytes_then, fin_alone, marked_bytes, leading_received}
 use Rattle.streams.proofs.Writes.{length_put, length_put_all, put_all_body_false, put_all_body_true}
 
 pub length_marked : (ms vs : List ℕ) → length ms ≡ length vs → length (marked_bytes ms vs) ≡ length ms
@@ -195,14 +195,14 @@ written xs ys true at part false a b n e =
     ∙ ap (λ (zs : List (Option Cell)). zs ++ Some Fin ∷ []) (sym (e ∙ kept_open xs at part (n refl)))))
 
 -- bytes in front of the first gap
-pub marked_front : (n : ℕ) (ms vs : List ℕ) → length ms ≡ length vs → n ≤ ones ms
+pub marked_front : (n : ℕ) (ms vs : List ℕ) → length ms ≡ length vs → n ≤ leading_received ms
     → marked_bytes ms vs ≡ bytes_then (take n vs) (marked_bytes (drop n ms) (drop n vs))
 marked_front zero ms vs h l = refl
 marked_front (suc n) [] vs h l = absurd (omega arith)
 marked_front (suc n) (m ∷ ms) [] h l = absurd (omega arith)
 marked_front (suc n) (m ∷ ms) (v ∷ vs) h l = by (λ k. marked_front n ms vs (omega arith) k) (m == 1) refl
   where
-    by : (n ≤ ones ms → marked_bytes ms vs ≡ bytes_then (take n vs) (marked_bytes (drop n ms) (drop n vs))) → (b : Bool) → (m == 1) ≡ b
+    by : (n ≤ leading_received ms → marked_bytes ms vs ≡ bytes_then (take n vs) (marked_bytes (drop n ms) (drop n vs))) → (b : Bool) → (m == 1) ≡ b
         → marked_bytes (m ∷ ms) (v ∷ vs) ≡ bytes_then (v ∷ take n vs) (marked_bytes (drop n ms) (drop n vs))
     by more true e = let some = rw e at l in rw e (ap (λ (ys : List (Option Cell)). Some (Byte v) ∷ ys) (more (omega arith)))
     by more false e = absurd (let none = rw e at l in omega arith)

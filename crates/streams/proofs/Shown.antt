@@ -9,7 +9,7 @@ use Rattle.streams.specs.declared.cell.Cell.{Cell}
 use Rattle.streams.specs.declared.cell.Cell.TheVariants.{Fin}
 use Rattle.streams.specs.Cells.{body, cells_of, front, is_fin, leading, put_all}
 use Rattle.streams.specs.Received.{body_kept}
-use Rattle.streams.specs.Views.{bytes_then, ends, fin_alone, marked_bytes, ones}
+use Rattle.streams.specs.Views.{bytes_then, ends, fin_alone, marked_bytes, leading_received}
 use Rattle.streams.proofs.Marked.{length_marked, kept_marked, written, marked_front, then_behind}
 use Rattle.streams.proofs.Thens.{drop_then, ended_bytes, ended_rest, front_then, kept_end, kept_then, leading_then, then_then}
 
@@ -23,7 +23,7 @@ behind_long r vs ms h = let less = length-drop r vs in omega arith
 pub in_front_long : (r : ℕ) (vs ms : List ℕ) → length vs ≡ r + length ms → length (take r vs) ≡ r
 in_front_long r vs ms h = length-take-le r vs (omega arith)
 
-leading_marked : (ms vs : List ℕ) (f : Bool) → ones ms ≡ 0 → leading (marked_bytes ms vs ++ fin_alone f) ≡ []
+leading_marked : (ms vs : List ℕ) (f : Bool) → leading_received ms ≡ 0 → leading (marked_bytes ms vs ++ fin_alone f) ≡ []
 leading_marked [] vs true h = refl
 leading_marked [] vs false h = refl
 leading_marked (m ∷ ms) [] true h = refl
@@ -34,19 +34,20 @@ leading_marked (m ∷ ms) (v ∷ vs) f h = by (m == 1) refl
     by true e = absurd (let some = rw e at h in omega arith)
     by false e = rw e refl
 
-pub leading_shown : (r : ℕ) (vs ms : List ℕ) (f : Bool) → ones ms ≡ 0 → leading (shown r vs ms f) ≡ take r vs
+pub leading_shown : (r : ℕ) (vs ms : List ℕ) (f : Bool) → leading_received ms ≡ 0 → leading (shown r vs ms f) ≡ take r vs
 leading_shown r vs ms f h =
     leading_then (take r vs) (marked_bytes ms (drop r vs) ++ fin_alone f)
     ∙ (ap (λ (ys : List ℕ). take r vs ++ ys) (leading_marked ms (drop r vs) f h) ∙ append-nil (take r vs))
 
-pub leading_count : (r : ℕ) (vs ms : List ℕ) (f : Bool) (xs : List (Option Cell)) → length vs ≡ r + length ms → ones ms ≡ 0 → shown r vs ms f ≡ xs
+pub leading_count : (r : ℕ) (vs ms : List ℕ) (f : Bool) (xs : List (Option Cell)) → length vs ≡ r + length ms → leading_received ms ≡ 0 → shown r vs ms f ≡ xs
     → length (leading xs) ≡ r
 leading_count r vs ms f xs h z e =
     ap (λ (ys : List (Option Cell)). length (leading ys)) (sym e)
     ∙ (ap (λ (ys : List ℕ). length ys) (leading_shown r vs ms f z) ∙ in_front_long r vs ms h)
 
 -- a gap is in front
-front_gap : (ms vs : List ℕ) (f : Bool) → length ms ≡ length vs → ones ms ≡ 0 → 0 < length ms → length (front (marked_bytes ms vs ++ fin_alone f)) ≡ 0
+front_gap : (ms vs : List ℕ) (f : Bool) → length ms ≡ length vs → leading_received ms ≡ 0 → 0 < length ms
+    → length (front (marked_bytes ms vs ++ fin_alone f)) ≡ 0
 front_gap [] vs f h z l = absurd (omega arith)
 front_gap (m ∷ ms) [] f h z l = absurd (omega arith)
 front_gap (m ∷ ms) (v ∷ vs) f h z l = by (m == 1) refl
@@ -55,11 +56,11 @@ front_gap (m ∷ ms) (v ∷ vs) f h z l = by (m == 1) refl
     by true e = absurd (let some = rw e at z in omega arith)
     by false e = rw e refl
 
-front_open : (ms vs : List ℕ) → length ms ≡ length vs → ones ms ≡ 0 → length (front (marked_bytes ms vs ++ fin_alone false)) ≡ 0
+front_open : (ms vs : List ℕ) → length ms ≡ length vs → leading_received ms ≡ 0 → length (front (marked_bytes ms vs ++ fin_alone false)) ≡ 0
 front_open [] vs h z = refl
 front_open (m ∷ ms) vs h z = front_gap (m ∷ ms) vs false h z (omega arith)
 
-pub front_shown : (r : ℕ) (vs ms : List ℕ) (f : Bool) → length vs ≡ r + length ms → ones ms ≡ 0 → (f ≡ true → 0 < length ms)
+pub front_shown : (r : ℕ) (vs ms : List ℕ) (f : Bool) → length vs ≡ r + length ms → leading_received ms ≡ 0 → (f ≡ true → 0 < length ms)
     → length (front (shown r vs ms f)) ≡ r
 front_shown r vs ms true h z l =
     let all = front_then (take r vs) (marked_bytes ms (drop r vs) ++ fin_alone true) in
@@ -80,7 +81,7 @@ front_ended r vs [] true h e z =
 front_ended r vs (m ∷ ms) true h e z = absurd (omega arith)
 front_ended r vs ms false h e z = absurd (cc)
 
-pub ended_shown : (r : ℕ) (vs ms : List ℕ) (f : Bool) → length vs ≡ r + length ms → ones ms ≡ 0 → (f ≡ true → 0 < length ms)
+pub ended_shown : (r : ℕ) (vs ms : List ℕ) (f : Bool) → length vs ≡ r + length ms → leading_received ms ≡ 0 → (f ≡ true → 0 < length ms)
     → is_fin (slice_get (shown r vs ms f) (length (front (shown r vs ms f)) - 1)) ≡ false
 ended_shown r vs ms true h z l =
     ended_bytes (take r vs) (marked_bytes ms (drop r vs) ++ fin_alone true) (front_gap ms (drop r vs) true (behind_long r vs ms h) z (l refl))
@@ -92,13 +93,13 @@ ended_fin r vs [] true e z = ended_rest (take r vs) 1 (Some Fin ∷ []) (Some Fi
 ended_fin r vs (m ∷ ms) true e z = absurd (omega arith)
 ended_fin r vs ms false e z = absurd (cc)
 
-pub front_is : (r : ℕ) (vs ms : List ℕ) (f : Bool) → length vs ≡ r + length ms → ones ms ≡ 0 → length (front (shown r vs ms f)) ≡ r + ends f ms
+pub front_is : (r : ℕ) (vs ms : List ℕ) (f : Bool) → length vs ≡ r + length ms → leading_received ms ≡ 0 → length (front (shown r vs ms f)) ≡ r + ends f ms
 front_is r vs [] true h z = front_ended r vs [] true h refl refl
 front_is r vs [] false h z = let all = front_shown r vs [] false h z (λ t. absurd (cc)) in omega arith
 front_is r vs (m ∷ ms) true h z = let all = front_shown r vs (m ∷ ms) true h z (λ t. omega arith) in omega arith
 front_is r vs (m ∷ ms) false h z = let all = front_shown r vs (m ∷ ms) false h z (λ t. absurd (cc)) in omega arith
 
-pub fin_is : (r : ℕ) (vs ms : List ℕ) (f : Bool) (n : ℕ) → length vs ≡ r + length ms → ones ms ≡ 0 → n ≡ r + ends f ms
+pub fin_is : (r : ℕ) (vs ms : List ℕ) (f : Bool) (n : ℕ) → length vs ≡ r + length ms → leading_received ms ≡ 0 → n ≡ r + ends f ms
     → nat_lt r n ≡ is_fin (slice_get (shown r vs ms f) (length (front (shown r vs ms f)) - 1))
 fin_is r vs [] true n h z e = let yes : nat_lt r n ≡ true = grind (arith, nat_tests) in yes ∙ sym (ended_fin r vs [] true refl refl)
 fin_is r vs [] false n h z e = let no : nat_lt r n ≡ false = grind (arith, nat_tests) in no ∙ sym (ended_shown r vs [] false h z (λ t. absurd (cc)))
@@ -122,7 +123,7 @@ take_twice (suc n) (suc m) [] = let some : min (suc n) (suc m) ≡ suc (min n m)
 take_twice (suc n) (suc m) (x ∷ xs) = let some : min (suc n) (suc m) ≡ suc (min n m) = omega arith in rw some (ap (λ (ys : List ℕ). x ∷ ys) (take_twice n m xs))
 
 -- the places in front that were taken join the bytes
-pub shown_shift : (r n : ℕ) (vs ms : List ℕ) (f : Bool) → length vs ≡ r + length ms → n ≤ ones ms → shown (r + n) vs (drop n ms) f ≡ shown r vs ms f
+pub shown_shift : (r n : ℕ) (vs ms : List ℕ) (f : Bool) → length vs ≡ r + length ms → n ≤ leading_received ms → shown (r + n) vs (drop n ms) f ≡ shown r vs ms f
 shown_shift r n vs ms f h l =
     let back : drop (r + n) vs ≡ drop n (drop r vs) = sym (drop-drop n r vs) in
     let front : marked_bytes ms (drop r vs) ≡ bytes_then (take n (drop r vs)) (marked_bytes (drop n ms) (drop n (drop r vs))) =
@@ -133,21 +134,21 @@ shown_shift r n vs ms f h l =
     ∙ (ap (bytes_then (take r vs)) (sym (then_behind (take n (drop r vs)) (marked_bytes (drop n ms) (drop n (drop r vs))) (fin_alone f)))
     ∙ ap (λ (ys : List (Option Cell)). bytes_then (take r vs) (ys ++ fin_alone f)) (sym front))))
 
-pub ones_within : (ms : List ℕ) → ones ms ≤ length ms
-ones_within [] = omega arith
-ones_within (m ∷ ms) = by (ones_within ms) (m == 1) refl
+pub leading_within : (ms : List ℕ) → leading_received ms ≤ length ms
+leading_within [] = omega arith
+leading_within (m ∷ ms) = by (leading_within ms) (m == 1) refl
   where
-    by : ones ms ≤ length ms → (b : Bool) → (m == 1) ≡ b → ones (m ∷ ms) ≤ length (m ∷ ms)
+    by : leading_received ms ≤ length ms → (b : Bool) → (m == 1) ≡ b → leading_received (m ∷ ms) ≤ length (m ∷ ms)
     by more true e = rw e (omega arith)
     by more false e = rw e (omega arith)
 
-pub ones_gone : (ms : List ℕ) → ones (drop (ones ms) ms) ≡ 0
-ones_gone [] = refl
-ones_gone (m ∷ ms) = by (ones_gone ms) (m == 1) refl
+pub leading_gone : (ms : List ℕ) → leading_received (drop (leading_received ms) ms) ≡ 0
+leading_gone [] = refl
+leading_gone (m ∷ ms) = by (leading_gone ms) (m == 1) refl
   where
-    by : ones (drop (ones ms) ms) ≡ 0 → (b : Bool) → (m == 1) ≡ b → ones (drop (ones (m ∷ ms)) (m ∷ ms)) ≡ 0
-    by more true e = let some : ones (m ∷ ms) ≡ suc (ones ms) = rw e refl in rw some more
-    by more false e = let none : ones (m ∷ ms) ≡ 0 = rw e refl in ap (λ n. ones (drop n (m ∷ ms))) none ∙ none
+    by : leading_received (drop (leading_received ms) ms) ≡ 0 → (b : Bool) → (m == 1) ≡ b → leading_received (drop (leading_received (m ∷ ms)) (m ∷ ms)) ≡ 0
+    by more true e = let some : leading_received (m ∷ ms) ≡ suc (leading_received ms) = rw e refl in rw some more
+    by more false e = let none : leading_received (m ∷ ms) ≡ 0 = rw e refl in ap (λ n. leading_received (drop n (m ∷ ms))) none ∙ none
 
 pub ready_within : (r : ℕ) (vs ms : List ℕ) (f : Bool) (xs : List (Option Cell)) (at : ℕ) → length vs ≡ r + length ms → shown r vs ms f ≡ xs
     → length (front xs) ≤ at → r ≤ at
@@ -215,13 +216,13 @@ pub kept_written : (r : ℕ) (vs ms : List ℕ) (f : Bool) (xs : List (Option Ce
     → part ≡ (if f then take (length ms - (at - r)) bytes else bytes) → end ≡ (fin && not f && nat_le (length ms) (at - r + length part))
     → (end ≡ false → 0 < length part) → length ws ≡ r + length ns → take r ws ≡ take r vs
     → marked_bytes ns (drop r ws) ≡ put_all (marked_bytes ms (drop r vs) ++ replicate (at - r + length part - length ms) None) (at - r) (cells_of part)
-    → shown (r + ones ns) ws (drop (ones ns) ns) (f || end) ≡ put_all xs at (body_kept xs at bytes fin)
+    → shown (r + leading_received ns) ws (drop (leading_received ns) ns) (f || end) ≡ put_all xs at (body_kept xs at bytes fin)
 kept_written r vs ms f xs at bytes fin part end ws ns h e l p q some same ready cells =
     let long = length_marked ms (drop r vs) (behind_long r vs ms h) in
     let told : marked_bytes ns (drop r ws)
     ≡ put_all (marked_bytes ms (drop r vs) ++ replicate (at - r + length part - length (marked_bytes ms (drop r vs))) None) (at - r) (cells_of part) =
     rw long cells in
-    shown_shift r (ones ns) ws ns (f || end) same (omega arith)
+    shown_shift r (leading_received ns) ws ns (f || end) same (omega arith)
     ∙ (ap (λ (ys : List ℕ). bytes_then ys (marked_bytes ns (drop r ws) ++ fin_alone (f || end))) ready
     ∙ (ap (bytes_then (take r vs))
     (written (marked_bytes ms (drop r vs)) (marked_bytes ns (drop r ws)) f (at - r) part end (λ t. closed f refl t) (λ t. far f refl t) some told)

@@ -1,4 +1,4 @@
--- What an endpoint sends: the bytes that its sends accepted, by position (RFC 9293, 3.4 and 3.10.3).
+-- What an endpoint sends: the bytes that its sends accepted, by position (RFC 9293, 3.4 and 3.10.2).
 use Rattle.std.specs.Prelude.{ℕ, ◌+◌, ◌-◌, Bool, List, ◌∷◌, length, take, drop}
 use Rattle.streams.specs.declared.cell.Cell.{Cell}
 use Rattle.streams.specs.declared.cell.Cell.TheVariants.{Syn}

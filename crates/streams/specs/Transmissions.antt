@@ -1,4 +1,4 @@
--- When each position was first sent, and whether it was retransmitted; only data sent once is measured (RFC 6298, 3).
+-- When each position was first built, and whether it was retransmitted; only data sent once is measured (RFC 6298, 3).
 use Rattle.std.specs.Prelude.{ℕ, zero, suc, ◌+◌, ◌-◌, Bool, true, false, ◌||◌, List, [], ◌∷◌, ◌++◌, length, take, drop}
 use Rattle.std.specs.Prelude.{replicate, Option, slice_get}
 use Rattle.std.specs.Option.{option_map}
@@ -32,6 +32,6 @@ any_again (x ∷ all) = x.again || any_again all
 abbrev pub retransmitted : List Transmission → (from upto : ℕ) → Bool
 retransmitted all from upto = any_again (take (upto - from) (drop from all))
 
--- when a position was first sent, if it was
+-- when a position was first built, if it was
 abbrev pub made_moment : List Transmission → ℕ → Option ℕ
 made_moment all position = option_map (λ x. x.moment) (slice_get all position)

@@ -29,10 +29,10 @@ marked_bytes (mark ∷ marks) [] = []
 marked_bytes (mark ∷ marks) (value ∷ values) =
     (if mark == 1 then Some (Byte value) else None) ∷ marked_bytes marks values
 
--- how many ones are at the front
-abbrev pub ones : List ℕ → ℕ
-ones [] = 0
-ones (mark ∷ marks) = if mark == 1 then suc (ones marks) else 0
+-- how many places at the front were received: their mark is 1
+abbrev pub leading_received : List ℕ → ℕ
+leading_received [] = 0
+leading_received (mark ∷ marks) = if mark == 1 then suc (leading_received marks) else 0
 
 -- how many places a FIN fills before the first gap: one if there is a FIN and no gap
 abbrev pub ends : Bool → List ℕ → ℕ

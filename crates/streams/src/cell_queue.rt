@@ -6,8 +6,8 @@ ghost use Rattle.std.specs.Prelude.{drop, slice_get};
 ghost use Rattle.streams.specs.Cells.{front, is_fin, leading, put_all};
 ghost use Rattle.streams.specs.Received.{body_kept, starts};
 
+use super::byte_places::{end_kept, ends, leading_received, part_kept, place};
 use super::byte_queue::ByteQueue;
-use super::placing::{end_kept, ends, ones, part_kept, place};
 use std::alloc::{AllocError, Global};
 use std::marker::Model;
 
@@ -30,14 +30,14 @@ pub(crate) struct CellQueue {
 impl Model for CellQueue {
     ghost use Rattle.std.specs.Prelude.{◌≡◌, ◌+◌, ◌++◌, length, take, drop, List, Option};
     ghost use Rattle.streams.specs.declared.cell.Cell.{Cell};
-    ghost use Rattle.streams.specs.Views.{bytes_then, ends, fin_alone, marked_bytes, ones};
+    ghost use Rattle.streams.specs.Views.{bytes_then, ends, fin_alone, marked_bytes, leading_received};
 
     ghost Value = { List (Option Cell) };
 
     ghost view = { λ q. bytes_then (take q.ready q.values)
         (marked_bytes q.marks (drop q.ready q.values) ++ fin_alone q.fin) };
 
-    ghost invariant = { λ q. (length q.values ≡ q.ready + length q.marks) × (ones q.marks ≡ 0)
+    ghost invariant = { λ q. (length q.values ≡ q.ready + length q.marks) × (leading_received q.marks ≡ 0)
         × (q.front ≡ q.ready + ends q.fin q.marks) };
 }
 
@@ -116,7 +116,7 @@ impl CellQueue {
             return Ok(());
         }
         place(&mut self.values, &mut self.marks, self.ready, at, bytes)?;
-        let count = ones(&self.marks);
+        let count = leading_received(&self.marks);
         self.marks.drop_front(count);
         self.ready += count;
         self.fin = self.fin || end;

@@ -6,10 +6,10 @@
 //!
 //! - `byte_queue`: bytes appended at the end and removed from the front
 //! - `cell`: what is at one position
-//! - `receive`: what was received from the peer, until it is delivered; `cell_queue` holds it, and `placing` writes
+//! - `receive`: what was received from the peer, until it is delivered; `cell_queue` holds it, and `byte_places` writes
 //!   bytes by place
 //! - `send`: the bytes that sends accepted, until they are acknowledged
-//! - `transmission`, `transmissions`: when a position was first sent, and whether it was retransmitted; `runs` keeps
+//! - `transmission`, `transmissions`: when a position was first built, and whether it was retransmitted; `runs` keeps
 //!   the first by segments, `marks` the second by ranges
 //! - `laws`: nothing reads what was discarded, and reads return what the peer sent, in order
 //!
@@ -19,12 +19,12 @@
 //! read or sent.
 #![tactic(auto)]
 
+mod byte_places;
 mod byte_queue;
 mod cell;
 mod cell_queue;
 mod laws;
 mod marks;
-mod placing;
 mod receive;
 mod runs;
 mod send;

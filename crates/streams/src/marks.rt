@@ -1,8 +1,8 @@
 //! Which positions were retransmitted.
 //!
-//! A retransmitted segment marks one range, however long it is. Ranges may overlap. They are found in order, and a
-//! range below every position that may still be looked up is discarded. Each operation is logarithmic in the number of
-//! ranges.
+//! A retransmitted segment marks one range, however long it is; with a mark for each position, its cost would grow with
+//! its length. Ranges may overlap. They are found in order, and a range below every position that may still be looked
+//! up is discarded. Each operation is logarithmic in the number of ranges.
 
 ghost use Rattle.std.specs.List.{list_any};
 ghost use Rattle.std.specs.Prelude.{◌≡◌, ℕ, ◌<◌, ◌≤◌, ◌∷◌, ◌&&◌, ◌||◌, nat_le, nat_lt, true, false, IfNone, IfSome};

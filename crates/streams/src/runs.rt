@@ -1,4 +1,4 @@
-//! Runs of positions that were first sent at one moment, in a queue.
+//! Runs of positions that were first built at one moment, in a queue.
 //!
 //! A segment adds one run, however long it is, so a queue is as long as there are segments in flight.
 
@@ -9,12 +9,12 @@ ghost use Rattle.streams.specs.Views.{expand};
 
 use std::collections::VecDeque;
 
-/// Consecutive positions that were first sent at one moment.
+/// Consecutive positions that were first built at one moment.
 #[derive(Clone, Copy)]
 pub(crate) struct Run {
     /// The number of positions.
     pub(crate) count: u64,
-    /// When they were first sent, in microseconds.
+    /// When they were first built, in microseconds.
     pub(crate) moment: u64,
 }
 
@@ -50,7 +50,7 @@ pub(crate) fn forget(runs: &mut VecDeque<Run>, count: u64)
     }
 }
 
-/// When this position was first sent, in microseconds. `None` means that it wasn't.
+/// When this position was first built, in microseconds. `None` means that it wasn't.
 pub(crate) fn moment_at(runs: &VecDeque<Run>, position: u64) -> Option<u64>
     ensures { result ≡ made_moment (expand runs.now.items) position }
 {

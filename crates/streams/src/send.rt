@@ -1,4 +1,4 @@
-//! What an endpoint sends (RFC 9293, 3.10.3): the bytes that its sends accepted, until they are acknowledged.
+//! What an endpoint sends (RFC 9293, 3.10.2): the bytes that its sends accepted, until they are acknowledged.
 //!
 //! The buffer keeps the bytes from the oldest that may be retransmitted. Discarded bytes show as 0. `specs/Sent`
 //! defines each call.

@@ -1,4 +1,4 @@
-//! When a position was first sent, and whether it was retransmitted: round trips are measured only on data sent once
+//! When a position was first built, and whether it was retransmitted: round trips are measured only on data sent once
 //! (RFC 6298, 3).
 
 /// The transmission of one position.

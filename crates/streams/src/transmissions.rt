@@ -1,4 +1,4 @@
-//! When each position of a stream was first sent, and whether it was retransmitted (RFC 6298, 3).
+//! When each position of a stream was first built, and whether it was retransmitted (RFC 6298, 3).
 //!
 //! The positions of one segment are kept as one run, the retransmitted ones as separate ranges, so a segment doesn't
 //! walk over earlier ones. Acknowledged positions are discarded: they show as sent once, at the moment 0.
@@ -84,7 +84,7 @@ impl Transmissions {
         from < upto && self.marks.meets(from, upto)
     }
 
-    /// The moment at which this position was first sent (in microseconds). `None` means that it wasn't.
+    /// The moment at which this position was first built (in microseconds). `None` means that it wasn't.
     pub fn moment(&self, position: u64) -> Option<u64>
         ensures { result ≡ made_moment self.now position }
     {

@@ -5,13 +5,13 @@
 //!
 //! - `hints`: where the entry of a number may be, tried before a search
 //! - `queue`: items numbered one after the other, removed in any order
-//! - `rising`: numbers that rise, searched from the end
+//! - `sorted_numbers`: numbers that rise, searched from the end
 //! - `table`: a table indexed by 64-bit numbers
 #![tactic(auto)]
 
 mod hints;
 mod queue;
-mod rising;
+mod sorted_numbers;
 mod table;
 
 pub use queue::Queue;

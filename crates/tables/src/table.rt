@@ -12,7 +12,7 @@ ghost use Rattle.tables.specs.Hints.{AreHinted};
 ghost use Rattle.tables.specs.Tables.{changed_at, is_above, led_in, place_in, place_of, AreApart, IsPlaced, IsRising};
 
 use crate::hints::{NO_PLACE, add_hint, hint_of};
-use crate::rising::place_among;
+use crate::sorted_numbers::place_among;
 use std::alloc::{AllocError, Global};
 use std::collections::BTreeMap;
 use std::marker::Model;

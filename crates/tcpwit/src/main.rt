@@ -7,27 +7,35 @@ ghost use Rattle.counted.specs.Counting.{failures_of};
 use cli::{INPUT_BYTES, answer_bad_memory, given_words, request_of, run_request};
 use counted::Counted;
 use std::alloc::{AllocError, Global};
-use std::env::Args;
-use std::io::{BufRead, BufReader, Input, Write};
+use std::env::{Args, Env};
+use std::io::{BufRead, BufReader, Input, Read, Write};
 use std::process::ExitCode;
 use std::rt::Files;
 use std::sync::Wait;
 use std::thread::Threads;
 
 fn main(rt: HostRuntime) -> ExitCode {
-    let mut writer = Counted::new(rt.stdout());
-    let Ok(input) = BufReader::with_capacity(rt.alloc(), INPUT_BYTES, rt.reader()) else {
-        return ExitCode::from(answer_bad_memory(&mut writer));
+    ExitCode::from(run_process(&rt, rt.alloc(), rt.reader(), rt.stdout()))
+}
+
+// Does what the process's words request, and returns the exit status.
+pub(crate) fn run_process<
+    R: Read + Send + Drop,
+    W: Write + Send + Drop,
+    H: Env + Files + Threads + Wait + Sync,
+>(rt: &H, alloc: Global, input: R, out: W) -> u8 {
+    let mut writer = Counted::new(out);
+    let Ok(input) = BufReader::with_capacity(alloc, INPUT_BYTES, input) else {
+        return answer_bad_memory(&mut writer);
     };
     let mut reader = Counted::new(input);
-    let status = match given_words(&rt, rt.alloc()) {
-        Ok(given) => match run_given(&rt, rt.alloc(), given, &mut reader, &mut writer) {
+    match given_words(rt, alloc) {
+        Ok(given) => match run_given(rt, alloc, given, &mut reader, &mut writer) {
             Ok(status) => status,
             Err(AllocError) => answer_bad_memory(&mut writer),
         },
         Err(_) => answer_bad_memory(&mut writer),
-    };
-    ExitCode::from(status)
+    }
 }
 
 // Runs with the words after the program's name. If there is no memory for them, nothing is read or written.

@@ -4,7 +4,7 @@
 //! `tcpwit_lab` has, and gives the text that this prints. If memory ran out, there is no text.
 
 use crate::texts::Text;
-use answer_lines::{MEMORY, REFUSED};
+use answers::{MEMORY, REFUSED};
 use case_forms::Judged;
 use judging::{GREATEST_SLACK, JudgeFault, Slack, judge};
 use line_fields::{FaultKind, TextFault};
@@ -32,31 +32,31 @@ const ANY_SLACK: u64 = u64::MAX - 1;
 
 // A text and its status.
 #[derive(Drop)]
-struct Said {
+struct Output {
     text: Vec<u8>,
     status: u8,
 }
 
-impl Said {
-    fn new(text: String, status: u8) -> Said {
-        Said {
+impl Output {
+    fn new(text: String, status: u8) -> Output {
+        Output {
             text: text.into_bytes(),
             status,
         }
     }
 
     // A line that is always the same.
-    fn line(alloc: Global, line: &str, status: u8) -> Result<Said, AllocError> {
+    fn line(alloc: Global, line: &str, status: u8) -> Result<Output, AllocError> {
         let mut text = String::new(alloc);
         text.push_str(line)?;
-        Ok(Said::new(text, status))
+        Ok(Output::new(text, status))
     }
 }
 
 /// Looks for a witness of a trace, and spends so many steps on going back for one line.
 #[unsafe(no_mangle)]
 pub extern "C" fn tcpwit_find(alloc: Global, trace: &[u8], budget: u64, said: &mut Text) -> u32 {
-    given(find(alloc, trace, budget), said)
+    give(find(alloc, trace, budget), said)
 }
 
 /// Explains the verdict on a case, whose segments were captured or, if `simulated`, simulated.
@@ -73,16 +73,16 @@ pub extern "C" fn tcpwit_explain(
         Origin::Captured
     };
     let answer = match explain(alloc, text, origin) {
-        Ok(answer) => Ok(Said::new(answer.text, answer.status)),
-        Err(fault) => refused_replay(alloc, fault),
+        Ok(answer) => Ok(Output::new(answer.text, answer.status)),
+        Err(fault) => replay_refusal(alloc, fault),
     };
-    given(answer, said)
+    give(answer, said)
 }
 
 /// Lists what is suspicious in a case and breaks no rule.
 #[unsafe(no_mangle)]
 pub extern "C" fn tcpwit_remark(alloc: Global, text: &[u8], said: &mut Text) -> u32 {
-    given(remarks_on(alloc, text), said)
+    give(remarks_on(alloc, text), said)
 }
 
 /// How a trace was judged.
@@ -110,46 +110,46 @@ pub extern "C" fn tcpwit_judge(
     judgement: &mut Judgement,
 ) -> u32 {
     let (answered, status) = match slack_of(slack) {
-        Some(slack) => judged(alloc, trace, slack, budget),
-        None => unjudged(Said::line(alloc, "bad usage\n", USAGE)),
+        Some(slack) => judge_trace(alloc, trace, slack, budget),
+        None => without_level(Output::line(alloc, "bad usage\n", USAGE)),
     };
     *judgement = answered;
     status
 }
 
 // Judges a trace, and gives the judgement with its status.
-fn judged(alloc: Global, trace: &[u8], slack: Slack, budget: u64) -> (Judgement, u32) {
+fn judge_trace(alloc: Global, trace: &[u8], slack: Slack, budget: u64) -> (Judgement, u32) {
     match judge(alloc, trace, slack, budget) {
         Ok(answer) => {
             let level = level_number(answer.level);
             let case = answer.case.joined(alloc);
             let status = if level == NO_LEVEL { NO } else { DONE };
-            match both(Said::new(answer.text, status), case) {
+            match both(Output::new(answer.text, status), case) {
                 Ok((said, case)) => (Judgement { level, said, case }, u32::from(status)),
-                Err(AllocError) => unjudged(Err(AllocError)),
+                Err(AllocError) => without_level(Err(AllocError)),
             }
         }
-        Err(fault) => unjudged(refused_judgement(alloc, fault)),
+        Err(fault) => without_level(judge_refusal(alloc, fault)),
     }
 }
 
 // A judgement without a level, whose text this is.
-fn unjudged(said: Result<Said, AllocError>) -> (Judgement, u32) {
+fn without_level(said: Result<Output, AllocError>) -> (Judgement, u32) {
     let mut judgement = Judgement {
         level: NO_LEVEL,
         said: Text::none(),
         case: Text::none(),
     };
-    let status = given(said, &mut judgement.said);
+    let status = give(said, &mut judgement.said);
     (judgement, status)
 }
 
 // Gives both texts away, or neither.
-fn both(said: Said, case: Result<Vec<u8>, AllocError>) -> Result<(Text, Text), AllocError> {
+fn both(said: Output, case: Result<Vec<u8>, AllocError>) -> Result<(Text, Text), AllocError> {
     let mut case = case?;
     case.reserve(1)?;
-    let said = Text::of(said.text)?;
-    Ok((said, Text::of(case)?))
+    let said = Text::new(said.text)?;
+    Ok((said, Text::new(case)?))
 }
 
 // The number of a level.
@@ -173,64 +173,64 @@ fn slack_of(number: u64) -> Option<Slack> {
 }
 
 // The case that is found for a trace.
-fn find(alloc: Global, trace: &[u8], budget: u64) -> Result<Said, AllocError> {
+fn find(alloc: Global, trace: &[u8], budget: u64) -> Result<Output, AllocError> {
     match find_within(alloc, trace, budget) {
-        Ok(found) => Ok(Said {
+        Ok(found) => Ok(Output {
             text: found.case.joined(alloc)?,
             status: DONE,
         }),
-        Err(fault) => refused_text(alloc, "bad trace ", &fault),
+        Err(fault) => text_refusal(alloc, "bad trace ", &fault),
     }
 }
 
 // The remarks on a case. The status is 1 if there is any.
-fn remarks_on(alloc: Global, text: &[u8]) -> Result<Said, AllocError> {
+fn remarks_on(alloc: Global, text: &[u8]) -> Result<Output, AllocError> {
     let case = match Case::read(alloc, text) {
         Ok(case) => case,
-        Err(fault) => return refused_text(alloc, "bad trace ", &fault),
+        Err(fault) => return text_refusal(alloc, "bad trace ", &fault),
     };
     if let Err(fault) = &case.verdict {
-        return refused_text(alloc, "bad witness ", fault);
+        return text_refusal(alloc, "bad witness ", fault);
     }
     match remark(alloc, &case) {
         Ok(remarked) => {
             let status = if remarked.places.is_empty() { DONE } else { NO };
-            Ok(Said::new(remarked.text, status))
+            Ok(Output::new(remarked.text, status))
         }
-        Err(fault) => refused_replay(alloc, fault),
+        Err(fault) => replay_refusal(alloc, fault),
     }
 }
 
 // What is said of a trace that can't be judged.
-fn refused_judgement(alloc: Global, fault: JudgeFault) -> Result<Said, AllocError> {
+fn judge_refusal(alloc: Global, fault: JudgeFault) -> Result<Output, AllocError> {
     match fault {
-        JudgeFault::Trace(fault) => refused_text(alloc, "bad trace ", &fault),
-        JudgeFault::Witness(fault) => refused_text(alloc, "bad witness ", &fault),
-        JudgeFault::Replay(fault) => refused_replay(alloc, fault),
-        JudgeFault::Altered => Said::line(alloc, "altered trace\n", REFUSED),
+        JudgeFault::Trace(fault) => text_refusal(alloc, "bad trace ", &fault),
+        JudgeFault::Witness(fault) => text_refusal(alloc, "bad witness ", &fault),
+        JudgeFault::Replay(fault) => replay_refusal(alloc, fault),
+        JudgeFault::Altered => Output::line(alloc, "altered trace\n", REFUSED),
     }
 }
 
 // What is said of a case that can't be replayed.
-fn refused_replay(alloc: Global, fault: ReplayFault) -> Result<Said, AllocError> {
+fn replay_refusal(alloc: Global, fault: ReplayFault) -> Result<Output, AllocError> {
     match fault {
         ReplayFault::OutOfMemory => Err(AllocError),
-        ReplayFault::TooManySteps => Said::line(alloc, "too many steps\n", REFUSED),
+        ReplayFault::TooManySteps => Output::line(alloc, "too many steps\n", REFUSED),
     }
 }
 
 // What is said of a text with a fault.
-fn refused_text(alloc: Global, refusal: &str, fault: &TextFault) -> Result<Said, AllocError> {
+fn text_refusal(alloc: Global, refusal: &str, fault: &TextFault) -> Result<Output, AllocError> {
     match fault.kind {
         FaultKind::OutOfMemory => Err(AllocError),
-        _ => Ok(Said::new(fault_line(alloc, refusal, fault)?, REFUSED)),
+        _ => Ok(Output::new(fault_line(alloc, refusal, fault)?, REFUSED)),
     }
 }
 
 // Gives a text away with its status. If memory ran out, there is no text.
-fn given(said: Result<Said, AllocError>, to: &mut Text) -> u32 {
+fn give(said: Result<Output, AllocError>, to: &mut Text) -> u32 {
     let (text, status) = match said {
-        Ok(said) => (Text::of(said.text), said.status),
+        Ok(said) => (Text::new(said.text), said.status),
         Err(AllocError) => (Ok(Text::none()), MEMORY),
     };
     match text {

@@ -6,7 +6,7 @@ ghost use Rattle.verdict.specs.declared.report.Verdict.{Verdict};
 ghost use Rattle.verdict.specs.Rules.{rule_name};
 ghost use Rattle.checker.specs.declared.case.CaseFault.{CaseFault};
 ghost use Rattle.spec_tcp_laws.specs.Ascending.{rule_number};
-ghost use Rattle.answer_lines.specs.Output.{line_of};
+ghost use Rattle.answers.specs.Output.{line_of};
 ghost use Rattle.c_answers.specs.Answers.{answer_of};
 ghost use Rattle.c_answers.specs.Strings.{Writes};
 

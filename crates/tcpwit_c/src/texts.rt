@@ -1,6 +1,6 @@
 //! Text that C is given and frees.
 
-use std::alloc::{AllocError, Global};
+use std::alloc::AllocError;
 use std::ptr::null;
 
 /// A text that the caller frees by `tcpwit_text_free`.
@@ -23,7 +23,7 @@ impl Text {
     }
 
     /// Gives a text away: its memory stays until the caller frees it.
-    pub(crate) fn of(mut text: Vec<u8>) -> Result<Text, AllocError> {
+    pub(crate) fn new(mut text: Vec<u8>) -> Result<Text, AllocError> {
         let length = text.len();
         text.push(0)?;
         let bytes = text.as_ptr();

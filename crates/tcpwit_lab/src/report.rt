@@ -4,11 +4,11 @@ use case_forms::OutOfMemory;
 use checker::CaseFault;
 use judging::{Answer, Connections, Judgement, Level, level_name, sentence};
 use line_fields::TextFault;
-use remarks::Remarked;
+use remarks::Remarks;
 use serde::Serialize;
 use std::alloc::{AllocError, Global};
 use verdict::Verdict;
-use why::Said;
+use why::Explanation;
 
 /// The answer for a case, or why a text is refused.
 #[derive(Drop, Serialize)]
@@ -129,7 +129,7 @@ impl Outcome {
     }
 
     /// A verdict.
-    pub(crate) fn of(verdict: Verdict) -> Outcome {
+    pub(crate) fn from_verdict(verdict: Verdict) -> Outcome {
         match verdict {
             Verdict::Yes { lines, hidden } => Outcome {
                 lines: Some(lines),
@@ -150,15 +150,15 @@ impl Outcome {
     }
 
     /// An answer of `judge`.
-    fn judged(answer: Answer) -> Outcome {
+    fn from_answer(answer: Answer) -> Outcome {
         Outcome {
             input_line: answer.input_line,
-            ..Outcome::of(answer.verdict)
+            ..Outcome::from_verdict(answer.verdict)
         }
     }
 
     /// The first fault of a text, for which this is the answer.
-    pub(crate) fn refused(answer: &'static str, fault: &TextFault) -> Outcome {
+    pub(crate) fn from_fault(answer: &'static str, fault: &TextFault) -> Outcome {
         let span = fault.span;
         Outcome {
             fault: Some(FaultMembers {
@@ -171,11 +171,11 @@ impl Outcome {
         }
     }
 
-    fn of_checked(checked: &Result<Verdict, CaseFault>) -> Outcome {
+    fn from_check(checked: &Result<Verdict, CaseFault>) -> Outcome {
         match checked {
-            Ok(verdict) => Outcome::of(*verdict),
-            Err(CaseFault::Trace(fault)) => Outcome::refused("bad trace", fault),
-            Err(CaseFault::Witness(fault)) => Outcome::refused("bad witness", fault),
+            Ok(verdict) => Outcome::from_verdict(*verdict),
+            Err(CaseFault::Trace(fault)) => Outcome::from_fault("bad trace", fault),
+            Err(CaseFault::Witness(fault)) => Outcome::from_fault("bad witness", fault),
             Err(CaseFault::Read | CaseFault::OutOfMemory) => Outcome::bare("bad memory"),
         }
     }
@@ -183,10 +183,13 @@ impl Outcome {
 
 impl<'r> Report<'r> {
     /// The explanation of a verdict.
-    pub(crate) fn explained(alloc: Global, said: &'r Said) -> Result<Report<'r>, OutOfMemory> {
+    pub(crate) fn from_explanation(
+        alloc: Global,
+        said: &'r Explanation,
+    ) -> Result<Report<'r>, OutOfMemory> {
         Ok(Report {
             status: said.status,
-            outcome: Outcome::of_checked(&said.checked),
+            outcome: Outcome::from_check(&said.checked),
             said: lines_of(alloc, said.text.as_str())?,
         })
     }
@@ -194,7 +197,7 @@ impl<'r> Report<'r> {
 
 impl<'r> JudgedReport<'r> {
     /// A judgement, whose case is written to a file or not.
-    pub(crate) fn of(
+    pub(crate) fn new(
         alloc: Global,
         status: u8,
         judgement: &'r Judgement<'_>,
@@ -202,7 +205,7 @@ impl<'r> JudgedReport<'r> {
     ) -> Result<JudgedReport<'r>, OutOfMemory> {
         let mut levels = Vec::new(alloc);
         for level in &judgement.levels {
-            levels.push(LevelMembers::of(alloc, judgement.slack, level)?)?;
+            levels.push(LevelMembers::new(alloc, judgement.slack, level)?)?;
         }
         let mut said = lines_of(alloc, judgement.text.as_str())?;
         if is_written {
@@ -213,7 +216,7 @@ impl<'r> JudgedReport<'r> {
         Ok(JudgedReport {
             status,
             level: level_name(judgement.last),
-            outcome: Outcome::judged(judgement.answer),
+            outcome: Outcome::from_answer(judgement.answer),
             hosts: if judgement.is_half { 1 } else { 2 },
             slack: judgement.slack,
             connections: judgement.level.map(|_| connections),
@@ -227,11 +230,11 @@ impl<'r> JudgedReport<'r> {
 
 impl<'r> RemarkedReport<'r> {
     /// The remarks on a case with this verdict.
-    pub(crate) fn of(
+    pub(crate) fn new(
         alloc: Global,
         status: u8,
         verdict: Verdict,
-        remarked: &'r Remarked,
+        remarked: &'r Remarks,
     ) -> Result<RemarkedReport<'r>, OutOfMemory> {
         let said = lines_of(alloc, remarked.text.as_str())?;
         let mut remarks = Vec::new(alloc);
@@ -244,7 +247,7 @@ impl<'r> RemarkedReport<'r> {
         }
         Ok(RemarkedReport {
             status,
-            outcome: Outcome::of(verdict),
+            outcome: Outcome::from_verdict(verdict),
             remarks,
             said,
         })
@@ -252,16 +255,16 @@ impl<'r> RemarkedReport<'r> {
 }
 
 impl LevelMembers {
-    fn of(alloc: Global, slack: Option<u64>, level: &Level) -> Result<LevelMembers, OutOfMemory> {
+    fn new(alloc: Global, slack: Option<u64>, level: &Level) -> Result<LevelMembers, OutOfMemory> {
         let sentence = match level.refused {
             Some(_) => Some(sentence(alloc, slack, level)?),
             None => None,
         };
         Ok(LevelMembers {
             level: level_name(level.judged),
-            outcome: Outcome::judged(level.answer),
+            outcome: Outcome::from_answer(level.answer),
             sentence,
-            without_duties: level.without_duties.map(Outcome::judged),
+            without_duties: level.without_duties.map(Outcome::from_answer),
         })
     }
 }

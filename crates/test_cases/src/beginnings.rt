@@ -4,9 +4,9 @@
 //! `beginnings/NAME.txt`, counted from 0, has the line that is expected for the beginning that ends after k whole
 //! lines.
 
-use crate::report::{Done, Report, Text};
+use crate::report::{Report, Text};
 use crate::table::{Case, push_case};
-use std::alloc::Global;
+use std::alloc::{AllocError, Global};
 
 // The examples, each with its expected lines.
 const EXAMPLES: [(&str, &str); 2] = [
@@ -86,7 +86,7 @@ fn push_beginning(
     place: &Place,
     whole: Option<&str>,
     cases: &mut Vec<Case>,
-) -> Done {
+) -> Result<(), AllocError> {
     let cut = place.cut(alloc)?;
     let line = whole.unwrap_or(cut.as_str());
     let name = format!(in alloc; "the first {} bytes of {name}", beginning.len())?;

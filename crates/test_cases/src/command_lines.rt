@@ -2,7 +2,7 @@
 
 ghost use Rattle.std.specs.Io.{WritesAtMost};
 
-use crate::asking::by_words;
+use crate::checks::by_words;
 use crate::report::{Report, Text};
 use crate::table::answer_of;
 use cli::given_words;

@@ -21,13 +21,13 @@ const CASES: [(&str, Option<(u64, u64)>); 5] = [
 /// Compares them with the trace.
 pub fn ask_kept(report: &mut Report<'_>) {
     for (case, wanted) in &CASES {
-        if compared(case.as_bytes()) != *wanted {
+        if compare_lines(case.as_bytes()) != *wanted {
             report.compare(case, "the lines of a trace", "its counts", "others");
         }
     }
 }
 
-fn compared(case: &[u8]) -> Option<(u64, u64)> {
+fn compare_lines(case: &[u8]) -> Option<(u64, u64)> {
     let mut comparison = Comparison::new(TRACE);
     comparison.pass(case);
     let lines = comparison.result()?;

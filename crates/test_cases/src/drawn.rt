@@ -1,8 +1,8 @@
 //! Which lines `tcpwit_lab draw` shows of a case with more than 400.
 
 use crate::long_lines::HEADER;
-use crate::pictures::drawn;
-use crate::report::{Done, Report, Text};
+use crate::pictures::draw_text;
+use crate::report::{Report, Text};
 use drawing::Range;
 use std::alloc::{AllocError, Global};
 
@@ -63,7 +63,7 @@ pub fn ask_drawn(report: &mut Report<'_>) {
 // The first and the last line that the picture of the case with a fault shows; 0 if it shows none.
 fn lines_drawn(alloc: Global, fault: &Fault, range: Range) -> Text {
     let case = case_with(alloc, fault)?;
-    let picture = drawn(alloc, case.as_slice(), range)?;
+    let picture = draw_text(alloc, case.as_slice(), range)?;
     let (first, last) = ends_of(picture.as_str());
     format!(in alloc; "{first} {last}")
 }
@@ -80,7 +80,7 @@ fn case_with(alloc: Global, fault: &Fault) -> Result<Vec<u8>, AllocError> {
 }
 
 // Writes the steps of all calls.
-fn push_witness(alloc: Global, text: &mut Vec<u8>, fault: &Fault) -> Done {
+fn push_witness(alloc: Global, text: &mut Vec<u8>, fault: &Fault) -> Result<(), AllocError> {
     let calls = match fault {
         Fault::Cut(at) => *at,
         _ => CALLS,
@@ -95,7 +95,12 @@ fn push_witness(alloc: Global, text: &mut Vec<u8>, fault: &Fault) -> Done {
 }
 
 // Writes the steps of a call.
-fn push_steps(alloc: Global, text: &mut Vec<u8>, call: u64, fault: &Fault) -> Done {
+fn push_steps(
+    alloc: Global,
+    text: &mut Vec<u8>,
+    call: u64,
+    fault: &Fault,
+) -> Result<(), AllocError> {
     let begin = call.saturating_mul(2).saturating_add(7);
     let end = begin.saturating_add(1);
     let (effect, end) = match fault {

@@ -1,7 +1,7 @@
 //! Traces without a witness: recordings of the Linux kernel in `data/kernel/`, and written traces in `data/found/`. A
 //! witness is found for each, and the verdict on both is compared with its line of `expected.txt` in that folder.
 
-use crate::asking::judged;
+use crate::checks::check_text;
 use crate::report::{Report, Text};
 use std::alloc::Global;
 use witness_search::find;
@@ -31,7 +31,7 @@ fn ask_trace(folder: &str, row: &str, report: &mut Report<'_>) {
 // The verdict on the case that is found for a trace, as it would be printed.
 fn verdict_found(alloc: Global, trace: &[u8]) -> Text {
     match find(alloc, trace) {
-        Ok(case) => judged(alloc, case.as_slice()),
+        Ok(case) => check_text(alloc, case.as_slice()),
         Err(_) => String::from_str(alloc, "no case"),
     }
 }

@@ -4,7 +4,7 @@
 //! With `congestion full`, a case of an older version has the same answer, with the numbers of trace lines moved. If
 //! less is judged, a yes stays the same yes. It also does in version 5 with the slack `any`, which permits more.
 
-use crate::asking::{decided, judged};
+use crate::checks::{check_text, verdict_text};
 use crate::report::{Report, Text};
 use crate::table::Case;
 use crate::version_four::{Rewritten, moved, rename, rewrite};
@@ -47,7 +47,7 @@ fn ask_case(case: &Case, covered: &mut Covered, report: &mut Report<'_>) {
         Ok(verdict) => ask_words(case, verdict, covered, report),
         Err(CaseFault::Trace(fault)) if is_shared(version_named(text), fault.span.line) => {
             covered.same = covered.same.saturating_add(1);
-            let found = judged_renamed(report.alloc, text);
+            let found = check_renamed(report.alloc, text);
             case.compare("version 4, by its first line alone", found, report);
         }
         Err(_) => {}
@@ -55,9 +55,9 @@ fn ask_case(case: &Case, covered: &mut Covered, report: &mut Report<'_>) {
 }
 
 // The answer to the same text, except that it names version 4.
-fn judged_renamed(alloc: Global, text: &[u8]) -> Text {
+fn check_renamed(alloc: Global, text: &[u8]) -> Text {
     let renamed = rename(alloc, text)?;
-    judged(alloc, renamed.as_slice())
+    check_text(alloc, renamed.as_slice())
 }
 
 // Whether a line of the header has the same form in version 4. Line 1 names the version, and line 8 of version 3 is
@@ -94,7 +94,10 @@ fn ask_rewritten(
 ) {
     let full = report.text(rewritten.answer(report.alloc, Judged::Full));
     if is_same(rewritten) {
-        let wanted = report.text(decided(report.alloc, moved_verdict(verdict, rewritten.moved_by)));
+        let wanted = report.text(verdict_text(
+            report.alloc,
+            moved_verdict(verdict, rewritten.moved_by),
+        ));
         report.compare(
             case.name.as_str(),
             "version 4, full",

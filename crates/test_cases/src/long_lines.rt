@@ -1,6 +1,6 @@
 //! Lines of the greatest length, and one byte longer. The LF isn't counted, and a line without one is measured whole.
 
-use crate::report::{Done, Report};
+use crate::report::Report;
 use crate::table::{Case, push_case};
 use std::alloc::{AllocError, Global};
 
@@ -88,7 +88,7 @@ const LONG: [(&str, usize, &str, &str); 18] = [
     ),
 ];
 
-/// Adds a case for each.
+/// Adds a case for each row of `LONG`.
 pub fn push_long_lines(cases: &mut Vec<Case>, report: &mut Report<'_>) {
     for (before, letters, after, line) in &LONG {
         report.note(push_long_line(report.alloc, before, *letters, after, line, cases));
@@ -104,7 +104,7 @@ fn push_long_line(
     after: &str,
     line: &str,
     cases: &mut Vec<Case>,
-) -> Done {
+) -> Result<(), AllocError> {
     let name = format!(in alloc; "{before:?}, {letters} letters, {after:?}")?;
     let text = text_of(alloc, before, letters, after)?;
     push_case(alloc, cases, name.as_str(), text.as_slice(), line)

@@ -14,7 +14,7 @@
 //! - `beginnings`: each beginning of a case
 //! - `long_lines`: lines of the greatest length, and one byte longer
 //! - `pairs`: a trace and a witness as two texts, into which no case would be split
-//! - `asking`: by `check_case`, in pieces by the command `check` and as two texts, and by the command `many`
+//! - `checks`: by `check_case`, in pieces by the command `check` and as two texts, and by the command `many`
 //! - `command_lines`: command lines, read as the program reads its own
 //! - `stored`: texts that `tcpwit_lab` must print for a case
 //! - `kernel`: witnesses found for recordings of the Linux kernel and for written traces
@@ -26,8 +26,8 @@
 //!   the slack `any`
 #![tactic(auto)]
 
-mod asking;
 mod beginnings;
+mod checks;
 mod command_lines;
 mod comparisons;
 mod drawn;
@@ -72,7 +72,7 @@ fn ask_all<H: Threads + Wait + Sync>(rt: &H, cases: &mut Vec<Case>, report: &mut
     let begun = cases.len().saturating_sub(files);
     report.count(begun, "beginnings of two of them, ");
     long_lines::push_long_lines(cases, report);
-    asking::ask_cases(rt, cases.as_slice(), report);
+    checks::ask_cases(rt, cases.as_slice(), report);
     pairs::ask_pairs(report);
     command_lines::ask_rows(rt, report);
     ask_stored(

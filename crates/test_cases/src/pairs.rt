@@ -1,6 +1,6 @@
 //! Traces and witnesses as two texts into which no case would be split, as two files may be.
 
-use crate::asking::{PIECES, by_pair};
+use crate::checks::{PIECES, by_pair};
 use crate::report::Report;
 
 // The first line of a witness.

@@ -15,7 +15,7 @@ pub const WHOLE: Range = Range {
 const UNREADABLE: &str = "the trace can't be read";
 
 /// What `show` prints for a case.
-pub fn shown(alloc: Global, text: &[u8]) -> Text {
+pub fn show_text(alloc: Global, text: &[u8]) -> Text {
     match Case::read(alloc, text) {
         Ok(case) => show(alloc, &case),
         Err(_) => String::from_str(alloc, UNREADABLE),
@@ -23,7 +23,7 @@ pub fn shown(alloc: Global, text: &[u8]) -> Text {
 }
 
 /// What `draw` prints for a case.
-pub fn drawn(alloc: Global, text: &[u8], range: Range) -> Text {
+pub fn draw_text(alloc: Global, text: &[u8], range: Range) -> Text {
     match Case::read(alloc, text) {
         Ok(case) => draw(alloc, &case, range),
         Err(_) => String::from_str(alloc, UNREADABLE),

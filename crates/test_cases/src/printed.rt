@@ -1,6 +1,6 @@
 //! A text in which one byte is ESC, which a terminal would interpret: `tcpwit_lab` prints no such byte.
 
-use crate::pictures::{WHOLE, drawn, shown};
+use crate::pictures::{WHOLE, draw_text, show_text};
 use crate::report::{Report, Text};
 use plain_words::fault_line;
 use replayed::Texts;
@@ -31,14 +31,14 @@ fn put(text: &mut [u8], place: usize, byte: u8) -> u8 {
 
 fn ask_text(text: &[u8], place: usize, report: &mut Report<'_>) {
     let alloc = report.alloc;
-    compare(found(alloc, text), place, report);
-    compare(shown(alloc, text), place, report);
-    compare(drawn(alloc, text, WHOLE), place, report);
+    compare(find_text(alloc, text), place, report);
+    compare(show_text(alloc, text), place, report);
+    compare(draw_text(alloc, text, WHOLE), place, report);
 }
 
 // What `find` prints for the trace of a case.
-fn found(alloc: Global, text: &[u8]) -> Text {
-    match find(alloc, Texts::of(text).trace) {
+fn find_text(alloc: Global, text: &[u8]) -> Text {
+    match find(alloc, Texts::new(text).trace) {
         Ok(case) => String::from_utf8_lossy(alloc, case.as_slice()),
         Err(fault) => fault_line(alloc, "bad trace ", &fault),
     }

@@ -4,9 +4,6 @@ use std::alloc::{AllocError, Global};
 use std::process::ExitCode;
 use std::{fs, io};
 
-/// What a function that writes returns. The error is that memory ran out.
-pub type Done = Result<(), AllocError>;
-
 /// A text, unless memory ran out.
 pub type Text = Result<String, AllocError>;
 
@@ -37,7 +34,7 @@ impl<'a> Report<'a> {
     }
 
     /// Notes whether memory ran out. The whole check then fails.
-    pub fn note(&mut self, done: Done) {
+    pub fn note(&mut self, done: Result<(), AllocError>) {
         self.is_cut = self.is_cut || done.is_err();
     }
 

@@ -2,10 +2,10 @@
 //! text. HEAD is `WORD NAME` in `told.txt`, with a command and the name of a case, and `STATUS NAME VERDICT` in
 //! `remarked.txt`, for the command `remark`.
 
-use crate::pictures::{WHOLE, drawn, shown};
+use crate::pictures::{WHOLE, draw_text, show_text};
 use crate::report::{Report, Text};
 use plain_words::fault_line;
-use remarks::{Remarked, remark};
+use remarks::{Remarks, remark};
 use replayed::{Case, ReplayFault};
 use std::alloc::Global;
 use verdict::Verdict;
@@ -33,27 +33,27 @@ fn ask_block(file: &str, block: &str, report: &mut Report<'_>) {
 // The block with this head as it should be. The word `simulated` means `explain --simulated`.
 fn block_of(alloc: Global, head: &str, name: &str, text: &[u8]) -> Text {
     match head.split(' ').next() {
-        Some("explain") => explained(alloc, head, text, Origin::Captured),
-        Some("simulated") => explained(alloc, head, text, Origin::Simulated),
-        Some("show") => headed(alloc, head, shown(alloc, text)),
-        Some("draw") => headed(alloc, head, drawn(alloc, text, WHOLE)),
-        _ => remarked(alloc, name, text),
+        Some("explain") => explain_text(alloc, head, text, Origin::Captured),
+        Some("simulated") => explain_text(alloc, head, text, Origin::Simulated),
+        Some("show") => with_head(alloc, head, show_text(alloc, text)),
+        Some("draw") => with_head(alloc, head, draw_text(alloc, text, WHOLE)),
+        _ => remark_text(alloc, name, text),
     }
 }
 
-fn explained(alloc: Global, head: &str, text: &[u8], origin: Origin) -> Text {
+fn explain_text(alloc: Global, head: &str, text: &[u8], origin: Origin) -> Text {
     match explain(alloc, text, origin) {
         Ok(said) => format!(in alloc; "{head}\n{}", said.text),
         Err(fault) => format!(in alloc; "{fault}"),
     }
 }
 
-fn headed(alloc: Global, head: &str, text: Text) -> Text {
+fn with_head(alloc: Global, head: &str, text: Text) -> Text {
     format!(in alloc; "{head}\n{}", text?)
 }
 
 // What the command `remark` prints, as its block begins with the status, the name and the verdict.
-fn remarked(alloc: Global, name: &str, text: &[u8]) -> Text {
+fn remark_text(alloc: Global, name: &str, text: &[u8]) -> Text {
     match Case::read(alloc, text) {
         Ok(case) => remarks_on(alloc, name, &case),
         Err(fault) => {
@@ -74,7 +74,7 @@ fn of_remarks(
     alloc: Global,
     name: &str,
     verdict: Verdict,
-    remarked: Result<Remarked, ReplayFault>,
+    remarked: Result<Remarks, ReplayFault>,
 ) -> Text {
     match remarked {
         Ok(remarked) if remarked.text.as_str().lines().count() != remarked.places.len() => {

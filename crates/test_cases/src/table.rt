@@ -1,7 +1,7 @@
 //! Cases, and the table of the files that hold them.
 
-use crate::report::{Done, Report, Text};
-use std::alloc::Global;
+use crate::report::{Report, Text};
+use std::alloc::{AllocError, Global};
 use std::{fs, io};
 
 /// A case: its name, its text, and the expected answer.
@@ -41,7 +41,7 @@ pub fn push_case(
     name: &str,
     text: &[u8],
     line: &str,
-) -> Done {
+) -> Result<(), AllocError> {
     cases.push(Case {
         name: String::from_str(alloc, name)?,
         text: Vec::from_slice(alloc, text)?,

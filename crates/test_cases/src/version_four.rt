@@ -4,7 +4,7 @@
 //! the numbers of event lines move, and so do the numbers by which a witness names them. They move by one line more if
 //! the case then becomes one of version 5.
 
-use crate::asking::judged;
+use crate::checks::check_text;
 use crate::report::Text;
 use case_forms::{
     Event, Extras, Judged, Label, NamedLine, OutOfMemory, Step, Steps, Trace, Version, Witness,
@@ -30,7 +30,7 @@ pub struct Rewritten {
 
 /// Rewrites a case as version 4, unless it has version 5. The error is the fault of the trace or of the witness.
 pub fn rewrite(alloc: Global, text: &[u8]) -> Result<Rewritten, TextFault> {
-    let texts = Texts::of(text);
+    let texts = Texts::new(text);
     let mut trace = read_trace(alloc, texts.trace)?;
     let read_as = trace.header.version;
     let witness = read_witness_for(alloc, read_as, texts.witness)?;
@@ -66,7 +66,7 @@ impl Rewritten {
     pub fn answer(&mut self, alloc: Global, congestion: Judged) -> Text {
         self.trace.header.congestion = congestion;
         let text = print_case(alloc, &self.trace, &self.witness)?;
-        judged(alloc, text.as_slice())
+        check_text(alloc, text.as_slice())
     }
 
     /// Whether a SYN of the trace carries a shift (RFC 7323, 2.2).
@@ -84,7 +84,7 @@ impl Rewritten {
 
 /// The same text, except that its first line and the first line of its witness name version 4.
 pub fn rename(alloc: Global, text: &[u8]) -> Result<Vec<u8>, AllocError> {
-    let witness = Texts::of(text).trace.len();
+    let witness = Texts::new(text).trace.len();
     let mut renamed = Vec::from_slice(alloc, text)?;
     for place in ["trace ".len(), witness.saturating_add("witness ".len())] {
         if let Some(digit) = renamed.as_mut_slice().get_mut(place) {

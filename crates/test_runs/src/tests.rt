@@ -11,7 +11,7 @@
 //! - `two_texts`: a case in two texts, judged in pieces, up to a call that fails, and with no more of it read than a
 //!   step needs
 //! - `runs`: what the program answers, and that it flushes
-//! - `telling`: what happened, as a text that is compared once
+//! - `transcript`: what happened, as a text that is compared once
 //! - `workers`: cases under gates that hold them, with several numbers of workers
 //!
 //! Recordings:
@@ -49,8 +49,8 @@ mod seats;
 mod segments;
 mod side;
 mod talks;
-mod telling;
 mod texts;
+mod transcript;
 mod turns;
 mod two_texts;
 mod verdicts;

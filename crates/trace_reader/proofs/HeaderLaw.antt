@@ -41,7 +41,7 @@ use Rattle.line_fields.proofs.Endings.{ending_again}
 use Rattle.line_fields.proofs.Texts.{lines_of-raw}
 use Rattle.line_fields.proofs.LineRests.{fields_taken, fields_again, is_raw, text_takes, text_again}
 use Rattle.trace_reader.specs.declared.late_lines.LateLines.{LateLines}
-use Rattle.trace_text.specs.FirstLine.{first_words, version_named}
+use Rattle.case_lines.specs.FirstLine.{first_words, version_named}
 use Rattle.trace_reader.specs.Headers.{initial_number, initial_words, half_words, hosts_words, congestion_words}
 use Rattle.trace_reader.specs.Headers.{slack_text, slack_words, judged_words, late_words, header_words, IsHeader, AreLines}
 use Rattle.trace_reader.specs.Headers.{header_fault, some_left, named_rest, alone, value_line, next_value}

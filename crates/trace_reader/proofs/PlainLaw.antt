@@ -10,12 +10,12 @@ use Rattle.case_forms.specs.declared.calls.Host.{Host}
 use Rattle.case_forms.specs.declared.trace.Event.{Event}
 use Rattle.case_forms.specs.declared.trace.Line.{Line}
 use Rattle.case_forms.specs.declared.version.Version.{Version}
-use Rattle.kept_lines.specs.declared.record.KeptEvent.{KeptEvent}
-use Rattle.kept_lines.specs.declared.record.KeptEvent.TheVariants as kept
-use Rattle.kept_lines.specs.declared.record.Record.{Record}
-use Rattle.kept_lines.specs.Records.{event_of, seen_of}
-use Rattle.kept_lines.specs.Records.{line_of as kept_line}
-use Rattle.kept_lines.specs.Spelled.{IsSpelled}
+use Rattle.case_lines.specs.declared.record.KeptEvent.{KeptEvent}
+use Rattle.case_lines.specs.declared.record.KeptEvent.TheVariants as kept
+use Rattle.case_lines.specs.declared.record.Record.{Record}
+use Rattle.case_lines.specs.Records.{event_of, seen_of}
+use Rattle.case_lines.specs.Records.{line_of as kept_line}
+use Rattle.case_lines.specs.Spelled.{IsSpelled}
 use Rattle.line_fields.specs.declared.fault.TextFault.{TextFault}
 use Rattle.line_fields.specs.declared.answers.AnswerWord.{AnswerWord}
 use Rattle.line_fields.specs.declared.answers.AnswerWord.TheVariants as answer_words

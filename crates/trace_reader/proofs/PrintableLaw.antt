@@ -29,7 +29,7 @@ use Rattle.case_forms.specs.declared.version.Initial.TheVariants.{Rfc5681, Rfc69
 use Rattle.case_forms.specs.declared.version.Judged.{Judged}
 use Rattle.case_forms.specs.declared.version.Judged.TheVariants.{Full, Recovery, NoControl}
 use Rattle.case_forms.specs.Versions.{first_line_of, says_slack}
-use Rattle.trace_text.specs.FirstLine.{first_words}
+use Rattle.case_lines.specs.FirstLine.{first_words}
 use Rattle.trace_reader.specs.Headers.{IsHeader, AreLines, header_words, initial_words, initial_number, hosts_words, congestion_words}
 use Rattle.trace_reader.specs.Headers.{slack_words, judged_words, late_words}
 use Rattle.trace_reader.specs.Calls.{IsCall}

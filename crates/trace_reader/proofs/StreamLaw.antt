@@ -22,10 +22,10 @@ use Rattle.trace_reader.specs.TraceText.{events_of, trace_in, trace_of}
 use Rattle.counted.specs.declared.ends.Counted.{Counted}
 use Rattle.counted.specs.Counting.{left_of, inner_of, unread_of}
 use Rattle.bstr.specs.Text.{lines_of}
-use Rattle.trace_text.specs.CaseLines.{trace_rows}
-use Rattle.trace_text.specs.declared.text_lines.TextEnd.{TextEnd}
-use Rattle.trace_text.specs.declared.text_lines.TextEnd.TheVariants.{Source, Over}
-use Rattle.trace_text.specs.TextLeft.{rows_left}
+use Rattle.case_lines.specs.CaseLines.{trace_rows}
+use Rattle.case_lines.specs.declared.text_lines.TextEnd.{TextEnd}
+use Rattle.case_lines.specs.declared.text_lines.TextEnd.TheVariants.{Source, Over}
+use Rattle.case_lines.specs.TextLeft.{rows_left}
 use Rattle.trace_reader.specs.TraceLeft.{with_header, Begins, StandsAt, lines_after, lines_left, text_left, place_of, kept_of, source_of, end_of_text}
 use Rattle.trace_reader.specs.declared.stream.TraceReader.{TraceReader}
 use Rattle.trace_reader.proofs.EventLineLaw.{reads_line}

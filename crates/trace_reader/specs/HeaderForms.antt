@@ -15,7 +15,7 @@ use Rattle.line_fields.specs.Word.{Word, Rest}
 use Rattle.line_fields.specs.declared.fault.FaultKind.{FaultKind}
 use Rattle.line_fields.specs.declared.fault.FaultKind.TheVariants as kinds
 use Rattle.line_fields.specs.declared.fault.TextFault.{TextFault}
-use Rattle.trace_text.specs.FirstLine.{first_words}
+use Rattle.case_lines.specs.FirstLine.{first_words}
 use Rattle.trace_reader.specs.Headers.{header_fault}
 
 -- the text of the first line, in some version

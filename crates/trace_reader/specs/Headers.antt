@@ -21,7 +21,7 @@ use Rattle.line_fields.specs.Hosts.{hosted}
 use Rattle.line_fields.specs.Slack.{slack_field}
 use Rattle.line_fields.specs.Lines.{IsLine, whole_line, line_text, line_rest, next_raw}
 use Rattle.line_fields.specs.Spelling.{joined}
-use Rattle.trace_text.specs.FirstLine.{first_words}
+use Rattle.case_lines.specs.FirstLine.{first_words}
 use Rattle.trace_reader.specs.declared.late_lines.LateLines.{LateLines}
 
 -- the number of the RFC that gives the first congestion window

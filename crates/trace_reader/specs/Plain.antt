@@ -5,9 +5,9 @@ use Rattle.case_forms.specs.declared.calls.Call.{Call}
 use Rattle.case_forms.specs.declared.trace.Event.{Event}
 use Rattle.case_forms.specs.declared.trace.Event.TheVariants as events
 use Rattle.case_forms.specs.declared.trace.Line.{Line}
-use Rattle.kept_lines.specs.declared.record.KeptEvent.{KeptEvent}
-use Rattle.kept_lines.specs.Records.{event_of}
-use Rattle.kept_lines.specs.Spelled.{IsSpelled}
+use Rattle.case_lines.specs.declared.record.KeptEvent.{KeptEvent}
+use Rattle.case_lines.specs.Records.{event_of}
+use Rattle.case_lines.specs.Spelled.{IsSpelled}
 use Rattle.case_forms.specs.declared.version.Version.{Version}
 use Rattle.line_fields.specs.declared.fault.TextFault.{TextFault}
 use Rattle.line_fields.specs.declared.answers.AnswerWord.{AnswerWord}

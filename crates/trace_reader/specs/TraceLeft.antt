@@ -12,12 +12,12 @@ use Rattle.line_fields.specs.declared.fault.SourceFault.{SourceFault}
 use Rattle.line_fields.specs.Reading.{◌>>=◌}
 use Rattle.line_fields.specs.Folding.{read_lines}
 use Rattle.line_fields.specs.Left.{in_front, Yields}
-use Rattle.kept_lines.specs.Lines.{IsPlain}
+use Rattle.case_lines.specs.Lines.{IsPlain}
 use Rattle.trace_reader.specs.EventLines.{Place, behind, line_of}
 use Rattle.trace_reader.specs.TraceText.{trace_in}
-use Rattle.trace_text.specs.CaseLines.{IsAtEnd}
-use Rattle.trace_text.specs.TextLeft.{lines_source, end_of, rows_left, witness_left}
-use Rattle.trace_text.specs.declared.text_lines.TextEnd.{TextEnd}
+use Rattle.case_lines.specs.CaseLines.{IsAtEnd}
+use Rattle.case_lines.specs.TextLeft.{lines_source, end_of, rows_left, witness_left}
+use Rattle.case_lines.specs.declared.text_lines.TextEnd.{TextEnd}
 use Rattle.trace_reader.specs.declared.stream.TraceReader.{TraceReader}
 
 -- where it reads

@@ -58,7 +58,7 @@ fn host_wire(
 
 // What follows `T`: the host, the local and the remote port, and the timer.
 #[tactic(auto, unfolding(crate::specs::EventFields::expired_fields))]
-fn expired(version: Version, fields: &mut Fields) -> Result<Event, TextFault>
+fn expiry(version: Version, fields: &mut Fields) -> Result<Event, TextFault>
     ensures { Gives (λ event. (event, fields.new)) result (expired_fields version fields.old) }
 {
     let host = fields.host(version)?;
@@ -84,7 +84,7 @@ fn event(alloc: Global, version: Version, fields: &mut Fields) -> Result<Event, 
             let (host, wire) = host_wire(alloc, version, fields)?;
             Ok(Event::Came(host, wire))
         }
-        Letter::T => expired(version, fields),
+        Letter::T => expiry(version, fields),
     }
 }
 

@@ -4,14 +4,14 @@ ghost use Rattle.std.specs.Prelude.{◌≡◌, ◌≢◌, Err, IfOk};
 ghost use Rattle.counted.specs.Counting.{one_more};
 ghost use Rattle.line_fields.specs.Reading.{Gives};
 ghost use Rattle.line_fields.specs.Rows.{with_rest, Reads};
-ghost use Rattle.trace_text.specs.CaseLines.{KeepsWitness};
-ghost use Rattle.trace_text.specs.TextLeft.{rows_left, witness_left, text_failures};
+ghost use Rattle.case_lines.specs.CaseLines.{KeepsWitness};
+ghost use Rattle.case_lines.specs.TextLeft.{rows_left, witness_left, text_failures};
 ghost use Rattle.trace_reader.specs.Headers.{first_version, first_line};
 
 use case_forms::Version;
+use case_lines::{TextLines, first_text};
 use line_fields::{FaultKind, SourceFault, Span, TextFault, checked_line, is_text};
 use std::io::BufRead;
-use trace_text::{TextLines, first_text};
 
 // The version with this first line; for versions 4 and 5, the one with two hosts. Any other text is Header, at the
 // whole line.

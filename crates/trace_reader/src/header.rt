@@ -3,17 +3,17 @@
 ghost use Rattle.std.specs.Prelude.{◌≡◌, ◌≢◌, Err, IfOk};
 ghost use Rattle.counted.specs.Counting.{one_more};
 ghost use Rattle.line_fields.specs.Rows.{with_rest, Reads};
-ghost use Rattle.trace_text.specs.CaseLines.{KeepsWitness};
-ghost use Rattle.trace_text.specs.TextLeft.{rows_left, witness_left, text_failures};
+ghost use Rattle.case_lines.specs.CaseLines.{KeepsWitness};
+ghost use Rattle.case_lines.specs.TextLeft.{rows_left, witness_left, text_failures};
 ghost use Rattle.trace_reader.specs.Headers.{header_of};
 
 use crate::first_line::first_line;
 use crate::late_lines::late_lines;
 use crate::named_lines::next_number;
 use case_forms::Header;
+use case_lines::TextLines;
 use line_fields::SourceFault;
 use std::io::BufRead;
-use trace_text::TextLines;
 
 const MAX_SKEW: u64 = 1_000_000_000;
 

@@ -6,8 +6,8 @@ ghost use Rattle.line_fields.specs.Choice.{kind_field};
 ghost use Rattle.line_fields.specs.Congestion.{judged_name, all_judged};
 ghost use Rattle.line_fields.specs.Reading.{Gives};
 ghost use Rattle.line_fields.specs.Rows.{with_rest, Reads};
-ghost use Rattle.trace_text.specs.CaseLines.{KeepsWitness};
-ghost use Rattle.trace_text.specs.TextLeft.{rows_left, witness_left, text_failures};
+ghost use Rattle.case_lines.specs.CaseLines.{KeepsWitness};
+ghost use Rattle.case_lines.specs.TextLeft.{rows_left, witness_left, text_failures};
 ghost use Rattle.line_fields.specs.Slack.{slack_field};
 ghost use Rattle.trace_reader.specs.Headers.{value_line, initial_field, initial_line};
 ghost use Rattle.trace_reader.specs.Headers.{congestion_line, slack_line, last_line};
@@ -15,9 +15,9 @@ ghost use Rattle.trace_reader.specs.Headers.{half_lines, judged_lines, late_line
 
 use crate::named_lines::{named_rest, next_number};
 use case_forms::{Initial, Judged, Version};
+use case_lines::TextLines;
 use line_fields::{FaultKind, Fields, SourceFault, TextFault, hosted, judged, slack};
 use std::io::BufRead;
-use trace_text::TextLines;
 
 // The number of the line that names the RFC of the first congestion window.
 const INITIAL_LINE: u64 = 7;

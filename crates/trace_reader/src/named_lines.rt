@@ -4,13 +4,13 @@ ghost use Rattle.std.specs.Prelude.{◌≡◌, ◌≢◌, ◌≤◌, Err, IfOk};
 ghost use Rattle.counted.specs.Counting.{one_more};
 ghost use Rattle.line_fields.specs.Reading.{Gives, number_field};
 ghost use Rattle.line_fields.specs.Rows.{with_rest, Reads};
-ghost use Rattle.trace_text.specs.CaseLines.{KeepsWitness};
-ghost use Rattle.trace_text.specs.TextLeft.{rows_left, witness_left, text_failures};
+ghost use Rattle.case_lines.specs.CaseLines.{KeepsWitness};
+ghost use Rattle.case_lines.specs.TextLeft.{rows_left, witness_left, text_failures};
 ghost use Rattle.trace_reader.specs.Headers.{named_rest, value_line, next_value};
 
+use case_lines::TextLines;
 use line_fields::{FaultKind, Fields, SourceFault, Span, TextFault, checked_fields};
 use std::io::BufRead;
-use trace_text::TextLines;
 
 /// The fields of a line after its name, at least one, and the fault for another count of fields. That is Header at the
 /// whole line, as for another name.

@@ -7,8 +7,8 @@ ghost use Rattle.case_forms.specs.declared.version.Version.{Version};
 ghost use Rattle.line_fields.specs.Answers.{answer_name, all_answer_words};
 ghost use Rattle.line_fields.specs.Choice.{kind_named};
 ghost use Rattle.line_fields.specs.HexFields.{EndsInHex};
-ghost use Rattle.kept_lines.specs.Records.{event_of, has_bytes, line_of as kept_line};
-ghost use Rattle.kept_lines.specs.Spelled.{IsSpelled};
+ghost use Rattle.case_lines.specs.Records.{event_of, has_bytes, line_of as kept_line};
+ghost use Rattle.case_lines.specs.Spelled.{IsSpelled};
 ghost use Rattle.trace_reader.specs.Calls.{call_name, all_call_words};
 ghost use Rattle.trace_reader.specs.EventFields.{event_behind, event_field};
 ghost use Rattle.trace_reader.specs.EventLines.{line_of};
@@ -17,7 +17,7 @@ ghost use Rattle.trace_reader.specs.declared.events.Letter.TheVariants as letter
 
 use crate::calls::{CallWord, call_word_named};
 use case_forms::{GREATEST_MOMENT, Version};
-use kept_lines::{KeptEvent, Record};
+use case_lines::{KeptEvent, Record};
 use line_fields::{AnswerWord, Fields, answer_word_named, checked_fields, state_named};
 
 // The number of the last line that a text may have.
@@ -89,7 +89,7 @@ fn plain_answer_word(text: &[u8]) -> Option<AnswerWord>
 }
 
 // What follows the first word of a call without bytes.
-#[tactic(auto, unfolding(crate::specs::CallFields::recv_fields, kept_lines::specs::Records::event_of))]
+#[tactic(auto, unfolding(crate::specs::CallFields::recv_fields, case_lines::specs::Records::event_of))]
 #[inline(always)]
 fn plain_call_behind(version: Version, word: CallWord, fields: &mut Fields) -> Option<KeptEvent>
     ensures read { IfSome result (λ event. (bytes : List ℕ) →
@@ -132,7 +132,7 @@ fn plain_call<'a>(version: Version, fields: &mut Fields<'a>) -> Option<PlainEven
 }
 
 // What follows the first word of an answer without bytes.
-#[tactic(auto, unfolding(kept_lines::specs::Records::event_of))]
+#[tactic(auto, unfolding(case_lines::specs::Records::event_of))]
 #[inline(always)]
 fn plain_answer_behind(word: AnswerWord, fields: &mut Fields) -> Option<KeptEvent>
     ensures read { IfSome result (λ event. (bytes : List ℕ) →

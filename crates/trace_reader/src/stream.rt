@@ -10,21 +10,20 @@ ghost use Rattle.line_fields.specs.declared.fault.SourceFault.{SourceFault};
 ghost use Rattle.line_fields.specs.Left.{Yields, FailsLeft};
 ghost use Rattle.trace_reader.specs.EventLines.{behind};
 ghost use Rattle.trace_reader.specs.TraceText.{first_place};
-ghost use Rattle.trace_text.specs.CaseLines.{has_met, KeepsWitness};
+ghost use Rattle.case_lines.specs.CaseLines.{has_met, KeepsWitness};
 ghost use Rattle.trace_reader.specs.TraceLeft.{source_of, place_of, version_of, fault_of, kept_of, end_of_text};
 ghost use Rattle.trace_reader.specs.TraceLeft.{IsFresh, IsBegun, IsReadThrough, trace_left, lines_left, rows_behind};
 ghost use Rattle.trace_reader.specs.TraceLeft.{Begins, reader_failures, StandsAt, AreAt, KeepsLine};
 
 use crate::events::event_line;
 use crate::header::header;
-use crate::keeping::keep_event_line;
+use crate::kept_events::keep_event_line;
 use case_forms::{Header, Line, Version};
+use case_lines::{KeptLines, TextEnd, TextLines};
 use counted::Counted;
-use kept_lines::KeptLines;
 use line_fields::{SourceFault, TextFault, after_line, keep_fault};
 use std::alloc::Global;
 use std::io::BufRead;
-use trace_text::{TextEnd, TextLines};
 
 /// A trace whose lines are read on request, first its header. Only one line of the text is kept in memory. After a
 /// fault, each later call returns that fault.

@@ -121,7 +121,7 @@ impl<L: Site> Caller<L> {
     }
 
     /// Makes a call that is answered `ok`.
-    pub(crate) fn done<R: Wait>(
+    pub(crate) fn ask_ok<R: Wait>(
         &mut self,
         rt: &R,
         recorder: &Recorder<L>,

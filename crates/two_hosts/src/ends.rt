@@ -1,4 +1,4 @@
-//! Whether a trace shows that all rounds ended.
+//! Whether a trace shows that all rounds ended. The trace is asked since no contract says which answers a thread gets.
 
 ghost use Rattle.std.specs.Prelude.{◌≡◌, ◌==◌};
 ghost use Rattle.two_hosts.specs.Ends.{amount, has_ended, line_amount, told};

@@ -5,7 +5,7 @@
 //!
 //! - `plan`: the plan of a recording, and what both hosts begin with (`specs/Plans`)
 //! - `caller`: an application thread at its recorder
-//! - `talking`: what both applications do
+//! - `applications`: what both applications do
 //! - `wire`: what becomes of the segments in transit
 //! - `threads`: both applications and the loops of both recorders
 //! - `fault`: why there is no recording
@@ -14,13 +14,13 @@
 //! - `recording`: the whole recording
 #![tactic(auto)]
 
+mod applications;
 mod caller;
 mod ends;
 mod fault;
 mod laws;
 mod plan;
 mod recording;
-mod talking;
 mod threads;
 mod wire;
 

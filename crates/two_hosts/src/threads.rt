@@ -4,9 +4,9 @@ ghost use Rattle.std.specs.Prelude.{◌≡◌, IfSome};
 ghost use Rattle.case_forms.specs.declared.calls.Host.TheVariants.{Zero, One};
 ghost use Rattle.spec_network.specs.Tables.{lane};
 
+use crate::applications::{Ended, listen, run_client, run_server};
 use crate::caller::Caller;
 use crate::fault::RecordFault;
-use crate::talking::{Ended, listen, run_client, run_server};
 use crate::wire::Wire;
 use case_forms::OutOfMemory;
 use crossbeam_channel::{Receiver, Sender, unbounded};
@@ -183,8 +183,8 @@ fn end_both<L: Site, M: Site, R: Threads + Wait>(
     if refusal.is_some() {
         stop_both(rt, zero, one);
     }
-    let asked = joined(rt, asks);
-    let served = joined(rt, serves);
+    let asked = join(rt, asks);
+    let served = join(rt, serves);
     stop_both(rt, zero, one);
     match (refusal, asked, served) {
         (None, Some(asked), Some(served)) => Ok((asked, served)),
@@ -267,7 +267,7 @@ fn start_loops<
 }
 
 // What a thread returned, once it ended. None: it was not started.
-fn joined<T: Drop, R: Threads + Wait>(rt: &R, handle: Option<JoinHandle<T>>) -> Option<T> {
+fn join<T: Drop, R: Threads + Wait>(rt: &R, handle: Option<JoinHandle<T>>) -> Option<T> {
     let handle = handle?;
     Some(handle.join(rt))
 }

@@ -10,9 +10,9 @@ use Rattle.case_forms.specs.declared.calls.Answer.{Answer}
 use Rattle.verdict.specs.declared.rule.Rule.{Rule}
 use Rattle.verdict.specs.declared.rule.Rule.TheVariants as rules
 use Rattle.spec_network.specs.Tables.{Both, pick, other, on, waiting}
-use Rattle.spec_network.specs.Hosts.{World, Step, HostState, Turn, Idle, Called, Answered, Deed, Does, Expires, Makes, Sends, Gets}
+use Rattle.spec_network.specs.Hosts.{World, Step, HostState, Turn, Idle, Called, Answered, HostStep, Does, Expires, Makes, Sends, Gets}
 use Rattle.spec_network.specs.Hosts.{Hears, Takes, Drops, Answers, Begin, Finish, Effect, At, turn_of}
-use Rattle.spec_network.specs.HostRules.{step_rules, deed_rules, call_rules, effect_rules, fresh_rules, aim_of, just}
+use Rattle.spec_network.specs.HostRules.{step_rules, host_step_rules, call_rules, effect_rules, fresh_rules, aim_of, just}
 use Rattle.spec_tcp.specs.declared.endpoint.Emission.{Emission}
 use Rattle.spec_tcp.specs.HostTcp.{HostTcp, endpoint_of}
 use Rattle.case_forms.specs.States.{is_syn_sent}
@@ -30,11 +30,11 @@ use Rattle.spec_tcp_laws.specs.Ascending.{rule_number, ascend}
 use Rattle.spec_tcp_laws.proofs.Rules.{both_true, at_most_to}
 use Rattle.spec_tcp_laws.proofs.Ascending.{rules_ascend}
 use Rattle.std.proofs.lemmas.Bool.Decides.{nat_tests}
-use Rattle.spec_duties.specs.Sights.{sight}
+use Rattle.spec_duties.specs.Observations.{observe}
 use Rattle.spec_duties.specs.Watching.{built_by, counts_now, duty_rules, touched_rules}
 use Rattle.spec_duties.specs.Cases.{Known, case_rules, watch_rules}
-use Rattle.spec_duties.specs.declared.sights.Sight.{Sight}
-use Rattle.spec_duties.specs.declared.sights.Touched.{Touched}
+use Rattle.spec_duties.specs.declared.observations.Observation.{Observation}
+use Rattle.spec_duties.specs.declared.observations.TouchedEndpoint.{TouchedEndpoint}
 
 lower : (low high : ℕ) (ys : List (Rule × Bool)) → low ≤ high → ascend high ys ≡ true → ascend low ys ≡ true
 lower low high [] le up = refl
@@ -98,21 +98,21 @@ tops_call h moment both call answer o = fin o
     fin None = go None (gives call answer)
     fin (Some host) = go (Some host) (gives call answer)
 
-tops_deed : (h : Header) (host : Host) (moment : ℕ) (far : List (ℕ × Emission)) (k : HostState tcp_shape) (d : Deed tcp_shape)
-    → tops (deed_rules (tcp h) host moment far k d) ≡ true
-tops_deed h host moment far k (Does x) =
+tops_host_step : (h : Header) (host : Host) (moment : ℕ) (far : List (ℕ × Emission)) (k : HostState tcp_shape) (d : HostStep tcp_shape)
+    → tops (host_step_rules (tcp h) host moment far k d) ≡ true
+tops_host_step h host moment far k (Does x) =
     tops_or (λ e. recovery_rules e x.cwnd x.ssthresh moment) ((rules.NoEndpoint, true) ∷ []) (endpoint_of k.body x.lport x.rport) refl (λ e. refl)
-tops_deed h host moment far k (Expires line x) =
+tops_host_step h host moment far k (Expires line x) =
     tops_or (λ e. expiry_rules h moment e x.expired) ((rules.NoEndpoint, true) ∷ []) (endpoint_of k.body x.lport x.rport) refl (λ e. refl)
-tops_deed h host moment far k (Makes m) =
+tops_host_step h host moment far k (Makes m) =
     tops_or (λ e. making_rules e m) ((rules.NoEndpoint, true) ∷ []) (endpoint_of k.body m.lport m.rport) refl (λ e. refl)
-tops_deed h host moment far k (Sends line number wire) = tops_on _ ((rules.NotMade, true) ∷ []) (lookup (nat_eq number) k.made) refl (λ m. refl)
-tops_deed h host moment far k (Gets line copied wire) = tops_on _ ((rules.NoEmission, true) ∷ []) (lookup (nat_eq copied) far) refl (λ m. refl)
-tops_deed h host moment far k (Hears line wire) = refl
-tops_deed h host moment far k (Takes line how) =
+tops_host_step h host moment far k (Sends line number wire) = tops_on _ ((rules.NotMade, true) ∷ []) (lookup (nat_eq number) k.made) refl (λ m. refl)
+tops_host_step h host moment far k (Gets line copied wire) = tops_on _ ((rules.NoEmission, true) ∷ []) (lookup (nat_eq copied) far) refl (λ m. refl)
+tops_host_step h host moment far k (Hears line wire) = refl
+tops_host_step h host moment far k (Takes line how) =
     tops_on _ ((rules.Inbox, true) ∷ []) (waiting line k.inbox) refl (λ m. tops_taker h host k.body how m moment (taker k.body m))
-tops_deed h host moment far k (Drops line) = tops_on _ ((rules.Inbox, true) ∷ []) (waiting line k.inbox) refl (λ m. refl)
-tops_deed h host moment far k (Answers line) = tops_on _ ((rules.Inbox, true) ∷ []) (waiting line k.inbox) refl (λ m. refl)
+tops_host_step h host moment far k (Drops line) = tops_on _ ((rules.Inbox, true) ∷ []) (waiting line k.inbox) refl (λ m. refl)
+tops_host_step h host moment far k (Answers line) = tops_on _ ((rules.Inbox, true) ∷ []) (waiting line k.inbox) refl (λ m. refl)
 
 pub rules_top : (h : Header) (moment : ℕ) (w : World tcp_shape) (step : Step tcp_shape) → tops (step_rules (tcp h) moment w step) ≡ true
 rules_top h moment w (Begin line t call) = refl
@@ -123,19 +123,19 @@ rules_top h moment w (Effect t answer) = go (turn_of t w.threads)
     go Idle = refl
     go (Called call) = tops_call h moment w.hosts call answer (aim_of (tcp h) w.hosts (aim call))
     go (Answered given) = refl
-rules_top h moment w (At host d) = tops_deed h host moment (pick w.hosts (other host)).wire (pick w.hosts host) d
+rules_top h moment w (At host d) = tops_host_step h host moment (pick w.hosts (other host)).wire (pick w.hosts host) d
 
 -- the rules of duties ascend from 40 on
 pub watch_ascend : (h : Header) (moment : ℕ) (k : Known) (step : Step tcp_shape) → ascend 40 (watch_rules h moment k step) ≡ true
-watch_ascend h moment k step = by h.slack (sight h moment k.model step)
+watch_ascend h moment k step = by h.slack (observe h moment k.model step)
   where
-    touched : (slack : ℕ) (counts : Bool) (o : Option Touched) → ascend 43 (on o [] (touched_rules h slack moment k.duties counts)) ≡ true
+    touched : (slack : ℕ) (counts : Bool) (o : Option TouchedEndpoint) → ascend 43 (on o [] (touched_rules h slack moment k.duties counts)) ≡ true
     touched slack counts None = refl
     touched slack counts (Some t) = refl
 
-    by : (o : Option ℕ) (s : Sight) → ascend 40 (on o [] (λ slack. duty_rules h slack moment k.duties s)) ≡ true
+    by : (o : Option ℕ) (s : Observation) → ascend 40 (on o [] (λ slack. duty_rules h slack moment k.duties s)) ≡ true
     by None s = refl
-    by (Some slack) s = touched slack (counts_now (built_by k.duties s.post)) s.touched
+    by (Some slack) s = touched slack (counts_now (built_by k.duties s.built_change)) s.touched
 
 pub all_ascend : (h : Header) (moment : ℕ) (k : Known) (step : Step tcp_shape) → ascend 6 (case_rules h moment k step) ≡ true
 all_ascend h moment k step =

@@ -8,15 +8,15 @@ use Rattle.spec_network.specs.Hosts.{World, Turn, Idle, Called, Answered}
 use Rattle.spec_network.specs.Tables.{on}
 use Rattle.spec_tcp.specs.Machine.{tcp_shape}
 use Rattle.endpoint_state.specs.Turns.{pending_call}
-use Rattle.spec_duties.specs.Sights.{effect_sight, pending_sight, unseen}
+use Rattle.spec_duties.specs.Observations.{observe_effect, observe_pending, unseen}
 
 pub effect_is : (h : Header) (w : World tcp_shape) (answer : Answer) (u : Turn tcp_shape)
-    → effect_sight h w answer u ≡ option_map_or (pending_sight h w answer) (pending_call u) unseen
+    → observe_effect h w answer u ≡ option_map_or (observe_pending h w answer) (pending_call u) unseen
 effect_is h w answer Idle = refl
 effect_is h w answer (Called call) = refl
 effect_is h w answer (Answered given) = refl
 
 -- nothing, whoever the call applies to
-pub no_sight : (o : Option Host) → on o unseen (λ (host : Host). unseen) ≡ unseen
-no_sight None = refl
-no_sight (Some host) = refl
+pub observe_no : (o : Option Host) → on o unseen (λ (host : Host). unseen) ≡ unseen
+observe_no None = refl
+observe_no (Some host) = refl

@@ -28,24 +28,24 @@ use Rattle.endpoint_state.specs.declared.fault.StepFault.TheVariants.{Broken, Ou
 use Rattle.spec_step.specs.Asked as plain
 use Rattle.spec_step.specs.Asked.{step_taking}
 use Rattle.spec_step.specs.Faults.{IfBroken}
-use Rattle.spec_duties.specs.Sights.{sight, unseen, view_in}
+use Rattle.spec_duties.specs.Observations.{observe, unseen, view_in}
 use Rattle.spec_duties.specs.Watching.{Duties, duty_rules, duties_after}
 use Rattle.spec_duties.specs.Cases.{Known, Watched, after, asked_after, asked_rules, forget, case_rules, judged_rules, known_after, noted_by, watch_rules}
-use Rattle.spec_duties.specs.declared.sights.Sight.{Sight}
+use Rattle.spec_duties.specs.declared.observations.Observation.{Observation}
 use Rattle.watched.specs.Watched.{IsPlain, case_of, noted}
-use Rattle.watched.proofs.ForgetLemmas.{sight-forget, view_in-forget}
+use Rattle.watched.proofs.ForgetLemmas.{observe-forget, view_in-forget}
 
 -- what may be discarded isn't noted
-pub noted-forget : (h : Header) (moment : ℕ) (w : World tcp_shape) (s : Sight) (d : Duties)
+pub noted-forget : (h : Header) (moment : ℕ) (w : World tcp_shape) (s : Observation) (d : Duties)
     → noted_by h moment (forgetting.forget w) s d ≡ noted_by h moment w s d
 noted-forget h moment w s d = ap (λ v. on h.slack d (λ slack. duties_after v moment s d)) (view_in-forget w s.touched)
 
 -- what the code notes is what is kept
 kept_is : (h : Header) (w : World tcp_shape) (d : Duties) (steps moment : ℕ) (step : Step tcp_shape)
-    → noted moment (sight h moment w step)
+    → noted moment (observe h moment w step)
     (record { header = h; world = record { model = forgetting.forget (network.after (tcp h) moment w step); duties = d }; steps = suc steps })
     ≡ after (record { header = h; world = record { model = w; duties = d }; steps = steps }) moment step
-kept_is h w d steps moment step = ap wrap (noted-forget h moment (network.after (tcp h) moment w step) (sight h moment w step) d)
+kept_is h w d steps moment step = ap wrap (noted-forget h moment (network.after (tcp h) moment w step) (observe h moment w step) d)
   where
     wrap : Duties → Watched
     wrap d = record { header = h; world = record { model = forgetting.forget (network.after (tcp h) moment w step); duties = d }; steps = suc steps }
@@ -54,7 +54,7 @@ kept_is h w d steps moment step = ap wrap (noted-forget h moment (network.after 
 pub rules-forget : (h : Header) (moment : ℕ) (k : Known) (step : Step tcp_shape) → case_rules h moment (forget k) step ≡ case_rules h moment k step
 rules-forget h moment k step =
     ap (λ (rs : List (Rule × Bool)). rs ++ watch_rules h moment (forget k) step) (step_rules-forget h moment k.model step)
-    ∙ ap (λ (s : Sight). step_rules (tcp h) moment k.model step ++ judged_rules h moment k.duties s) (sight-forget h moment k.model step)
+    ∙ ap (λ (s : Observation). step_rules (tcp h) moment k.model step ++ judged_rules h moment k.duties s) (observe-forget h moment k.model step)
 
 -- and what is kept leads to what is kept
 pub known-forgets : (h : Header) (moment : ℕ) (k : Known) (step : Step tcp_shape) → first_broken (case_rules h moment k step) ≡ None
@@ -64,12 +64,12 @@ known-forgets h moment k step none =
     let world = after-forgets h moment k.model step (makes_permitted h moment k.model step permitted) in
     let was = network.after (tcp h) moment (forget k).model step in
     let is = network.after (tcp h) moment k.model step in
-    ap (λ (w : World tcp_shape). pair w (noted_by h moment was (sight h moment (forget k).model step) k.duties)) world
-    ∙ ap (λ (s : Sight). pair (forgetting.forget is) (noted_by h moment was s k.duties)) (sight-forget h moment k.model step)
+    ap (λ (w : World tcp_shape). pair w (noted_by h moment was (observe h moment (forget k).model step) k.duties)) world
+    ∙ ap (λ (s : Observation). pair (forgetting.forget is) (noted_by h moment was s k.duties)) (observe-forget h moment k.model step)
     ∙ ap (pair (forgetting.forget is)) (
-    sym (noted-forget h moment was (sight h moment k.model step) k.duties)
-    ∙ ap (λ (w : World tcp_shape). noted_by h moment w (sight h moment k.model step) k.duties) world
-    ∙ noted-forget h moment is (sight h moment k.model step) k.duties)
+    sym (noted-forget h moment was (observe h moment k.model step) k.duties)
+    ∙ ap (λ (w : World tcp_shape). noted_by h moment w (observe h moment k.model step) k.duties) world
+    ∙ noted-forget h moment is (observe h moment k.model step) k.duties)
   where
     pair : World tcp_shape → Duties → Known
     pair w d = record { model = w; duties = d }
@@ -111,18 +111,18 @@ unseen_rules h moment d = by h.slack
 asked_list : (h : Header) (moment : ℕ) (k : Known) (steps : ℕ) (asked : Option (Step tcp_shape))
     → first_broken (asked_rules (record { header = h; world = k; steps = steps }) moment asked)
     ≡ first_broken (plain.asked_rules (record { header = h; world = k.model; steps = steps }) moment asked
-    ++ judged_rules h moment k.duties (option_map_or (sight h moment k.model) asked unseen))
+    ++ judged_rules h moment k.duties (option_map_or (observe h moment k.model) asked unseen))
 asked_list h moment k steps None = sym (unseen_rules h moment k.duties)
 asked_list h moment k steps (Some step) = refl
 
 -- ---- of a step that shows nothing
 
 pub unseen_admits : {A : Type 0} (r : Result A StepFault) (p : Progress) (d : Duties) (moment : ℕ) (step : Step tcp_shape)
-    → sight p.header moment p.world step ≡ unseen
+    → observe p.header moment p.world step ≡ unseen
     → OnOk r (first_broken (plain.asked_rules p moment (Some step)) ≡ None) → OnOk r (first_broken (asked_rules (case_of p d) moment (Some step)) ≡ None)
 unseen_admits (Ok x) p d moment step sees e =
-    first_broken-append_none (step_rules (tcp p.header) moment p.world step) (judged_rules p.header moment d (sight p.header moment p.world step)) e
-    ∙ (ap (λ (s : Sight). first_broken (judged_rules p.header moment d s)) sees ∙ unseen_rules p.header moment d)
+    first_broken-append_none (step_rules (tcp p.header) moment p.world step) (judged_rules p.header moment d (observe p.header moment p.world step)) e
+    ∙ (ap (λ (s : Observation). first_broken (judged_rules p.header moment d s)) sees ∙ unseen_rules p.header moment d)
 unseen_admits (Err fault) p d moment step sees e = tt
 
 nothing_noted : (o : Option ℕ) (moment : ℕ) (w : World tcp_shape) (d : Duties)
@@ -131,12 +131,12 @@ nothing_noted None moment w d = refl
 nothing_noted (Some slack) moment w d = refl
 
 pub unseen_is : {A : Type 0} (r : Result A StepFault) (p u : Progress) (d : Duties) (moment : ℕ) (step : Step tcp_shape)
-    → sight p.header moment p.world step ≡ unseen
+    → observe p.header moment p.world step ≡ unseen
     → OnOk r (u ≡ plain.asked_after p moment (Some step)) → OnOk r (case_of u d ≡ asked_after (case_of p d) moment (Some step))
 unseen_is (Err e) p u d moment step sees is = tt
 unseen_is (Ok x) p u d moment step sees is =
     ap (λ (u : Progress). case_of u d) is
-    ∙ ap wrap (sym (ap (λ (s : Sight). noted_by p.header moment now s d) sees ∙ nothing_noted p.header.slack moment now d))
+    ∙ ap wrap (sym (ap (λ (s : Observation). noted_by p.header moment now s d) sees ∙ nothing_noted p.header.slack moment now d))
   where
     now : World tcp_shape
     now = network.after (tcp p.header) moment p.world step
@@ -147,19 +147,19 @@ unseen_is (Ok x) p u d moment step sees is =
 -- what was judged: the rules of duties at what they watch of that step
 abbrev pub IsJudged : Header → (moment : ℕ) → Known → Option (Step tcp_shape) → Option Rule → Type 0
 IsJudged h moment k asked o =
-    o ≡ first_broken (judged_rules h moment k.duties (option_map_or (sight h moment k.model) asked unseen))
+    o ≡ first_broken (judged_rules h moment k.duties (option_map_or (observe h moment k.model) asked unseen))
 
 header_stays : (p : Progress) (moment : ℕ) (asked : Option (Step tcp_shape)) → (plain.asked_after p moment asked).header ≡ p.header
 header_stays p moment None = refl
 header_stays p moment (Some step) = refl
 
 -- it may be judged once the model did the step
-pub judged_later : (p u : Progress) (d : Duties) (moment : ℕ) (asked : Option (Step tcp_shape)) (s : Sight)
-    → u ≡ plain.asked_after p moment asked → s ≡ option_map_or (sight p.header moment p.world) asked unseen
+pub judged_later : (p u : Progress) (d : Duties) (moment : ℕ) (asked : Option (Step tcp_shape)) (s : Observation)
+    → u ≡ plain.asked_after p moment asked → s ≡ option_map_or (observe p.header moment p.world) asked unseen
     → IsJudged p.header moment (record { model = p.world; duties = d }) asked (first_broken (judged_rules u.header moment d s))
 judged_later p u d moment asked s is sees =
     ap (λ (h : Header). first_broken (judged_rules h moment d s)) (ap (λ (u : Progress). u.header) is ∙ header_stays p moment asked)
-    ∙ ap (λ (s : Sight). first_broken (judged_rules p.header moment d s)) sees
+    ∙ ap (λ (s : Observation). first_broken (judged_rules p.header moment d s)) sees
 
 pub asked_breaks : {A : Type 0} (r : Result A StepFault) (h : Header) (moment : ℕ) (k : Known) (steps : ℕ) (asked : Option (Step tcp_shape)) (o : Option Rule)
     → first_broken (plain.asked_rules (record { header = h; world = k.model; steps = steps }) moment asked) ≡ None
@@ -169,7 +169,7 @@ pub asked_breaks : {A : Type 0} (r : Result A StepFault) (h : Header) (moment : 
 asked_breaks r h moment k steps asked o none is e =
     subst (λ (b : Option Rule). IfErr r (λ fault. IfBroken fault (λ rule. b ≡ Some rule))) (sym (asked_list h moment k steps asked))
     (duty_breaks r (plain.asked_rules (record { header = h; world = k.model; steps = steps }) moment asked)
-    (judged_rules h moment k.duties (option_map_or (sight h moment k.model) asked unseen)) o none is e)
+    (judged_rules h moment k.duties (option_map_or (observe h moment k.model) asked unseen)) o none is e)
 
 pub asked_admits : {A : Type 0} (r : Result A StepFault) (h : Header) (moment : ℕ) (k : Known) (steps : ℕ) (asked : Option (Step tcp_shape)) (o : Option Rule)
     → first_broken (plain.asked_rules (record { header = h; world = k.model; steps = steps }) moment asked) ≡ None
@@ -178,23 +178,23 @@ pub asked_admits : {A : Type 0} (r : Result A StepFault) (h : Header) (moment : 
 asked_admits r h moment k steps asked o none is e =
     subst (λ (b : Option Rule). OnOk r (b ≡ None)) (sym (asked_list h moment k steps asked))
     (duty_admits r (plain.asked_rules (record { header = h; world = k.model; steps = steps }) moment asked)
-    (judged_rules h moment k.duties (option_map_or (sight h moment k.model) asked unseen)) o none is e)
+    (judged_rules h moment k.duties (option_map_or (observe h moment k.model) asked unseen)) o none is e)
 
 -- the case after a step that duties noted
-pub note_is : {A : Type 0} (r : Result A StepFault) (n : Watched) (p u : Progress) (d : Duties) (moment : ℕ) (asked : Option (Step tcp_shape)) (s : Sight)
-    → u ≡ plain.asked_after p moment asked → s ≡ option_map_or (sight p.header moment p.world) asked unseen
+pub note_is : {A : Type 0} (r : Result A StepFault) (n : Watched) (p u : Progress) (d : Duties) (moment : ℕ) (asked : Option (Step tcp_shape)) (s : Observation)
+    → u ≡ plain.asked_after p moment asked → s ≡ option_map_or (observe p.header moment p.world) asked unseen
     → OnOk r (n ≡ noted moment s (case_of u d)) → OnOk r (n ≡ asked_after (case_of p d) moment asked)
 note_is (Err e) n p u d moment asked s is sees said = tt
 note_is (Ok x) n p u d moment None s is sees said =
-    said ∙ ap (λ (s : Sight). noted moment s (case_of u d)) sees
+    said ∙ ap (λ (s : Observation). noted moment s (case_of u d)) sees
     ∙ ap (λ (u : Progress). noted moment unseen (case_of u d)) is
     ∙ ap wrap (nothing_noted p.header.slack moment p.world d)
   where
     wrap : Duties → Watched
     wrap d = record { header = p.header; world = record { model = p.world; duties = d }; steps = p.steps }
 note_is (Ok x) n p u d moment (Some step) s is sees said =
-    said ∙ ap (λ (s : Sight). noted moment s (case_of u d)) sees
-    ∙ ap (λ (u : Progress). noted moment (sight p.header moment p.world step) (case_of u d)) is
+    said ∙ ap (λ (s : Observation). noted moment s (case_of u d)) sees
+    ∙ ap (λ (u : Progress). noted moment (observe p.header moment p.world step) (case_of u d)) is
     ∙ kept_is p.header p.world d p.steps moment step
 
 -- ---- without a slack
@@ -205,7 +205,7 @@ plain_rules : (p : Progress) (d : Duties) (moment : ℕ) (asked : Option (Step t
 plain_rules p d moment None any = refl
 plain_rules p d moment (Some step) any =
     let model = step_rules (tcp p.header) moment p.world step in
-    ap (λ o. first_broken (model ++ on o [] (λ slack. duty_rules p.header slack moment d (sight p.header moment p.world step)))) any
+    ap (λ o. first_broken (model ++ on o [] (λ slack. duty_rules p.header slack moment d (observe p.header moment p.world step)))) any
     ∙ ap first_broken (append-nil model)
 
 pub plain_admits : {A : Type 0} (r : Result A StepFault) (p : Progress) (d : Duties) (moment : ℕ) (asked : Option (Step tcp_shape)) → p.header.slack ≡ None
@@ -232,8 +232,8 @@ plain_is (Err e) p u d moment asked any is = tt
 plain_is (Ok x) p u d moment None any is = ap (λ (u : Progress). case_of u d) is
 plain_is (Ok x) p u d moment (Some step) any is =
     ap (λ (u : Progress). case_of u d) is
-    ∙ ap wrap (sym (ap (λ o. on o d (λ slack. duties_after (view_in now (sight p.header moment p.world step).touched) moment
-    (sight p.header moment p.world step) d)) any))
+    ∙ ap wrap (sym (ap (λ o. on o d (λ slack. duties_after (view_in now (observe p.header moment p.world step).touched) moment
+    (observe p.header moment p.world step) d)) any))
   where
     now : World tcp_shape
     now = network.after (tcp p.header) moment p.world step

@@ -19,14 +19,14 @@ use Rattle.verdict.specs.declared.rule.Rule.TheVariants as rules
 use Rattle.verdict.specs.Rules.{first_broken}
 use Rattle.spec_network.specs.HostRules.{aim_of}
 use Rattle.spec_network.specs.Hosts as network
-use Rattle.spec_network.specs.Hosts.{Aim, ThatHost, ThatSocket, World, HostState, Deed, Step, Turn, Idle, Called, Answered, turn_of}
+use Rattle.spec_network.specs.Hosts.{Aim, ThatHost, ThatSocket, World, HostState, HostStep, Step, Turn, Idle, Called, Answered, turn_of}
 use Rattle.spec_network.specs.Tables.{Made, on, pick, waiting}
 use Rattle.spec_tcp.specs.Arrives.{Taker, Nobody, AtListener, AtEndpoint, taker}
 use Rattle.spec_tcp.specs.declared.endpoint.Emission.{Emission}
 use Rattle.spec_tcp.specs.declared.endpoint.Endpoint.{Endpoint}
 use Rattle.spec_tcp.specs.declared.endpoint.SocketTarget.{SocketTarget}
 use Rattle.spec_tcp.specs.declared.endpoint.SocketTarget.TheVariants.{ListenerAt, EndpointAt}
-use Rattle.spec_tcp.specs.HostTcp.{HostTcp, place_of, thing_of, queue_of}
+use Rattle.spec_tcp.specs.HostTcp.{HostTcp, place_of, socket_target, queue_of}
 use Rattle.spec_tcp.specs.Machine.{tcp, tcp_shape, aim}
 use Rattle.spec_tcp.specs.Forgetting.{forget_endpoint, forget_body, forget_host, forget}
 use Rattle.spec_tcp_laws.proofs.ForgetReads.{rcv_nxt-forget, snd_max-forget, end_of-forget}
@@ -42,15 +42,15 @@ use Rattle.spec_duties.specs.Watching.{Duties, listener_closed, owed_by}
 use Rattle.spec_duties.specs.declared.events.Event.{Event}
 use Rattle.spec_duties.specs.declared.owed.Lates.{Lates}
 use Rattle.spec_duties.specs.declared.views.View.{View}
-use Rattle.spec_duties.specs.Dropped.{bare, spared_by, discards_at, taking_breaks, answering_breaks}
-use Rattle.spec_duties.specs.Sights.{sight, deed_sight, at_place, at_ports, at_next, at_sender, at_target, at_drop, unseen}
-use Rattle.spec_duties.specs.Sights.{processing_of, sending_of, accepting, accept_sight, close_sight, other_sight, opened_sight, on_thing}
-use Rattle.spec_duties.specs.Sights.{call_sight, pending_sight, effect_sight, taking_sight, dropping_sight, view_in}
-use Rattle.spec_duties.specs.declared.sights.Post.TheVariants.{Sends}
-use Rattle.spec_duties.specs.declared.sights.Queueing.{Queueing}
-use Rattle.spec_duties.specs.declared.sights.Queueing.TheVariants as queueing
-use Rattle.spec_duties.specs.declared.sights.Sight.{Sight}
-use Rattle.spec_duties.specs.declared.sights.Touched.{Touched}
+use Rattle.spec_duties.specs.Dropped.{bare, droppable_by, discards_at, taking_breaks, answering_breaks}
+use Rattle.spec_duties.specs.Observations.{observe, observe_host_step, at_place, at_ports, at_next, at_sender, at_target, at_drop, unseen}
+use Rattle.spec_duties.specs.Observations.{processing_of, sending_of, accepting, observe_accept, observe_close, observe_other, observe_opened, on_target}
+use Rattle.spec_duties.specs.Observations.{observe_call, observe_pending, observe_effect, observe_taking, observe_dropping, view_in}
+use Rattle.spec_duties.specs.declared.observations.BuiltChange.TheVariants.{Sends}
+use Rattle.spec_duties.specs.declared.observations.Queueing.{Queueing}
+use Rattle.spec_duties.specs.declared.observations.Queueing.TheVariants as queueing
+use Rattle.spec_duties.specs.declared.observations.Observation.{Observation}
+use Rattle.spec_duties.specs.declared.observations.TouchedEndpoint.{TouchedEndpoint}
 
 pub view-forget : (e : Endpoint) → view_of (forget_endpoint e) ≡ view_of e
 view-forget e = rw (snd_max-forget e, end_of-forget e, rcv_nxt-forget e) refl
@@ -58,7 +58,7 @@ view-forget e = rw (snd_max-forget e, end_of-forget e, rcv_nxt-forget e) refl
 place-seen : (host : Host) (b : HostTcp) (event : Event) (i : ℕ) → at_place host (forget_body b) event i ≡ at_place host b event i
 place-seen host b event i = rw (slice_get-map forget_endpoint b.endpoints i) (by (slice_get b.endpoints i))
   where
-    see : View → Touched
+    see : View → TouchedEndpoint
     see v = record { host = host; place = i; event = event; before = v }
 
     by : (o : Option Endpoint) → option_map (λ e. see (view_of e)) (option_map forget_endpoint o) ≡ option_map (λ e. see (view_of e)) o
@@ -86,10 +86,10 @@ drop-seen host b m taking Nobody = refl
 drop-seen host b m taking (AtListener l) = refl
 drop-seen host b m taking (AtEndpoint i e) = rw (rcv_nxt-forget e) (place-seen host b _ i)
 
-spared-forget : (b : HostTcp) (m : Emission) (t : Taker) → spared_by (forget_body b) m (forget_taker t) ≡ spared_by b m t
-spared-forget b m Nobody = refl
-spared-forget b m (AtListener l) = refl
-spared-forget b m (AtEndpoint i e) = rw (rcv_nxt-forget e) refl
+droppable-forget : (b : HostTcp) (m : Emission) (t : Taker) → droppable_by (forget_body b) m (forget_taker t) ≡ droppable_by b m t
+droppable-forget b m Nobody = refl
+droppable-forget b m (AtListener l) = refl
+droppable-forget b m (AtEndpoint i e) = rw (rcv_nxt-forget e) refl
 
 discards-forget : (h : Header) (how : TakeChoice) (m : Emission) (t : Taker) → discards_at h.version how m (forget_taker t) ≡ discards_at h.version how m t
 discards-forget h how m Nobody = refl
@@ -106,47 +106,47 @@ taking-forget h moment w host line = ap first_broken (step_rules-forget h moment
 answering-forget : (h : Header) (w : World tcp_shape) (host : Host) (line : ℕ) → answering_breaks h (forget w) host line ≡ answering_breaks h w host line
 answering-forget h w host line = ap first_broken (step_rules-forget h 0 w (network.At host (network.Answers line)))
 
-deed-seen : (h : Header) (moment : ℕ) (w : World tcp_shape) (fresh : ℕ) (host : Host) (s : HostState tcp_shape) (d : Deed tcp_shape)
-    → deed_sight h moment (forget w) fresh host (forget_host s) d ≡ deed_sight h moment w fresh host s d
-deed-seen h moment w fresh host s (network.Does x) = rw (ports-seen host s.body _ x.lport x.rport) refl
-deed-seen h moment w fresh host s (network.Expires line x) = rw (ports-seen host s.body _ x.lport x.rport) refl
-deed-seen h moment w fresh host s (network.Makes m) = rw (ports-seen host s.body _ m.lport m.rport) refl
-deed-seen h moment w fresh host s (network.Sends line number wire) = by (lookup (nat_eq number) s.made)
+host_step-seen : (h : Header) (moment : ℕ) (w : World tcp_shape) (fresh : ℕ) (host : Host) (s : HostState tcp_shape) (d : HostStep tcp_shape)
+    → observe_host_step h moment (forget w) fresh host (forget_host s) d ≡ observe_host_step h moment w fresh host s d
+host_step-seen h moment w fresh host s (network.Does x) = rw (ports-seen host s.body _ x.lport x.rport) refl
+host_step-seen h moment w fresh host s (network.Expires line x) = rw (ports-seen host s.body _ x.lport x.rport) refl
+host_step-seen h moment w fresh host s (network.Makes m) = rw (ports-seen host s.body _ m.lport m.rport) refl
+host_step-seen h moment w fresh host s (network.Sends line number wire) = by (lookup (nat_eq number) s.made)
   where
-    see : Option Touched → Sight
-    see t = record unseen { touched = t; post = Sends number }
+    see : Option TouchedEndpoint → Observation
+    see t = record unseen { touched = t; built_change = Sends number }
 
     by : (o : Option (Made Emission))
         → on o unseen (λ m. see (at_sender host (forget_body s.body) m.emission))
         ≡ on o unseen (λ m. see (at_sender host s.body m.emission))
     by None = refl
     by (Some m) = ap see (sender-seen host s.body m.emission)
-deed-seen h moment w fresh host s (network.Gets line copied wire) = refl
-deed-seen h moment w fresh host s (network.Hears line wire) = refl
-deed-seen h moment w fresh host s (network.Takes line how) = by (waiting line s.inbox)
+host_step-seen h moment w fresh host s (network.Gets line copied wire) = refl
+host_step-seen h moment w fresh host s (network.Hears line wire) = refl
+host_step-seen h moment w fresh host s (network.Takes line how) = by (waiting line s.inbox)
   where
-    see : HostTcp → Emission → Sight
-    see b m = taking_sight h host b line how m (taker b m)
+    see : HostTcp → Emission → Observation
+    see b m = observe_taking h host b line how m (taker b m)
 
     by : (o : Option Emission) → on o unseen (see (forget_body s.body)) ≡ on o unseen (see s.body)
     by None = refl
     by (Some m) =
         rw (taker-forget s.body m, target-seen host s.body m (taker s.body m), discards-forget h how m (taker s.body m)) refl
-deed-seen h moment w fresh host s (network.Drops line) =
+host_step-seen h moment w fresh host s (network.Drops line) =
     rw (taking-forget h moment w host line, answering-forget h w host line) (by (waiting line s.inbox))
   where
-    see : HostTcp → Emission → Sight
-    see b m = dropping_sight host b line (taking_breaks h moment w host line) (answering_breaks h w host line) m (taker b m)
+    see : HostTcp → Emission → Observation
+    see b m = observe_dropping host b line (taking_breaks h moment w host line) (answering_breaks h w host line) m (taker b m)
 
     by : (o : Option Emission) → on o unseen (see (forget_body s.body)) ≡ on o unseen (see s.body)
     by None = refl
     by (Some m) =
         rw (
           taker-forget s.body m,
-          spared-forget s.body m (taker s.body m),
+          droppable-forget s.body m (taker s.body m),
           drop-seen host s.body m (taking_breaks h moment w host line) (taker s.body m),
         ) refl
-deed-seen h moment w fresh host s (network.Answers line) = refl
+host_step-seen h moment w fresh host s (network.Answers line) = refl
 
 accepting-forget : (host : Host) (b : HostTcp) (l : ℕ) (queue : List ℕ) → accepting host (forget_body b) l queue ≡ accepting host b l queue
 accepting-forget host b l [] = refl
@@ -159,7 +159,7 @@ accepting-forget host b l (child ∷ queue) = rw (slice_get-map forget_endpoint 
     by None = refl
     by (Some e) = refl
 
-accept-seen : (host : Host) (b : HostTcp) (answer : Answer) (t : SocketTarget) → accept_sight host (forget_body b) answer t ≡ accept_sight host b answer t
+accept-seen : (host : Host) (b : HostTcp) (answer : Answer) (t : SocketTarget) → observe_accept host (forget_body b) answer t ≡ observe_accept host b answer t
 accept-seen host b (answers.Given n) (ListenerAt l) = rw (accepting-forget host b l (queue_of b l)) refl
 accept-seen host b (answers.Given n) (EndpointAt i) = refl
 accept-seen host b answers.Done t = refl
@@ -176,15 +176,15 @@ accept-seen host b answers.BadSocket t = refl
 accept-seen host b (answers.State s) t = refl
 
 close-seen : (host : Host) (b : HostTcp) (aborts : Bool) (answer : Answer) (t : SocketTarget)
-    → close_sight host (forget_body b) aborts answer t ≡ close_sight host b aborts answer t
+    → observe_close host (forget_body b) aborts answer t ≡ observe_close host b aborts answer t
 close-seen host b aborts answer (ListenerAt l) = refl
 close-seen host b aborts answer (EndpointAt i) = rw (place-seen host b _ i) refl
 
-other-seen : (host : Host) (b : HostTcp) (t : SocketTarget) → other_sight host (forget_body b) t ≡ other_sight host b t
+other-seen : (host : Host) (b : HostTcp) (t : SocketTarget) → observe_other host (forget_body b) t ≡ observe_other host b t
 other-seen host b (ListenerAt l) = refl
 other-seen host b (EndpointAt i) = rw (place-seen host b _ i) refl
 
-opened-seen : (host : Host) (b : HostTcp) (answer : Answer) → opened_sight host (forget_body b) answer ≡ opened_sight host b answer
+opened-seen : (host : Host) (b : HostTcp) (answer : Answer) → observe_opened host (forget_body b) answer ≡ observe_opened host b answer
 opened-seen host b (answers.Given n) = rw (next-seen host b _) refl
 opened-seen host b answers.Done = refl
 opened-seen host b (answers.Bytes bytes) = refl
@@ -199,50 +199,51 @@ opened-seen host b answers.InUse = refl
 opened-seen host b answers.BadSocket = refl
 opened-seen host b (answers.State s) = refl
 
-thing-seen : (b : HostTcp) (n : ℕ) (f g : SocketTarget → Sight) → ((t : SocketTarget) → f t ≡ g t) → on_thing (forget_body b) n f ≡ on_thing b n g
-thing-seen b n f g same = by (thing_of b n)
+socket-target-seen : (b : HostTcp) (n : ℕ) (f g : SocketTarget → Observation) → ((t : SocketTarget) → f t ≡ g t)
+    → on_target (forget_body b) n f ≡ on_target b n g
+socket-target-seen b n f g same = by (socket_target b n)
   where
     by : (o : Option SocketTarget) → on o unseen f ≡ on o unseen g
     by None = refl
     by (Some t) = same t
 
-call-seen : (host : Host) (b : HostTcp) (call : Call) (answer : Answer) → call_sight host (forget_body b) call answer ≡ call_sight host b call answer
+call-seen : (host : Host) (b : HostTcp) (call : Call) (answer : Answer) → observe_call host (forget_body b) call answer ≡ observe_call host b call answer
 call-seen host b (calls.Listen x port backlog) answer = refl
 call-seen host b (calls.Connect x lport rport) answer = opened-seen host b answer
 call-seen host b (calls.Await n) answer = refl
-call-seen host b (calls.Accept n) answer = thing-seen b n _ _ (accept-seen host b answer)
-call-seen host b (calls.Send n bytes) answer = thing-seen b n _ _ (other-seen host b)
+call-seen host b (calls.Accept n) answer = socket-target-seen b n _ _ (accept-seen host b answer)
+call-seen host b (calls.Send n bytes) answer = socket-target-seen b n _ _ (other-seen host b)
 call-seen host b (calls.Recv n most) answer = refl
-call-seen host b (calls.Shut n) answer = thing-seen b n _ _ (other-seen host b)
-call-seen host b (calls.Close n) answer = thing-seen b n _ _ (close-seen host b _ answer)
-call-seen host b (calls.Abort n) answer = thing-seen b n _ _ (close-seen host b _ answer)
+call-seen host b (calls.Shut n) answer = socket-target-seen b n _ _ (other-seen host b)
+call-seen host b (calls.Close n) answer = socket-target-seen b n _ _ (close-seen host b _ answer)
+call-seen host b (calls.Abort n) answer = socket-target-seen b n _ _ (close-seen host b _ answer)
 call-seen host b (calls.Status n) answer = refl
 
 aim-forget : (h : Header) (w : World tcp_shape) (a : Aim) → aim_of (tcp h) (forget w).hosts a ≡ aim_of (tcp h) w.hosts a
 aim-forget h w (ThatHost host) = refl
 aim-forget h w (ThatSocket n) = refl
 
-pending-seen : (h : Header) (w : World tcp_shape) (answer : Answer) (call : Call) → pending_sight h (forget w) answer call ≡ pending_sight h w answer call
+pending-seen : (h : Header) (w : World tcp_shape) (answer : Answer) (call : Call) → observe_pending h (forget w) answer call ≡ observe_pending h w answer call
 pending-seen h w answer call = rw (aim-forget h w (aim call)) (by (aim_of (tcp h) w.hosts (aim call)))
   where
     by : (o : Option Host)
-        → on o unseen (λ host. call_sight host (pick (forget w).hosts host).body call answer)
-        ≡ on o unseen (λ host. call_sight host (pick w.hosts host).body call answer)
+        → on o unseen (λ host. observe_call host (pick (forget w).hosts host).body call answer)
+        ≡ on o unseen (λ host. observe_call host (pick w.hosts host).body call answer)
     by None = refl
     by (Some Zero) = call-seen Zero w.hosts.zero.body call answer
     by (Some One) = call-seen One w.hosts.one.body call answer
 
-effect-seen : (h : Header) (w : World tcp_shape) (answer : Answer) (u : Turn tcp_shape) → effect_sight h (forget w) answer u ≡ effect_sight h w answer u
+effect-seen : (h : Header) (w : World tcp_shape) (answer : Answer) (u : Turn tcp_shape) → observe_effect h (forget w) answer u ≡ observe_effect h w answer u
 effect-seen h w answer Idle = refl
 effect-seen h w answer (Called call) = pending-seen h w answer call
 effect-seen h w answer (Answered given) = refl
 
-pub sight-forget : (h : Header) (moment : ℕ) (w : World tcp_shape) (step : Step tcp_shape) → sight h moment (forget w) step ≡ sight h moment w step
-sight-forget h moment w (network.Begin line t call) = refl
-sight-forget h moment w (network.Finish line t answer) = refl
-sight-forget h moment w (network.Effect t answer) = effect-seen h w answer (turn_of t w.threads)
-sight-forget h moment w (network.At Zero d) = deed-seen h moment w (suc w.count) Zero w.hosts.zero d
-sight-forget h moment w (network.At One d) = deed-seen h moment w (suc w.count) One w.hosts.one d
+pub observe-forget : (h : Header) (moment : ℕ) (w : World tcp_shape) (step : Step tcp_shape) → observe h moment (forget w) step ≡ observe h moment w step
+observe-forget h moment w (network.Begin line t call) = refl
+observe-forget h moment w (network.Finish line t answer) = refl
+observe-forget h moment w (network.Effect t answer) = effect-seen h w answer (turn_of t w.threads)
+observe-forget h moment w (network.At Zero d) = host_step-seen h moment w (suc w.count) Zero w.hosts.zero d
+observe-forget h moment w (network.At One d) = host_step-seen h moment w (suc w.count) One w.hosts.one d
 
 -- nor do they when an endpoint is seen again
 view-at : (es : List Endpoint) (i : ℕ) → option_map_or view_of (slice_get (map forget_endpoint es) i) unborn ≡ option_map_or view_of (slice_get es i) unborn
@@ -252,7 +253,7 @@ view-at es i = rw (slice_get-map forget_endpoint es i) (by (slice_get es i))
     by None = refl
     by (Some e) = view-forget e
 
-pub view_in-forget : (w : World tcp_shape) (t : Option Touched) → view_in (forget w) t ≡ view_in w t
+pub view_in-forget : (w : World tcp_shape) (t : Option TouchedEndpoint) → view_in (forget w) t ≡ view_in w t
 view_in-forget w None = refl
 view_in-forget w (Some t) = by t.host
   where

@@ -32,18 +32,18 @@ use Rattle.spec_duties.specs.declared.events.Event.{Event}
 use Rattle.spec_duties.specs.declared.events.Event.TheVariants.{Builds, Calls, Drops, Expires, Opens, Processes, Recovers, Sends}
 use Rattle.spec_duties.specs.Owed.{late_rules, none_late, owed_after}
 use Rattle.spec_duties.specs.Resent.{is_repeating, is_resent, is_resent_beyond, judges_repeats, judges_windows}
-use Rattle.spec_duties.specs.Sights.{sight, view_in}
-use Rattle.spec_duties.specs.declared.sights.Sight.{Sight}
-use Rattle.spec_duties.specs.declared.sights.Touched.{Touched}
+use Rattle.spec_duties.specs.Observations.{observe, view_in}
+use Rattle.spec_duties.specs.declared.observations.Observation.{Observation}
+use Rattle.spec_duties.specs.declared.observations.TouchedEndpoint.{TouchedEndpoint}
 use Rattle.spec_duties.specs.Watching.{Duties, builds_mere_ack, built_after, built_by, counts_now, duties_after, duty_rules, touched_rules}
 use Rattle.spec_duties.specs.declared.owed.Lates.{Lates}
 use Rattle.spec_duties.specs.declared.owed.Owed.{Owed}
-use Rattle.spec_duties.specs.declared.sights.Post.{Post}
-use Rattle.spec_duties.specs.declared.sights.Post.TheVariants as post
+use Rattle.spec_duties.specs.declared.observations.BuiltChange.{BuiltChange}
+use Rattle.spec_duties.specs.declared.observations.BuiltChange.TheVariants as built_change
 use Rattle.spec_duties.specs.declared.tables.Built.{Built}
 use Rattle.spec_duties.specs.declared.views.View.{View}
-use Rattle.watched.specs.Levels.{CaseJudgedAlike, EndsBelow, known_judged, sight_with, touched_with, view_with}
-use Rattle.watched.proofs.LevelSights.{shows_the_same, view_seen}
+use Rattle.watched.specs.Levels.{CaseJudgedAlike, EndsBelow, known_judged, observed_with, touched_with, view_with}
+use Rattle.watched.proofs.LevelObservations.{shows_the_same, view_seen}
 
 -- ---- what is kept doesn't depend on the edge
 
@@ -61,10 +61,10 @@ owed_same (Expires Msl2) a b before after moment closed counts o = refl
 owed_same (Expires Giveup) a b before after moment closed counts o = refl
 owed_same Recovers a b before after moment closed counts o = refl
 
-mere_same : (a b : ℕ) (after : View) (t : Touched) → builds_mere_ack (view_with b after) (touched_with a t) ≡ builds_mere_ack after t
+mere_same : (a b : ℕ) (after : View) (t : TouchedEndpoint) → builds_mere_ack (view_with b after) (touched_with a t) ≡ builds_mere_ack after t
 mere_same a b after t = by t.event
   where
-    at : Event → Touched
+    at : Event → TouchedEndpoint
     at event = record t { event = event }
 
     by : (event : Event) → builds_mere_ack (view_with b after) (touched_with a (at event)) ≡ builds_mere_ack after (at event)
@@ -77,24 +77,27 @@ mere_same a b after t = by t.event
     by (Expires timer) = refl
     by Recovers = refl
 
-built_same : (a b : ℕ) (after : View) (moment : ℕ) (o : Option Touched) (it : Post) (built : List (ℕ × Option Built))
+built_same : (a b : ℕ) (after : View) (moment : ℕ) (o : Option TouchedEndpoint) (it : BuiltChange) (built : List (ℕ × Option Built))
     → built_after (view_with b after) moment (option_map (touched_with a) o) it built ≡ built_after after moment o it built
-built_same a b after moment o post.Nothing built = refl
-built_same a b after moment None (post.Builds number) built = refl
-built_same a b after moment (Some t) (post.Builds number) built = rw (mere_same a b after t) refl
-built_same a b after moment o (post.Sends number) built = refl
+built_same a b after moment o built_change.Nothing built = refl
+built_same a b after moment None (built_change.Builds number) built = refl
+built_same a b after moment (Some t) (built_change.Builds number) built = rw (mere_same a b after t) refl
+built_same a b after moment o (built_change.Sends number) built = refl
 
-duties_same : (a b : ℕ) (after : View) (moment : ℕ) (s : Sight) (d : Duties)
-    → duties_after (view_with b after) moment (sight_with a s) d ≡ duties_after after moment s d
-duties_same a b after moment s d = rw (built_same a b after moment s.touched s.post d.built) (by s.touched)
+duties_same : (a b : ℕ) (after : View) (moment : ℕ) (s : Observation) (d : Duties)
+    → duties_after (view_with b after) moment (observed_with a s) d ≡ duties_after after moment s d
+duties_same a b after moment s d = rw (built_same a b after moment s.touched s.built_change d.built) (by s.touched)
   where
-    with : Option Touched → Sight
+    with : Option TouchedEndpoint → Observation
     with o = record s { touched = o }
 
-    by : (o : Option Touched)
+    by : (o : Option TouchedEndpoint)
         → (let x : Duties =
-        record (duties_after (view_with b after) moment (sight_with a (with o)) d) { built = built_after after moment s.touched s.post d.built } in x)
-        ≡ record (duties_after after moment (with o) d) { built = built_after after moment s.touched s.post d.built }
+        record (duties_after (view_with b after) moment (observed_with a (with o)) d) {
+          built =
+              built_after after moment s.touched s.built_change d.built;
+        } in x)
+        ≡ record (duties_after after moment (with o) d) { built = built_after after moment s.touched s.built_change d.built }
     by None = refl
     by (Some t) =
         rw (owed_same t.event a b t.before after moment _ _ _) refl
@@ -145,7 +148,8 @@ beyond_less j k edge (Builds m) v le higher e =
     (nat_lt edge (m.pos + m.len)) (windows_less j k le) (below v.congestion_edge edge (m.pos + m.len) higher) e
 beyond_less j k edge _ v le higher e = refl
 
-touched_fewer : (j : Judged) (h : Header) (slack moment : ℕ) (d : Duties) (counts : Bool) (edge : ℕ) (o : Option Touched) → extent j ≤ extent h.congestion
+touched_fewer : (j : Judged) (h : Header) (slack moment : ℕ) (d : Duties) (counts : Bool) (edge : ℕ) (o : Option TouchedEndpoint)
+    → extent j ≤ extent h.congestion
     → EndsBelow edge o
     → AreFewer (on o [] (touched_rules h slack moment d counts))
     (on (option_map (touched_with edge) o) [] (touched_rules (header_by j h) slack moment d counts))
@@ -167,14 +171,14 @@ touched_fewer j h slack moment d counts edge (Some t) le higher = (
   ),
 )
 
-rules_fewer : (j : Judged) (h : Header) (moment : ℕ) (d : Duties) (edge : ℕ) (s : Sight) (slack : Option ℕ) → extent j ≤ extent h.congestion
+rules_fewer : (j : Judged) (h : Header) (moment : ℕ) (d : Duties) (edge : ℕ) (s : Observation) (slack : Option ℕ) → extent j ≤ extent h.congestion
     → EndsBelow edge s.touched
     → first_broken (on slack [] (λ slack. duty_rules h slack moment d s)) ≡ None
-    → first_broken (on slack [] (λ slack. duty_rules (header_by j h) slack moment d (sight_with edge s))) ≡ None
+    → first_broken (on slack [] (λ slack. duty_rules (header_by j h) slack moment d (observed_with edge s))) ≡ None
 rules_fewer j h moment d edge s None le higher e = refl
 rules_fewer j h moment d edge s (Some slack) le higher e =
-    fewer_none (duty_rules h slack moment d s) (duty_rules (header_by j h) slack moment d (sight_with edge s))
-    (λ e. e, (λ e. e, (λ e. e, (λ e. e, touched_fewer j h slack moment d (counts_now (built_by d s.post)) edge s.touched le higher)))) e
+    fewer_none (duty_rules h slack moment d s) (duty_rules (header_by j h) slack moment d (observed_with edge s))
+    (λ e. e, (λ e. e, (λ e. e, (λ e. e, touched_fewer j h slack moment d (counts_now (built_by d s.built_change)) edge s.touched le higher)))) e
 
 -- ---- a step of a case
 
@@ -182,8 +186,8 @@ watch_passes : (j : Judged) (h : Header) (moment : ℕ) (k : Known) (step : Step
     → first_broken (watch_rules h moment k step) ≡ None → first_broken (watch_rules (header_by j h) moment (known_judged j h k) step) ≡ None
 watch_passes j h moment k step le is e =
     let seen = shows_the_same j h moment k.model step le is in
-    ap (λ (s : Sight). first_broken (judged_rules (header_by j h) moment k.duties s)) seen.1
-    ∙ rules_fewer j h moment k.duties seen.0 (sight h moment k.model step) h.slack le seen.2 e
+    ap (λ (s : Observation). first_broken (judged_rules (header_by j h) moment k.duties s)) seen.1
+    ∙ rules_fewer j h moment k.duties seen.0 (observe h moment k.model step) h.slack le seen.2 e
 
 -- of the other rules, it breaks the same
 others_both : (xs ys : List (Rule × Bool)) → other_rules (xs ++ ys) ≡ other_rules xs ++ other_rules ys
@@ -196,15 +200,15 @@ others_both ((r, b) ∷ xs) ys = by (is_of_level r) (others_both xs ys)
     by true rest = rest
     by false rest = ap (λ (zs : List (Rule × Bool)). (r, b) ∷ zs) rest
 
-duties_alike : (j : Judged) (h : Header) (moment : ℕ) (d : Duties) (edge : ℕ) (s : Sight)
-    → other_rules (judged_rules (header_by j h) moment d (sight_with edge s)) ≡ other_rules (judged_rules h moment d s)
+duties_alike : (j : Judged) (h : Header) (moment : ℕ) (d : Duties) (edge : ℕ) (s : Observation)
+    → other_rules (judged_rules (header_by j h) moment d (observed_with edge s)) ≡ other_rules (judged_rules h moment d s)
 duties_alike j h moment d edge s = by h.slack s.touched
   where
-    with : Option Touched → Sight
+    with : Option TouchedEndpoint → Observation
     with o = record s { touched = o }
 
-    by : (slack : Option ℕ) (o : Option Touched)
-        → other_rules (on slack [] (λ slack. duty_rules (header_by j h) slack moment d (sight_with edge (with o))))
+    by : (slack : Option ℕ) (o : Option TouchedEndpoint)
+        → other_rules (on slack [] (λ slack. duty_rules (header_by j h) slack moment d (observed_with edge (with o))))
         ≡ other_rules (on slack [] (λ slack. duty_rules h slack moment d (with o)))
     by None o = refl
     by (Some slack) None = refl
@@ -218,18 +222,18 @@ case_alike j h moment k step le is =
     ∙ ap (λ (xs : List (Rule × Bool)). xs ++ other_rules (watch_rules (header_by j h) moment (known_judged j h k) step))
     (step_alike (profile_of (header_by j h)) j h moment k.model step)
     ∙ ap (λ (xs : List (Rule × Bool)). other_rules (step_rules (tcp h) moment k.model step) ++ xs)
-    (ap (λ (s : Sight). other_rules (judged_rules (header_by j h) moment k.duties s)) seen.1
-    ∙ duties_alike j h moment k.duties seen.0 (sight h moment k.model step))
+    (ap (λ (s : Observation). other_rules (judged_rules (header_by j h) moment k.duties s)) seen.1
+    ∙ duties_alike j h moment k.duties seen.0 (observe h moment k.model step))
     ∙ sym (others_both (step_rules (tcp h) moment k.model step) (watch_rules h moment k step))
 
-noted_same : (j : Judged) (h : Header) (moment : ℕ) (w : World tcp_shape) (edge : ℕ) (s : Sight) (d : Duties)
-    → noted_by (header_by j h) moment (world_judged j h w) (sight_with edge s) d ≡ noted_by h moment w s d
+noted_same : (j : Judged) (h : Header) (moment : ℕ) (w : World tcp_shape) (edge : ℕ) (s : Observation) (d : Duties)
+    → noted_by (header_by j h) moment (world_judged j h w) (observed_with edge s) d ≡ noted_by h moment w s d
 noted_same j h moment w edge s d =
     let seen = view_seen (profile_of (header_by j h)) w edge s.touched in
-    ap (λ (v : View). on h.slack d (λ slack. duties_after v moment (sight_with edge s) d)) seen.1 ∙ by seen.0 h.slack
+    ap (λ (v : View). on h.slack d (λ slack. duties_after v moment (observed_with edge s) d)) seen.1 ∙ by seen.0 h.slack
   where
     by : (b : ℕ) (slack : Option ℕ)
-        → on slack d (λ slack. duties_after (view_with b (view_in w s.touched)) moment (sight_with edge s) d)
+        → on slack d (λ slack. duties_after (view_with b (view_in w s.touched)) moment (observed_with edge s) d)
         ≡ on slack d (λ slack. duties_after (view_in w s.touched) moment s d)
     by b None = refl
     by b (Some slack) = duties_same edge b (view_in w s.touched) moment s d
@@ -239,15 +243,15 @@ known_kept : (j : Judged) (h : Header) (moment : ℕ) (k : Known) (step : Step t
 known_kept j h moment k step le is =
     let seen = shows_the_same j h moment k.model step le is in
     let world = after_kept j h moment k.model step in
-    ap (λ (s : Sight). known (after (tcp (header_by j h)) moment (world_judged j h k.model) step) s) seen.1
-    ∙ ap (λ (w : World tcp_shape). known w (sight_with seen.0 (sight h moment k.model step))) world
+    ap (λ (s : Observation). known (after (tcp (header_by j h)) moment (world_judged j h k.model) step) s) seen.1
+    ∙ ap (λ (w : World tcp_shape). known w (observed_with seen.0 (observe h moment k.model step))) world
     ∙ ap (λ (d : Duties). pair (world_judged j h (after (tcp h) moment k.model step)) d)
-    (noted_same j h moment (after (tcp h) moment k.model step) seen.0 (sight h moment k.model step) k.duties)
+    (noted_same j h moment (after (tcp h) moment k.model step) seen.0 (observe h moment k.model step) k.duties)
   where
     pair : World tcp_shape → Duties → Known
     pair w d = record { model = w; duties = d }
 
-    known : World tcp_shape → Sight → Known
+    known : World tcp_shape → Observation → Known
     known w s = pair w (noted_by (header_by j h) moment w s k.duties)
 
 -- ---- a run, and its end

@@ -6,5 +6,5 @@ pub mod ForgetLemmas
 mod PlaceLemmas
 pub mod SlackLemmas
 pub mod SlackRuns
-pub mod LevelSights
+pub mod LevelObservations
 pub mod LevelRuns

@@ -11,10 +11,10 @@ use Rattle.case_forms.specs.declared.trace.Header.{Header}
 use Rattle.verdict.specs.declared.rule.Rule.{Rule}
 use Rattle.verdict.specs.declared.rule.Rule.TheVariants as rules
 use Rattle.verdict.specs.Rules.{first_broken}
-use Rattle.spec_network.specs.HostRules.{aim_of, call_rules, deed_rules, fresh_rules, open_rules, pending_rules, step_rules}
-use Rattle.spec_network.specs.HostSteps.{after, call_after, deed_after, effect_after, inbox_settled}
+use Rattle.spec_network.specs.HostRules.{aim_of, call_rules, host_step_rules, fresh_rules, open_rules, pending_rules, step_rules}
+use Rattle.spec_network.specs.HostSteps.{after, call_after, host_step_after, effect_after, inbox_settled}
 use Rattle.spec_network.specs.Hosts as network
-use Rattle.spec_network.specs.Hosts.{Aim, Answered, Called, Deed, HostState, Idle, Step, ThatHost, ThatSocket, Turn, World, turn_of}
+use Rattle.spec_network.specs.Hosts.{Aim, Answered, Called, HostStep, HostState, Idle, Step, ThatHost, ThatSocket, Turn, World, turn_of}
 use Rattle.spec_network.specs.Tables.{Both, on, other, pick, waiting, with_host}
 use Rattle.spec_tcp.specs.Arrives.{AtEndpoint, AtListener, Nobody, Taker, after_taking, taker, taker_rules}
 use Rattle.spec_tcp.specs.HostTcp.{HostTcp, endpoint_of}
@@ -24,7 +24,7 @@ use Rattle.spec_tcp.specs.Timeouts.{expiry_rules}
 use Rattle.spec_tcp.specs.declared.endpoint.Emission.{Emission}
 use Rattle.spec_tcp.specs.declared.endpoint.Endpoint.{Endpoint}
 use Rattle.spec_duties.specs.Dropped.{answering_breaks, bare, taking_breaks}
-use Rattle.spec_duties.specs.Sights.{deed_sight, effect_sight, sight}
+use Rattle.spec_duties.specs.Observations.{observe_host_step, observe_effect, observe}
 use Rattle.spec_duties.specs.Slack.{with_slack}
 use Rattle.watched.specs.Slack.{SlackIsNotRead}
 
@@ -47,29 +47,29 @@ module _ (slack : Option ℕ) (h : Header) where
   taker_same me b how m moment (AtListener l) = refl
   taker_same me b how m moment (AtEndpoint i e) = refl
 
-  deed_same : (me : Host) (moment : ℕ) (far : List (ℕ × Emission)) (s : HostState tcp_shape) (d : Deed tcp_shape)
-      → deed_rules (tcp g) me moment far s d ≡ deed_rules (tcp h) me moment far s d
-  deed_same me moment far s (network.Does x) = refl
-  deed_same me moment far s (network.Expires line x) = by (endpoint_of s.body x.lport x.rport)
+  host_step_same : (me : Host) (moment : ℕ) (far : List (ℕ × Emission)) (s : HostState tcp_shape) (d : HostStep tcp_shape)
+      → host_step_rules (tcp g) me moment far s d ≡ host_step_rules (tcp h) me moment far s d
+  host_step_same me moment far s (network.Does x) = refl
+  host_step_same me moment far s (network.Expires line x) = by (endpoint_of s.body x.lport x.rport)
     where
       by : (o : Option Endpoint)
           → option_map_or (λ e. expiry_rules g moment e x.expired) o ((rules.NoEndpoint, true) ∷ [])
           ≡ option_map_or (λ e. expiry_rules h moment e x.expired) o ((rules.NoEndpoint, true) ∷ [])
       by None = refl
       by (Some e) = expiry_same moment e x.expired
-  deed_same me moment far s (network.Makes x) = refl
-  deed_same me moment far s (network.Sends line number wire) = refl
-  deed_same me moment far s (network.Gets line copied wire) = refl
-  deed_same me moment far s (network.Hears line wire) = refl
-  deed_same me moment far s (network.Takes line how) = by (waiting line s.inbox)
+  host_step_same me moment far s (network.Makes x) = refl
+  host_step_same me moment far s (network.Sends line number wire) = refl
+  host_step_same me moment far s (network.Gets line copied wire) = refl
+  host_step_same me moment far s (network.Hears line wire) = refl
+  host_step_same me moment far s (network.Takes line how) = by (waiting line s.inbox)
     where
       by : (o : Option Emission)
           → on o ((rules.Inbox, true) ∷ []) (λ m. act_rules g me moment s.body (acts.Takes how m))
           ≡ on o ((rules.Inbox, true) ∷ []) (λ m. act_rules h me moment s.body (acts.Takes how m))
       by None = refl
       by (Some m) = taker_same me s.body how m moment (taker s.body m)
-  deed_same me moment far s (network.Drops line) = refl
-  deed_same me moment far s (network.Answers line) = refl
+  host_step_same me moment far s (network.Drops line) = refl
+  host_step_same me moment far s (network.Answers line) = refl
 
   aim_same : (hosts : Both (HostState tcp_shape)) (a : Aim) → aim_of (tcp g) hosts a ≡ aim_of (tcp h) hosts a
   aim_same hosts (ThatHost host) = refl
@@ -96,7 +96,7 @@ module _ (slack : Option ℕ) (h : Header) where
   rules_same moment w (network.Finish line t answer) = refl
   rules_same moment w (network.Effect t answer) =
       ap (λ (xs : List (Rule × Bool)). pending_rules (turn_of t w.threads) ++ xs) (open_same moment w.hosts (turn_of t w.threads) answer)
-  rules_same moment w (network.At host d) = deed_same host moment (pick w.hosts (other host)).wire (pick w.hosts host) d
+  rules_same moment w (network.At host d) = host_step_same host moment (pick w.hosts (other host)).wire (pick w.hosts host) d
 
   -- ---- the world after a step
 
@@ -106,8 +106,8 @@ module _ (slack : Option ℕ) (h : Header) where
   taken_same b how m moment (AtListener l) = refl
   taken_same b how m moment (AtEndpoint i e) = refl
 
-  done_same : (me : Host) (moment fresh : ℕ) (far : List (ℕ × Emission)) (s : HostState tcp_shape) (d : Deed tcp_shape)
-      → deed_after (tcp g) me moment fresh far s d ≡ deed_after (tcp h) me moment fresh far s d
+  done_same : (me : Host) (moment fresh : ℕ) (far : List (ℕ × Emission)) (s : HostState tcp_shape) (d : HostStep tcp_shape)
+      → host_step_after (tcp g) me moment fresh far s d ≡ host_step_after (tcp h) me moment fresh far s d
   done_same me moment fresh far s (network.Does x) = refl
   done_same me moment fresh far s (network.Expires line x) = refl
   done_same me moment fresh far s (network.Makes x) = refl
@@ -146,8 +146,8 @@ module _ (slack : Option ℕ) (h : Header) where
 
   -- ---- what a step shows
 
-  shown_same : (moment : ℕ) (w : World tcp_shape) (fresh : ℕ) (host : Host) (s : HostState tcp_shape) (d : Deed tcp_shape)
-      → deed_sight g moment w fresh host s d ≡ deed_sight h moment w fresh host s d
+  shown_same : (moment : ℕ) (w : World tcp_shape) (fresh : ℕ) (host : Host) (s : HostState tcp_shape) (d : HostStep tcp_shape)
+      → observe_host_step g moment w fresh host s d ≡ observe_host_step h moment w fresh host s d
   shown_same moment w fresh host s (network.Does x) = refl
   shown_same moment w fresh host s (network.Expires line x) = refl
   shown_same moment w fresh host s (network.Makes m) = refl
@@ -163,16 +163,16 @@ module _ (slack : Option ℕ) (h : Header) where
       rw (taking, answering) refl
   shown_same moment w fresh host s (network.Answers line) = refl
 
-  called_shown : (w : World tcp_shape) (answer : Answer) (u : Turn tcp_shape) → effect_sight g w answer u ≡ effect_sight h w answer u
+  called_shown : (w : World tcp_shape) (answer : Answer) (u : Turn tcp_shape) → observe_effect g w answer u ≡ observe_effect h w answer u
   called_shown w answer Idle = refl
   called_shown w answer (Called call) = rw (aim_same w.hosts (aim call)) refl
   called_shown w answer (Answered given) = refl
 
-  pub sight_same : (moment : ℕ) (w : World tcp_shape) (step : Step tcp_shape) → sight g moment w step ≡ sight h moment w step
-  sight_same moment w (network.Begin line t call) = refl
-  sight_same moment w (network.Finish line t answer) = refl
-  sight_same moment w (network.Effect t answer) = called_shown w answer (turn_of t w.threads)
-  sight_same moment w (network.At host d) = shown_same moment w (suc w.count) host (pick w.hosts host) d
+  pub observed_same : (moment : ℕ) (w : World tcp_shape) (step : Step tcp_shape) → observe g moment w step ≡ observe h moment w step
+  observed_same moment w (network.Begin line t call) = refl
+  observed_same moment w (network.Finish line t answer) = refl
+  observed_same moment w (network.Effect t answer) = called_shown w answer (turn_of t w.threads)
+  observed_same moment w (network.At host d) = shown_same moment w (suc w.count) host (pick w.hosts host) d
 
 pub slack_is_not_read : (slack : Option ℕ) (h : Header) → SlackIsNotRead slack h
-slack_is_not_read slack h = record { rules = rules_same slack h; next = after_same slack h; shows = sight_same slack h }
+slack_is_not_read slack h = record { rules = rules_same slack h; next = after_same slack h; shows = observed_same slack h }

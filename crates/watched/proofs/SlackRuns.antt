@@ -7,10 +7,10 @@ use Rattle.spec_network.specs.Hosts.{Stamped, Step, World}
 use Rattle.spec_tcp.specs.Machine.{tcp, tcp_shape}
 use Rattle.duties.proofs.SlackLemmas.{dutiful_any, late_any, less_late}
 use Rattle.spec_duties.specs.Cases.{Dutiful, Known, judged_rules, known_after, known_after_all, late_at_end, noted_by, watch_rules}
-use Rattle.spec_duties.specs.Sights.{sight}
+use Rattle.spec_duties.specs.Observations.{observe}
 use Rattle.spec_duties.specs.Slack.{AtMost, with_slack}
-use Rattle.spec_duties.specs.declared.sights.Sight.{Sight}
-use Rattle.watched.proofs.SlackLemmas.{after_same, rules_same, sight_same}
+use Rattle.spec_duties.specs.declared.observations.Observation.{Observation}
+use Rattle.watched.proofs.SlackLemmas.{after_same, rules_same, observed_same}
 
 -- the model's run is the same
 pub lawful_with : (slack : Option ℕ) (h : Header) (w : World tcp_shape) (xs : List (Stamped tcp_shape)) → Lawful (tcp h) w xs
@@ -30,23 +30,23 @@ module _ (less more : ℕ) (le : less ≤ more) (h : Header) where
   abbrev b : Header
   b = with_slack (Some more) h
 
-  seen : (moment : ℕ) (w : World tcp_shape) (step : Step tcp_shape) → sight a moment w step ≡ sight b moment w step
-  seen moment w step = sight_same (Some less) h moment w step ∙ sym (sight_same (Some more) h moment w step)
+  seen : (moment : ℕ) (w : World tcp_shape) (step : Step tcp_shape) → observe a moment w step ≡ observe b moment w step
+  seen moment w step = observed_same (Some less) h moment w step ∙ sym (observed_same (Some more) h moment w step)
 
   known_same : (moment : ℕ) (k : Known) (step : Step tcp_shape) → known_after a moment k step ≡ known_after b moment k step
   known_same moment k step =
-      ap (λ (w : World tcp_shape). known w (sight a moment k.model step))
+      ap (λ (w : World tcp_shape). known w (observe a moment k.model step))
       (after_same (Some less) h moment k.model step ∙ sym (after_same (Some more) h moment k.model step))
-      ∙ ap (λ (s : Sight). known (after (tcp b) moment k.model step) s) (seen moment k.model step)
+      ∙ ap (λ (s : Observation). known (after (tcp b) moment k.model step) s) (seen moment k.model step)
     where
-      known : World tcp_shape → Sight → Known
+      known : World tcp_shape → Observation → Known
       known w s = record { model = w; duties = noted_by a moment w s k.duties }
 
   watch_passes : (moment : ℕ) (k : Known) (step : Step tcp_shape) → first_broken (watch_rules a moment k step) ≡ None
       → first_broken (watch_rules b moment k step) ≡ None
   watch_passes moment k step e =
-      ap (λ (s : Sight). first_broken (judged_rules b moment k.duties s)) (sym (seen moment k.model step))
-      ∙ (less_late (Some less) (Some more) le).steps h moment k.duties (sight a moment k.model step) e
+      ap (λ (s : Observation). first_broken (judged_rules b moment k.duties s)) (sym (seen moment k.model step))
+      ∙ (less_late (Some less) (Some more) le).steps h moment k.duties (observe a moment k.model step) e
 
   dutiful_more : (k : Known) (xs : List (Stamped tcp_shape)) → Dutiful a k xs → Dutiful b k xs
   dutiful_more k [] kept = tt

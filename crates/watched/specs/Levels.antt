@@ -8,29 +8,29 @@ use Rattle.spec_tcp.specs.Machine.{tcp_shape}
 use Rattle.spec_tcp_laws.specs.Judging.{IsJudged, extent, header_by, world_judged}
 use Rattle.spec_tcp_laws.specs.Levels.{other_rules}
 use Rattle.spec_duties.specs.Cases.{Known, case_rules}
-use Rattle.spec_duties.specs.Sights.{sight}
-use Rattle.spec_duties.specs.declared.sights.Sight.{Sight}
-use Rattle.spec_duties.specs.declared.sights.Touched.{Touched}
+use Rattle.spec_duties.specs.Observations.{observe}
+use Rattle.spec_duties.specs.declared.observations.Observation.{Observation}
+use Rattle.spec_duties.specs.declared.observations.TouchedEndpoint.{TouchedEndpoint}
 use Rattle.spec_duties.specs.declared.views.View.{View}
 
 -- the same with another congestion edge
 abbrev pub view_with : ℕ → View → View
 view_with edge v = record v { congestion_edge = edge }
 
-abbrev pub touched_with : ℕ → Touched → Touched
+abbrev pub touched_with : ℕ → TouchedEndpoint → TouchedEndpoint
 touched_with edge t = record t { before = view_with edge t.before }
 
-abbrev pub sight_with : ℕ → Sight → Sight
-sight_with edge s = record s { touched = option_map (touched_with edge) s.touched }
+abbrev pub observed_with : ℕ → Observation → Observation
+observed_with edge s = record s { touched = option_map (touched_with edge) s.touched }
 
 -- the edge of the endpoint that a step touches, if it touches one, is at most this
-abbrev pub EndsBelow : ℕ → Option Touched → Type 0
+abbrev pub EndsBelow : ℕ → Option TouchedEndpoint → Type 0
 EndsBelow edge None = Unit {0}
 EndsBelow edge (Some t) = t.before.congestion_edge ≤ edge
 
--- one sight is another but for that edge, which isn't lower
-abbrev pub ShowsHigher : Sight → Sight → Type 0
-ShowsHigher s t = (edge : ℕ) × (t ≡ sight_with edge s) × EndsBelow edge s.touched
+-- one observation is another but for that edge, which isn't lower
+abbrev pub ShowsHigher : Observation → Observation → Type 0
+ShowsHigher s t = (edge : ℕ) × (t ≡ observed_with edge s) × EndsBelow edge s.touched
 
 -- what is known of a case, at another level
 abbrev pub known_judged : Judged → Header → Known → Known
@@ -47,4 +47,4 @@ CaseJudgedAlike j h = (moment : ℕ) (k : Known) (step : Step tcp_shape)
 abbrev pub LessJudgedShowsTheSame : Judged → Header → Type 0
 LessJudgedShowsTheSame j h = (moment : ℕ) (w : World tcp_shape) (step : Step tcp_shape)
     → extent j ≤ extent h.congestion → IsJudged h w
-    → ShowsHigher (sight h moment w step) (sight (header_by j h) moment (world_judged j h w) step)
+    → ShowsHigher (observe h moment w step) (observe (header_by j h) moment (world_judged j h w) step)

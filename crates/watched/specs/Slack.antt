@@ -5,7 +5,7 @@ use Rattle.spec_network.specs.HostRules.{step_rules}
 use Rattle.spec_network.specs.HostSteps.{after}
 use Rattle.spec_network.specs.Hosts.{Step, World}
 use Rattle.spec_tcp.specs.Machine.{tcp, tcp_shape}
-use Rattle.spec_duties.specs.Sights.{sight}
+use Rattle.spec_duties.specs.Observations.{observe}
 use Rattle.spec_duties.specs.Slack.{with_slack}
 
 -- with another slack, a step breaks the same of the model's rules, leads to the same world, and shows the same
@@ -15,4 +15,4 @@ pub record SlackIsNotRead (slack : Option ℕ) (h : Header) : Type 0 where
   pub next : (moment : ℕ) (w : World tcp_shape) (step : Step tcp_shape)
       → after (tcp (with_slack slack h)) moment w step ≡ after (tcp h) moment w step
   pub shows : (moment : ℕ) (w : World tcp_shape) (step : Step tcp_shape)
-      → sight (with_slack slack h) moment w step ≡ sight h moment w step
+      → observe (with_slack slack h) moment w step ≡ observe h moment w step

@@ -12,13 +12,14 @@ ghost use Rattle.spec_network.specs.Tables.{on, pick};
 ghost use Rattle.spec_tcp.specs.Bounds.{most_steps};
 ghost use Rattle.spec_tcp.specs.HostTcp.{given, queue_of};
 ghost use Rattle.spec_tcp.specs.Machine.{aim, tcp, tcp_shape};
-ghost use Rattle.spec_duties.specs.Sights.{accept_sight, accepting, call_sight, close_sight, is_done, on_thing};
-ghost use Rattle.spec_duties.specs.Sights.{opened_sight, other_sight, pending_sight, sight, unseen};
+ghost use Rattle.spec_duties.specs.Observations.{observe_accept, accepting, observe_call, observe_close, is_done};
+ghost use Rattle.spec_duties.specs.Observations.{on_target};
+ghost use Rattle.spec_duties.specs.Observations.{observe_opened, observe_other, observe_pending, observe, unseen};
 
-use crate::sights::{at_next, at_place, touching, unseen};
+use crate::observations::{at_next, at_place, touching, unseen};
 use case_forms::{Answer, Call, Host};
 use endpoint_state::{HostTcp, World};
-use spec_duties::{Event, Queueing, Sight};
+use spec_duties::{Event, Observation, Queueing};
 use spec_tcp::SocketTarget;
 
 fn is_done(answer: &Answer) -> bool
@@ -52,14 +53,14 @@ fn accepting(host: Host, b: &HostTcp, place: u32) -> Queueing
 }
 
 #[inline(always)]
-fn accept_sight(host: Host, b: &HostTcp, answer: &Answer, thing: SocketTarget) -> Sight
-    ensures { result ≡ accept_sight host b.now answer.now thing }
+fn observe_accept(host: Host, b: &HostTcp, answer: &Answer, target: SocketTarget) -> Observation
+    ensures { result ≡ observe_accept host b.now answer.now target }
 {
-    let SocketTarget::ListenerAt(place) = thing else {
+    let SocketTarget::ListenerAt(place) = target else {
         return unseen();
     };
     match answer {
-        Answer::Given(_) => Sight {
+        Answer::Given(_) => Observation {
             queueing: accepting(host, b, place),
             ..unseen()
         },
@@ -79,16 +80,22 @@ fn accept_sight(host: Host, b: &HostTcp, answer: &Answer, thing: SocketTarget) -
 }
 
 #[inline(always)]
-fn close_sight(host: Host, b: &HostTcp, aborts: bool, answer: &Answer, thing: SocketTarget) -> Sight
-    ensures { result ≡ close_sight host b.now aborts answer.now thing }
+fn observe_close(
+    host: Host,
+    b: &HostTcp,
+    aborts: bool,
+    answer: &Answer,
+    target: SocketTarget,
+) -> Observation
+    ensures { result ≡ observe_close host b.now aborts answer.now target }
 {
-    match thing {
+    match target {
         SocketTarget::EndpointAt(place) => {
             touching(at_place(host, b, Event::Calls { aborts }, place))
         }
         SocketTarget::ListenerAt(listener) => {
             if is_done(answer) {
-                Sight {
+                Observation {
                     queueing: Queueing::Closes { host, listener },
                     ..unseen()
                 }
@@ -100,10 +107,10 @@ fn close_sight(host: Host, b: &HostTcp, aborts: bool, answer: &Answer, thing: So
 }
 
 #[inline(always)]
-fn other_sight(host: Host, b: &HostTcp, thing: SocketTarget) -> Sight
-    ensures { result ≡ other_sight host b.now thing }
+fn observe_other(host: Host, b: &HostTcp, target: SocketTarget) -> Observation
+    ensures { result ≡ observe_other host b.now target }
 {
-    match thing {
+    match target {
         SocketTarget::EndpointAt(place) => {
             touching(at_place(host, b, Event::Calls { aborts: false }, place))
         }
@@ -112,9 +119,9 @@ fn other_sight(host: Host, b: &HostTcp, thing: SocketTarget) -> Sight
 }
 
 #[inline(always)]
-fn opened_sight(host: Host, b: &HostTcp, answer: &Answer) -> Sight
+fn observe_opened(host: Host, b: &HostTcp, answer: &Answer) -> Observation
     requires { length b.now.endpoints < 2 ^ 32 }
-    ensures { result ≡ opened_sight host b.now answer.now }
+    ensures { result ≡ observe_opened host b.now answer.now }
 {
     match answer {
         Answer::Given(_) => touching(at_next(host, b, Event::Opens)),
@@ -135,26 +142,26 @@ fn opened_sight(host: Host, b: &HostTcp, answer: &Answer) -> Sight
 
 // A call with this answer, at the host that it applies to.
 #[inline(always)]
-fn call_sight(host: Host, b: &HostTcp, call: &Call, answer: &Answer) -> Sight
+fn observe_call(host: Host, b: &HostTcp, call: &Call, answer: &Answer) -> Observation
     requires { length b.now.endpoints < 2 ^ 32 }
-    ensures { result ≡ call_sight host b.now call.now answer.now }
+    ensures { result ≡ observe_call host b.now call.now answer.now }
 {
     match call {
-        Call::Connect(_, _, _) => opened_sight(host, b, answer),
-        Call::Accept(number) => match b.thing(*number) {
-            Some(thing) => accept_sight(host, b, answer, thing),
+        Call::Connect(_, _, _) => observe_opened(host, b, answer),
+        Call::Accept(number) => match b.target(*number) {
+            Some(target) => observe_accept(host, b, answer, target),
             None => unseen(),
         },
-        Call::Send(number, _) | Call::Shut(number) => match b.thing(*number) {
-            Some(thing) => other_sight(host, b, thing),
+        Call::Send(number, _) | Call::Shut(number) => match b.target(*number) {
+            Some(target) => observe_other(host, b, target),
             None => unseen(),
         },
-        Call::Close(number) => match b.thing(*number) {
-            Some(thing) => close_sight(host, b, false, answer, thing),
+        Call::Close(number) => match b.target(*number) {
+            Some(target) => observe_close(host, b, false, answer, target),
             None => unseen(),
         },
-        Call::Abort(number) => match b.thing(*number) {
-            Some(thing) => close_sight(host, b, is_done(answer), answer, thing),
+        Call::Abort(number) => match b.target(*number) {
+            Some(target) => observe_close(host, b, is_done(answer), answer, target),
             None => unseen(),
         },
         Call::Listen(_, _, _) | Call::Await(_) | Call::Recv(_, _) | Call::Status(_) => unseen(),
@@ -166,20 +173,17 @@ fn giver(world: &World, number: u32) -> Option<Host>
     ensures { result ≡ (if given (pick world.now.world.hosts Zero).body number then Some Zero
         else if given (pick world.now.world.hosts One).body number then Some One else None) }
 {
-    if world.body(Host::Zero).is_given(number) {
-        Some(Host::Zero)
-    } else if world.body(Host::One).is_given(number) {
-        Some(Host::One)
-    } else {
-        None
-    }
+    spec_tcp::giver(
+        world.body(Host::Zero).is_given(number),
+        world.body(Host::One).is_given(number),
+    )
 }
 
 // Whether duties see nothing of the effect of a call, whatever its answer is.
-#[tactic(auto, using(crate::proofs::CallLemmas::no_sight))]
+#[tactic(auto, using(crate::proofs::CallLemmas::observe_no))]
 fn is_unwatched(call: &Call) -> bool
     ensures { IsTrue result → (h : Header) (w : network.World tcp_shape) (answer : Answer)
-        → pending_sight h w answer call.now ≡ unseen }
+        → observe_pending h w answer call.now ≡ unseen }
 {
     match call {
         Call::Listen(_, _, _) | Call::Await(_) | Call::Recv(_, _) | Call::Status(_) => true,
@@ -213,9 +217,9 @@ fn meant(world: &World, call: &Call) -> Option<Host>
 // An open call with this answer, at the host that it applies to.
 #[tactic(auto, using(crate::proofs::PlaceLemmas::places_fit))]
 #[inline(always)]
-fn pending_sight(world: &World, call: &Call, answer: &Answer) -> Sight
+fn observe_pending(world: &World, call: &Call, answer: &Answer) -> Observation
     requires { world.now.steps < most_steps }
-    ensures { (h : Header) → result ≡ pending_sight h world.now.world answer.now call.now }
+    ensures { (h : Header) → result ≡ observe_pending h world.now.world answer.now call.now }
 {
     if is_unwatched(call) {
         return unseen();
@@ -224,18 +228,23 @@ fn pending_sight(world: &World, call: &Call, answer: &Answer) -> Sight
         return unseen();
     };
     world.is_kept();
-    call_sight(host, world.body(host), call, answer)
+    observe_call(host, world.body(host), call, answer)
 }
 
 /// What duties read of the world at the effect of a thread's open call, with this answer.
 #[tactic(auto, using(crate::proofs::CallLemmas::effect_is))]
 #[inline(always)]
-pub(crate) fn sight_of_effect(world: &World, moment: u64, thread: u32, answer: &Answer) -> Sight
+pub(crate) fn observe_effect(
+    world: &World,
+    moment: u64,
+    thread: u32,
+    answer: &Answer,
+) -> Observation
     requires { world.now.steps < most_steps }
-    ensures { result ≡ sight world.now.header moment world.now.world (Effect thread answer.now) }
+    ensures { result ≡ observe world.now.header moment world.now.world (Effect thread answer.now) }
 {
     match world.pending_call(thread) {
-        Some(call) => pending_sight(world, call, answer),
+        Some(call) => observe_pending(world, call, answer),
         None => unseen(),
     }
 }

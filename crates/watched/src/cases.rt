@@ -11,18 +11,18 @@ ghost use Rattle.spec_tcp.specs.Bounds.{most_steps};
 ghost use Rattle.spec_duties.specs.Cases.{after, asked_after, asked_rules, broken_by, judged_rules, late_at_end};
 ghost use Rattle.spec_duties.specs.Cases.{noted_by};
 ghost use Rattle.spec_duties.specs.Cases.{start};
-ghost use Rattle.spec_duties.specs.Sights.{sight};
+ghost use Rattle.spec_duties.specs.Observations.{observe};
 ghost use Rattle.watched.specs.Watched.{IsPlain, case_of, noted};
 
-use crate::calls::sight_of_effect;
-use crate::ending;
-use crate::sights::{
-    sight_of_hidden, sight_of_line, sight_of_making, sight_of_sending, sight_of_taking, view_in,
+use crate::calls::observe_effect;
+use crate::case_end;
+use crate::observations::{
+    observe_hidden, observe_line, observe_making, observe_sending, observe_taking, view_in,
 };
 use case_forms::{Event, Extras, Header, Line, TakenLine};
 use duties::{Duties, judged_slack};
 use endpoint_state::{StepFault, World};
-use spec_duties::Sight;
+use spec_duties::Observation;
 use spec_step::{Hidden, ModelStep};
 use std::alloc::Global;
 use std::marker::Model;
@@ -95,7 +95,7 @@ impl Case {
         ensures { result ≡ late_at_end self.now.header moment self.now.world }
     {
         match self.world.header().slack {
-            Some(slack) => ending::late_at_end(slack, moment, &self.duties, &self.world),
+            Some(slack) => case_end::late_at_end(slack, moment, &self.duties, &self.world),
             None => None,
         }
     }
@@ -103,17 +103,22 @@ impl Case {
 
 // Judges a step that the model did, and notes it if no duty refuses it.
 #[inline(always)]
-fn watch(world: &World, duties: &mut Duties, moment: u64, sight: &Sight) -> Result<(), StepFault>
-    ensures ok { OnOk result (case_of world.now duties.new ≡ noted moment sight.now (case_of world.now duties.old)) }
-    ensures admitted { OnOk result (first_broken (judged_rules world.now.header moment duties.old sight.now) ≡ None) }
+fn watch(
+    world: &World,
+    duties: &mut Duties,
+    moment: u64,
+    seen: &Observation,
+) -> Result<(), StepFault>
+    ensures ok { OnOk result (case_of world.now duties.new ≡ noted moment seen.now (case_of world.now duties.old)) }
+    ensures admitted { OnOk result (first_broken (judged_rules world.now.header moment duties.old seen.now) ≡ None) }
     ensures broken { IfErr result (λ fault. IfBroken fault
-        (λ rule. first_broken (judged_rules world.now.header moment duties.old sight.now) ≡ Some rule)) }
+        (λ rule. first_broken (judged_rules world.now.header moment duties.old seen.now) ≡ Some rule)) }
 {
     let Some(slack) = judged_slack(world.header()) else {
         return Ok(());
     };
-    duties.admits(world.header(), slack, moment, sight)?;
-    duties.note(moment, sight, &view_in(world, &sight.touched))?;
+    duties.admits(world.header(), slack, moment, seen)?;
+    duties.note(moment, seen, &view_in(world, &seen.touched))?;
     Ok(())
 }
 
@@ -125,11 +130,11 @@ fn watch_step<S: ModelStep>(
     duties: &mut Duties,
     moment: u64,
     step: S,
-    seen: &Sight,
+    seen: &Observation,
 ) -> Result<(), StepFault>
     requires steps { world.old.steps < most_steps }
     requires small { S.is_small step }
-    requires seen { seen.now ≡ sight world.old.header moment world.old.world (S.step step) }
+    requires seen { seen.now ≡ observe world.old.header moment world.old.world (S.step step) }
     ensures ok { OnOk result
         (case_of world.new duties.new ≡ after (case_of world.old duties.old) moment (S.step step)) }
     ensures admitted { OnOk result (broken_by (case_of world.old duties.old) moment (S.step step) ≡ None) }
@@ -180,16 +185,16 @@ fn judge_line(
     };
     match taken {
         TakenLine::Sent { host, made, .. } => {
-            let sight = sight_of_sending(world, host, made);
-            watch_step(world, duties, moment, taken, &sight)
+            let seen = observe_sending(world, host, made);
+            watch_step(world, duties, moment, taken, &seen)
         }
         TakenLine::CallBegin { .. }
         | TakenLine::CallEnd { .. }
         | TakenLine::Came { .. }
         | TakenLine::Heard { .. }
         | TakenLine::Expired { .. } => {
-            let sight = sight_of_line(world, moment, &taken);
-            watch_step(world, duties, moment, taken, &sight)
+            let seen = observe_line(world, moment, &taken);
+            watch_step(world, duties, moment, taken, &seen)
         }
     }
 }
@@ -212,20 +217,20 @@ fn judge_hidden(
 {
     match *step {
         Hidden::Effect { thread, answer } => {
-            let sight = sight_of_effect(world, moment, thread, answer);
-            watch_step(world, duties, moment, *step, &sight)
+            let seen = observe_effect(world, moment, thread, answer);
+            watch_step(world, duties, moment, *step, &seen)
         }
         Hidden::Build { host, plan } => {
-            let sight = sight_of_making(world, host, plan, moment);
-            watch_step(world, duties, moment, *step, &sight)
+            let seen = observe_making(world, host, plan, moment);
+            watch_step(world, duties, moment, *step, &seen)
         }
         Hidden::Process { host, line, choice } => {
-            let sight = sight_of_taking(world, host, line, choice, moment);
-            watch_step(world, duties, moment, *step, &sight)
+            let seen = observe_taking(world, host, line, choice, moment);
+            watch_step(world, duties, moment, *step, &seen)
         }
         Hidden::Drop { .. } | Hidden::Reset { .. } | Hidden::Recover { .. } => {
-            let sight = sight_of_hidden(world, moment, step);
-            watch_step(world, duties, moment, *step, &sight)
+            let seen = observe_hidden(world, moment, step);
+            watch_step(world, duties, moment, *step, &seen)
         }
     }
 }

@@ -7,14 +7,14 @@ ghost use Rattle.std.specs.Result.{result_err};
 ghost use Rattle.endpoint_state.specs.Kept.{AreReadable};
 ghost use Rattle.spec_tcp.specs.Arrives.{AtListener, Nobody, taker};
 ghost use Rattle.spec_tcp.specs.HostTcp.{listener_on};
-ghost use Rattle.spec_duties.specs.Dropped.{answering_breaks, discards_at, spared_at_listener, spared_by};
+ghost use Rattle.spec_duties.specs.Dropped.{answering_breaks, discards_at, droppable_at_listener, droppable_by};
 ghost use Rattle.spec_duties.specs.Dropped.{taking_breaks};
 ghost use Rattle.watched.specs.Targets.{taker_at};
 
 use case_forms::{Host, TakeChoice, Version};
 use duties::{Target, discards, is_challenged, meets_closed_window};
 use endpoint_state::{HostTcp, World};
-use spec_duties::Spared;
+use spec_duties::Droppable;
 use spec_tcp::{Arrived, Emission};
 use verdict::Rule;
 
@@ -68,41 +68,41 @@ pub(crate) fn admits_answering(world: &World, host: Host, line: u64) -> Result<(
     world.admits_reset(host, line)
 }
 
-fn spared_at_listener(b: &HostTcp, place: u32) -> Spared
-    ensures { result ≡ spared_at_listener b.now place }
+fn droppable_at_listener(b: &HostTcp, place: u32) -> Droppable
+    ensures { result ≡ droppable_at_listener b.now place }
 {
     match b.listener_at(place) {
-        Some(listener) => Spared::IfFull {
+        Some(listener) => Droppable::IfFull {
             listener: place,
             backlog: listener.backlog,
         },
-        None => Spared::No,
+        None => Droppable::No,
     }
 }
 
-fn spared_at_endpoint(b: &HostTcp, m: &Emission, place: u32) -> Spared
-    ensures { result ≡ spared_by b.now m.now (taker_at b.now (Target.Endpoint place)) }
+fn droppable_at_endpoint(b: &HostTcp, m: &Emission, place: u32) -> Droppable
+    ensures { result ≡ droppable_by b.now m.now (taker_at b.now (Target.Endpoint place)) }
 {
     match b.endpoint_at(place) {
         Some(e) => {
             if is_challenged(e, m) || meets_closed_window(e, m) {
-                Spared::Yes
+                Droppable::Yes
             } else {
-                Spared::No
+                Droppable::No
             }
         }
-        None => Spared::No,
+        None => Droppable::No,
     }
 }
 
 /// Whether what could be processed need not be.
-pub(crate) fn spared_by(b: &HostTcp, m: &Emission, target: Target) -> Spared
-    ensures { result ≡ spared_by b.now m.now (taker_at b.now target) }
+pub(crate) fn droppable_by(b: &HostTcp, m: &Emission, target: Target) -> Droppable
+    ensures { result ≡ droppable_by b.now m.now (taker_at b.now target) }
 {
     match target {
-        Target::Nobody => Spared::No,
-        Target::Listener(place) => spared_at_listener(b, place),
-        Target::Endpoint(place) => spared_at_endpoint(b, m, place),
+        Target::Nobody => Droppable::No,
+        Target::Listener(place) => droppable_at_listener(b, place),
+        Target::Endpoint(place) => droppable_at_endpoint(b, m, place),
     }
 }
 

@@ -8,14 +8,14 @@ ghost use Rattle.spec_tcp.specs.Forgetting.{forget};
 ghost use Rattle.spec_tcp.specs.Machine.{tcp_shape};
 ghost use Rattle.spec_tcp_laws.specs.Ascending.{ascend};
 ghost use Rattle.spec_duties.specs.Cases.{Known, case_rules};
-ghost use Rattle.spec_duties.specs.Sights.{sight};
+ghost use Rattle.spec_duties.specs.Observations.{observe};
 ghost use Rattle.watched.specs.Levels.{CaseJudgedAlike, LessJudgedShowsTheSame};
 ghost use Rattle.watched.specs.Slack.{SlackIsNotRead};
 
 /// Duties read nothing of the world that may be discarded.
 pub fn nothing_discarded_is_seen()
     ensures { (h : Header) (moment : ℕ) (w : World tcp_shape) (step : Step tcp_shape)
-        → sight h moment (forget w) step ≡ sight h moment w step }
+        → observe h moment (forget w) step ≡ observe h moment w step }
 {}
 
 /// The rules of a step, of the model and of duties, are in the order of their numbers.

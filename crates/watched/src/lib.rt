@@ -6,22 +6,22 @@
 //! would copy.
 //!
 //! - `cases`: a case with its duties: each step, and the comparison at the end
-//! - `sights`: what a step shows of the world; `calls`: the same for the effect of a call; `dropped`: for a segment
-//!   that is dropped
-//! - `ending`: what is late at the end; `laws`: what duties read of the world and of the header
+//! - `observations`: what a step shows of the world; `calls`: the same for the effect of a call; `dropped`: for a
+//!   segment that is dropped
+//! - `case_end`: what is late at the end; `laws`: what duties read of the world and of the header
 #![tactic(auto)]
 
 mod calls;
+mod case_end;
 mod cases;
 mod dropped;
-mod ending;
 mod laws;
-mod sights;
+mod observations;
 
+pub use case_end::late_at_end;
 pub use cases::{Case, apply_hidden, take_line};
-pub use ending::late_at_end;
 pub use laws::{
     case_judged_alike, case_rules_ascend, less_judged_shows_the_same, nothing_discarded_is_seen,
     slack_is_not_read,
 };
-pub use sights::{sight_of_hidden, sight_of_line, view_in};
+pub use observations::{observe_hidden, observe_line, view_in};

@@ -1,9 +1,8 @@
 //! The answers that a call may have.
 
-use crate::Done;
 use crate::calls::giver;
 use crate::scene::Scene;
-use case_forms::{Answer, Call, State};
+use case_forms::{Answer, Call, OutOfMemory, State};
 use endpoint_state::{Endpoint, World, call_allowed};
 use plain_words::{AnswerFields, Shown, word_if};
 use spec_tcp::SocketTarget;
@@ -35,7 +34,7 @@ const WORDS: [Answer; 21] = [
 ];
 
 /// Writes the answers that a call may have, with `or` between them.
-pub(crate) fn say_allowed(out: &mut String, scene: &Scene, call: &Call) -> Done {
+pub(crate) fn say_allowed(out: &mut String, scene: &Scene, call: &Call) -> Result<(), OutOfMemory> {
     let (world, start) = (scene.world, out.len());
     say_words(out, world, call)?;
     let or = word_if(start < out.len(), " or");
@@ -65,7 +64,7 @@ pub(crate) fn say_allowed(out: &mut String, scene: &Scene, call: &Call) -> Done 
 }
 
 // Writes those of `WORDS` that a call may have.
-fn say_words(out: &mut String, world: &World, call: &Call) -> Done {
+fn say_words(out: &mut String, world: &World, call: &Call) -> Result<(), OutOfMemory> {
     let start = out.len();
     for answer in &WORDS {
         if call_allowed(world, call, answer).is_ok() {
@@ -79,14 +78,20 @@ fn say_words(out: &mut String, world: &World, call: &Call) -> Done {
 // The endpoint that a socket number names.
 fn endpoint_named(world: &World, socket: u32) -> Option<&Endpoint> {
     let body = world.body(giver(world, socket)?);
-    match body.thing(socket)? {
+    match body.target(socket)? {
         SocketTarget::EndpointAt(place) => body.endpoint_at(place),
         SocketTarget::ListenerAt(_) => None,
     }
 }
 
 // Writes the bytes that `recv` may return, at most this many.
-fn say_bytes(out: &mut String, scene: &Scene, or: &str, endpoint: &Endpoint, most: u16) -> Done {
+fn say_bytes(
+    out: &mut String,
+    scene: &Scene,
+    or: &str,
+    endpoint: &Endpoint,
+    most: u16,
+) -> Result<(), OutOfMemory> {
     let bytes = endpoint
         .stream
         .receive
@@ -94,7 +99,7 @@ fn say_bytes(out: &mut String, scene: &Scene, or: &str, endpoint: &Endpoint, mos
     say_data(out, scene.alloc, or, bytes.as_slice())
 }
 
-fn say_data(out: &mut String, alloc: Global, or: &str, bytes: &[u8]) -> Done {
+fn say_data(out: &mut String, alloc: Global, or: &str, bytes: &[u8]) -> Result<(), OutOfMemory> {
     if bytes.is_empty() {
         return Ok(());
     }

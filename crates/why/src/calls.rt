@@ -1,11 +1,10 @@
 //! The rules of threads and calls.
 
-use crate::Done;
 use crate::allowed::say_allowed;
 use crate::described::describe;
 use crate::scene::{Scene, witness_line};
 use crate::wire::first_difference;
-use case_forms::{Answer, Call, Event, Host, Label};
+use case_forms::{Answer, Call, Event, Host, Label, OutOfMemory};
 use endpoint_state::World;
 use plain_words::{AnswerFields, AnswerWords, CallWords, HostName};
 use spec_tcp::{EndpointId, SocketTarget};
@@ -14,7 +13,11 @@ use spec_tcp::{EndpointId, SocketTarget};
 const SHOWN: usize = 60;
 
 /// Writes the open call of a thread.
-pub(crate) fn describe_thread(out: &mut String, scene: &Scene, thread: u32) -> Done {
+pub(crate) fn describe_thread(
+    out: &mut String,
+    scene: &Scene,
+    thread: u32,
+) -> Result<(), OutOfMemory> {
     let world = scene.world;
     match (world.pending_call(thread), world.given_answer(thread)) {
         (None, None) => writeln!(out, "thread {thread} has no open call"),
@@ -35,7 +38,7 @@ pub(crate) fn describe_thread(out: &mut String, scene: &Scene, thread: u32) -> D
 }
 
 // Writes where the open call began: the last used line that began a call of the thread; 0 if there is none.
-fn say_begun(out: &mut String, scene: &Scene, thread: u32) -> Done {
+fn say_begun(out: &mut String, scene: &Scene, thread: u32) -> Result<(), OutOfMemory> {
     let begun = begun_at(scene, thread);
     write!(
         out,
@@ -65,7 +68,7 @@ fn effect_at(scene: &Scene, thread: u32) -> u64 {
 }
 
 // Writes an answer, and of long data only the length.
-fn say_answer(out: &mut String, answer: &Answer) -> Done {
+fn say_answer(out: &mut String, answer: &Answer) -> Result<(), OutOfMemory> {
     match answer {
         Answer::Bytes(bytes) if SHOWN < bytes.len() => writeln!(out, "{}", AnswerWords(answer)),
         answer => writeln!(out, "{}", AnswerFields(answer)),
@@ -74,7 +77,12 @@ fn say_answer(out: &mut String, answer: &Answer) -> Done {
 
 /// Writes the answer of an `E` line, the thread's call, and the first byte in which its data differs from that of the
 /// effect.
-pub(crate) fn describe_end(out: &mut String, scene: &Scene, thread: u32, answer: &Answer) -> Done {
+pub(crate) fn describe_end(
+    out: &mut String,
+    scene: &Scene,
+    thread: u32,
+    answer: &Answer,
+) -> Result<(), OutOfMemory> {
     out.push_str("the line has the answer")?;
     say_answer(out, answer)?;
     describe_thread(out, scene, thread)?;
@@ -87,7 +95,7 @@ pub(crate) fn describe_end(out: &mut String, scene: &Scene, thread: u32, answer:
 }
 
 /// Where a socket number was returned before.
-pub(crate) fn socket(out: &mut String, scene: &Scene, number: u32) -> Done {
+pub(crate) fn socket(out: &mut String, scene: &Scene, number: u32) -> Result<(), OutOfMemory> {
     if let Some(host) = giver(scene.world, number) {
         let host = HostName(host);
         writeln!(
@@ -99,7 +107,12 @@ pub(crate) fn socket(out: &mut String, scene: &Scene, number: u32) -> Done {
 }
 
 /// What the call refers to, and the answers that it may have.
-pub(crate) fn call_answer(out: &mut String, scene: &Scene, thread: u32, answer: &Answer) -> Done {
+pub(crate) fn call_answer(
+    out: &mut String,
+    scene: &Scene,
+    thread: u32,
+    answer: &Answer,
+) -> Result<(), OutOfMemory> {
     let Some(call) = scene.world.pending_call(thread) else {
         return Ok(());
     };
@@ -112,7 +125,7 @@ pub(crate) fn call_answer(out: &mut String, scene: &Scene, thread: u32, answer: 
 }
 
 // Writes what a call refers to.
-fn describe_object(out: &mut String, scene: &Scene, call: &Call) -> Done {
+fn describe_object(out: &mut String, scene: &Scene, call: &Call) -> Result<(), OutOfMemory> {
     let world = scene.world;
     match call {
         Call::Listen(host, port, _) => match world.body(*host).listener_on(*port) {
@@ -134,26 +147,30 @@ fn describe_object(out: &mut String, scene: &Scene, call: &Call) -> Done {
     }
 }
 
-fn describe_at(out: &mut String, scene: &Scene, host: Host, number: u32) -> Done {
+fn describe_at(
+    out: &mut String,
+    scene: &Scene,
+    host: Host,
+    number: u32,
+) -> Result<(), OutOfMemory> {
     describe(out, scene, EndpointId { host, number })
 }
 
 /// The host that returned a socket number. None: neither did.
 pub(crate) fn giver(world: &World, socket: u32) -> Option<Host> {
-    if world.body(Host::Zero).is_given(socket) {
-        Some(Host::Zero)
-    } else {
-        world.body(Host::One).is_given(socket).then_some(Host::One)
-    }
+    spec_tcp::giver(
+        world.body(Host::Zero).is_given(socket),
+        world.body(Host::One).is_given(socket),
+    )
 }
 
 // Writes what a socket number names at the host that returned it.
-fn describe_named(out: &mut String, scene: &Scene, socket: u32) -> Done {
+fn describe_named(out: &mut String, scene: &Scene, socket: u32) -> Result<(), OutOfMemory> {
     let world = scene.world;
     let Some(host) = giver(world, socket) else {
         return writeln!(out, "socket number {socket} was never returned");
     };
-    match world.body(host).thing(socket) {
+    match world.body(host).target(socket) {
         Some(SocketTarget::EndpointAt(place)) => describe_at(out, scene, host, place),
         Some(SocketTarget::ListenerAt(place)) => describe_listener(out, world, host, place),
         None => writeln!(out, "socket number {socket} was closed or aborted"),
@@ -161,7 +178,12 @@ fn describe_named(out: &mut String, scene: &Scene, socket: u32) -> Done {
 }
 
 // Writes a host's listener.
-fn describe_listener(out: &mut String, world: &World, host: Host, place: u32) -> Done {
+fn describe_listener(
+    out: &mut String,
+    world: &World,
+    host: Host,
+    place: u32,
+) -> Result<(), OutOfMemory> {
     let Some(listener) = world.body(host).listener_at(place) else {
         return Ok(());
     };

@@ -32,7 +32,7 @@ pub(crate) enum Change {
 }
 
 impl Values {
-    pub(crate) fn of(endpoint: &Endpoint) -> Values {
+    pub(crate) fn new(endpoint: &Endpoint) -> Values {
         Values {
             una: endpoint.stream.snd_una,
             sent: endpoint.snd_max(),

@@ -1,9 +1,8 @@
 //! An endpoint in words.
 
-use crate::Done;
 use crate::owed::describe_owed;
 use crate::scene::Scene;
-use case_forms::Host;
+use case_forms::{Host, OutOfMemory};
 use endpoint_state::Endpoint;
 use line_fields::state_name;
 use plain_words::{HostName, word_if};
@@ -13,7 +12,12 @@ use spec_tcp::EndpointId;
 const UNSET: u32 = u32::MAX;
 
 /// Writes that a host has no endpoint with these ports.
-pub(crate) fn no_endpoint(out: &mut String, host: Host, lport: u16, rport: u16) -> Done {
+pub(crate) fn no_endpoint(
+    out: &mut String,
+    host: Host,
+    lport: u16,
+    rport: u16,
+) -> Result<(), OutOfMemory> {
     let host = HostName(host);
     writeln!(
         out,
@@ -28,7 +32,7 @@ pub(crate) fn describe_ports(
     host: Host,
     lport: u16,
     rport: u16,
-) -> Done {
+) -> Result<(), OutOfMemory> {
     match scene.world.body(host).place_of(lport, rport) {
         Some(number) => describe(out, scene, EndpointId { host, number }),
         None => no_endpoint(out, host, lport, rport),
@@ -36,7 +40,7 @@ pub(crate) fn describe_ports(
 }
 
 /// Writes the values of an endpoint that rules compare, as they are before the step or after the last one.
-pub(crate) fn describe(out: &mut String, scene: &Scene, id: EndpointId) -> Done {
+pub(crate) fn describe(out: &mut String, scene: &Scene, id: EndpointId) -> Result<(), OutOfMemory> {
     let Some(endpoint) = scene.world.body(id.host).endpoint_at(id.number) else {
         return Ok(());
     };
@@ -52,14 +56,14 @@ pub(crate) fn describe(out: &mut String, scene: &Scene, id: EndpointId) -> Done 
     describe_owed(out, scene, id, endpoint)
 }
 
-fn describe_values(out: &mut String, endpoint: &Endpoint) -> Done {
+fn describe_values(out: &mut String, endpoint: &Endpoint) -> Result<(), OutOfMemory> {
     describe_sending(out, endpoint)?;
     describe_receiving(out, endpoint)?;
     describe_windows(out, endpoint)?;
     describe_timers(out, endpoint)
 }
 
-fn describe_sending(out: &mut String, endpoint: &Endpoint) -> Done {
+fn describe_sending(out: &mut String, endpoint: &Endpoint) -> Result<(), OutOfMemory> {
     let (stream, recover) = (&endpoint.stream, endpoint.recover);
     let (una, sent, accepted) = (stream.snd_una, endpoint.snd_max(), stream.accepted.end());
     let ended = word_if(stream.ended, ", sending has ended");
@@ -71,7 +75,7 @@ fn describe_sending(out: &mut String, endpoint: &Endpoint) -> Done {
 }
 
 // Before the peer's SYN, which has position 0, there is nothing to acknowledge and no window to advertise.
-fn describe_receiving(out: &mut String, endpoint: &Endpoint) -> Done {
+fn describe_receiving(out: &mut String, endpoint: &Endpoint) -> Result<(), OutOfMemory> {
     let (next, edge) = (endpoint.rcv_nxt(), endpoint.window.rcv_adv);
     if next == 0 {
         return out.push_str("  receiving: no SYN received yet\n");
@@ -79,7 +83,7 @@ fn describe_receiving(out: &mut String, endpoint: &Endpoint) -> Done {
     writeln!(out, "  receiving: RCV.NXT {next}, advertised up to {edge}")
 }
 
-fn describe_windows(out: &mut String, endpoint: &Endpoint) -> Done {
+fn describe_windows(out: &mut String, endpoint: &Endpoint) -> Result<(), OutOfMemory> {
     let (wnd, values) = (endpoint.window.snd_wnd, &endpoint.control.values);
     let (cwnd, smss, dup) = (values.cwnd, values.smss, values.dup);
     write!(out, "  windows: SND.WND {wnd}, cwnd {cwnd}, ssthresh ")?;
@@ -95,7 +99,7 @@ fn describe_windows(out: &mut String, endpoint: &Endpoint) -> Done {
     out.push_str("\n")
 }
 
-fn describe_timers(out: &mut String, endpoint: &Endpoint) -> Done {
+fn describe_timers(out: &mut String, endpoint: &Endpoint) -> Result<(), OutOfMemory> {
     let timers = &endpoint.timers;
     write!(out, "  timers: RTO {}", timers.rto)?;
     for (name, armed) in [

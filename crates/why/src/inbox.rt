@@ -1,17 +1,21 @@
 //! The segments in an inbox, and which of them a reset may answer.
 
-use crate::Done;
 use crate::described::{describe_ports, no_endpoint};
 use crate::numbers::ack_of_syn;
 use crate::scene::{Scene, witness_line};
-use case_forms::{Event, Host, Label};
+use case_forms::{Event, Host, Label, OutOfMemory};
 use endpoint_state::Endpoint;
 use line_fields::state_name;
 use plain_words::{FlagWords, HostName, word_if};
 use spec_tcp::Emission;
 
 /// Writes the segment of a line in an inbox, and its endpoint, or why it isn't there.
-pub(crate) fn describe_arrival(out: &mut String, scene: &Scene, host: Host, line: u64) -> Done {
+pub(crate) fn describe_arrival(
+    out: &mut String,
+    scene: &Scene,
+    host: Host,
+    line: u64,
+) -> Result<(), OutOfMemory> {
     match scene.world.waiting(host, line) {
         Some(m) => describe_waiting(out, scene, host, m),
         None => nothing_waits(out, scene, host, line),
@@ -19,7 +23,12 @@ pub(crate) fn describe_arrival(out: &mut String, scene: &Scene, host: Host, line
 }
 
 // In a half case a segment has no positions unless an endpoint reads it; then its numbers are written.
-fn describe_waiting(out: &mut String, scene: &Scene, host: Host, m: &Emission) -> Done {
+fn describe_waiting(
+    out: &mut String,
+    scene: &Scene,
+    host: Host,
+    m: &Emission,
+) -> Result<(), OutOfMemory> {
     match scene.taker(host, m) {
         Some(endpoint) => {
             let read = scene.as_read(endpoint, m);
@@ -39,7 +48,7 @@ fn describe_waiting(out: &mut String, scene: &Scene, host: Host, m: &Emission) -
 }
 
 // A segment, by the position at which it begins and the one that it acknowledges.
-fn by_positions(out: &mut String, m: &Emission, pos: u64, ack: u64) -> Done {
+fn by_positions(out: &mut String, m: &Emission, pos: u64, ack: u64) -> Result<(), OutOfMemory> {
     let (flags, len, window) = (m.flags, m.payload.len(), m.window);
     write!(out, "the segment: position {pos}, {len} bytes,")?;
     out.push_str(word_if(flags.syn, " SYN"))?;
@@ -50,7 +59,7 @@ fn by_positions(out: &mut String, m: &Emission, pos: u64, ack: u64) -> Done {
 }
 
 // A segment, by the numbers in its header.
-fn by_numbers(out: &mut String, m: &Emission) -> Done {
+fn by_numbers(out: &mut String, m: &Emission) -> Result<(), OutOfMemory> {
     let (flags, seq) = (FlagWords(m.flags), m.seq.0);
     let (ack, len) = (m.ack_seq.0, m.payload.len());
     writeln!(
@@ -60,7 +69,12 @@ fn by_numbers(out: &mut String, m: &Emission) -> Done {
 }
 
 // Writes why the segment of a line isn't in the inbox.
-fn nothing_waits(out: &mut String, scene: &Scene, host: Host, line: u64) -> Done {
+fn nothing_waits(
+    out: &mut String,
+    scene: &Scene,
+    host: Host,
+    line: u64,
+) -> Result<(), OutOfMemory> {
     let name = HostName(host);
     write!(
         out,
@@ -99,7 +113,12 @@ fn emptied_at(scene: &Scene, at: Host, number: u64) -> u64 {
 }
 
 /// Writes why no reset may answer a segment.
-pub(crate) fn unanswerable(out: &mut String, scene: &Scene, host: Host, m: &Emission) -> Done {
+pub(crate) fn unanswerable(
+    out: &mut String,
+    scene: &Scene,
+    host: Host,
+    m: &Emission,
+) -> Result<(), OutOfMemory> {
     if m.flags.rst {
         return out.push_str("a reset is never answered\n");
     }
@@ -115,7 +134,12 @@ pub(crate) fn unanswerable(out: &mut String, scene: &Scene, host: Host, m: &Emis
     }
 }
 
-fn unanswerable_at(out: &mut String, scene: &Scene, endpoint: &Endpoint, m: &Emission) -> Done {
+fn unanswerable_at(
+    out: &mut String,
+    scene: &Scene,
+    endpoint: &Endpoint,
+    m: &Emission,
+) -> Result<(), OutOfMemory> {
     write!(out, "in {} ", state_name(endpoint.state))?;
     if !endpoint.state.is_syn_sent() && !endpoint.state.is_syn_received() {
         return out.push_str(

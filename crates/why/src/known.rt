@@ -1,12 +1,11 @@
 //! What usually causes a step to break a rule, by what is known at the step.
 
-use crate::Done;
-use crate::fitting::say_fitting;
-use crate::processing::acknowledges_more;
+use crate::arrivals::acknowledges_more;
+use crate::other_windows::say_fitting;
 use crate::scene::{Building, Object, Processing, Scene};
-use case_forms::{Call, Judged, Timer, Wire};
+use case_forms::{Call, Judged, OutOfMemory, Timer, Wire};
 use plain_words::{Known, about};
-use replayed::{Reason, misplaced};
+use replayed::{Reason, old_data_reason};
 use spec_tcp::Emission;
 use verdict::Rule;
 
@@ -20,7 +19,12 @@ pub enum Origin {
 }
 
 /// Writes the usual causes, after the other windows that the segment would fit.
-pub(crate) fn say_cause(out: &mut String, scene: &Scene, rule: Rule, origin: Origin) -> Done {
+pub(crate) fn say_cause(
+    out: &mut String,
+    scene: &Scene,
+    rule: Rule,
+    origin: Origin,
+) -> Result<(), OutOfMemory> {
     say_fitting(out, scene, rule)?;
     let about = about(rule);
     let (usual, captured) = match about.special.iter().find(|known| is_known(scene, **known)) {
@@ -88,8 +92,11 @@ fn is_known_of(it: Building, is_none: bool, known: Known) -> bool {
     match known {
         Known::Building => true,
         Known::TimeWait => endpoint.state.is_time_wait(),
-        Known::Gap => matches!(misplaced(endpoint, it.plan), Reason::Gap { .. }),
-        Known::Acknowledged => matches!(misplaced(endpoint, it.plan), Reason::Acknowledged { .. }),
+        Known::Gap => matches!(old_data_reason(endpoint, it.plan), Reason::Gap { .. }),
+        Known::Acknowledged => matches!(
+            old_data_reason(endpoint, it.plan),
+            Reason::Acknowledged { .. }
+        ),
         Known::OutstandingAtNone => is_none && endpoint.is_up(),
         Known::SynAtNone => is_none && !endpoint.is_up(),
         Known::Oversized => endpoint.control.values.smss < u32::from(it.plan.len),

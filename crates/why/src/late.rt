@@ -1,14 +1,13 @@
 //! The rules of duties that are late, at a step or after the last one.
 
-use crate::Done;
 use crate::described::describe;
 use crate::scene::{Object, Scene};
-use case_forms::Label;
+use case_forms::{Label, OutOfMemory};
 use plain_words::about;
 use replayed::Refusal;
 
 /// Writes which duty is late after the last step, if one is, and the endpoint whose it is.
-pub(crate) fn describe_end(out: &mut String, scene: &Scene) -> Done {
+pub(crate) fn describe_end(out: &mut String, scene: &Scene) -> Result<(), OutOfMemory> {
     let Refusal::Late { rule, .. } = scene.refusal() else {
         return Ok(());
     };
@@ -26,7 +25,7 @@ late: {refused}"
 
 /// Writes the endpoint that the step touches, if that is the effect of a call or a segment that is sent. For any other
 /// step it was written before.
-pub(crate) fn describe_touched(out: &mut String, scene: &Scene) -> Done {
+pub(crate) fn describe_touched(out: &mut String, scene: &Scene) -> Result<(), OutOfMemory> {
     let is_unwritten = matches!(scene.object(), Object::Effect(..) | Object::Sent(..));
     match scene.touched {
         Some(id) if is_unwritten => describe(out, scene, id),
@@ -35,7 +34,7 @@ pub(crate) fn describe_touched(out: &mut String, scene: &Scene) -> Done {
 }
 
 /// Since when the segment waits in the inbox, and when it was due.
-pub(crate) fn waiting(out: &mut String, scene: &Scene) -> Done {
+pub(crate) fn waiting(out: &mut String, scene: &Scene) -> Result<(), OutOfMemory> {
     let line = waiting_line(scene);
     let Some(since) = scene.duties.waiting_since(line) else {
         return Ok(());
@@ -54,7 +53,7 @@ fn waiting_line(scene: &Scene) -> u64 {
 }
 
 /// When the segment was built that the step sends, and when it was due.
-pub(crate) fn built(out: &mut String, scene: &Scene, number: u32) -> Done {
+pub(crate) fn built(out: &mut String, scene: &Scene, number: u32) -> Result<(), OutOfMemory> {
     describe_touched(out, scene)?;
     let Some(since) = scene.duties.built_since(number) else {
         return Ok(());
@@ -64,7 +63,7 @@ pub(crate) fn built(out: &mut String, scene: &Scene, number: u32) -> Done {
 }
 
 /// What an endpoint owes, and when it was due.
-pub(crate) fn owed(out: &mut String, scene: &Scene) -> Done {
+pub(crate) fn owed(out: &mut String, scene: &Scene) -> Result<(), OutOfMemory> {
     describe_touched(out, scene)?;
     match scene.debtor {
         Some(debtor) => say_due(out, scene, debtor.debt.what, debtor.debt.due),
@@ -73,7 +72,7 @@ pub(crate) fn owed(out: &mut String, scene: &Scene) -> Done {
 }
 
 // When something was due, without and with the slack, and the moment that is too late.
-fn say_due(out: &mut String, scene: &Scene, what: &str, due: u128) -> Done {
+fn say_due(out: &mut String, scene: &Scene, what: &str, due: u128) -> Result<(), OutOfMemory> {
     let slack = u128::from(scene.header().slack.unwrap_or(0));
     let latest = due.saturating_add(slack);
     write!(out, "{what} was due by {due}, with the slack by {latest}; ")?;

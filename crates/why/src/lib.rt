@@ -4,31 +4,31 @@
 //! The values that a rule compares come from the world of `endpoint_state` and from the functions that the rules call.
 //! Each function is proved only to be safe and to return.
 //!
-//! - `explain`, `Said`, `Origin`: a case in words
+//! - `explain`, `Explanation`, `Origin`: a case in words
 //!
 //! Private modules:
 //!
-//! - `explaining`: the verdict's line, and what the refused step is about; `comparing`: what each rule compares there
+//! - `explanation`: the verdict's line, and what the refused step is about; `comparison`: what each rule compares there
 //! - `marks`: a line with a fault, and a mark under its columns
 //! - `scene`: the world before the refused step, and what the step is about
 //! - `described`: an endpoint in words; `owed`: what it owes; `inbox`: a received segment in words
-//! - `order`, `calls`, `building`, `wire`, `processing`, `numbers`, `timers`: what the rules compare; `late`, `limits`:
+//! - `order`, `calls`, `builds`, `wire`, `arrivals`, `numbers`, `timers`: what the rules compare; `late`, `limits`:
 //!   the same for duties
 //! - `allowed`: the answers that a call may have
 //! - `known`: what is known at the step of the causes of its rule
-//! - `fitting`, `segment_window`, `changes`: the other windows that a segment would fit, kept while the case is
+//! - `other_windows`, `segment_window`, `changes`: the other windows that a segment would fit, kept while the case is
 //!   replayed
 //! - `unjudged`: the level that leaves a refusal unjudged
 #![tactic(auto)]
 
 mod allowed;
-mod building;
+mod arrivals;
+mod builds;
 mod calls;
 mod changes;
-mod comparing;
+mod comparison;
 mod described;
-mod explaining;
-mod fitting;
+mod explanation;
 mod inbox;
 mod known;
 mod late;
@@ -36,17 +36,13 @@ mod limits;
 mod marks;
 mod numbers;
 mod order;
+mod other_windows;
 mod owed;
-mod processing;
 mod scene;
 mod segment_window;
 mod timers;
 mod unjudged;
 mod wire;
 
-use case_forms::OutOfMemory;
-pub use explaining::{Said, explain};
+pub use explanation::{Explanation, explain};
 pub use known::Origin;
-
-/// What a function that writes returns. If memory runs out, part of a line may have been written.
-pub(crate) type Done = Result<(), OutOfMemory>;

@@ -1,9 +1,8 @@
 //! The limits: what may be dropped or discarded, and how often something is sent.
 
-use crate::Done;
 use crate::late::describe_touched;
 use crate::scene::{Building, Scene};
-use case_forms::{Label, TakeChoice};
+use case_forms::{Label, OutOfMemory, TakeChoice};
 use endpoint_state::Endpoint;
 use spec_duties::Owed;
 use spec_tcp::Arrived;
@@ -16,7 +15,7 @@ const LEAST: TakeChoice = TakeChoice {
 };
 
 /// Why the segment of a line may not be dropped.
-pub(crate) fn dropped(out: &mut String, scene: &Scene) -> Done {
+pub(crate) fn dropped(out: &mut String, scene: &Scene) -> Result<(), OutOfMemory> {
     let Some(Label::K { host, line }) = scene.label() else {
         return Ok(());
     };
@@ -31,7 +30,11 @@ pub(crate) fn dropped(out: &mut String, scene: &Scene) -> Done {
 }
 
 /// What is next in order, and where the receive window ends.
-pub(crate) fn discarded(out: &mut String, endpoint: &Endpoint, m: &Arrived) -> Done {
+pub(crate) fn discarded(
+    out: &mut String,
+    endpoint: &Endpoint,
+    m: &Arrived,
+) -> Result<(), OutOfMemory> {
     let (first, length) = (m.pos(), m.length());
     let (next, edge) = (endpoint.rcv_nxt(), endpoint.window.rcv_adv);
     writeln!(
@@ -42,7 +45,7 @@ ends before {edge}, and the step doesn't keep it"
 }
 
 /// Where the segment begins, and up to where data was sent again already.
-pub(crate) fn resent(out: &mut String, scene: &Scene, it: Building) -> Done {
+pub(crate) fn resent(out: &mut String, scene: &Scene, it: Building) -> Result<(), OutOfMemory> {
     let Some(Owed { again, .. }) = owed_by_touched(scene) else {
         return Ok(());
     };
@@ -54,7 +57,7 @@ pub(crate) fn resent(out: &mut String, scene: &Scene, it: Building) -> Done {
 }
 
 /// For how many segments an acknowledgment may still be sent.
-pub(crate) fn ack_excess(out: &mut String, scene: &Scene) -> Done {
+pub(crate) fn ack_excess(out: &mut String, scene: &Scene) -> Result<(), OutOfMemory> {
     describe_touched(out, scene)?;
     let Some(Owed { answers, .. }) = owed_by_touched(scene) else {
         return Ok(());

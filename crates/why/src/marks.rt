@@ -1,6 +1,5 @@
 //! A line of a text that can't be read, with a mark under its columns.
 
-use crate::Done;
 use case_forms::OutOfMemory;
 use line_fields::{FaultKind, TextFault};
 use plain_words::{Shown, is_shown};
@@ -14,7 +13,7 @@ const BEFORE: usize = 60;
 const SHOWN: usize = 110;
 
 /// Writes the line with the fault, and a mark under its columns.
-pub(crate) fn mark(out: &mut String, text: &[u8], fault: &TextFault) -> Done {
+pub(crate) fn mark(out: &mut String, text: &[u8], fault: &TextFault) -> Result<(), OutOfMemory> {
     let meaning = meaning(fault.kind);
     let Some(line) = line_at(text, fault.span.line) else {
         return writeln!(out, "the text ends before this line: {meaning}");
@@ -31,7 +30,7 @@ pub(crate) fn mark(out: &mut String, text: &[u8], fault: &TextFault) -> Done {
 }
 
 // Writes a space under each column of the bytes shown, and a tab under a tab.
-fn push_blank(out: &mut String, bytes: &[u8]) -> Done {
+fn push_blank(out: &mut String, bytes: &[u8]) -> Result<(), OutOfMemory> {
     for byte in bytes {
         out.push_str(match *byte {
             b'\t' => "\t",
@@ -43,7 +42,7 @@ fn push_blank(out: &mut String, bytes: &[u8]) -> Done {
 }
 
 // Writes marks under the first `count` of the bytes shown; one mark if there are none.
-fn push_marks(out: &mut String, bytes: &[u8], count: usize) -> Done {
+fn push_marks(out: &mut String, bytes: &[u8], count: usize) -> Result<(), OutOfMemory> {
     let start = out.len();
     for byte in bytes.iter().take(count) {
         out.push_str(if is_shown(*byte) { "^" } else { "^^^^" })?;

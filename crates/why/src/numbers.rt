@@ -1,8 +1,7 @@
 //! Numbers of a received segment as positions, and the ranges that the rules require.
 
-use crate::Done;
 use crate::scene::Scene;
-use case_forms::POSITIONS;
+use case_forms::{OutOfMemory, POSITIONS};
 use endpoint_state::Endpoint;
 use plain_words::word_if;
 use seqno::{Word, read_near};
@@ -18,7 +17,13 @@ fn position(number: Word, near: u64, base: Option<Word>) -> Option<u64> {
 }
 
 // Writes the position that a number reads as.
-fn reading(out: &mut String, name: &str, number: Word, near: u64, base: Option<Word>) -> Done {
+fn reading(
+    out: &mut String,
+    name: &str,
+    number: Word,
+    near: u64,
+    base: Option<Word>,
+) -> Result<(), OutOfMemory> {
     write!(out, "its {name} {} reads near {near} as ", number.0)?;
     match position(number, near, base) {
         Some(place) => write!(out, "position {place}"),
@@ -27,7 +32,12 @@ fn reading(out: &mut String, name: &str, number: Word, near: u64, base: Option<W
 }
 
 /// The positions that both numbers read as. Without a half case, also those that the segment was built with.
-pub(crate) fn misread(out: &mut String, scene: &Scene, endpoint: &Endpoint, m: &Arrived) -> Done {
+pub(crate) fn misread(
+    out: &mut String,
+    scene: &Scene,
+    endpoint: &Endpoint,
+    m: &Arrived,
+) -> Result<(), OutOfMemory> {
     let half = scene.header().version.is_half();
     let (next, irs) = (endpoint.rcv_nxt(), endpoint.irs);
     reading(out, "sequence number", m.seq(), next, irs)?;
@@ -43,7 +53,7 @@ pub(crate) fn misread(out: &mut String, scene: &Scene, endpoint: &Endpoint, m: &
     built_with(out, half, m.ack())
 }
 
-fn built_with(out: &mut String, half: bool, position: u64) -> Done {
+fn built_with(out: &mut String, half: bool, position: u64) -> Result<(), OutOfMemory> {
     if half {
         out.push_str("\n")
     } else {
@@ -52,7 +62,11 @@ fn built_with(out: &mut String, half: bool, position: u64) -> Done {
 }
 
 /// The positions that a segment occupies, and the receive window.
-pub(crate) fn unacceptable(out: &mut String, endpoint: &Endpoint, m: &Arrived) -> Done {
+pub(crate) fn unacceptable(
+    out: &mut String,
+    endpoint: &Endpoint,
+    m: &Arrived,
+) -> Result<(), OutOfMemory> {
     if m.flags().syn && !m.flags().rst {
         return out.push_str(
             "it has a SYN, which is acceptable only in SYN-RECEIVED, at position 0 and with ACK\n",
@@ -77,7 +91,11 @@ pub(crate) fn unacceptable(out: &mut String, endpoint: &Endpoint, m: &Arrived) -
 }
 
 /// The position that a segment acknowledges, and those that it may.
-pub(crate) fn ack_range(out: &mut String, endpoint: &Endpoint, m: &Arrived) -> Done {
+pub(crate) fn ack_range(
+    out: &mut String,
+    endpoint: &Endpoint,
+    m: &Arrived,
+) -> Result<(), OutOfMemory> {
     if !m.flags().ack {
         return out.push_str(
             "it has no ACK, which a reset needs in SYN-SENT and any other segment always\n",
@@ -98,7 +116,11 @@ pub(crate) fn ack_range(out: &mut String, endpoint: &Endpoint, m: &Arrived) -> D
 }
 
 /// The acknowledgment number, and the one that acknowledges the endpoint's own SYN.
-pub(crate) fn ack_of_syn(out: &mut String, endpoint: &Endpoint, m: &Arrived) -> Done {
+pub(crate) fn ack_of_syn(
+    out: &mut String,
+    endpoint: &Endpoint,
+    m: &Arrived,
+) -> Result<(), OutOfMemory> {
     write!(out, "its acknowledgment number is {}; ", m.ack_seq().0)?;
     match endpoint.iss {
         Some(iss) => writeln!(

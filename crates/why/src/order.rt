@@ -1,11 +1,10 @@
 //! The rules of the order of lines.
 
-use crate::Done;
 use crate::scene::Scene;
-use case_forms::{Event, Line, NamedLine, Timer};
+use case_forms::{Event, Line, NamedLine, OutOfMemory, Timer};
 
 /// A line that the trace doesn't have, or extra numbers that it can't have.
-pub(crate) fn line_range(out: &mut String, scene: &Scene) -> Done {
+pub(crate) fn line_range(out: &mut String, scene: &Scene) -> Result<(), OutOfMemory> {
     let NamedLine { number, extras } = scene.named();
     match scene.line(number) {
         Some(line) => extras_off(out, scene, line, extras.count()),
@@ -13,12 +12,12 @@ pub(crate) fn line_range(out: &mut String, scene: &Scene) -> Done {
     }
 }
 
-fn extras_off(out: &mut String, scene: &Scene, line: &Line, count: u8) -> Done {
+fn extras_off(out: &mut String, scene: &Scene, line: &Line, count: u8) -> Result<(), OutOfMemory> {
     let wanted = wanted(line, scene.header().version.is_half());
     writeln!(out, "extra numbers in the step: {count}; {wanted}")
 }
 
-fn no_line(out: &mut String, scene: &Scene, number: u64) -> Done {
+fn no_line(out: &mut String, scene: &Scene, number: u64) -> Result<(), OutOfMemory> {
     let (count, first) = (scene.lines().len(), scene.header().first_event_line());
     writeln!(
         out,
@@ -40,7 +39,7 @@ fn wanted(line: &Line, half: bool) -> &'static str {
 }
 
 /// A line that was used before.
-pub(crate) fn line_again(out: &mut String, scene: &Scene) -> Done {
+pub(crate) fn line_again(out: &mut String, scene: &Scene) -> Result<(), OutOfMemory> {
     let number = scene.named().number;
     let step = scene.used_by(number).unwrap_or(0);
     writeln!(
@@ -50,7 +49,7 @@ pub(crate) fn line_again(out: &mut String, scene: &Scene) -> Done {
 }
 
 /// The first earlier line of the same thread that isn't used yet.
-pub(crate) fn thread_order(out: &mut String, scene: &Scene) -> Done {
+pub(crate) fn thread_order(out: &mut String, scene: &Scene) -> Result<(), OutOfMemory> {
     let number = scene.named().number;
     let Some(line) = scene.line(number) else {
         return Ok(());
@@ -74,7 +73,7 @@ fn earlier_line(scene: &Scene, number: u64, thread: u32) -> u64 {
 }
 
 /// The moment of the step, next to that of the step before it.
-pub(crate) fn moment_falls(out: &mut String, scene: &Scene) -> Done {
+pub(crate) fn moment_falls(out: &mut String, scene: &Scene) -> Result<(), OutOfMemory> {
     let (moment, last) = (scene.moment(), scene.last_moment());
     writeln!(
         out,
@@ -83,7 +82,7 @@ pub(crate) fn moment_falls(out: &mut String, scene: &Scene) -> Done {
 }
 
 /// When a line may be used.
-pub(crate) fn moment_off(out: &mut String, scene: &Scene) -> Done {
+pub(crate) fn moment_off(out: &mut String, scene: &Scene) -> Result<(), OutOfMemory> {
     let Some(line) = scene.line(scene.named().number) else {
         return Ok(());
     };
@@ -96,7 +95,7 @@ pub(crate) fn moment_off(out: &mut String, scene: &Scene) -> Done {
 }
 
 /// The first line that had to be used before the step's moment.
-pub(crate) fn overdue(out: &mut String, scene: &Scene) -> Done {
+pub(crate) fn overdue(out: &mut String, scene: &Scene) -> Result<(), OutOfMemory> {
     let (moment, skew) = (scene.moment(), scene.header().skew);
     let Some(line) = overdue_line(scene, skew, moment) else {
         return Ok(());
@@ -119,7 +118,7 @@ fn overdue_line<'c>(scene: &Scene<'c>, skew: u64, moment: u64) -> Option<&'c Lin
 }
 
 /// The event lines that no step used.
-pub(crate) fn unplaced(out: &mut String, scene: &Scene) -> Done {
+pub(crate) fn unplaced(out: &mut String, scene: &Scene) -> Result<(), OutOfMemory> {
     let (steps, all) = (scene.before.len(), scene.lines().len());
     let unused = all.saturating_sub(scene.used.len());
     writeln!(

@@ -1,7 +1,7 @@
 //! What an endpoint owes.
 
-use crate::Done;
 use crate::scene::Scene;
+use case_forms::OutOfMemory;
 use endpoint_state::Endpoint;
 use plain_words::word_if;
 use replayed::{Debt, debts_of};
@@ -13,7 +13,7 @@ pub(crate) fn describe_owed(
     scene: &Scene,
     id: EndpointId,
     endpoint: &Endpoint,
-) -> Done {
+) -> Result<(), OutOfMemory> {
     let Some(slack) = scene.header().slack else {
         return Ok(());
     };
@@ -27,7 +27,7 @@ pub(crate) fn describe_owed(
     }
 }
 
-fn say_debts(out: &mut String, debts: &[Option<Debt>]) -> Done {
+fn say_debts(out: &mut String, debts: &[Option<Debt>]) -> Result<(), OutOfMemory> {
     let start = out.len();
     for debt in debts {
         if let Some(debt) = debt {
@@ -38,7 +38,7 @@ fn say_debts(out: &mut String, debts: &[Option<Debt>]) -> Done {
     Ok(())
 }
 
-fn say_debt(out: &mut String, debt: &Debt) -> Done {
+fn say_debt(out: &mut String, debt: &Debt) -> Result<(), OutOfMemory> {
     write!(out, " {} since {}, ", debt.what, debt.since)?;
     if debt.is_due_at_once() {
         return out.push_str("due at once");

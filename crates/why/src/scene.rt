@@ -1,6 +1,6 @@
 //! A case up to the refused step: the world before it, and what the step is about.
 
-use crate::fitting::OtherWindows;
+use crate::other_windows::OtherWindows;
 use case_forms::{
     Answer, Event, Extras, Header, Host, Label, Line, NamedLine, Recovery, SegmentPlan, Step,
     TakeChoice, Timer, Wire,
@@ -30,7 +30,7 @@ impl<'c> Past<'c> {
             alloc,
             replay: Replay::new(alloc, case),
             used: BTreeMap::new(alloc),
-            others: OtherWindows::of(alloc, case.refused_step()),
+            others: OtherWindows::from_step(alloc, case.refused_step()),
         }
     }
 

@@ -1,7 +1,7 @@
 //! A congestion window that counts segments of any size, like that of Linux.
 
-use crate::Done;
 use crate::changes::{Change, Values};
+use case_forms::OutOfMemory;
 use std::alloc::Global;
 
 /// RFC 5681 with counts in segments. In slow start, the window grows by all segments that an acknowledgment covers.
@@ -31,7 +31,12 @@ impl SegmentWindow {
     }
 
     /// Follows an endpoint through a change from the values before a step to those after it.
-    pub(crate) fn follow(&mut self, change: Change, before: &Values, after: &Values) -> Done {
+    pub(crate) fn follow(
+        &mut self,
+        change: Change,
+        before: &Values,
+        after: &Values,
+    ) -> Result<(), OutOfMemory> {
         if after.sent < before.sent {
             // A new connection begins with no segment.
             self.ends.clear();

@@ -1,14 +1,13 @@
 //! The rules of expiries and of fast recovery.
 
-use crate::Done;
 use crate::scene::{Expiring, Scene};
-use case_forms::{Extras, Recovery, Timer};
+use case_forms::{Extras, OutOfMemory, Recovery, Timer};
 use endpoint::{greatest_recovery, greatest_values};
 use endpoint_state::Endpoint;
 use plain_words::word_if;
 
 /// The windows chosen at an expiry of rto, next to the greatest ones.
-pub(crate) fn growth(out: &mut String, scene: &Scene, it: Expiring) -> Done {
+pub(crate) fn growth(out: &mut String, scene: &Scene, it: Expiring) -> Result<(), OutOfMemory> {
     let Extras::Two(cwnd, ssthresh) = scene.named().extras else {
         return Ok(());
     };
@@ -26,7 +25,7 @@ pub(crate) fn growth(out: &mut String, scene: &Scene, it: Expiring) -> Done {
 }
 
 /// Why a timer can't expire at all.
-pub(crate) fn off(out: &mut String, it: Expiring) -> Done {
+pub(crate) fn off(out: &mut String, it: Expiring) -> Result<(), OutOfMemory> {
     match it.timer {
         Timer::Rto => {
             let (una, sent) = (it.endpoint.stream.snd_una, it.endpoint.snd_max());
@@ -41,7 +40,7 @@ pub(crate) fn off(out: &mut String, it: Expiring) -> Done {
     }
 }
 
-fn persist_off(out: &mut String, endpoint: &Endpoint) -> Done {
+fn persist_off(out: &mut String, endpoint: &Endpoint) -> Result<(), OutOfMemory> {
     let (stream, wnd) = (&endpoint.stream, endpoint.window.snd_wnd);
     if endpoint.timers.persist_armed.is_none() {
         return writeln!(
@@ -66,7 +65,7 @@ fn persist_off(out: &mut String, endpoint: &Endpoint) -> Done {
 }
 
 /// Writes that the handshake isn't done.
-pub(crate) fn handshake(out: &mut String, endpoint: &Endpoint) -> Done {
+pub(crate) fn handshake(out: &mut String, endpoint: &Endpoint) -> Result<(), OutOfMemory> {
     let (una, next) = (endpoint.stream.snd_una, endpoint.rcv_nxt());
     writeln!(
         out,
@@ -74,7 +73,7 @@ pub(crate) fn handshake(out: &mut String, endpoint: &Endpoint) -> Done {
     )
 }
 
-fn giveup_off(out: &mut String, endpoint: &Endpoint) -> Done {
+fn giveup_off(out: &mut String, endpoint: &Endpoint) -> Result<(), OutOfMemory> {
     let (expiries, flight) = (endpoint.unanswered_expiries, endpoint.flight());
     let not = word_if(!endpoint.closed, "not ");
     let persist = if endpoint.timers.persist_armed.is_some() {
@@ -90,7 +89,7 @@ and the persist timer is {persist}\nor else FIN-WAIT-2 with a closed socket: the
 }
 
 /// The moment from which on a timer may expire.
-pub(crate) fn early(out: &mut String, scene: &Scene, it: Expiring) -> Done {
+pub(crate) fn early(out: &mut String, scene: &Scene, it: Expiring) -> Result<(), OutOfMemory> {
     let (timers, header, moment) = (&it.endpoint.timers, scene.header(), scene.moment());
     let (armed, time) = match it.timer {
         Timer::Rto => (timers.rto_armed, timers.rto),
@@ -107,7 +106,12 @@ pub(crate) fn early(out: &mut String, scene: &Scene, it: Expiring) -> Done {
 }
 
 /// Why fast recovery may not begin, or not with these windows.
-pub(crate) fn recovery(out: &mut String, endpoint: &Endpoint, it: Recovery, moment: u64) -> Done {
+pub(crate) fn recovery(
+    out: &mut String,
+    endpoint: &Endpoint,
+    it: Recovery,
+    moment: u64,
+) -> Result<(), OutOfMemory> {
     let (profile, values) = (endpoint.control.profile, &endpoint.control.values);
     if !profile.counts_duplicates() {
         return out.push_str("in flight: 0; fast recovery begins only if something is in flight\n");
@@ -129,7 +133,12 @@ pub(crate) fn recovery(out: &mut String, endpoint: &Endpoint, it: Recovery, mome
     }
 }
 
-fn recovery_windows(out: &mut String, endpoint: &Endpoint, it: Recovery, moment: u64) -> Done {
+fn recovery_windows(
+    out: &mut String,
+    endpoint: &Endpoint,
+    it: Recovery,
+    moment: u64,
+) -> Result<(), OutOfMemory> {
     let (cwnd, ssthresh) = (it.cwnd, it.ssthresh);
     let (most, highest) = greatest_recovery(endpoint, ssthresh, moment);
     writeln!(

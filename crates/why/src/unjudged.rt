@@ -1,15 +1,14 @@
 //! Which level, in a header of version 4 or 5, leaves a refusal unjudged.
 
-use crate::Done;
 use crate::scene::{Object, Scene};
-use case_forms::{Judged, Version};
+use case_forms::{Judged, OutOfMemory, Version};
 use endpoint_state::Endpoint;
 use plain_words::{Control, LEVEL_RULES, word_if};
-use replayed::{Reason, misplaced};
+use replayed::{Reason, old_data_reason};
 use verdict::Rule;
 
 /// Writes which level leaves the refusal unjudged, if the header's level doesn't and another one does.
-pub(crate) fn say_unjudged(out: &mut String, scene: &Scene, rule: Rule) -> Done {
+pub(crate) fn say_unjudged(out: &mut String, scene: &Scene, rule: Rule) -> Result<(), OutOfMemory> {
     let header = scene.header();
     let level = match (header.congestion, lenient_level(scene, rule)) {
         (Judged::Full, Some(Judged::Recovery)) => "recovery",
@@ -42,7 +41,10 @@ fn lenient_level(scene: &Scene, rule: Rule) -> Option<Judged> {
             Some(Judged::NoControl)
         }
         // Fast recovery, which permits retransmitting outstanding data, begins only after the handshake.
-        (Control::Retransmission, Object::Building(it)) => match misplaced(it.endpoint, it.plan) {
+        (Control::Retransmission, Object::Building(it)) => match old_data_reason(
+            it.endpoint,
+            it.plan,
+        ) {
             Reason::Again { .. } if it.endpoint.is_up() => Some(Judged::NoControl),
             _ => None,
         },

@@ -1,14 +1,17 @@
 //! The rules of lines that show segments.
 
-use crate::Done;
 use crate::scene::{Scene, first_extra};
-use case_forms::{Event, Host, Label, Wire};
+use case_forms::{Event, Host, Label, OutOfMemory, Wire};
 use plain_words::{HostName, word_if};
 use segment::{Flag, Segment};
 use spec_tcp::Emission;
 
 /// Writes that the host of an O line built no segment of the number that the step names, if that is so.
-pub(crate) fn describe_sent(out: &mut String, scene: &Scene, host: Host) -> Done {
+pub(crate) fn describe_sent(
+    out: &mut String,
+    scene: &Scene,
+    host: Host,
+) -> Result<(), OutOfMemory> {
     let (world, number) = (scene.world, first_extra(scene.named().extras));
     if world.made(host, number).is_some() {
         return Ok(());
@@ -21,7 +24,11 @@ pub(crate) fn describe_sent(out: &mut String, scene: &Scene, host: Host) -> Done
 }
 
 /// Writes what is wrong with the line that a received segment should copy, if that is no sent segment.
-pub(crate) fn describe_came(out: &mut String, scene: &Scene, host: Host) -> Done {
+pub(crate) fn describe_came(
+    out: &mut String,
+    scene: &Scene,
+    host: Host,
+) -> Result<(), OutOfMemory> {
     let (sender, copied) = (host.other(), u64::from(first_extra(scene.named().extras)));
     if scene.world.sent(sender, copied).is_some() {
         return Ok(());
@@ -40,7 +47,7 @@ fn sender_in(scene: &Scene, line: u64) -> Option<Host> {
 }
 
 /// Where the segment was sent before.
-pub(crate) fn sent_before(out: &mut String, scene: &Scene, number: u32) -> Done {
+pub(crate) fn sent_before(out: &mut String, scene: &Scene, number: u32) -> Result<(), OutOfMemory> {
     let line = shown_before(scene, number);
     writeln!(
         out,
@@ -62,7 +69,7 @@ fn shown_before(scene: &Scene, number: u32) -> u64 {
 }
 
 /// The bytes in which the received segment and the sent one differ.
-pub(crate) fn copy_differs(out: &mut String, m: &Emission, wire: &Wire) -> Done {
+pub(crate) fn copy_differs(out: &mut String, m: &Emission, wire: &Wire) -> Result<(), OutOfMemory> {
     let (sent, shown) = (m.bytes.as_slice(), wire.bytes.as_slice());
     if sent.len() != shown.len() {
         let (sent, shown) = (sent.len(), shown.len());
@@ -76,7 +83,7 @@ pub(crate) fn copy_differs(out: &mut String, m: &Emission, wire: &Wire) -> Done 
 }
 
 /// When the segment was sent and received.
-pub(crate) fn lifetime(out: &mut String, scene: &Scene, m: &Emission) -> Done {
+pub(crate) fn lifetime(out: &mut String, scene: &Scene, m: &Emission) -> Result<(), OutOfMemory> {
     let (moment, sent, msl) = (scene.moment(), m.moment, scene.header().msl);
     writeln!(
         out,
@@ -85,7 +92,7 @@ pub(crate) fn lifetime(out: &mut String, scene: &Scene, m: &Emission) -> Done {
 }
 
 /// The fields in which the segment and the line differ.
-pub(crate) fn differences(out: &mut String, m: &Emission, wire: &Wire) -> Done {
+pub(crate) fn differences(out: &mut String, m: &Emission, wire: &Wire) -> Result<(), OutOfMemory> {
     for (name, built, shown) in &fields(m, &wire.seg) {
         if built != shown {
             writeln!(out, "  {name}: built {built}, the line shows {shown}")?;
@@ -125,7 +132,7 @@ fn fields(m: &Emission, seg: &Segment) -> [(&'static str, u64, u64); 10] {
     ]
 }
 
-fn shift_difference(out: &mut String, built: Option<u8>, shown: u8) -> Done {
+fn shift_difference(out: &mut String, built: Option<u8>, shown: u8) -> Result<(), OutOfMemory> {
     match built {
         Some(built) if built == shown => Ok(()),
         Some(built) => writeln!(out, "  window shift: built {built}, the line shows {shown}"),
@@ -143,7 +150,7 @@ pub(crate) fn first_difference(
     origin: &str,
     one: &[u8],
     shown: &[u8],
-) -> Done {
+) -> Result<(), OutOfMemory> {
     for (place, (a, b)) in one.iter().zip(shown).enumerate() {
         if a != b {
             write!(out, "  {name} {place} (from 0): {origin} {a}, ")?;

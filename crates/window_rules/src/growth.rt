@@ -18,7 +18,7 @@ pub enum SlowStart {
 }
 
 /// The greatest cwnd in bytes after an acknowledgment of `acked` new positions, not counting the SYN; ssthresh if it
-/// ends fast recovery.
+/// ends fast recovery. Which slow start applies depends on the version, which no other argument shows.
 pub fn may_grow(slow: SlowStart, congestion: &Congestion, acked: u64) -> u64
     ensures greatest { result ≡ may_grow slow congestion.now acked }
     ensures limit { result ≤ greatest_window }

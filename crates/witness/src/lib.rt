@@ -21,25 +21,25 @@
 //!
 //! Private modules:
 //!
-//! - `reading`: one step, and a whole witness, using the reader of `stream`
+//! - `from_bytes`: one step, and a whole witness, using the reader of `stream`
 //! - `stream`: the reader of a text whose steps are read on request
 //! - `first_line`: the first line of a witness
 //! - `plain`: a step as it is usually written, read without a fault to return
 //! - `labels`: what a step does
 //! - `parts`: the parts of labels: endpoints, inbox entries, yes or no, optional numbers
 //! - `flags`: the flags of a segment to build, as letters
-//! - `printing`: the text of a witness
+//! - `printer`: the text of a witness
 //! - `laws`: the reported fault is the first one, by tables of what each field must be (`specs/StepForms`)
 #![tactic(auto)]
 
 mod first_line;
 mod flags;
+mod from_bytes;
 mod labels;
 mod laws;
 mod parts;
 mod plain;
-mod printing;
-mod reading;
+mod printer;
 mod stream;
 
 pub use case_forms::{
@@ -48,10 +48,10 @@ pub use case_forms::{
 };
 pub use counted::Counted;
 pub use first_line::begins_witness;
+pub use from_bytes::{read_step, read_step_into, read_witness, read_witness_for};
 pub use laws::{step_faults, witness_faults};
 pub use line_fields::{FaultKind, SourceFault, TextFault};
-pub use printing::{
+pub use printer::{
     label_bytes, print_law, print_witness, printable_law, push_step, push_witness, step_in_memory,
 };
-pub use reading::{read_step, read_step_into, read_witness, read_witness_for};
 pub use stream::StepReader;

@@ -50,7 +50,7 @@ pub(crate) fn plain_step(
     let moment = fields.plain_number(0, GREATEST_MOMENT)?;
     if fields.plain_letter(b'L') {
         let named = plain_line(&mut fields)?;
-        ended(&fields)?;
+        expect_end(&fields)?;
         put(place, moment, Label::L(named), span);
         return Some(());
     }
@@ -62,7 +62,7 @@ pub(crate) fn plain_step(
     }
     if fields.plain_letter(b'T') {
         let (host, line, choice) = plain_taking(version, &mut fields)?;
-        ended(&fields)?;
+        expect_end(&fields)?;
         put(place, moment, Label::T { host, line, choice }, span);
         return Some(());
     }
@@ -88,7 +88,7 @@ fn put(place: &mut Option<Step>, moment: u64, label: Label<NamedLine>, span: Spa
 
 // The end of the line.
 #[inline(always)]
-fn ended(fields: &Fields) -> Option<()>
+fn expect_end(fields: &Fields) -> Option<()>
     ensures { IfSome result (λ u. fields.now.words ≡ []) }
 {
     if !fields.is_empty() {
@@ -174,7 +174,7 @@ fn plain_segment(version: Version, fields: &mut Fields) -> Option<(Host, Segment
         return None;
     }
     let window = fields.plain_number(0, MAX_WINDOW)? as u16;
-    ended(fields)?;
+    expect_end(fields)?;
     let flags = Flags {
         ack: true,
         rst: false,

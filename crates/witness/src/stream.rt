@@ -10,12 +10,12 @@ ghost use Rattle.witness.specs.WitnessText.{number_after};
 ghost use Rattle.witness.specs.StepsLeft.{first_line, source_of, version_of, number_read, number_of, fault_of};
 ghost use Rattle.witness.specs.StepsLeft.{steps_left, reader_failures, StandsAt};
 
-use crate::reading::read_step_into;
-use answers::FIRST_STEP;
+use crate::from_bytes::read_step_into;
 use case_forms::{Step, Version};
 use counted::Counted;
 use line_fields::{
-    SourceFault, expect_line, first_text, keep_fault, next_line, none_kept, require_line,
+    FIRST_STEP, SourceFault, expect_line, first_text, keep_fault, next_line, none_kept,
+    require_line,
 };
 use std::alloc::Global;
 use std::io::BufRead;

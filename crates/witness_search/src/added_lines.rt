@@ -1,9 +1,8 @@
 //! The lines that a search adds to a trace.
 
-use crate::candidates::Done;
+use crate::findings::Added;
 use bstr::ByteSlice;
 use case_forms::{Line, OutOfMemory};
-use forward_pass::Added;
 use line_fields::{push_end, push_host, push_number, push_space, push_word, timer_name};
 use std::alloc::Global;
 
@@ -33,7 +32,7 @@ impl AddedLines {
     }
 
     /// Prints the lines that are added to a trace with these lines.
-    pub(crate) fn print(&mut self, lines: &[Line], added: &[Added]) -> Done {
+    pub(crate) fn print(&mut self, lines: &[Line], added: &[Added]) -> Result<(), OutOfMemory> {
         // A thread that no line has, if there is one above all others.
         let threads = lines.iter().map(|line| line.thread);
         let thread = threads.max().unwrap_or(0).saturating_add(1);
@@ -99,7 +98,7 @@ pub(crate) fn split_lines(text: &[u8], count: usize) -> (&[u8], &[u8]) {
 }
 
 // Writes a line that shows an expiry.
-fn push_expiry(out: &mut Vec<u8>, line: &Added, thread: u32) -> Done {
+fn push_expiry(out: &mut Vec<u8>, line: &Added, thread: u32) -> Result<(), OutOfMemory> {
     let ports = line.key.ports();
     push_number(out, line.moment)?;
     push_space(out)?;

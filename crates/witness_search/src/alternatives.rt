@@ -1,9 +1,12 @@
 //! What else could have been chosen before a line that no step explains.
 
-use crate::candidates::{Candidates, Done};
+use crate::attempt::{Attempt, Failure};
+use crate::candidates::Candidates;
+use crate::choices::{Change, Fate, Remedy, Unseen};
+use crate::findings::Findings;
+use crate::key::EndpointKey;
 use crate::together::Kind;
 use case_forms::{Event, Line, OutOfMemory, Timer};
-use forward_pass::{Attempt, Deed, EndpointKey, Failure, Fate, Findings, Remedy, Unseen};
 use segment::Flag;
 use verdict::Rule;
 
@@ -52,7 +55,7 @@ pub(crate) fn push_candidates(out: &mut Candidates, known: &Known<'_>) -> Result
 
 impl<'t> Known<'t> {
     /// What is known of an attempt's failure. None: it didn't fail.
-    pub(crate) fn of(
+    pub(crate) fn from_attempt(
         attempt: &'t Attempt,
         lines: &'t [Line],
         slack: Option<u64>,
@@ -66,7 +69,12 @@ impl<'t> Known<'t> {
     }
 
     // Examines the lines before a failure, the nearest first, up to so many candidates.
-    fn look_back(&self, out: &mut Candidates, most: usize, is_far: bool) -> Done {
+    fn look_back(
+        &self,
+        out: &mut Candidates,
+        most: usize,
+        is_far: bool,
+    ) -> Result<(), OutOfMemory> {
         for back in 0..=self.failure.place.min(REACH) {
             if out.len() >= most {
                 break;
@@ -85,7 +93,7 @@ impl<'t> Known<'t> {
     }
 
     // What may be chosen at one line, if it applies to the endpoint of the failure.
-    fn look_at(&self, out: &mut Candidates, spot: Spot) -> Done {
+    fn look_at(&self, out: &mut Candidates, spot: Spot) -> Result<(), OutOfMemory> {
         let Some(line) = self.lines.get(spot.place) else {
             return Ok(());
         };
@@ -109,7 +117,7 @@ impl<'t> Known<'t> {
     }
 
     // An arrival waits, or is processed otherwise, or dropped.
-    fn at_arrival(&self, out: &mut Candidates, spot: Spot) -> Done {
+    fn at_arrival(&self, out: &mut Candidates, spot: Spot) -> Result<(), OutOfMemory> {
         let Spot { place, is_far } = spot;
         if place == self.failure.place {
             return Ok(());
@@ -122,10 +130,10 @@ impl<'t> Known<'t> {
             [Fate::NotKept, Fate::Dropped]
         };
         for fate in fates {
-            out.push(place, Deed::Fate(fate))?;
+            out.push(place, Change::Fate(fate))?;
         }
         if !is_far && self.is_timed() {
-            out.push(place, Deed::Fate(Fate::Unmeasured))?;
+            out.push(place, Change::Fate(Fate::Unmeasured))?;
         }
         self.wait_until(out, spot)
     }
@@ -144,7 +152,7 @@ impl<'t> Known<'t> {
     }
 
     // An arrival or a call waits until after the failure, or one of the next lines before it.
-    fn wait_until(&self, out: &mut Candidates, spot: Spot) -> Done {
+    fn wait_until(&self, out: &mut Candidates, spot: Spot) -> Result<(), OutOfMemory> {
         let Spot { place, is_far } = spot;
         let last = self.failure.place;
         let lines = if is_far {
@@ -154,7 +162,7 @@ impl<'t> Known<'t> {
         };
         for after in lines {
             if place < after && self.may_wait(place, after) {
-                out.push(place, Deed::WaitUntil(after))?;
+                out.push(place, Change::WaitUntil(after))?;
             }
         }
         Ok(())
@@ -170,25 +178,35 @@ impl<'t> Known<'t> {
     }
 
     // The segment of a line was built after one of the lines before it, or something happened before the line.
-    fn at_sending(&self, out: &mut Candidates, spot: Spot, at: EndpointKey) -> Done {
+    fn at_sending(
+        &self,
+        out: &mut Candidates,
+        spot: Spot,
+        at: EndpointKey,
+    ) -> Result<(), OutOfMemory> {
         let Spot { place, is_far } = spot;
         if is_far == (place == self.failure.place) {
             return Ok(());
         }
         if self.failure.rule != Rule::BytesDiffer {
-            out.push(place, Deed::Before(at, Remedy::Recovery))?;
-            out.push(place, Deed::Before(at, Remedy::Persist))?;
-            out.push(place, Deed::Before(at, Remedy::Rto))?;
-            out.push(place, Deed::Before(at, Remedy::TimeWaitOver))?;
+            out.push(place, Change::Before(at, Remedy::Recovery))?;
+            out.push(place, Change::Before(at, Remedy::Persist))?;
+            out.push(place, Change::Before(at, Remedy::Rto))?;
+            out.push(place, Change::Before(at, Remedy::TimeWaitOver))?;
         }
         for after in (place.saturating_sub(NEAR)..place).rev() {
-            out.push(after, Deed::Build(place))?;
+            out.push(after, Change::Build(place))?;
         }
         Ok(())
     }
 
     // After a line, something was built that no line shows.
-    fn unseen_after(&self, out: &mut Candidates, spot: Spot, key: EndpointKey) -> Done {
+    fn unseen_after(
+        &self,
+        out: &mut Candidates,
+        spot: Spot,
+        key: EndpointKey,
+    ) -> Result<(), OutOfMemory> {
         let after = spot.place;
         if after >= self.failure.place {
             return Ok(());
@@ -216,9 +234,14 @@ impl<'t> Known<'t> {
 }
 
 // After a line, an endpoint built one of these.
-fn push_unseen(out: &mut Candidates, after: usize, at: EndpointKey, kinds: [Unseen; 2]) -> Done {
+fn push_unseen(
+    out: &mut Candidates,
+    after: usize,
+    at: EndpointKey,
+    kinds: [Unseen; 2],
+) -> Result<(), OutOfMemory> {
     for unseen in kinds {
-        out.push(after, Deed::BuildUnseen(at, unseen))?;
+        out.push(after, Change::BuildUnseen(at, unseen))?;
     }
     Ok(())
 }

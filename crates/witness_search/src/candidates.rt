@@ -1,11 +1,8 @@
 //! Candidates for other choices.
 
+use crate::choices::{Change, Choice};
 use case_forms::OutOfMemory;
-use forward_pass::{Choice, Deed};
 use std::alloc::Global;
-
-/// Done, or memory ran out.
-pub(crate) type Done = Result<(), OutOfMemory>;
 
 /// Candidates, each of which is one choice or several.
 #[derive(Drop)]
@@ -52,19 +49,19 @@ impl Candidates {
     }
 
     /// Adds a candidate of one choice.
-    pub(crate) fn push(&mut self, place: usize, deed: Deed) -> Done {
-        self.add(place, deed)?;
+    pub(crate) fn push(&mut self, place: usize, change: Change) -> Result<(), OutOfMemory> {
+        self.add(place, change)?;
         self.end()
     }
 
     /// Adds a choice to the candidate that ends next.
-    pub(crate) fn add(&mut self, place: usize, deed: Deed) -> Done {
-        self.choices.push(Choice { place, deed })?;
+    pub(crate) fn add(&mut self, place: usize, change: Change) -> Result<(), OutOfMemory> {
+        self.choices.push(Choice { place, change })?;
         Ok(())
     }
 
     /// The choices since the last candidate are one, if there are any.
-    pub(crate) fn end(&mut self) -> Done {
+    pub(crate) fn end(&mut self) -> Result<(), OutOfMemory> {
         let stop = self.choices.len();
         if self.start_of(self.stops.len()) < stop {
             self.stops.push(stop)?;

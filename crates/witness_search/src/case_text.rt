@@ -1,7 +1,7 @@
 //! The text of a case: the trace with added lines, and the witness.
 
 use crate::added_lines::AddedLines;
-use crate::finding::Found;
+use crate::found::Found;
 use crate::witness_text::witness_blocks;
 use case_forms::OutOfMemory;
 use std::alloc::Global;
@@ -26,7 +26,7 @@ pub struct CaseText<'t> {
 impl<'t> CaseText<'t> {
     /// The text of a case with this header, the event lines of its trace, and what was found for these. The added lines
     /// are moved.
-    pub fn of(
+    pub fn new(
         alloc: Global,
         header: Vec<u8>,
         events: &'t [u8],

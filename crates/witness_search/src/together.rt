@@ -1,9 +1,10 @@
 //! Several choices at once before a line that no step explains.
 
 use crate::alternatives::{Known, NEAR, REACH};
-use crate::candidates::{Candidates, Done};
-use case_forms::{Event, Wire};
-use forward_pass::{Deed, EndpointKey, Fate, Remedy};
+use crate::candidates::Candidates;
+use crate::choices::{Change, Fate, Remedy};
+use crate::key::EndpointKey;
+use case_forms::{Event, OutOfMemory, Wire};
 use segment::Flag;
 use verdict::Rule;
 
@@ -63,7 +64,7 @@ impl Known<'_> {
     }
 
     /// Adds choices at several lines at once, and arrivals beyond the window.
-    pub(crate) fn together(&self, out: &mut Candidates) -> Done {
+    pub(crate) fn together(&self, out: &mut Candidates) -> Result<(), OutOfMemory> {
         if self.failure.rule == Rule::BytesDiffer {
             self.gather(out, Kind::Covers, Fate::NotKept)?;
             self.gather(out, Kind::EndsBeyond, Fate::NotKept)?;
@@ -93,28 +94,28 @@ impl Known<'_> {
     }
 
     // One candidate: the last arrivals that were processed late are processed at once.
-    fn hurry_all(&self, out: &mut Candidates) -> Done {
+    fn hurry_all(&self, out: &mut Candidates) -> Result<(), OutOfMemory> {
         let places = self.findings.late.iter().rev().take(REACH);
         let places = places.filter(|place| self.is_at_failing_endpoint(**place));
         for place in places.take(TOGETHER) {
-            out.add(*place, Deed::Fate(Fate::Prompt))?;
+            out.add(*place, Change::Fate(Fate::Prompt))?;
         }
         out.end()
     }
 
     // The last arrivals that end beyond the window: an unseen segment advertised a larger one.
-    fn widen(&self, out: &mut Candidates) -> Done {
+    fn widen(&self, out: &mut Candidates) -> Result<(), OutOfMemory> {
         let places = self.findings.beyond.iter().rev().take(REACH);
         let places = places.filter(|place| self.is_at_failing_endpoint(**place));
         for place in places.take(NEAR) {
-            out.push(*place, Deed::Fate(Fate::Widened))?;
+            out.push(*place, Change::Fate(Fate::Widened))?;
         }
         Ok(())
     }
 
     // Resets, SYNs or FINs are dropped. A host that ignores one reset may ignore a flood of them, so the resets after
     // the failure are dropped, too.
-    fn drop_all(&self, out: &mut Candidates) -> Done {
+    fn drop_all(&self, out: &mut Candidates) -> Result<(), OutOfMemory> {
         let resets = Kind::Has(Flag::Rst);
         self.add(out, resets, Fate::Dropped, Side::Before)?;
         self.add(out, resets, Fate::Dropped, Side::After)?;
@@ -124,7 +125,7 @@ impl Known<'_> {
     }
 
     // One candidate: the retransmission timer expires before each retransmission, if it may.
-    fn expire_each(&self, out: &mut Candidates, at: EndpointKey) -> Done {
+    fn expire_each(&self, out: &mut Candidates, at: EndpointKey) -> Result<(), OutOfMemory> {
         let mut end: Option<u32> = None;
         let first = self.failure.place.saturating_sub(REACH);
         for place in first..=self.failure.place {
@@ -133,7 +134,7 @@ impl Known<'_> {
             };
             match end {
                 Some(end) if HALF <= wire.seg.seq.0.wrapping_sub(end) => {
-                    out.add(place, Deed::Before(at, Remedy::Rto))?
+                    out.add(place, Change::Before(at, Remedy::Rto))?
                 }
                 _ => end = Some(end_of(wire)),
             }
@@ -147,7 +148,12 @@ impl Known<'_> {
     }
 
     // A timer expires before the failure, as early as the slack permits if its segment is sent then.
-    fn expire_in_time(&self, out: &mut Candidates, at: EndpointKey, remedy: Remedy) -> Done {
+    fn expire_in_time(
+        &self,
+        out: &mut Candidates,
+        at: EndpointKey,
+        remedy: Remedy,
+    ) -> Result<(), OutOfMemory> {
         let Some(line) = self.lines.get(self.failure.place) else {
             return Ok(());
         };
@@ -155,7 +161,7 @@ impl Known<'_> {
         let places = (1..=REACH).map_while(|distance| self.place_at(Side::Before, distance));
         let near = places.take_while(|place| first <= self.moment_at(*place));
         match near.last() {
-            Some(place) => out.push(place, Deed::Before(at, remedy)),
+            Some(place) => out.push(place, Change::Before(at, remedy)),
             None => Ok(()),
         }
     }
@@ -170,17 +176,28 @@ impl Known<'_> {
     }
 
     /// One candidate: all arrivals of a kind before the failure have this fate.
-    pub(crate) fn gather(&self, out: &mut Candidates, kind: Kind, fate: Fate) -> Done {
+    pub(crate) fn gather(
+        &self,
+        out: &mut Candidates,
+        kind: Kind,
+        fate: Fate,
+    ) -> Result<(), OutOfMemory> {
         self.add(out, kind, fate, Side::Before)?;
         out.end()
     }
 
     // The arrivals of a kind on one side of the failure have this fate, the nearest first.
-    fn add(&self, out: &mut Candidates, kind: Kind, fate: Fate, side: Side) -> Done {
+    fn add(
+        &self,
+        out: &mut Candidates,
+        kind: Kind,
+        fate: Fate,
+        side: Side,
+    ) -> Result<(), OutOfMemory> {
         let places = (1..=REACH).map_while(|distance| self.place_at(side, distance));
         let places = places.filter(|place| self.is_arrival_of(*place, kind));
         for place in places.take(TOGETHER) {
-            out.add(place, Deed::Fate(fate))?;
+            out.add(place, Change::Fate(fate))?;
         }
         Ok(())
     }

@@ -1,6 +1,5 @@
 //! The text of a witness, in blocks.
 
-use crate::candidates::Done;
 use case_forms::{OutOfMemory, Step, Steps, Version, Witness};
 use std::alloc::Global;
 use witness::{print_witness, push_step};
@@ -32,7 +31,7 @@ fn first_line(alloc: Global, version: Version) -> Result<Vec<u8>, OutOfMemory> {
 }
 
 // Writes these steps.
-fn push_steps(out: &mut Vec<u8>, steps: &[Step]) -> Done {
+fn push_steps(out: &mut Vec<u8>, steps: &[Step]) -> Result<(), OutOfMemory> {
     for step in steps {
         push_step(out, step)?;
     }

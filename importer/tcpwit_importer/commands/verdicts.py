@@ -126,14 +126,14 @@ class Judge:
             captures, last = split(connection, captures[None], self.options.skew * 1000), {0: last[None], 1: last[None]}
         found.hosts = 1 if list(captures) == [0] else 2
         given = connection, captures, last, self.chosen
-        self.verdict(number, Trace(*given, found.notes, self.clock), found)
+        self.judge_trace(number, Trace(*given, found.notes, self.clock), found)
         if found.rule in LATE and (other := Trace(*given, Notes(), self.clock, True)).may_differ:
-            self.verdict(number, other, found)
+            self.judge_trace(number, other, found)
             if found.rule:
-                # It makes no difference.
-                self.verdict(number, Trace(*given, Notes(), self.clock), found)
+                # Giving up doesn't help either: the first answer again.
+                self.judge_trace(number, Trace(*given, Notes(), self.clock), found)
 
-    def verdict(self, number, trace, found):
+    def judge_trace(self, number, trace, found):
         """Judges a trace."""
         if self.options.report:
             self.report(os.path.join(self.options.report, file_name(number, found)), trace.lines(), found)

@@ -15,8 +15,8 @@ ROOM = 65535
 
 class Trace:
     """A connection's trace. `captures` maps the recorded hosts to the names of their captures, or None to the one of
-    both hosts; `last` has the moment of each capture's last packet. `clock` counts if the connection alone doesn't show
-    how the clocks differ. With `gives_up`, a host that may have given up did."""
+    both hosts; `last` has the moment of each capture's last packet. `clock` is used if the connection alone doesn't
+    show how the clocks differ. With `gives_up`, a host that may have given up did."""
 
     def __init__(self, connection, captures, last, chosen, notes, clock=SAME, gives_up=False):
         put_in_order(connection, captures, notes)

@@ -1,7 +1,8 @@
 //! A segment arrives in any other state (RFC 9293, 3.10.7.4).
 //!
-//! In the order of the RFC: `sequence` (first), `reset` (second), `ack` (fifth), `text` (seventh), `fin` (eighth).
-//! The others are `peer`: whose segment it is; and `timers`, `window`: their values afterwards.
+//! In the order of the RFC: `sequence` (first, and fourth: a SYN), `reset` (second), `ack` (fifth), `text` (seventh),
+//! `fin` (eighth); the third and the sixth, security and urgent data, aren't modelled. The others are `peer`: whose
+//! segment it is; and `timers`, `window`: their values afterwards.
 
 ghost use Rattle.spec_tcp.specs.Arrives.OtherStates.{taken, rules_with_queue};
 ghost use Rattle.spec_tcp.specs.Bounds.{HasRoom, IsSmallEmission};
@@ -79,7 +80,7 @@ pub fn admits_connected(
 }
 
 /// The endpoint after the segment, at a moment in microseconds. If memory runs out, it doesn't change.
-pub(crate) fn taken(
+pub(crate) fn on_segment(
     header: &Header,
     endpoint: &mut Endpoint,
     how: TakeChoice,

@@ -22,7 +22,7 @@ use crate::same::same_word;
 use crate::signals::{control_taken, greatest_taking};
 use case_forms::{Header, State, TakeChoice};
 use seqno::number;
-use spec_tcp::{Arrived, Endpoint, SendWindow};
+use spec_tcp::{Arrived, Endpoint, Windows};
 use timer_rules::Timers;
 use verdict::Rule;
 
@@ -131,7 +131,7 @@ fn snd_una_after_syn(endpoint: &Endpoint, m: &Arrived<'_>) -> u64
     }
 }
 
-fn window_after_syn(endpoint: &Endpoint, m: &Arrived<'_>) -> SendWindow
+fn window_after_syn(endpoint: &Endpoint, m: &Arrived<'_>) -> Windows
     ensures { result ≡ record endpoint.now.window {
       snd_wnd = m.now.window;
       snd_wl1 = m.now.pos;

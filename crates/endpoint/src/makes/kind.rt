@@ -4,7 +4,8 @@ ghost use Rattle.case_forms.specs.States.{is_syn_sent, is_syn_received};
 ghost use Rattle.spec_tcp.specs.Calls.Close.{shut_down};
 ghost use Rattle.spec_tcp.specs.Makes.Kind.{may_carry, may_finish, may_not_send, may_make_syn, may_make_reset};
 ghost use Rattle.spec_tcp.specs.Makes.Kind.{may_make_other, may_make, makes_nothing, is_bad_iss, given_shift, seq_of};
-ghost use Rattle.std.specs.Prelude.{◌≡◌, if◌then◌else◌, false};
+ghost use Rattle.spec_tcp.specs.Endpoints.{rcv_nxt};
+ghost use Rattle.std.specs.Prelude.{◌≡◌, if◌then◌else◌, false, nat_le};
 
 use crate::calls::close::shut_down;
 use case_forms::{SegmentPlan, State};
@@ -51,11 +52,19 @@ fn may_make_syn(endpoint: &Endpoint, making: &SegmentPlan) -> bool
         && !making.flags.rst
 }
 
+// Whether the peer's SYN arrived, which has the first position (RFC 9293, 3.4).
+fn peer_syn_arrived(endpoint: &Endpoint) -> bool
+    ensures { result ≡ nat_le 1 (rcv_nxt endpoint.now) }
+{
+    1 <= endpoint.rcv_nxt()
+}
+
+// A reset that is due (RFC 9293, 3.5.2 and 3.10.5), or one by a closed socket whose peer is known (3.6.1).
 fn may_make_reset(endpoint: &Endpoint, making: &SegmentPlan) -> bool
     ensures { result ≡ may_make_reset endpoint.now making.now }
 {
     (endpoint.reset_due
-        || endpoint.closed && !endpoint.state.is_closed() && 1 <= endpoint.rcv_nxt())
+        || endpoint.closed && !endpoint.state.is_closed() && peer_syn_arrived(endpoint))
         && !making.flags.fin
 }
 

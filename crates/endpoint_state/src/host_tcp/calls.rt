@@ -8,12 +8,12 @@ ghost use Rattle.case_forms.specs.declared.calls.Answer.TheVariants.{Done};
 ghost use Rattle.case_forms.specs.declared.calls.State.TheVariants as states;
 ghost use Rattle.spec_tcp.specs.declared.endpoint.SocketTarget.TheVariants.{ListenerAt, EndpointAt};
 ghost use Rattle.spec_tcp.specs.Bounds.{HasRoom};
-ghost use Rattle.spec_tcp.specs.HostTcp.{dead, with_socket, is_listening, queue_of, thing_of};
+ghost use Rattle.spec_tcp.specs.HostTcp.{dead, with_socket, is_listening, queue_of, socket_target};
 ghost use Rattle.spec_tcp.specs.Calls.Send.{after_send};
 ghost use Rattle.spec_tcp.specs.Calls.Receive.{after_recv};
 ghost use Rattle.spec_tcp.specs.Calls.Close.{after_abort, after_close, after_gone, after_shut, without_listener};
 ghost use Rattle.spec_tcp.specs.Calls.Accept.{accepted_from, after_accept, listener_allows};
-ghost use Rattle.spec_tcp.specs.Calls.{after_call, call_allows, change, gives_or_in_use, socket_allows, thing_allows};
+ghost use Rattle.spec_tcp.specs.Calls.{after_call, call_allows, change, gives_or_in_use, socket_allows, target_allows};
 ghost use Rattle.spec_tcp.specs.Endpoints.{new_endpoint};
 ghost use Rattle.spec_tcp.specs.Forgetting.{forget_body};
 ghost use Rattle.endpoint_state.specs.Waiting.{AreWaiting};
@@ -51,16 +51,16 @@ impl HostTcp {
     fn socket_allows(&self, number: u32, call: &Call, answer: &Answer) -> bool
         ensures { result ≡ socket_allows self.now number call.now answer.now }
     {
-        match self.thing(number) {
-            Some(thing) => self.thing_allows(call, answer, thing),
+        match self.target(number) {
+            Some(target) => self.target_allows(call, answer, target),
             None => matches!(answer, Answer::BadSocket),
         }
     }
 
-    fn thing_allows(&self, call: &Call, answer: &Answer, thing: SocketTarget) -> bool
-        ensures { result ≡ thing_allows self.now call.now answer.now thing }
+    fn target_allows(&self, call: &Call, answer: &Answer, target: SocketTarget) -> bool
+        ensures { result ≡ target_allows self.now call.now answer.now target }
     {
-        match thing {
+        match target {
             SocketTarget::ListenerAt(place) => match self.listener_at(place) {
                 Some(listener) => listener_allows(&listener.queue, call, answer),
                 None => childless_allows(call, answer),
@@ -96,8 +96,10 @@ impl HostTcp {
         };
         self.sockets.reserve(u64::from(number))?;
         self.listeners.add(listener)?;
-        self.sockets
-            .insert(u64::from(number), live(SocketTarget::ListenerAt(place)))?;
+        self.sockets.insert(
+            u64::from(number),
+            new_socket(SocketTarget::ListenerAt(place)),
+        )?;
         Ok(())
     }
 
@@ -120,8 +122,10 @@ impl HostTcp {
         let endpoint = Endpoint::new(alloc, lport, rport, None, State::SynSent, profile);
         self.sockets.reserve(u64::from(number))?;
         self.endpoints.add(alloc, endpoint)?;
-        self.sockets
-            .insert(u64::from(number), live(SocketTarget::EndpointAt(place)))?;
+        self.sockets.insert(
+            u64::from(number),
+            new_socket(SocketTarget::EndpointAt(place)),
+        )?;
         Ok(())
     }
 
@@ -132,7 +136,7 @@ impl HostTcp {
         ensures ok { OnOk result (self.new ≡ forget_body (change self.old number (after_send bytes.now count))) }
         ensures err { OnErr result (self.new ≡ self.old) }
     {
-        match self.thing(number) {
+        match self.target(number) {
             Some(SocketTarget::EndpointAt(place)) => self.endpoints.send(place, bytes, count),
             Some(SocketTarget::ListenerAt(_)) | None => Ok(()),
         }
@@ -144,7 +148,7 @@ impl HostTcp {
         requires { All HasRoom self.old.endpoints }
         ensures { self.new ≡ forget_body (change self.old number after_shut) }
     {
-        if let Some(SocketTarget::EndpointAt(place)) = self.thing(number) {
+        if let Some(SocketTarget::EndpointAt(place)) = self.target(number) {
             self.endpoints.shut(place);
         }
     }
@@ -156,7 +160,7 @@ impl HostTcp {
         requires waiting { AreWaiting self.old number bytes.now }
         ensures { self.new ≡ forget_body (change self.old number (after_recv bytes.now)) }
     {
-        if let Some(SocketTarget::EndpointAt(place)) = self.thing(number) {
+        if let Some(SocketTarget::EndpointAt(place)) = self.target(number) {
             self.endpoints.deliver(place, bytes);
         }
     }
@@ -167,7 +171,7 @@ impl HostTcp {
         requires { All HasRoom self.old.endpoints }
         ensures { self.new ≡ forget_body (after_gone self.old number after_close) }
     {
-        match self.thing(number) {
+        match self.target(number) {
             Some(SocketTarget::EndpointAt(place)) => {
                 self.endpoints.close(place);
                 retire(&mut self.sockets, number);
@@ -183,7 +187,7 @@ impl HostTcp {
         requires { All HasRoom self.old.endpoints }
         ensures { self.new ≡ forget_body (after_gone self.old number after_abort) }
     {
-        match self.thing(number) {
+        match self.target(number) {
             Some(SocketTarget::EndpointAt(place)) => {
                 self.endpoints.abort(place);
                 retire(&mut self.sockets, number);
@@ -209,10 +213,10 @@ impl HostTcp {
     fn accept(&mut self, number: u32, child_number: u32) -> Result<(), OutOfMemory>
         requires { All HasRoom self.old.endpoints }
         ensures ok { OnOk result (self.new ≡ forget_body
-            (option_map_or (after_accept self.old child_number) (thing_of self.old number) self.old)) }
+            (option_map_or (after_accept self.old child_number) (socket_target self.old number) self.old)) }
         ensures err { OnErr result (self.new ≡ self.old) }
     {
-        match self.thing(number) {
+        match self.target(number) {
             Some(SocketTarget::ListenerAt(place)) => self.accept_from(place, child_number),
             Some(SocketTarget::EndpointAt(_)) | None => Ok(()),
         }
@@ -229,7 +233,7 @@ impl HostTcp {
         };
         self.sockets.insert(
             u64::from(child_number),
-            live(SocketTarget::EndpointAt(child)),
+            new_socket(SocketTarget::EndpointAt(child)),
         )?;
         self.endpoints.accept(child);
         self.listeners.leave(place);
@@ -355,10 +359,11 @@ fn childless_allows(call: &Call, answer: &Answer) -> bool
     }
 }
 
-fn live(thing: SocketTarget) -> Socket
-    ensures { result ≡ record { thing = thing; live = true } }
+// A new socket: its number is live until `close` or `abort`.
+fn new_socket(target: SocketTarget) -> Socket
+    ensures { result ≡ record { target = target; live = true } }
 {
-    Socket { thing, live: true }
+    Socket { target, live: true }
 }
 
 // A socket number is no longer live.

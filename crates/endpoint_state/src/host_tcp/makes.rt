@@ -35,7 +35,7 @@ impl HostTcp {
         Ok(place)
     }
 
-    /// The endpoint of this name makes a segment, at a moment in microseconds. If memory runs out, nothing is changed.
+    /// The endpoint with this identity makes a segment, at a moment in microseconds. Without memory, nothing changes.
     #[tactic(auto, using(crate::proofs::BodyLemmas::body_same))]
     pub(crate) fn make_at(
         &mut self,

@@ -9,7 +9,7 @@ use Rattle.case_forms.specs.declared.calls.State.TheVariants as states
 use Rattle.streams.specs.Lists.{modify}
 use Rattle.timer_rules.specs.Timers.{all_stopped}
 use Rattle.spec_tcp.specs.Endpoints.{Endpoint, SocketTarget, ListenerAt, EndpointAt}
-use Rattle.spec_tcp.specs.HostTcp.{HostTcp, with_endpoint, thing_of, dead}
+use Rattle.spec_tcp.specs.HostTcp.{HostTcp, with_endpoint, socket_target, dead}
 use Rattle.spec_tcp.specs.Calls.Await.{tells_fault}
 
 -- `shut` (RFC 9293, 3.10.4)
@@ -65,10 +65,10 @@ without_listener b l =
     }
 
 -- `close` and `abort` of what a socket number names
-abbrev pub thing_gone : HostTcp → SocketTarget → (Endpoint → Endpoint) → HostTcp
-thing_gone b (ListenerAt l) f = without_listener b l
-thing_gone b (EndpointAt i) f = with_endpoint b i f
+abbrev pub target_gone : HostTcp → SocketTarget → (Endpoint → Endpoint) → HostTcp
+target_gone b (ListenerAt l) f = without_listener b l
+target_gone b (EndpointAt i) f = with_endpoint b i f
 
 abbrev pub after_gone : HostTcp → ℕ → (Endpoint → Endpoint) → HostTcp
 after_gone b n f =
-    option_map_or (λ thing. record (thing_gone b thing f) { sockets = dead b.sockets n }) (thing_of b n) b
+    option_map_or (λ target. record (target_gone b target f) { sockets = dead b.sockets n }) (socket_target b n) b

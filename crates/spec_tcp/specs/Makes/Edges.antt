@@ -7,7 +7,7 @@ use Rattle.window_rules.specs.Control.{control_edge}
 use Rattle.spec_tcp.specs.Endpoints.{Endpoint, rcv_nxt, is_scaling, window_in}
 use Rattle.spec_tcp.specs.Makes.Payload.{has_new_bytes}
 
--- an acknowledgment once the peer's SYN was received, and not before; a reset may do without (RFC 9293, 3.10.7.4)
+-- an acknowledgment before the peer's SYN was received, or none afterwards; a reset may do without (RFC 9293, 3.10.7.4)
 abbrev pub is_bad_ack : Endpoint → SegmentPlan → Bool
 is_bad_ack e m = if m.flags.ack then rcv_nxt e == 0 else not m.flags.rst && nat_le 1 (rcv_nxt e)
 

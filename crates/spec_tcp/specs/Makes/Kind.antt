@@ -38,8 +38,8 @@ may_make_syn e m =
     (if m.flags.ack then is_syn_received e.state else is_syn_sent e.state) && e.stream.snd_una == 0
     && not m.flags.fin && not m.flags.rst
 
--- a reset: one that is due, or by a closed socket whose peer is known (RFC 9293, 3.10.4 and 3.10.5; the second is
--- specific to this profile)
+-- a reset: one that is due (RFC 9293, 3.5.2 and 3.10.5), or by a closed socket whose peer is known (3.6.1; specific to
+-- this profile)
 abbrev pub may_make_reset : Endpoint → SegmentPlan → Bool
 may_make_reset e m = (e.reset_due || e.closed && not (is_closed e.state) && nat_le 1 (rcv_nxt e)) && not m.flags.fin
 
@@ -55,7 +55,7 @@ may_make e m = if m.flags.syn then may_make_syn e m else if m.flags.rst then may
 abbrev pub makes_nothing : Endpoint → SegmentPlan → Bool
 makes_nothing e m = is_closed e.state && not (m.flags.rst && e.reset_due)
 
--- the initial send sequence number is given once, with a SYN, before anything else is sent (RFC 9293, 3.4.1)
+-- an initial send sequence number is given again, or not by a SYN before anything else is sent (RFC 9293, 3.4.1)
 abbrev pub is_bad_iss : Endpoint → SegmentPlan → Bool
 is_bad_iss e m = if is_some e.iss then is_some m.iss else not (is_some m.iss && m.flags.syn)
 

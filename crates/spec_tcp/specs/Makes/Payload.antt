@@ -12,8 +12,8 @@ making_length m = m.len + flag_count m.flags.syn + flag_count m.flags.fin
 abbrev pub has_new_bytes : Endpoint → SegmentPlan → Bool
 has_new_bytes e m = nat_lt 0 m.len && nat_lt (snd_max e) (m.pos + m.len)
 
--- the bytes are those that were accepted, and a FIN follows the last of them once sending is ended; SYN and reset carry
--- none
+-- bytes that weren't accepted; a FIN before sending is ended, or that doesn't follow the last accepted byte; or bytes
+-- with a SYN or a reset
 abbrev pub is_bad_payload : Endpoint → SegmentPlan → Bool
 is_bad_payload e m =
     if m.flags.syn then not (m.pos == 0 && m.len == 0)
@@ -25,12 +25,13 @@ is_bad_payload e m =
 abbrev pub old_end : Endpoint → SegmentPlan → ℕ
 old_end e m = min (m.pos + making_length m) (snd_max e)
 
--- an empty segment: from the position before the oldest unacknowledged one up to the next (a keep-alive is one below)
+-- an empty segment more than one below the oldest unacknowledged position (a keep-alive is one below), or above the
+-- next to be sent
 abbrev pub is_bad_empty_place : Endpoint → SegmentPlan → Bool
 is_bad_empty_place e m = nat_lt (m.pos + 1) e.stream.snd_una || nat_lt (snd_max e) m.pos
 
--- other segments: from the oldest unacknowledged position on, with no gap after what was sent; and what was sent before
--- is retransmitted only up to where recovery began
+-- any other segment below the oldest unacknowledged position, or with a gap after what was sent, or that retransmits
+-- beyond where recovery began
 abbrev pub is_bad_place : Endpoint → SegmentPlan → Bool
 is_bad_place e m =
     if m.flags.rst then nat_lt m.pos e.stream.snd_una || nat_lt (snd_max e) m.pos

@@ -47,7 +47,7 @@ pub(crate) fn at_endpoint(
 }
 
 // How the endpoint failed.
-fn told(fault: Fault) -> Answer
+fn fault_answer(fault: Fault) -> Answer
     ensures tells { tells fault result ≡ true }
     ensures once { is_again result ≡ false }
 {
@@ -64,7 +64,7 @@ fn await_answer(endpoint: &Endpoint) -> Option<Answer>
     ensures none { IfNone result (await_allows endpoint.now answers.Again ≡ true) }
 {
     match endpoint.fault {
-        Some(fault) => Some(told(fault)),
+        Some(fault) => Some(fault_answer(fault)),
         None => {
             if endpoint.is_up() {
                 Some(Answer::Done)
@@ -80,7 +80,7 @@ fn shut_answer(endpoint: &Endpoint) -> Answer
     ensures once { is_again result ≡ false }
 {
     match endpoint.fault {
-        Some(fault) => told(fault),
+        Some(fault) => fault_answer(fault),
         None => {
             if endpoint.state.is_syn_sent() {
                 Answer::NotConn
@@ -99,14 +99,14 @@ fn send_answer(endpoint: &Endpoint, bytes: &Bytes, ring: u16) -> Option<Answer>
         × SendWaits ring endpoint.now) }
 {
     match endpoint.fault {
-        Some(fault) => Some(told(fault)),
+        Some(fault) => Some(fault_answer(fault)),
         None => {
             if endpoint.stream.ended {
                 return Some(Answer::Closed);
             }
             match endpoint.state {
                 State::SynSent | State::SynReceived => None,
-                State::Established | State::CloseWait => accepted(endpoint, bytes, ring),
+                State::Established | State::CloseWait => room_answer(endpoint, bytes, ring),
                 _ => Some(Answer::Closed),
             }
         }
@@ -114,7 +114,7 @@ fn send_answer(endpoint: &Endpoint, bytes: &Bytes, ring: u16) -> Option<Answer>
 }
 
 // As many bytes as the ring has room for. None: it has none.
-fn accepted(endpoint: &Endpoint, bytes: &Bytes, ring: u16) -> Option<Answer>
+fn room_answer(endpoint: &Endpoint, bytes: &Bytes, ring: u16) -> Option<Answer>
     requires some { 1 ≤ length bytes.now }
     ensures some { IfSome result (λ a. sends_some bytes.now a ≡ true) }
     ensures once { IfSome result (λ a. is_again a ≡ false) }
@@ -151,7 +151,7 @@ fn recv_answer(alloc: Global, endpoint: &Endpoint, most: u16) -> Result<Option<A
         return Ok(Some(Answer::Eof));
     }
     match endpoint.fault {
-        Some(fault) => Ok(Some(told(fault))),
+        Some(fault) => Ok(Some(fault_answer(fault))),
         None => Ok(None),
     }
 }

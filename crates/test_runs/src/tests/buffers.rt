@@ -27,7 +27,7 @@ fn deliver(alloc: Global, buffer: &mut ReceiveBuffer, most: usize) -> Option<usi
 }
 
 // The next position, and how many bytes are read, once these bytes were kept.
-fn kept(alloc: Global) -> (u64, Option<usize>) {
+fn after_keeping(alloc: Global) -> (u64, Option<usize>) {
     let mut buffer = ReceiveBuffer::new(alloc);
     buffer.take_syn();
     let _ = keep_all(&mut buffer);
@@ -38,7 +38,7 @@ fn kept(alloc: Global) -> (u64, Option<usize>) {
 // The time for a byte doesn't grow with the number of those that wait.
 #[test]
 fn bytes_come_from_the_last_to_the_first(rt: HostRuntime) {
-    assert_eq!(rt; kept(rt.alloc()), (200_001, Some(200_000)));
+    assert_eq!(rt; after_keeping(rt.alloc()), (200_001, Some(200_000)));
 }
 
 // Makes 200,000 segments of a byte each, and then one of the first two bytes as often.
@@ -53,7 +53,7 @@ fn make_all(transmissions: &mut Transmissions) -> Result<(), AllocError> {
 }
 
 // Whether exactly the first two bytes are retransmitted; where the last ends, and when the second was first made.
-fn made(alloc: Global) -> (bool, u64, Option<u64>) {
+fn after_making(alloc: Global) -> (bool, u64, Option<u64>) {
     let mut transmissions = Transmissions::new(alloc);
     let _ = make_all(&mut transmissions);
     let again = transmissions.is_retransmitted(0, 2) && !transmissions.is_retransmitted(2, 200_000);
@@ -63,5 +63,5 @@ fn made(alloc: Global) -> (bool, u64, Option<u64>) {
 // The time to make a segment doesn't grow with the number made before.
 #[test]
 fn segments_are_made_over_and_over(rt: HostRuntime) {
-    assert_eq!(rt; made(rt.alloc()), (true, 200_000, Some(1)));
+    assert_eq!(rt; after_making(rt.alloc()), (true, 200_000, Some(1)));
 }

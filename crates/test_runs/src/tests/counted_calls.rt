@@ -5,7 +5,7 @@
 //! the end.
 
 use crate::tests::ends::{Sink, Source};
-use crate::tests::telling::{tell, tell_counts, tell_number, untold};
+use crate::tests::transcript::{tell, tell_counts, tell_number, untold};
 use counted::{Counted, ReadFault, Taken, Wanted};
 use std::alloc::Global;
 use std::io;
@@ -133,7 +133,7 @@ write x x x 3 of 3
 
 // What isn't told as it should be. No call fails, then the first, and so on; last, there are three writes to a writer
 // that takes nothing.
-fn told(alloc: Global) -> &'static str {
+fn compare_transcript(alloc: Global) -> &'static str {
     let mut told = Vec::new(alloc);
     for fails_at in 0..=4 {
         done(alloc, &mut told, fails_at);
@@ -146,5 +146,5 @@ fn told(alloc: Global) -> &'static str {
 
 #[test]
 fn each_call_is_one_call(rt: HostRuntime) {
-    assert_eq!(rt; told(rt.alloc()), "all");
+    assert_eq!(rt; compare_transcript(rt.alloc()), "all");
 }

@@ -1,7 +1,7 @@
 //! Lines that stay in a reader's buffer: what is kept of them, how many calls they take, and what is read behind them.
 
 use crate::tests::ends::Source;
-use crate::tests::telling::{tell, tell_counts, tell_number, untold};
+use crate::tests::transcript::{tell, tell_counts, tell_number, untold};
 use counted::{Counted, ReadFault};
 use std::alloc::Global;
 use std::io::Read;
@@ -74,7 +74,7 @@ x 0 ef.\n 0 gh.\n 0 \n 0 ij end 1 of 6
 
 // What isn't told as it should be. A call is made only if no whole line is buffered, and nothing that was read is lost
 // if it fails, except the begin of a long line.
-fn told(alloc: Global) -> &'static str {
+fn compare_transcript(alloc: Global) -> &'static str {
     let mut told = Vec::new(alloc);
     for size in [0, 1, 5, 100] {
         lines(alloc, &mut told, size, 0);
@@ -90,5 +90,5 @@ fn told(alloc: Global) -> &'static str {
 
 #[test]
 fn lines_stay_in_the_buffer(rt: HostRuntime) {
-    assert_eq!(rt; told(rt.alloc()), "all");
+    assert_eq!(rt; compare_transcript(rt.alloc()), "all");
 }

@@ -65,7 +65,7 @@ fn place_most(window: &mut Window) -> u32 {
 }
 
 // How many are placed, how many wait then, and the first of these.
-fn placed(alloc: Global) -> (u32, usize, Option<u64>) {
+fn place_lines(alloc: Global) -> (u32, usize, Option<u64>) {
     let mut window = Window::new(alloc, &HEADER);
     let _ = offer_all(&mut window);
     let placed = place_most(&mut window);
@@ -75,5 +75,5 @@ fn placed(alloc: Global) -> (u32, usize, Option<u64>) {
 // The time for a step doesn't grow with the number of lines.
 #[test]
 fn many_lines_wait_at_once(rt: HostRuntime) {
-    assert_eq!(rt; placed(rt.alloc()), (180_000, 20_000, Some(180_007)));
+    assert_eq!(rt; place_lines(rt.alloc()), (180_000, 20_000, Some(180_007)));
 }

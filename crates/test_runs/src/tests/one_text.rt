@@ -1,7 +1,7 @@
 //! A case in one text: what is read of it, up to the call that fails, and nothing after the first fault.
 
 use crate::tests::ends::Source;
-use crate::tests::telling::{tell, tell_counts, untold};
+use crate::tests::transcript::{tell, tell_counts, untold};
 use checker::{CaseFault, check_reader};
 use counted::Counted;
 use std::alloc::Global;
@@ -54,7 +54,7 @@ fn word(answer: &Result<Verdict, CaseFault>) -> &'static str {
 }
 
 // Tells the answer to this text, then how many of the calls failed.
-fn tell_judged(alloc: Global, told: &mut Vec<u8>, text: &str, fails_at: u32) {
+fn check_and_tell(alloc: Global, told: &mut Vec<u8>, text: &str, fails_at: u32) {
     let mut source = Source::new(text.as_bytes(), 0, fails_at);
     let (answer, reader) = check_reader(alloc, Counted::new(&mut source));
     let failures = reader.failures();
@@ -65,22 +65,22 @@ fn tell_judged(alloc: Global, told: &mut Vec<u8>, text: &str, fails_at: u32) {
 
 // What isn't told as it should be. Each line takes one call, and the end one. After a fault, the call that would fail
 // isn't made; a no comes after all lines.
-fn told(alloc: Global) -> &'static str {
+fn compare_transcript(alloc: Global) -> &'static str {
     let mut told = Vec::new(alloc);
     for fails_at in [1, 8, 9, 12, 13, 14] {
-        tell_judged(alloc, &mut told, EXPLAINED, fails_at);
+        check_and_tell(alloc, &mut told, EXPLAINED, fails_at);
     }
-    tell_judged(alloc, &mut told, FAULT_AT_ONCE, 2);
-    tell_judged(alloc, &mut told, FAULT_OF_HEADER, 4);
-    tell_judged(alloc, &mut told, FAULT_OF_TRACE, 9);
-    tell_judged(alloc, &mut told, FAULT_OF_WITNESS, 10);
+    check_and_tell(alloc, &mut told, FAULT_AT_ONCE, 2);
+    check_and_tell(alloc, &mut told, FAULT_OF_HEADER, 4);
+    check_and_tell(alloc, &mut told, FAULT_OF_TRACE, 9);
+    check_and_tell(alloc, &mut told, FAULT_OF_WITNESS, 10);
     for fails_at in [12, 13] {
-        tell_judged(alloc, &mut told, BROKEN, fails_at);
+        check_and_tell(alloc, &mut told, BROKEN, fails_at);
     }
     untold(told.as_slice(), TOLD)
 }
 
 #[test]
 fn a_text_is_read_up_to_a_failure_or_a_fault(rt: HostRuntime) {
-    assert_eq!(rt; told(rt.alloc()), "all");
+    assert_eq!(rt; compare_transcript(rt.alloc()), "all");
 }

@@ -6,7 +6,7 @@ ghost use Rattle.spec_network.specs.Tables.{lane};
 ghost use Rattle.test_runs.specs.Scenes.{test_header};
 
 use crate::tests::fates::{Fates, NONE_LOST};
-use crate::tests::side::{Deed, Side, Told};
+use crate::tests::side::{Side, SocketCall, Told};
 use case_forms::{Call, Host};
 use crossbeam_channel::unbounded;
 use recorder::{Flying, HostBook, LoopEnd, Recorder, Site};
@@ -24,9 +24,9 @@ pub enum Act {
     /// Host 1 accepts another child than before.
     Accept,
     /// Host 0 makes a call on its connection, which is answered so.
-    Zero(Deed, Told),
+    Zero(SocketCall, Told),
     /// Host 1 makes a call on the child that it accepted last, which is answered so.
-    One(Deed, Told),
+    One(SocketCall, Told),
     /// Segments arrive, or clocks advance.
     Move(Movement),
 }
@@ -199,11 +199,15 @@ impl<'a, L: Site, M: Site, R: Wait> Pair<'a, L, M, R> {
                 self.child = child;
                 Some(is_new)
             }
-            Act::Zero(deed, wanted) => {
-                Some(self.zero.make(self.rt, self.alloc, self.socket, deed)? == wanted)
+            Act::Zero(socket_call, wanted) => {
+                Some(
+                    self.zero
+                        .make(self.rt, self.alloc, self.socket, socket_call)?
+                        == wanted,
+                )
             }
-            Act::One(deed, wanted) => {
-                Some(self.one.make(self.rt, self.alloc, self.child, deed)? == wanted)
+            Act::One(socket_call, wanted) => {
+                Some(self.one.make(self.rt, self.alloc, self.child, socket_call)? == wanted)
             }
             Act::Move(movement) => Some(self.go_on(movement)),
         }

@@ -38,7 +38,7 @@ fn first_sent(lines: &[Line], sender: Host) -> Option<&Segment> {
 }
 
 // What is wrong with the first segment of a host; `yes` if nothing is.
-fn opened(lines: &[Line], opening: Opening) -> &'static str {
+fn judge_opening(lines: &[Line], opening: Opening) -> &'static str {
     let Some(seg) = first_sent(lines, opening.host) else {
         return UNANSWERED;
     };
@@ -86,7 +86,7 @@ fn judge(trace: &Trace, shift: Option<u8>) -> &'static str {
     if !lines.iter().all(has_own_thread) {
         return "another thread";
     }
-    let zero = opened(
+    let zero = judge_opening(
         lines,
         Opening {
             host: Host::Zero,
@@ -99,7 +99,7 @@ fn judge(trace: &Trace, shift: Option<u8>) -> &'static str {
     if zero != "yes" {
         return zero;
     }
-    opened(
+    judge_opening(
         lines,
         Opening {
             host: Host::One,
@@ -113,7 +113,7 @@ fn judge(trace: &Trace, shift: Option<u8>) -> &'static str {
 
 // What is wrong with a recording of one round in which every second segment of a host is lost, but not the first; `yes`
 // if nothing is. Host 1 must have had its turn in one of several recordings.
-fn told<R: Threads + Wait + Sync>(
+fn judge_round<R: Threads + Wait + Sync>(
     rt: &R,
     alloc: Global,
     version: Version,
@@ -140,8 +140,8 @@ fn told<R: Threads + Wait + Sync>(
 
 // What is wrong in version 1, and with a shift in version 2.
 fn told_in_both<R: Threads + Wait + Sync>(rt: &R, alloc: Global) -> (&'static str, &'static str) {
-    let first = told(rt, alloc, Version::One, None);
-    let second = told(rt, alloc, Version::Two, Some(2));
+    let first = judge_round(rt, alloc, Version::One, None);
+    let second = judge_round(rt, alloc, Version::Two, Some(2));
     (first, second)
 }
 

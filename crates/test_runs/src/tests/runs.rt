@@ -1,7 +1,7 @@
 //! What the program answers at ends that fail, and that it flushes each answer.
 
 use crate::tests::ends::{Sink, Source};
-use crate::tests::telling::{tell, tell_number, untold};
+use crate::tests::transcript::{tell, tell_number, untold};
 use cli::run_all;
 use counted::Counted;
 use std::alloc::Global;
@@ -69,7 +69,7 @@ fn tell_run<H: Threads + Wait + Sync>(
 }
 
 // What isn't told as it should be.
-fn told<H: Threads + Wait + Sync>(rt: &H, alloc: Global) -> &'static str {
+fn compare_transcript<H: Threads + Wait + Sync>(rt: &H, alloc: Global) -> &'static str {
     let mut told = Vec::new(alloc);
     for (words, read_fails, write_fails) in &RUNS {
         let mut sink = Sink::new(alloc, *write_fails);
@@ -80,5 +80,5 @@ fn told<H: Threads + Wait + Sync>(rt: &H, alloc: Global) -> &'static str {
 
 #[test]
 fn each_answer_is_flushed_and_each_failure_told(rt: HostRuntime) {
-    assert_eq!(rt; told(&rt, rt.alloc()), "all");
+    assert_eq!(rt; compare_transcript(&rt, rt.alloc()), "all");
 }

@@ -3,7 +3,7 @@
 use crate::tests::fates::Fates;
 use crate::tests::kinds::{Kinds, opens_with};
 use crate::tests::pair::{Act, Movement, TIMEOUT_TURNS};
-use crate::tests::side::{Deed, FIRST_ISS, RING};
+use crate::tests::side::{FIRST_ISS, RING, SocketCall};
 use recorder::{Fate, Recorded};
 
 /// What a recording must show.
@@ -51,17 +51,17 @@ const LISTEN: Act = Act::Listen(80);
 
 const OPEN: Act = Act::Open(4_000, 80);
 
-const CLOSE: Act = Act::Zero(Deed::Close, ("done", 0));
+const CLOSE: Act = Act::Zero(SocketCall::Close, ("done", 0));
 
-const CLOSE_CHILD: Act = Act::One(Deed::Close, ("done", 0));
+const CLOSE_CHILD: Act = Act::One(SocketCall::Close, ("done", 0));
 
-const READ_RING: Act = Act::One(Deed::Recv(RING), ("bytes", 4_096));
+const READ_RING: Act = Act::One(SocketCall::Recv(RING), ("bytes", 4_096));
 
-const READ_TEN: Act = Act::One(Deed::Recv(RING), ("bytes", 10));
+const READ_TEN: Act = Act::One(SocketCall::Recv(RING), ("bytes", 10));
 
-const SEND_RING: Act = Act::Zero(Deed::Send(RING), ("given", 4_096));
+const SEND_RING: Act = Act::Zero(SocketCall::Send(RING), ("given", 4_096));
 
-const SEND_TEN: Act = Act::Zero(Deed::Send(10), ("given", 10));
+const SEND_TEN: Act = Act::Zero(SocketCall::Send(10), ("given", 10));
 
 const SETTLE: Act = Act::Move(Movement::Settle);
 
@@ -83,7 +83,7 @@ pub const CONNECTED: &[Act] = &[
     LISTEN,
     OPEN,
     EXCHANGE_1,
-    Act::Zero(Deed::Await, ("done", 0)),
+    Act::Zero(SocketCall::Await, ("done", 0)),
 ];
 
 /// One connection, between other ports.
@@ -91,11 +91,15 @@ pub const CONNECTED_ELSEWHERE: &[Act] = &[
     Act::Listen(81),
     Act::Open(4_001, 81),
     EXCHANGE_1,
-    Act::Zero(Deed::Await, ("done", 0)),
+    Act::Zero(SocketCall::Await, ("done", 0)),
 ];
 
 // No listener is open.
-const REFUSED: &[Act] = &[OPEN, EXCHANGE_1, Act::Zero(Deed::Await, ("refused", 0))];
+const REFUSED: &[Act] = &[
+    OPEN,
+    EXCHANGE_1,
+    Act::Zero(SocketCall::Await, ("refused", 0)),
+];
 
 // The accepted endpoint is aborted.
 const RESET: &[Act] = &[
@@ -103,9 +107,9 @@ const RESET: &[Act] = &[
     OPEN,
     EXCHANGE_2,
     Act::Accept,
-    Act::One(Deed::Abort, ("done", 0)),
+    Act::One(SocketCall::Abort, ("done", 0)),
     EXCHANGE_1,
-    Act::Zero(Deed::Recv(1), ("reset", 0)),
+    Act::Zero(SocketCall::Recv(1), ("reset", 0)),
 ];
 
 // Two children wait in a queue with room for one.
@@ -171,11 +175,11 @@ pub const TWICE: Scene = Scene {
         TWICE_BACK,
         TWICE_THERE,
         Act::Accept,
-        Act::Zero(Deed::Send(64), ("given", 64)),
+        Act::Zero(SocketCall::Send(64), ("given", 64)),
         TWICE_THERE,
         TWICE_BACK,
         TWICE_THERE,
-        Act::One(Deed::Recv(RING), ("bytes", 64)),
+        Act::One(SocketCall::Recv(RING), ("bytes", 64)),
     ],
     shows: Shows::Nothing,
 };

@@ -12,14 +12,20 @@ fn bytes_of(alloc: Global, bytes: &[u8]) -> Bytes {
     }
 }
 
+// SYN (0x02) and ACK (0x10), as a segment has its flags.
+const SYN_ACK: u8 = 0x12;
+
+// The greatest sequence number, whose four bytes are all ff.
+const GREATEST: u32 = u32::MAX;
+
 // A segment with SYN and ACK, these options and this payload.
 fn syn_ack(mss: Option<u16>, scale: Option<u8>, options: Bytes, payload: Bytes) -> Segment {
     Segment {
         src: 80,
         dst: 4000,
         seq: Word(100),
-        ack: Word(4_294_967_295),
-        flags: 0x12,
+        ack: Word(GREATEST),
+        flags: SYN_ACK,
         window: 65_535,
         mss,
         scale,

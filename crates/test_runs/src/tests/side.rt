@@ -54,7 +54,7 @@ fn own_socket(thread: u32, socket: u32) -> Option<u32>
 /// What a call was answered: a word, with a number that was given, or how many bytes.
 pub type Told = (&'static str, u32);
 
-fn answered(answer: &Answer) -> Told {
+fn words_of(answer: &Answer) -> Told {
     match answer {
         Answer::Done => ("done", 0),
         Answer::Given(number) => ("given", *number),
@@ -74,7 +74,7 @@ fn answered(answer: &Answer) -> Told {
 
 /// A call on a connection.
 #[derive(Clone, Copy)]
-pub enum Deed {
+pub enum SocketCall {
     Await,
     /// So many bytes are sent, at most a ring.
     Send(u16),
@@ -129,7 +129,7 @@ impl<L: Site> Side<L> {
     {
         let Side { recorder, seat, .. } = self;
         match recorder.call(rt, seat, call) {
-            Ok(receipt) => Some(answered(receipt.answered.answer())),
+            Ok(receipt) => Some(words_of(receipt.answered.answer())),
             Err(_) => None,
         }
     }
@@ -147,32 +147,38 @@ impl<L: Site> Side<L> {
     }
 
     // The call on this socket number. None: it has no byte or too many, or memory ran out.
-    fn call_on(&self, alloc: Global, socket: u32, deed: Deed) -> Option<Call>
+    fn call_on(&self, alloc: Global, socket: u32, socket_call: SocketCall) -> Option<Call>
         requires { lane socket ≡ L.host }
         ensures aims { IfSome result (λ c. Aims L.host (aim c)) }
         ensures within { IfSome result IsCallWithin }
     {
-        match deed {
-            Deed::Await => Some(Call::Await(socket)),
-            Deed::Send(count) => {
+        match socket_call {
+            SocketCall::Await => Some(Call::Await(socket)),
+            SocketCall::Send(count) => {
                 let bytes = BYTES.get(..usize::from(count))?;
                 if bytes.is_empty() {
                     return None;
                 }
                 Some(Call::Send(socket, Bytes::from_slice(alloc, bytes).ok()?))
             }
-            Deed::Recv(0) => None,
-            Deed::Recv(most) => Some(Call::Recv(socket, most)),
-            Deed::Close => Some(Call::Close(socket)),
-            Deed::Abort => Some(Call::Abort(socket)),
+            SocketCall::Recv(0) => None,
+            SocketCall::Recv(most) => Some(Call::Recv(socket, most)),
+            SocketCall::Close => Some(Call::Close(socket)),
+            SocketCall::Abort => Some(Call::Abort(socket)),
         }
     }
 
     /// Makes a call on this socket number, and returns the answer. None: the call was refused, or memory ran out.
-    pub fn make<R: Wait>(&mut self, rt: &R, alloc: Global, socket: u32, deed: Deed) -> Option<Told>
+    pub fn make<R: Wait>(
+        &mut self,
+        rt: &R,
+        alloc: Global,
+        socket: u32,
+        socket_call: SocketCall,
+    ) -> Option<Told>
         requires { lane socket ≡ L.host }
     {
-        let call = self.call_on(alloc, socket, deed)?;
+        let call = self.call_on(alloc, socket, socket_call)?;
         self.call(rt, call)
     }
 

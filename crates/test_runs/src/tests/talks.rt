@@ -109,7 +109,7 @@ const CLOSING: Way = Way::Fated(NONE_LOST, NONE_LOST, 3);
 
 // The recording of so many rounds in version 1, with these fates there and back. Host 1 receives so many segments. The
 // rounds ended only if both books count as many answers as there are receipts.
-fn fated<R: Threads + Wait + Sync>(
+fn record_with_fates<R: Threads + Wait + Sync>(
     rt: &R,
     alloc: Global,
     rounds: u16,
@@ -177,12 +177,18 @@ fn recording_of<R: Threads + Wait + Sync>(
                 },
             )
         }
-        Way::Fated(fate, back, taken) => fated(rt, alloc, rounds, Wire { fate, taken }, back),
+        Way::Fated(fate, back, taken) => record_with_fates(
+            rt,
+            alloc,
+            rounds,
+            Wire { fate, taken },
+            back,
+        ),
     }
 }
 
 // What is wrong with a talk of so many rounds; `yes` if nothing is.
-fn said_once<R: Threads + Wait + Sync>(
+fn talk_once<R: Threads + Wait + Sync>(
     rt: &R,
     alloc: Global,
     rounds: u16,
@@ -199,9 +205,14 @@ fn said_once<R: Threads + Wait + Sync>(
 pub const TRIES: u32 = 5;
 
 // The same, if its rounds end in one of several recordings. Each recording is explained, even if its rounds didn't end.
-fn said<R: Threads + Wait + Sync>(rt: &R, alloc: Global, rounds: u16, way: Way) -> &'static str {
+fn try_talk<R: Threads + Wait + Sync>(
+    rt: &R,
+    alloc: Global,
+    rounds: u16,
+    way: Way,
+) -> &'static str {
     for _ in 0..TRIES {
-        let said = said_once(rt, alloc, rounds, way);
+        let said = talk_once(rt, alloc, rounds, way);
         if said != UNENDED {
             return said;
         }
@@ -217,7 +228,7 @@ fn draws<R: Threads + Wait + Sync>(
     seeds: Range<u32>,
 ) -> (u32, &'static str) {
     for seed in seeds {
-        let said = said(
+        let said = try_talk(
             rt,
             alloc,
             2,
@@ -233,7 +244,7 @@ fn draws<R: Threads + Wait + Sync>(
 // The first way in which something is wrong, and what.
 fn ways<R: Threads + Wait + Sync>(rt: &R, alloc: Global) -> (&'static str, &'static str) {
     for (name, rounds, way) in &WAYS {
-        let said = said(rt, alloc, *rounds, *way);
+        let said = try_talk(rt, alloc, *rounds, *way);
         if said != "yes" {
             return (name, said);
         }
@@ -257,8 +268,8 @@ fn rounds_with_losses_are_explained(rt: HostRuntime) {
 }
 
 // What is wrong with a talk whose rounds must not end; `yes` if nothing is.
-fn unended<R: Threads + Wait + Sync>(rt: &R, alloc: Global, way: Way) -> &'static str {
-    let said = said_once(rt, alloc, 20, way);
+fn talk_without_end<R: Threads + Wait + Sync>(rt: &R, alloc: Global, way: Way) -> &'static str {
+    let said = talk_once(rt, alloc, 20, way);
     if said == UNENDED {
         return "yes";
     }
@@ -270,11 +281,11 @@ fn unended<R: Threads + Wait + Sync>(rt: &R, alloc: Global, way: Way) -> &'stati
 
 #[test]
 fn a_recording_that_does_not_end_is_explained(rt: HostRuntime) {
-    let said = unended(&rt, rt.alloc(), Way::Losing(1));
+    let said = talk_without_end(&rt, rt.alloc(), Way::Losing(1));
     assert_eq!(rt; said, "yes", "all segments lost");
 }
 
 #[test]
 fn a_channel_that_closes_ends_all(rt: HostRuntime) {
-    assert_eq!(rt; unended(&rt, rt.alloc(), CLOSING), "yes");
+    assert_eq!(rt; talk_without_end(&rt, rt.alloc(), CLOSING), "yes");
 }

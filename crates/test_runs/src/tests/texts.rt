@@ -3,7 +3,7 @@
 ghost use Rattle.trace_reader.specs.TraceLeft.{IsBegun, IsFresh};
 
 use crate::tests::ends::Source;
-use crate::tests::telling::{tell, tell_counts, untold};
+use crate::tests::transcript::{tell, tell_counts, untold};
 use case_forms::OutOfMemory;
 use counted::Counted;
 use line_fields::SourceFault;
@@ -212,7 +212,7 @@ fn tell_traces(alloc: Global, told: &mut Vec<u8>) {
 
 // What isn't told as it should be. Six calls read the header, one a line, and one the end. One call reads the first
 // line of a witness, one a step, and one the end. Nothing is read ahead, and after a failure or a fault nothing at all.
-fn told(alloc: Global) -> &'static str {
+fn compare_transcript(alloc: Global) -> &'static str {
     let mut told = Vec::new(alloc);
     tell_traces(alloc, &mut told);
     for fails_at in [1, 2, 3, 4] {
@@ -224,7 +224,7 @@ fn told(alloc: Global) -> &'static str {
 
 #[test]
 fn texts_are_read_up_to_a_failure(rt: HostRuntime) {
-    assert_eq!(rt; told(rt.alloc()), "all");
+    assert_eq!(rt; compare_transcript(rt.alloc()), "all");
 }
 
 // Whether a line with this number is read.

@@ -54,7 +54,7 @@ fn books<R: Wait>(
 }
 
 // What is wrong with a recording of a scene, of which the kinds are added; `yes` if nothing is.
-fn judged(
+fn judge(
     alloc: Global,
     recorded: &Recorded,
     went: bool,
@@ -84,7 +84,7 @@ fn seen<R: Wait>(
         return "no books";
     };
     match merge(alloc, zero, one) {
-        Ok(recorded) => judged(alloc, &recorded, went, scene, kinds),
+        Ok(recorded) => judge(alloc, &recorded, went, scene, kinds),
         Err(MergeFault::OutOfMemory) => "out of memory",
         Err(MergeFault::Stranger { .. }) => "not merged",
     }

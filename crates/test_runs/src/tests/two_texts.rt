@@ -2,7 +2,7 @@
 //! needs.
 
 use crate::tests::ends::Source;
-use crate::tests::telling::{tell, tell_number, untold};
+use crate::tests::transcript::{tell, tell_number, untold};
 use checker::{CaseFault, check_streams};
 use counted::Counted;
 use memchr::memchr;
@@ -91,7 +91,7 @@ fn tell_answer(told: &mut Vec<u8>, answer: &Result<Verdict, CaseFault>, failures
 }
 
 // Tells the answer to these two texts, with so many bytes read in each call, and one call that fails or none.
-fn tell_judged(
+fn check_and_tell(
     alloc: Global,
     told: &mut Vec<u8>,
     texts: (&str, &str),
@@ -109,7 +109,7 @@ fn first_other(alloc: Global, is_witness: bool, calls: Range<u32>, wanted: &str)
     for call in calls {
         let fails = if is_witness { (0, call) } else { (call, 0) };
         let mut told = Vec::new(alloc);
-        tell_judged(alloc, &mut told, (TRACE, WITNESS), 0, fails);
+        check_and_tell(alloc, &mut told, (TRACE, WITNESS), 0, fails);
         if told.as_slice() != wanted.as_bytes() {
             return call;
         }
@@ -141,8 +141,8 @@ fn behind_a_broken_step(alloc: Global) -> &'static str {
         "trace 1\nskew 0\nmsl 1\ngrain 1\nminrto 1\nextra 0\n10 1 B close 5\n11 1 E badsocket\n";
     let cut = "trace 1\nskew 0\nmsl 1\ngrain 1\nminrto 1\nextra 0\n10 1 B close 5\n11 1 E\n";
     let broken = "witness 1\n9 L 7\n";
-    tell_judged(alloc, &mut told, (trace, broken), 7, (0, 0));
-    tell_judged(alloc, &mut told, (cut, broken), 7, (0, 0));
+    check_and_tell(alloc, &mut told, (trace, broken), 7, (0, 0));
+    check_and_tell(alloc, &mut told, (cut, broken), 7, (0, 0));
     untold(told.as_slice(), "no 0 0 trace 0 0 ")
 }
 

@@ -1,6 +1,6 @@
 use Rattle.std.proofs.Common.{rules, ◌≡◌, ◌++◌, ◌∙◌, ap₂, inr, refl, Err, codes, max, ℕ, List}
 use Rattle.checker.specs.declared.case.CaseFault.TheVariants.{OutOfMemory}
-use Rattle.answer_lines.specs.Output.{status_of}
+use Rattle.answers.specs.Output.{status_of}
 use Rattle.answer_stream.proofs.batch.gather.Goals as goal
 
 pub returns-clause-told : goal.returns-clause-told

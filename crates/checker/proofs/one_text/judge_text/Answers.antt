@@ -7,7 +7,7 @@ use Rattle.counted.specs.Counting.{left_of}
 use Rattle.line_fields.specs.declared.fault.TextFault.{TextFault}
 use Rattle.line_fields.specs.Faults.{missing_line}
 use Rattle.trace_reader.specs.TraceText.{trace_in}
-use Rattle.trace_text.specs.CaseLines.{KeepsWitness}
+use Rattle.case_lines.specs.CaseLines.{KeepsWitness}
 use Rattle.trace_reader.specs.TraceLeft.{source_of, end_of_text, rows_behind}
 use Rattle.checker.specs.declared.case.CaseFault.{CaseFault}
 use Rattle.checker.specs.declared.case.CaseFault.TheVariants as faults

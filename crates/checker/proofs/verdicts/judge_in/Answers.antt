@@ -3,7 +3,6 @@ use Rattle.std.proofs.lemmas.Result.{err_from_is_err_and}
 use Rattle.case_forms.specs.declared.steps.Step.{Step}
 use Rattle.line_fields.specs.Left.{Yields}
 use Rattle.verdict.specs.declared.report.Verdict.TheVariants.{No}
-use Rattle.witness.specs.StepsLeft.{steps_left}
 use Rattle.checker.specs.declared.ahead.Ahead.{Ahead}
 use Rattle.checker.specs.declared.case.CaseFault.{CaseFault}
 use Rattle.checker.specs.declared.turns.StepCounts.{StepCounts}
@@ -17,46 +16,46 @@ use Rattle.checker.proofs.TurnLemmas.{trace_first}
 use Rattle.checker.proofs.verdicts.judge_in.Goals as goal
 
 pub returns-in_err-read_step-clause-tells : goal.returns-in_err-read_step-clause-tells
-returns-in_err-read_step-clause-tells g c = λ header t s begun.
-    let so_far = c.loop-item.invariant.goes header t s begun in
+returns-in_err-read_step-clause-tells g c = λ header t s offered begun.
+    let so_far = c.loop-item.invariant.goes header t s offered begun in
     let p = err_from_is_err_and c.from_residual.result c.from_residual.ensures.1 in
     rw p.1 (subst (λ (e : CaseFault). CaseFails e t s) (sym p.2)
-    (case_fails_before t (left_ahead g.A.Read.remaining c.loop-item.lines) s (steps_left g.B.Read.remaining c.loop-item.steps)
+    (case_fails_before t (left_ahead g.A.Read.remaining c.loop-item.lines) s (g.S.StepSource.left c.loop-item.steps)
     so_far.0 so_far.1 _ so_far.2.passed so_far.2.done c.in_err-read_step.ensures.fault))
 
 pub returns-in_err-replay_next-clause-tells : goal.returns-in_err-replay_next-clause-tells
-returns-in_err-replay_next-clause-tells g c = λ header t s begun.
-    let so_far = c.loop-item.invariant.goes header t s begun in
+returns-in_err-replay_next-clause-tells g c = λ header t s offered begun.
+    let so_far = c.loop-item.invariant.goes header t s offered begun in
     let here = subst (λ (l : Ahead _). Passes t (left_ahead g.A.Read.remaining l) so_far.0) (sym c.in_ok-read_step.ensures.unread) so_far.2.passed in
     let p = err_from_is_err_and c.from_residual-in_err-replay_next.result c.from_residual-in_err-replay_next.ensures.1 in
     rw p.1 (subst (λ (e : CaseFault). CaseFails e t s) (sym p.2)
     (trace_first _ t s (trace_fails_before t _ so_far.0 _ here c.in_err-replay_next.ensures.fault)))
 
 pub returns-in_default-clause-tells : goal.returns-in_default-clause-tells
-returns-in_default-clause-tells g c = λ header t s begun.
-    let so_far = c.loop-item.invariant.goes header t s begun in
+returns-in_default-clause-tells g c = λ header t s offered begun.
+    let so_far = c.loop-item.invariant.goes header t s offered begun in
     let here =
-    subst (λ (l : Ahead _). SoFar header t (left_ahead g.A.Read.remaining l) s (steps_left g.B.Read.remaining c.loop-item.steps)
+    subst (λ (l : Ahead _). SoFar header t (left_ahead g.A.Read.remaining l) s (g.S.StepSource.left c.loop-item.steps)
     c.loop-item.window c.loop-item.world so_far.0 so_far.1) (sym c.in_ok-read_step.ensures.unread) so_far.2 in
     let next =
-    subst (λ (item : Option Step). Yields (steps_left g.B.Read.remaining c.loop-item.steps) (steps_left g.B.Read.remaining c.read_step.new.steps) item)
+    subst (λ (item : Option Step). Yields (g.S.StepSource.left c.loop-item.steps) (g.S.StepSource.left c.read_step.new.steps) item)
     c.in_default.is c.in_ok-read_step.ensures.next in
-    c.end_of_witness.ensures.tells header t s so_far.0 so_far.1 (steps_left g.B.Read.remaining c.loop-item.steps)
-    (steps_left g.B.Read.remaining c.read_step.new.steps) here next so_far.3
+    c.end_of_witness.ensures.tells header t s so_far.0 so_far.1 (g.S.StepSource.left c.loop-item.steps)
+    (g.S.StepSource.left c.read_step.new.steps) here next so_far.3
 
 pub returns-in-Err-Broken-clause-tells : goal.returns-in-Err-Broken-clause-tells
-returns-in-Err-Broken-clause-tells g c = λ header t s begun.
-    let so_far = c.loop-item.invariant.goes header t s begun in
+returns-in-Err-Broken-clause-tells g c = λ header t s offered begun.
+    let so_far = c.loop-item.invariant.goes header t s offered begun in
     let here =
-    subst (λ (l : Ahead _). SoFar header t (left_ahead g.A.Read.remaining l) s (steps_left g.B.Read.remaining c.loop-item.steps)
+    subst (λ (l : Ahead _). SoFar header t (left_ahead g.A.Read.remaining l) s (g.S.StepSource.left c.loop-item.steps)
     c.loop-item.window c.loop-item.world so_far.0 so_far.1) (sym c.in_ok-read_step.ensures.unread) so_far.2 in
     let next =
-    subst (λ (item : Option Step). Yields (steps_left g.B.Read.remaining c.loop-item.steps) (steps_left g.B.Read.remaining c.read_step.new.steps) item)
+    subst (λ (item : Option Step). Yields (g.S.StepSource.left c.loop-item.steps) (g.S.StepSource.left c.read_step.new.steps) item)
     c.in-Some.is c.in_ok-read_step.ensures.next in
     let after = rw (c.in-Err-Broken.is, c.in-Err-Broken.field-0-is) at (c.in_ok-replay_next.ensures.after header t s _ _ so_far.0 so_far.1 here next) in
     c.refuse.ensures.tells header t s (
       so_far.1,
-      steps_left g.B.Read.remaining c.loop-item.steps,
+      g.S.StepSource.left c.loop-item.steps,
       c.in-Some.step,
       after.0,
       so_far.2.done,
@@ -70,9 +69,8 @@ pub loop-item-preserved : goal.loop-item-preserved
 loop-item-preserved g c =
     let inv = c.loop-item.invariant in
     let place = rw c.in-Some.is at c.in_ok-read_step.ensures.place in
-    let at = place.1 in
-    let few = place.2 in
-    let number = inv.number in
+    let fewer = place.1 in
+    let few = inv.few in
     let done = inv.done in
     let steps = rw c.in-Ok.is at c.in_ok-replay_next.ensures.steps in
     let sum = tally_is c.loop-item.tally _ c.with-tally.result c.with-tally.ensures in
@@ -80,18 +78,17 @@ loop-item-preserved g c =
       ahead = c.in_ok-replay_next.ensures.ahead;
       in_step = rw c.in-Ok.is at c.in_ok-replay_next.ensures.in_step;
       working = c.in_ok-read_step.ensures.working;
-      number = omega (arith, at, number, sum);
-      few = omega (arith, few, number, sum);
+      few = omega (arith, fewer, few, sum);
       done = omega (arith, steps, done, sum);
       lines_count = search rules;
       steps_count = search rules;
-      goes = λ header t s begun.
-          let so_far = inv.goes header t s begun in
+      goes = λ header t s offered begun.
+          let so_far = inv.goes header t s offered begun in
           let here =
-          subst (λ (l : Ahead _). SoFar header t (left_ahead g.A.Read.remaining l) s (steps_left g.B.Read.remaining c.loop-item.steps)
+          subst (λ (l : Ahead _). SoFar header t (left_ahead g.A.Read.remaining l) s (g.S.StepSource.left c.loop-item.steps)
           c.loop-item.window c.loop-item.world so_far.0 so_far.1) (sym c.in_ok-read_step.ensures.unread) so_far.2 in
           let next =
-          subst (λ (item : Option Step). Yields (steps_left g.B.Read.remaining c.loop-item.steps) (steps_left g.B.Read.remaining c.read_step.new.steps) item)
+          subst (λ (item : Option Step). Yields (g.S.StepSource.left c.loop-item.steps) (g.S.StepSource.left c.read_step.new.steps) item)
           c.in-Some.is c.in_ok-read_step.ensures.next in
           let after = rw c.in-Ok.is at (c.in_ok-replay_next.ensures.after header t s _ _ so_far.0 so_far.1 here next) in
           let len = length-append so_far.1 (c.in-Some.step ∷ []) in

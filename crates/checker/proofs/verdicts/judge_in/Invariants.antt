@@ -1,10 +1,9 @@
-use Rattle.std.proofs.Common.{◌≡◌, ◌≤◌, ◌+◌, ◌-◌, List, [], None, Option, Result, length}
+use Rattle.std.proofs.Common.{◌≡◌, ◌<◌, ◌≤◌, ◌+◌, List, [], Option, Result, length}
 use Rattle.case_forms.specs.declared.trace.Header.{Header}
 use Rattle.case_forms.specs.declared.trace.Line.{Line}
 use Rattle.case_forms.specs.declared.steps.Step.{Step}
 use Rattle.counted.specs.Counting.{failures_of}
 use Rattle.line_fields.specs.declared.fault.TextFault.{TextFault}
-use Rattle.witness.specs.StepsLeft.{steps_left, fault_of, number_of, reader_failures}
 use Rattle.checker.specs.Ahead.{source_ahead, left_ahead, line_ahead, IsAhead, IsInStep}
 use Rattle.checker.specs.Streaming.{SoFar, Tallied}
 use Rattle.checker.proofs.verdicts.judge_in.Given as goal
@@ -14,19 +13,18 @@ abbrev pub invariant-loop-item : goal.invariant-loop-item
 invariant-loop-item g l = record {
   ahead : IsAhead l.lines;
   in_step : IsInStep l.window (line_ahead l.lines);
-  working : fault_of l.steps ≡ None;
-  number : number_of l.steps ≡ l.tally.lines + l.tally.hidden + 2;
-  few : l.tally.lines + l.tally.hidden ≤ 10000000;
+  working : g.S.StepSource.is_working l.steps;
+  few : g.S.StepSource.room l.steps + (l.tally.lines + l.tally.hidden) < 10000000;
   done : l.world.steps ≤ l.tally.lines + l.tally.hidden;
   lines_count : failures_of (source_ahead l.lines) ≡ failures_of (source_ahead l.fn.lines);
-  steps_count : reader_failures l.steps ≡ reader_failures l.fn.steps;
-  goes : (header : Header) (t : Option (Result (List Line) TextFault)) (s : Option (Result (List Step) TextFault))
-      → SoFar header t (left_ahead g.A.Read.remaining l.fn.lines) s (steps_left g.B.Read.remaining l.fn.steps) l.fn.window l.fn.world [] []
+  steps_count : g.S.StepSource.failures l.steps ≡ g.S.StepSource.failures l.fn.steps;
+  goes : (header : Header) (t : Option (Result (List Line) TextFault)) (s : Option (Result (List Step) TextFault)) (first : List Line)
+      → SoFar header t (left_ahead g.A.Read.remaining l.fn.lines) s (g.S.StepSource.left l.fn.steps) l.fn.window l.fn.world first []
       → (offered : List Line) × (earlier : List Step)
       × SoFar header t (left_ahead g.A.Read.remaining l.lines) s
-      (steps_left g.B.Read.remaining l.steps) l.window l.world offered earlier
+      (g.S.StepSource.left l.steps) l.window l.world offered earlier
       × Tallied earlier l.tally.lines l.tally.hidden × (length earlier ≡ l.tally.lines + l.tally.hidden);
 }
 
 abbrev pub decreases-loop-item : goal.decreases-loop-item
-decreases-loop-item g l = 10000001 - (l.tally.lines + l.tally.hidden)
+decreases-loop-item g l = g.S.StepSource.room l.steps

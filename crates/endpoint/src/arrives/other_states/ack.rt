@@ -78,7 +78,8 @@ fn first_sampled(version: Version, endpoint: &Endpoint, m: &Arrived<'_>) -> u64
     }
 }
 
-// In SYN-SENT only an acknowledgment of the SYN measures it.
+// Whether a segment that arrives in SYN-SENT measures nothing: it is a reset, or doesn't acknowledge the SYN, or the
+// SYN was retransmitted (RFC 6298, 3).
 pub(crate) fn is_no_sample(endpoint: &Endpoint, m: &Arrived<'_>) -> bool
     ensures { result ≡ (m.now.flags.rst || not m.now.flags.ack
         || retransmitted endpoint.now.transmissions endpoint.now.stream.snd_una 1) }

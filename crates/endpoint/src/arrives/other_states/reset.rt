@@ -12,7 +12,7 @@ use spec_tcp::{Endpoint, Fault};
 use window_rules::Signal;
 
 /// The endpoint is CLOSED, and failed if a connection was being opened or was established.
-pub(crate) fn was_reset(endpoint: &mut Endpoint, how: TakeChoice, moment: u64)
+pub(crate) fn on_reset(endpoint: &mut Endpoint, how: TakeChoice, moment: u64)
     requires forgotten { IsForgotten endpoint.old }
     requires counts { HasCounts endpoint.old.control }
     ensures { endpoint.new ≡ forget_endpoint (was_reset endpoint.old how moment) }

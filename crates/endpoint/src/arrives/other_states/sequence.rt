@@ -8,7 +8,7 @@ use crate::same::same_word;
 use seqno::{Word, number, read_near};
 use spec_tcp::{Arrived, Endpoint};
 
-/// A position at most this far above another reads ahead of it; one at most this far below reads before it.
+/// A position less than this far above another reads ahead of it; one at most this far below reads before it.
 const HALF_TURN: u64 = 1 << 31;
 
 // The position at which the segment begins; for a reset in answer, the position its number has near the next one.

@@ -99,7 +99,7 @@ pub(crate) fn timeout_after_ack(
     timers
 }
 
-// How long ago a position was first sent.
+// How long ago a position was first built.
 fn since_made(endpoint: &Endpoint, pos: u64, moment: u64) -> u64
     ensures { result ≡ since_made endpoint.now pos moment }
 {

@@ -8,7 +8,7 @@ ghost use Rattle.std.specs.Prelude.{◌≡◌, ◌&&◌, not};
 use crate::arrives::other_states::ack::{acknowledges_syn, opens_window};
 use crate::same::same_bool;
 use case_forms::Timer;
-use spec_tcp::{Arrived, Endpoint, SendWindow};
+use spec_tcp::{Arrived, Endpoint, Windows};
 use timer_rules::Timers;
 
 /// Whether its window can't be read as it was meant: scaling was in force at its sender and is not here, or vice versa.
@@ -29,7 +29,7 @@ pub(crate) fn takes_window(endpoint: &Endpoint, m: &Arrived<'_>) -> bool
 }
 
 /// The window that the peer then offers, in bytes.
-pub(crate) fn window_after_segment(endpoint: &Endpoint, m: &Arrived<'_>) -> SendWindow
+pub(crate) fn window_after_segment(endpoint: &Endpoint, m: &Arrived<'_>) -> Windows
     ensures { result ≡ window_after_segment endpoint.now m.now }
 {
     let mut window = endpoint.window;

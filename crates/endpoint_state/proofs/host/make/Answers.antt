@@ -1,5 +1,5 @@
 use Rattle.std.proofs.Common.{◌∙◌, refl}
-use Rattle.endpoint_state.proofs.Deeds.{made_is}
+use Rattle.endpoint_state.proofs.KeptHostSteps.{made_is}
 use Rattle.endpoint_state.proofs.host.make.Goals as goal
 
 pub returns-clause-ok : goal.returns-clause-ok

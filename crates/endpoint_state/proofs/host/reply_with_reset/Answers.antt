@@ -5,7 +5,7 @@ use Rattle.indexmap.specs.IndexMap.{insert_entry}
 use Rattle.spec_tcp.specs.declared.endpoint.Emission.{Emission}
 use Rattle.spec_tcp.specs.Reset.{reset_of}
 use Rattle.spec_network.specs.HostSteps.{inbox_settled}
-use Rattle.endpoint_state.proofs.Deeds.{Host_, answered}
+use Rattle.endpoint_state.proofs.KeptHostSteps.{Host_, answered}
 use Rattle.endpoint_state.proofs.host.reply_with_reset.Goals as goal
 
 pub returns-clause-ok : goal.returns-clause-ok

@@ -3,7 +3,7 @@ use Rattle.std.specs.Option.{option_copied}
 use Rattle.spec_tcp.specs.declared.endpoint.Emission.{Emission}
 use Rattle.spec_network.specs.Tables.{waiting}
 use Rattle.endpoint_state.proofs.Still.{waiting_small}
-use Rattle.endpoint_state.proofs.Deeds.{Host_}
+use Rattle.endpoint_state.proofs.KeptHostSteps.{Host_}
 use Rattle.endpoint_state.proofs.host.take.Goals as goal
 
 pub take-requires-clause-small : goal.take-requires-clause-small

@@ -20,7 +20,7 @@ reads_as near base w pos =
     option_map_or (λ b. same_word (number_of b pos) w && nat_le near (pos + 2 ^ 31) && nat_lt pos
     (near + 2 ^ 31)) base false
 
--- both numbers read as their positions; for a reset in answer the sequence number reads as some position
+-- a number doesn't read as its position; for a reset in answer, the sequence number reads as no position
 abbrev pub is_bad_number : Endpoint → Emission → Bool
 is_bad_number e m =
     if m.is_reset_reply then not (is_some (read_position e m))

@@ -14,7 +14,7 @@ use Rattle.spec_tcp.specs.Arrives.OtherStates.Ack.{is_new_ack, acknowledges_syn,
 use Rattle.spec_tcp.specs.Arrives.OtherStates.Window.{takes_window, persist_after_window}
 use Rattle.spec_tcp.specs.Arrives.OtherStates.Text.{state_after_segment}
 
--- how long ago a position was first sent
+-- how long ago a position was first built
 abbrev pub since_made : Endpoint → ℕ → ℕ → ℕ
 since_made e pos moment = moment - unwrap_or (made_moment e.transmissions pos) moment
 

@@ -5,7 +5,7 @@ use Rattle.std.specs.Prelude.{ℕ, ◌==◌, nat_le, nat_lt, Bool, not, ◌&&◌
 use Rattle.case_forms.specs.declared.timer.Timer.TheVariants.{Persist}
 use Rattle.timer_rules.specs.Timers.{armed, stopped}
 use Rattle.timer_rules.specs.declared.timers.Timers.{Timers}
-use Rattle.spec_tcp.specs.Endpoints.{SendWindow, Endpoint, Emission, is_scaling, peer_window}
+use Rattle.spec_tcp.specs.Endpoints.{Windows, Endpoint, Emission, is_scaling, peer_window}
 use Rattle.spec_tcp.specs.Same.{same_bool}
 use Rattle.spec_tcp.specs.Arrives.OtherStates.Ack.{acknowledges_syn}
 
@@ -21,7 +21,7 @@ takes_window e m =
     nat_le e.stream.snd_una m.ack && (acknowledges_syn e m || nat_lt e.window.snd_wl1 m.pos
     || e.window.snd_wl1 == m.pos && nat_le e.window.snd_wl2 m.ack)
 
-abbrev pub window_after_segment : Endpoint → Emission → SendWindow
+abbrev pub window_after_segment : Endpoint → Emission → Windows
 window_after_segment e m =
     if takes_window e m then record e.window { snd_wnd = peer_window e m; snd_wl1 = m.pos; snd_wl2 = m.ack }
     else e.window

@@ -8,6 +8,6 @@ pub unreachable-requires : goal.unreachable-requires
 unreachable-requires c =
     no_gap (slice_get c.args.body.now.endpoints c.in-Some-EndpointAt.place)
     (c.requires.named c.args.number c.in-Some-EndpointAt.place
-    (sym c.thing.ensures ∙ c.in-Some-EndpointAt.is
-    ∙ ap (λ (thing : SocketTarget). Some thing) c.in-Some-EndpointAt.field-0-is))
+    (sym c.target.ensures ∙ c.in-Some-EndpointAt.is
+    ∙ ap (λ (target : SocketTarget). Some target) c.in-Some-EndpointAt.field-0-is))
     (sym c.in-None-endpoint_at.ensures)

@@ -3,7 +3,7 @@ use Rattle.std.proofs.lemmas.Result.{err_from_is_err_and}
 use Rattle.line_fields.specs.declared.fault.SourceFault.{SourceFault}
 use Rattle.line_fields.specs.Rows.{with_rest}
 use Rattle.line_fields.proofs.ReadsLemmas.{reads_value, reads_fault, reads_text}
-use Rattle.trace_text.specs.TextLeft.{last_raw}
+use Rattle.case_lines.specs.TextLeft.{last_raw}
 use Rattle.trace_reader.specs.Headers.{first_version, first_line}
 use Rattle.trace_reader.proofs.StreamLaw.{version_begins}
 use Rattle.trace_reader.proofs.first_line.first_line.Goals as goal

@@ -1,4 +1,4 @@
-use Rattle.watched.proofs.LevelSights.{shows_the_same}
+use Rattle.watched.proofs.LevelObservations.{shows_the_same}
 use Rattle.watched.proofs.laws.less_judged_shows_the_same.Goals as goal
 
 pub returns : goal.returns

@@ -9,7 +9,7 @@ returns-then-plain_letter c =
     rw c.put.ensures (step_is c.args.version c.args.number c.in_ok-moment.moment c.stop.result c.args.raw.now
     words.Line (L c.in_ok-named.named) c.in-Ok.fields _ _ _
     c.in-Ok.ensures c.in_ok-moment.ensures.taken
-    (c.if-plain_letter.ensures.taken refl) c.in_ok-named.ensures c.in_ok-ended.ensures c.stop.ensures)
+    (c.if-plain_letter.ensures.taken refl) c.in_ok-named.ensures c.in_ok-expect_end.ensures c.stop.ensures)
 
 pub returns-then-plain_letter-2 : goal.returns-then-plain_letter-2
 returns-then-plain_letter-2 c =
@@ -28,7 +28,7 @@ returns-then-plain_letter-3 c =
     words.Taking (T c.in_ok-host.host c.in_ok-host.line c.in_ok-host.choice) c.in-Ok.fields _ _ _
     c.in-Ok.ensures c.in_ok-moment.ensures.taken
     (after (c.if-plain_letter-2.ensures.left refl ∙ c.if-plain_letter.ensures.left refl) (c.if-plain_letter-3.ensures.taken refl))
-    c.in_ok-host.ensures c.in_ok-ended-2.ensures c.stop.ensures)
+    c.in_ok-host.ensures c.in_ok-expect_end-2.ensures c.stop.ensures)
 
 pub returns-then-plain_letter-4 : goal.returns-then-plain_letter-4
 returns-then-plain_letter-4 c =

@@ -33,7 +33,7 @@ returns-clause-ok c =
     (c.leave.ensures ∙ ap (λ (b : HostTcp).
     modify b.listeners c.args.place
     (λ (x : Listener). let y : Listener = record x { queue = drop 1 x.queue } in y)) c.self.view_is)
-    (c.in_ok-insert.ensures.ok ∙ (ap (λ (n : ℕ). insert_entry nat_eq c.self.inside.sockets.entries n c.live.result) c.from.ensures
-    ∙ ap (λ (s : Socket). insert_entry nat_eq c.self.inside.sockets.entries c.args.child_number s) c.live.ensures
+    (c.in_ok-insert.ensures.ok ∙ (ap (λ (n : ℕ). insert_entry nat_eq c.self.inside.sockets.entries n c.new_socket.result) c.from.ensures
+    ∙ ap (λ (s : Socket). insert_entry nat_eq c.self.inside.sockets.entries c.args.child_number s) c.new_socket.ensures
     ∙ ap (λ (b : HostTcp). insert_entry nat_eq b.sockets c.args.child_number
-    (record { thing = EndpointAt c.in-Some.child; live = true })) c.self.view_is))
+    (record { target = EndpointAt c.in-Some.child; live = true })) c.self.view_is))

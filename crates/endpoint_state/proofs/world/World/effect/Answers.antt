@@ -13,13 +13,13 @@ use Rattle.endpoint_state.proofs.world.World.effect.Goals as goal
 pub invariant_of-self-2 : goal.invariant_of-self-2
 invariant_of-self-2 c =
     let p : Progress = shown c.self.inside.header c.self.inside.hosts c.self.inside.threads.entries c.self.inside.count c.self.inside.steps in
-    let q : Progress = shown c.self.inside.header c.have_effect.new.hosts c.answered.new.threads.entries c.self.inside.count (c.self.inside.steps + 1) in
+    let q : Progress = shown c.self.inside.header c.have_effect.new.hosts c.set_answer.new.threads.entries c.self.inside.count (c.self.inside.steps + 1) in
     let room : AreReady c.self.inside.hosts =
     are_ready c.args.self.now c.self.inside.hosts c.self.inside.threads.entries c.self.inside.header
     c.self.inside.count c.self.inside.steps c.self.view_is c.requires c.self.invariant in
     kept_next p q 0 (Effect c.args.thread c.args.answer.now)
     (had_effect p c.self.inside.header c.self.inside.hosts c.have_effect.new.hosts c.self.inside.threads.entries
-    c.answered.new.threads.entries c.self.inside.count c.self.inside.steps c.args.thread c.in_ok-call.call.now
+    c.set_answer.new.threads.entries c.self.inside.count c.self.inside.steps c.args.thread c.in_ok-call.call.now
     c.args.answer.now
     (aim_of (tcp c.self.inside.header) c.self.inside.hosts (aim c.in_ok-call.call.now)) room refl c.in_ok-call.ensures.call refl c.in_ok-have_effect.ensures.ok
     (c.in-Ok.ensures.ok ∙ ap

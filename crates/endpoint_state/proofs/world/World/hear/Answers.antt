@@ -7,7 +7,7 @@ use Rattle.spec_tcp.specs.declared.endpoint.Emission.{Emission}
 use Rattle.endpoint_state.specs.Kinds.{heard_one, hearing_rules}
 use Rattle.endpoint_state.specs.Sides.{AreReady}
 use Rattle.endpoint_state.specs.Worlds.{Progress}
-use Rattle.endpoint_state.proofs.Deeds.{Host_}
+use Rattle.endpoint_state.proofs.KeptHostSteps.{Host_}
 use Rattle.endpoint_state.proofs.KindLemmas.{heard_hosts}
 use Rattle.endpoint_state.proofs.Progresses.{are_ready, done_at, kept_next, shown}
 use Rattle.endpoint_state.proofs.world.World.hear.Goals as goal

@@ -2,12 +2,12 @@ use Rattle.std.proofs.Common.{[], refl, sym, ap, ◌+◌, ◌∙◌}
 use Rattle.spec_network.specs.Tables.{with_host}
 use Rattle.spec_network.specs.Hosts.{At, Answers}
 use Rattle.verdict.specs.Rules.{first_broken}
-use Rattle.spec_network.specs.HostRules.{deed_rules}
+use Rattle.spec_network.specs.HostRules.{host_step_rules}
 use Rattle.spec_tcp.specs.Machine.{tcp}
 use Rattle.endpoint_state.specs.Kinds.{answered_one}
 use Rattle.endpoint_state.specs.Sides.{AreReady}
 use Rattle.endpoint_state.specs.Worlds.{Progress}
-use Rattle.endpoint_state.proofs.Deeds.{Host_}
+use Rattle.endpoint_state.proofs.KeptHostSteps.{Host_}
 use Rattle.endpoint_state.proofs.KindLemmas.{answered_hosts}
 use Rattle.endpoint_state.proofs.Progresses.{are_ready, done_at, kept_next, shown}
 use Rattle.endpoint_state.proofs.world.World.reply_with_reset.Goals as goal
@@ -33,7 +33,7 @@ invariant_of-self-2 c =
     tt
     (sym (c.in_ok-reply_with_reset.ensures.fault
     ∙ ap (λ (h : Host_). first_broken
-    (deed_rules (tcp c.self.inside.header) c.args.host 0 [] h (Answers c.args.line))) c.side.ensures.value))
+    (host_step_rules (tcp c.self.inside.header) c.args.host 0 [] h (Answers c.args.line))) c.side.ensures.value))
     c.self.invariant
 
 pub returns-clause-ok : goal.returns-clause-ok

@@ -17,8 +17,8 @@ use Rattle.stack_core.proofs.host_core.HostCore.record_attempt.Goals as goal
 pub add-requires-clause-fits : goal.add-requires-clause-fits
 add-requires-clause-fits c =
     let now : Core = c.args.self.now in
-    effect_fits now c.open_with_room.new.self c.args.tick c.args.thread c.in-Ok-Some.answer c.in_ok-copy.field-0
-    c.open_with_room.ensures.opened c.in_ok-copy.ensures
+    effect_fits now c.begin_event_with_room.new.self c.args.tick c.args.thread c.in-Ok-Some.answer c.in_ok-copy.field-0
+    c.begin_event_with_room.ensures.begun c.in_ok-copy.ensures
     (subst (λ (o : Option Answer).
     IfSome o (λ a. (moment : ℕ)
     → Permitted (tcp now.recorded.header) moment (world now) (Effect c.args.thread a)))
@@ -32,8 +32,8 @@ pub add-requires-2-clause-fits : goal.add-requires-2-clause-fits
 add-requires-2-clause-fits c =
     let now : Core = c.args.self.now in
     subst (λ (l : Label TakenLine). Fits c.add.new.self (step_of l)) (sym c.call_end-end.ensures)
-    (finish_fits now c.open_with_room.new.self c.add.new.self c.args.tick c.line.result c.args.thread c.in-Ok-Some.answer
-    c.in_ok-copy.field-0 c.in_ok-ending.ending c.open_with_room.ensures.opened c.in_ok-copy.ensures
+    (finish_fits now c.begin_event_with_room.new.self c.add.new.self c.args.tick c.line.result c.args.thread c.in-Ok-Some.answer
+    c.in_ok-copy.field-0 c.in_ok-ending.ending c.begin_event_with_room.ensures.begun c.in_ok-copy.ensures
     c.in_ok-ending.ensures
     (subst (λ (o : Option Answer).
     IfSome o (λ a. (moment : ℕ)
@@ -44,9 +44,9 @@ add-requires-2-clause-fits c =
 pub returns-clause-some : goal.returns-clause-some
 returns-clause-some c = (
   refl,
-  c.update_after_answer.ensures ∙ ended_call c.args.self.now c.open_with_room.new.self c.add.new.self c.add-2.new.self
+  c.update_after_answer.ensures ∙ ended_call c.args.self.now c.begin_event_with_room.new.self c.add.new.self c.add-2.new.self
       c.args.tick c.line.result c.args.thread c.in-Ok-Some.answer c.in_ok-copy.field-0 c.in_ok-ending.ending
-      c.open_with_room.ensures.opened c.in_ok-add.ensures.ok
+      c.begin_event_with_room.ensures.begun c.in_ok-add.ensures.ok
       (c.in_ok-add-2.ensures.ok
       ∙ ap (λ (l : Label TakenLine). with_step c.add.new.self (step_of l)) c.call_end-end.ensures)
       c.in_ok-copy.ensures c.in_ok-ending.ensures c.line.ensures,

@@ -1,7 +1,7 @@
 use Rattle.std.proofs.Common.{◌≡◌, ◌<◌, ◌∙◌, ◌||◌, false, List, ℕ, length, ap, arith}
 use Rattle.std.proofs.lemmas.Bool.Decides.{nat_tests}
 use Rattle.std.proofs.lemmas.List.{length-drop}
-use Rattle.streams.proofs.Shown.{kept_in_order, kept_nothing, kept_written, ones_gone, ones_within, ready_within}
+use Rattle.streams.proofs.Shown.{kept_in_order, kept_nothing, kept_written, leading_gone, leading_within, ready_within}
 use Rattle.streams.proofs.cell_queue.CellQueue.keep.Goals.{else-is_empty-via-then-is_empty+else-not-end, else-is_empty-via-else-is_empty, then-self, else-self}
 use Rattle.streams.proofs.cell_queue.CellQueue.keep.Goals as goal
 
@@ -42,30 +42,30 @@ returns-then-not-end-clause-ok c =
     empty c.if-not-end.true
 
 pub drop_front-requires : goal.drop_front-requires
-drop_front-requires c = let most = ones_within c.place.new.marks in omega arith
+drop_front-requires c = let most = leading_within c.place.new.marks in omega arith
 
 pub overflow_add-self-2 : goal.overflow_add-self-2
 overflow_add-self-2 c =
-    let most = ones_within c.place.new.marks in
+    let most = leading_within c.place.new.marks in
     let all = c.in_ok-place.ensures.same in
     let small = c.in_ok-place.ensures.small in
     omega arith
 
 pub overflow_add-self-3 : goal.overflow_add-self-3
 overflow_add-self-3 c =
-    let most = ones_within c.place.new.marks in
+    let most = leading_within c.place.new.marks in
     let all = c.in_ok-place.ensures.same in
     let small = c.in_ok-place.ensures.small in
     omega arith
 
 pub invariant_of-self-2 : goal.invariant_of-self-2
 invariant_of-self-2 c =
-    let most = ones_within c.place.new.marks in
-    let less = length-drop c.ones-count.result c.place.new.marks in
+    let most = leading_within c.place.new.marks in
+    let less = length-drop c.leading_received-count.result c.place.new.marks in
     let left = ap (λ (ys : List ℕ). length ys) c.drop_front.ensures in
     let all = c.in_ok-place.ensures.same in (
       omega arith,
-      rw (c.drop_front.ensures, c.ones-count.ensures) (ones_gone c.place.new.marks),
+      rw (c.drop_front.ensures, c.leading_received-count.ensures) (leading_gone c.place.new.marks),
       let last = c.ends-2.ensures.value in omega arith,
     )
 
@@ -83,7 +83,7 @@ returns-clause-ok c =
       | else-is_empty-via-then-is_empty+else-not-end w ↦ (absurd (let yes = w.if-not-end.false in cc))
       | else-is_empty-via-else-is_empty w ↦ grind (arith, nat_tests, c.is_empty.ensures, w.if-is_empty.false)
     ] in
-    rw (fin, c.drop_front.ensures, c.ones-count.ensures)
+    rw (fin, c.drop_front.ensures, c.leading_received-count.ensures)
     (kept_written q.ready q.values q.marks q.fin c.args.self.now c.args.at c.args.bytes.now c.args.fin part end
     c.place.new.values c.place.new.marks
     c.self.invariant.0 c.self.view_is within (rw c.len-known.ensures.value at c.part_kept-bytes.ensures)

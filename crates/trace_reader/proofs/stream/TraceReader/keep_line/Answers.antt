@@ -4,7 +4,7 @@ use Rattle.line_fields.specs.declared.fault.TextFault.{TextFault}
 use Rattle.line_fields.specs.declared.fault.SourceFault.{SourceFault}
 use Rattle.line_fields.specs.declared.fault.SourceFault.TheVariants.{Text}
 use Rattle.line_fields.specs.Left.{FailsLeft}
-use Rattle.trace_text.specs.TextLeft.{last_raw}
+use Rattle.case_lines.specs.TextLeft.{last_raw}
 use Rattle.trace_reader.specs.TraceLeft.{lines_left}
 use Rattle.trace_reader.proofs.StreamLaw.{next_fails, line_fails, line_read, all_read, stands, text_yields, text_fails_left}
 use Rattle.trace_reader.proofs.stream.TraceReader.keep_line.Goals as goal

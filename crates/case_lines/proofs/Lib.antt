@@ -1,0 +1,5 @@
+pub mod CaseLinesLaw
+pub mod RecordLemmas
+pub mod ChunkLemmas
+pub mod SpelledLemmas
+pub mod TakesLemmas

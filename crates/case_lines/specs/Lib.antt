@@ -1,0 +1,7 @@
+pub mod FirstLine
+pub mod CaseLines
+pub mod TextLeft
+pub mod Lines
+pub mod Records
+pub mod Chunks
+pub mod Spelled

@@ -1,4 +1,0 @@
-pub mod RecordLemmas
-pub mod ChunkLemmas
-pub mod SpelledLemmas
-pub mod TakesLemmas

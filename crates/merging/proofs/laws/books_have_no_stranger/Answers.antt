@@ -1,5 +1,0 @@
-use Rattle.merging.proofs.HonestLemmas.{books_merge}
-use Rattle.merging.proofs.laws.books_have_no_stranger.Goals as goal
-
-pub returns : goal.returns
-returns c = books_merge

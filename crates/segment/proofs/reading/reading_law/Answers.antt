@@ -1,5 +1,0 @@
-use Rattle.segment.proofs.Readings.{reads_by_layout}
-use Rattle.segment.proofs.reading.reading_law.Goals as goal
-
-pub returns : goal.returns
-returns c = reads_by_layout

@@ -1,0 +1,79 @@
+//! All that duties read of the world at a step.
+
+use crate::events::Event;
+use crate::views::View;
+use case_forms::Host;
+
+/// What a step does to an inbox.
+#[derive(Clone, Copy)]
+pub enum InboxChange {
+    Nothing,
+    /// A segment enters it with this line.
+    Enters(u64),
+    /// The segment of this line is processed, dropped or answered.
+    Leaves(u64),
+}
+
+/// What a step does to the segments that were built.
+#[derive(Clone, Copy)]
+pub enum BuiltChange {
+    Nothing,
+    /// A segment is built, under this number.
+    Builds(u32),
+    /// The segment of this number is sent.
+    Sends(u32),
+}
+
+/// What a step does to a listener, by its host and place, besides creating a child.
+#[derive(Clone, Copy)]
+pub enum Queueing {
+    Nothing,
+    /// It loses a child that isn't CLOSED, since that is accepted.
+    Accepts { host: Host, listener: u32 },
+    /// It is closed.
+    Closes { host: Host, listener: u32 },
+}
+
+/// Whether a segment that could be processed need not be.
+#[derive(Clone, Copy)]
+pub enum Droppable {
+    No,
+    Yes,
+    /// Only if the listener at this place has at least `backlog` children that are neither accepted nor CLOSED.
+    IfFull { listener: u32, backlog: u16 },
+}
+
+/// A segment that is dropped.
+#[derive(Clone, Copy)]
+pub struct Dropping {
+    pub host: Host,
+    /// Whether the model permits processing it.
+    pub takeable: bool,
+    pub droppable: Droppable,
+    /// Whether it has to be answered with a reset.
+    pub answerable: bool,
+}
+
+/// An endpoint that a step touches.
+#[derive(Clone, Copy)]
+pub struct TouchedEndpoint {
+    pub host: Host,
+    /// Its place in the order of creation.
+    pub place: u32,
+    pub event: Event,
+    /// The endpoint before the step.
+    pub before: View,
+}
+
+/// All that duties read of the world at a step.
+#[derive(Clone, Copy)]
+pub struct Observation {
+    pub touched: Option<TouchedEndpoint>,
+    pub inbox_change: InboxChange,
+    pub built_change: BuiltChange,
+    pub queueing: Queueing,
+    /// The segment that the step drops.
+    pub dropping: Option<Dropping>,
+    /// Whether the step discards what is next in order.
+    pub discards: bool,
+}

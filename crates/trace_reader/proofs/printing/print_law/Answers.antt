@@ -1,5 +1,0 @@
-use Rattle.trace_reader.proofs.TraceLaw.{printed_again}
-use Rattle.trace_reader.proofs.printing.print_law.Goals as goal
-
-pub returns : goal.returns
-returns c = printed_again

@@ -1,3 +1,0 @@
-pub mod FirstLine
-pub mod CaseLines
-pub mod TextLeft

@@ -1,0 +1,233 @@
+//! What the rule compares, by what the step is about.
+
+use crate::scene::{Building, Expiring, Object, Processing, Scene};
+use crate::{arrivals, builds, calls, inbox, late, limits, numbers, order, timers, wire};
+use case_forms::{Answer, OutOfMemory, Recovery, TakeChoice, Wire};
+use endpoint_state::Endpoint;
+use spec_tcp::{Arrived, Emission};
+use verdict::Rule;
+
+/// Writes what the rule compares. Each rule is named, so that a new one can't be forgotten here.
+pub(crate) fn compare(out: &mut String, scene: &Scene, rule: Rule) -> Result<(), OutOfMemory> {
+    match rule {
+        Rule::LineRange => order::line_range(out, scene),
+        Rule::LineAgain => order::line_again(out, scene),
+        Rule::ThreadOrder => order::thread_order(out, scene),
+        Rule::MomentFalls => order::moment_falls(out, scene),
+        Rule::MomentOff => order::moment_off(out, scene),
+        Rule::Overdue => order::overdue(out, scene),
+        Rule::Unplaced => order::unplaced(out, scene),
+        Rule::Dropped => limits::dropped(out, scene),
+        Rule::AckExcess => limits::ack_excess(out, scene),
+        Rule::ProcessLate => late::waiting(out, scene),
+        Rule::AckLate
+        | Rule::ExpiryLate
+        | Rule::ResendLate
+        | Rule::ProbeLate
+        | Rule::StartLate
+        | Rule::ResetLate => late::owed(out, scene),
+        Rule::Socket
+        | Rule::CallAnswer
+        | Rule::NoEndpoint
+        | Rule::State
+        | Rule::Iss
+        | Rule::BytesDiffer
+        | Rule::NotMade
+        | Rule::PayloadRange
+        | Rule::AckField
+        | Rule::OldData
+        | Rule::Offered
+        | Rule::Congestion
+        | Rule::Size
+        | Rule::CopyDiffers
+        | Rule::Lifetime
+        | Rule::NotPeer
+        | Rule::Number
+        | Rule::Unacceptable
+        | Rule::AckRange
+        | Rule::QueueFull
+        | Rule::Growth
+        | Rule::Sample
+        | Rule::ScaleUnread
+        | Rule::TimerOff
+        | Rule::TimerEarly
+        | Rule::Recovery
+        | Rule::Discarded
+        | Rule::SendLate
+        | Rule::Resent
+        | Rule::ResentBeyond => compare_at(out, scene, rule),
+        // What the step is about says it all.
+        Rule::ThreadBusy
+        | Rule::NoCall
+        | Rule::DoneTwice
+        | Rule::AnswerDiffers
+        | Rule::NoEmission
+        | Rule::Inbox => Ok(()),
+    }
+}
+
+// What a rule compares that several kinds of steps may break, or that needs what the step is about.
+fn compare_at(out: &mut String, scene: &Scene, rule: Rule) -> Result<(), OutOfMemory> {
+    match scene.object() {
+        Object::Effect(thread, answer) => of_effect(out, scene, rule, thread, answer),
+        Object::Building(it) => of_building(out, scene, rule, it),
+        Object::Sent(made, number, wire) => of_sent(out, scene, rule, made, number, wire),
+        Object::Came(m, wire) => of_came(out, scene, rule, m, wire),
+        Object::Processing(it) => of_processing(out, scene, rule, it),
+        Object::Listening(_, _, choice) => of_listening(out, rule, choice),
+        Object::Answered(host, m) if rule == Rule::State => {
+            inbox::unanswerable(out, scene, host, m)
+        }
+        Object::Expiring(it) => of_expiring(out, scene, rule, it),
+        Object::Recovering(endpoint, it) => of_recovering(out, scene, rule, endpoint, it),
+        Object::End(..) | Object::Answered(..) | Object::Other => Ok(()),
+    }
+}
+
+fn of_effect(
+    out: &mut String,
+    scene: &Scene,
+    rule: Rule,
+    thread: u32,
+    answer: &Answer,
+) -> Result<(), OutOfMemory> {
+    match (rule, answer) {
+        (Rule::Socket, Answer::Given(number)) => calls::socket(out, scene, *number),
+        (Rule::CallAnswer, _) => calls::call_answer(out, scene, thread, answer),
+        _ => Ok(()),
+    }
+}
+
+fn of_building(
+    out: &mut String,
+    scene: &Scene,
+    rule: Rule,
+    it: Building,
+) -> Result<(), OutOfMemory> {
+    match rule {
+        Rule::NoEndpoint | Rule::State => builds::state(out, scene.world, it),
+        Rule::Iss => builds::iss(out, it),
+        Rule::PayloadRange => builds::payload_range(out, it),
+        Rule::AckField => builds::ack_field(out, it),
+        Rule::OldData => builds::old_data(out, it, scene.moment()),
+        Rule::Offered => builds::offered(out, it),
+        Rule::Congestion => builds::congestion(out, "new bytes", it),
+        Rule::ResentBeyond => builds::congestion(out, "outstanding bytes", it),
+        Rule::Size => builds::size(out, it),
+        Rule::Resent => limits::resent(out, scene, it),
+        _ => Ok(()),
+    }
+}
+
+fn of_sent(
+    out: &mut String,
+    scene: &Scene,
+    rule: Rule,
+    made: &Emission,
+    number: u32,
+    wire: &Wire,
+) -> Result<(), OutOfMemory> {
+    match rule {
+        Rule::BytesDiffer => wire::differences(out, made, wire),
+        Rule::NotMade => wire::sent_before(out, scene, number),
+        Rule::SendLate => late::built(out, scene, number),
+        _ => Ok(()),
+    }
+}
+
+fn of_came(
+    out: &mut String,
+    scene: &Scene,
+    rule: Rule,
+    m: &Emission,
+    wire: &Wire,
+) -> Result<(), OutOfMemory> {
+    match rule {
+        Rule::CopyDiffers => wire::copy_differs(out, m, wire),
+        Rule::Lifetime => wire::lifetime(out, scene, m),
+        _ => Ok(()),
+    }
+}
+
+fn of_processing(
+    out: &mut String,
+    scene: &Scene,
+    rule: Rule,
+    it: Processing,
+) -> Result<(), OutOfMemory> {
+    match rule {
+        Rule::State => out.push_str("in SYN-SENT only a segment with SYN or RST is processed\n"),
+        Rule::QueueFull => arrivals::queue_full(out, scene, it),
+        _ => match scene.as_read(it.endpoint, it.m) {
+            Some(m) => of_read(out, scene, rule, it, &m),
+            None => Ok(()),
+        },
+    }
+}
+
+// The segment is given as its endpoint reads it.
+fn of_read(
+    out: &mut String,
+    scene: &Scene,
+    rule: Rule,
+    it: Processing,
+    m: &Arrived,
+) -> Result<(), OutOfMemory> {
+    match rule {
+        Rule::NotPeer => arrivals::not_peer(out, scene, it, m),
+        Rule::Number => numbers::misread(out, scene, it.endpoint, m),
+        Rule::Unacceptable => numbers::unacceptable(out, it.endpoint, m),
+        Rule::AckRange => numbers::ack_range(out, it.endpoint, m),
+        Rule::Growth => arrivals::growth(out, it, m, scene.moment()),
+        Rule::Sample => arrivals::sample(out, scene.header().version, it.endpoint, m),
+        Rule::ScaleUnread => arrivals::scale_unread(out, it.endpoint, m),
+        Rule::Discarded => limits::discarded(out, it.endpoint, m),
+        _ => Ok(()),
+    }
+}
+
+fn of_listening(out: &mut String, rule: Rule, choice: TakeChoice) -> Result<(), OutOfMemory> {
+    match rule {
+        Rule::State => out.push_str(
+            "a listener processes only a segment with SYN, without ACK and RST\n",
+        ),
+        Rule::Growth => {
+            let cwnd = choice.cwnd;
+            writeln!(out, "the step chooses cwnd {cwnd}, a child begins with 0")
+        }
+        Rule::Sample => out.push_str(
+            "the step measures a round trip, but a child has sent nothing that could be acknowledged\n",
+        ),
+        _ => Ok(()),
+    }
+}
+
+fn of_expiring(
+    out: &mut String,
+    scene: &Scene,
+    rule: Rule,
+    it: Expiring,
+) -> Result<(), OutOfMemory> {
+    match rule {
+        Rule::NoEndpoint => out.push_str("the endpoint is CLOSED, and has no timers\n"),
+        Rule::Growth => timers::growth(out, scene, it),
+        Rule::TimerOff => timers::off(out, it),
+        Rule::TimerEarly => timers::early(out, scene, it),
+        _ => Ok(()),
+    }
+}
+
+fn of_recovering(
+    out: &mut String,
+    scene: &Scene,
+    rule: Rule,
+    endpoint: &Endpoint,
+    it: Recovery,
+) -> Result<(), OutOfMemory> {
+    match rule {
+        Rule::NoEndpoint => out.push_str("the endpoint is CLOSED\n"),
+        Rule::State => timers::handshake(out, endpoint),
+        Rule::Recovery => timers::recovery(out, endpoint, it, scene.moment()),
+        _ => Ok(()),
+    }
+}

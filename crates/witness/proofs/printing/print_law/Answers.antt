@@ -1,5 +1,0 @@
-use Rattle.witness.proofs.PrintLaw.{print_again}
-use Rattle.witness.proofs.printing.print_law.Goals as goal
-
-pub returns : goal.returns
-returns c = print_again

@@ -1,0 +1,463 @@
+//! An arrival is processed, answered by a reset if one follows, or dropped: at once, or late, after segments that were
+//! built before.
+
+use super::sent_segments::position_of;
+use super::{Pass, Sought};
+use crate::calls::listener_at;
+use crate::choices::Arrival;
+use crate::key::EndpointKey;
+use crate::late::Waiting;
+use crate::later_lines::Shown;
+use crate::progress::{Progress, Will, saturated};
+use crate::stop::{Stop, permitted};
+use case_forms::{Event, Host, TakeChoice, Timer, Wire};
+use endpoint::{greatest_taking, matches_sent, reset_of};
+use endpoint_state::Endpoint;
+use segment::Flag;
+use seqno::number;
+use spec_tcp::{Arrived, Emission};
+use verdict::Rule;
+
+// For how many microseconds an arrival waits for segments that were built before. A capture shows a segment some
+// microseconds before the stack processes it, and longer on a busy machine.
+const LATE: u64 = 20_000;
+
+// For how many microseconds an acknowledgment may be delayed (RFC 9293, 3.8.6.3).
+const DELAY: u64 = 500_000;
+
+// When an arrival is processed.
+#[derive(Clone, Copy)]
+enum Turn {
+    Now,
+    /// After other arrivals of this endpoint, or after a segment that was built before and is sent soon.
+    Late(EndpointKey),
+    /// A segment was built before, but isn't sent soon; or the arrival may not be late.
+    TooLate,
+}
+
+// Whether a segment acknowledges exactly what its sender received, or nothing if that has met no peer.
+fn acknowledges_next(endpoint: &Endpoint, wire: &Wire) -> bool {
+    match endpoint.irs {
+        Some(irs) => wire.seg.has(Flag::Ack) && wire.seg.ack == number(irs, endpoint.rcv_nxt()),
+        None => !wire.seg.has(Flag::Ack) && !wire.seg.has(Flag::Rst),
+    }
+}
+
+// Whether a segment was built before its sender processes an arrival: it acknowledges less, or contains what the
+// arrival acknowledges. If so, the result is whether the arrival changes what is acknowledged. `is_open`: it may do so.
+fn built_before(endpoint: &Endpoint, m: &Arrived<'_>, wire: &Wire, is_open: bool) -> Option<bool> {
+    let seg = &wire.seg;
+    let end = u128::from(m.pos()) + m.length();
+    let next = is_open && m.pos() <= endpoint.rcv_nxt() && u128::from(endpoint.rcv_nxt()) < end;
+    if next && acknowledges_next(endpoint, wire) {
+        return Some(next);
+    }
+    let acknowledges = m.flags().ack && endpoint.stream.snd_una < m.ack();
+    let has_length = !seg.payload.is_empty() || seg.has(Flag::Fin) || seg.has(Flag::Syn);
+    let contains = acknowledges && has_length && position_of(endpoint, seg.seq)? < m.ack();
+    contains.then_some(next)
+}
+
+// Whether a segment is the reset that answers an arrival.
+fn is_answer(sought: Sought<'_>, m: &Emission, wire: &Wire) -> bool {
+    let reset = reset_of(sought.alloc, m);
+    matches_sent(sought.header, wire, &reset)
+}
+
+impl Progress {
+    // Drops an arrival, unless a duty requires it to be processed.
+    fn try_dropping(&mut self, host: Host, line: u64) -> Result<bool, Stop> {
+        match self.drop_arrival(host, line, Will::Try) {
+            Err(Stop::Broken(Rule::Dropped)) if !self.forgives() => return Ok(false),
+            Err(Stop::Broken(_)) => self.drop_arrival(host, line, Will::Insist)?,
+            done => done?,
+        }
+        Ok(true)
+    }
+
+    // Processes an arrival. If a duty requires it to be kept, it is.
+    fn take_or_keep(&mut self, host: Host, line: u64, choice: TakeChoice) -> Result<(), Stop> {
+        let keep = match self.take(host, line, choice, Will::Try) {
+            Err(Stop::Broken(Rule::Discarded)) if !self.forgives() => true,
+            Err(Stop::Broken(_)) => choice.keep,
+            done => return done,
+        };
+        self.take(host, line, TakeChoice { keep, ..choice }, Will::Insist)
+    }
+
+    // The endpoint for which an arrival is meant, and the greatest choice with which it may be processed.
+    fn choice(&self, host: Host, line: u64, how: Arrival) -> Option<(EndpointKey, TakeChoice)> {
+        let world = self.world();
+        let moment = self.moment();
+        let (key, m) = self.waiting(host, line)?;
+        let mut choice = TakeChoice {
+            cwnd: self.greatest_window(key, m, how),
+            keep: !how.is_not_kept,
+            sample: !how.is_unmeasured,
+        };
+        match world.admits_taking(host, moment, line, choice) {
+            Ok(()) => {}
+            Err(Rule::Sample) => {
+                choice.sample = false;
+                world.admits_taking(host, moment, line, choice).ok()?;
+            }
+            Err(_) => return None,
+        }
+        Some((key, choice))
+    }
+
+    // The greatest congestion window with which a segment may be processed, which may have to stay as it is; 0 at a
+    // listener.
+    fn greatest_window(&self, key: EndpointKey, m: &Emission, how: Arrival) -> u32 {
+        let Some((endpoint, read)) = self.read(key, m) else {
+            return 0;
+        };
+        let greatest = saturated(greatest_taking(endpoint, &read, self.moment()));
+        if how.is_not_grown {
+            greatest.min(endpoint.control.values.cwnd)
+        } else {
+            greatest
+        }
+    }
+
+    // A SYN finds an endpoint whose TIME-WAIT is over.
+    fn leaves_time_wait(&mut self, host: Host, line: u64) -> Result<bool, Stop> {
+        let Some((key, m)) = self.waiting(host, line) else {
+            return Ok(false);
+        };
+        let endpoint = self.endpoint(key);
+        let is_over = m.flags.syn && endpoint.is_some_and(|endpoint| endpoint.state.is_time_wait());
+        Ok(is_over && self.add_expiry(key, Timer::Msl2)?)
+    }
+}
+
+impl<'t> Pass<'t> {
+    /// The current line shows an arrival.
+    pub(crate) fn receive(&mut self, host: Host, wire: &'t Wire) -> Result<(), Stop> {
+        let place = self.progress.log.place();
+        let how = self.choices.arrival(place);
+        let line = self.bring_in(host, wire, how)?;
+        if self.progress.widening(host, line).is_some() {
+            self.progress.log.findings.beyond.push(place)?;
+        }
+        let moment = self.progress.moment();
+        let waiting = Waiting {
+            place,
+            host,
+            line,
+            moment,
+        };
+        if self.choices.waits(place) {
+            self.waiting.insert(place, waiting)?;
+            return Ok(());
+        }
+        self.take_turn(waiting, how)
+    }
+
+    /// An arrival is processed, unless others are late at its endpoint, or it is late itself.
+    pub(crate) fn take_turn(&mut self, waiting: Waiting, how: Arrival) -> Result<(), Stop> {
+        let turn = if how.may_be_late() {
+            self.turn_of(waiting)
+        } else {
+            Turn::TooLate
+        };
+        match turn {
+            Turn::Now => self.process(waiting.host, waiting.line, how),
+            Turn::Late(key) => {
+                self.progress.log.findings.late.push(waiting.place)?;
+                Ok(self.late.put(key, waiting)?)
+            }
+            Turn::TooLate => self.resolve_arrival(waiting.host, waiting.line, how),
+        }
+    }
+
+    // When an arrival is processed that just came.
+    fn turn_of(&self, waiting: Waiting) -> Turn {
+        let Some((key, _)) = self.progress.waiting(waiting.host, waiting.line) else {
+            return Turn::Now;
+        };
+        if self.late.first(key).is_some() {
+            return Turn::Late(key);
+        }
+        match self.earlier(waiting.host, waiting.line) {
+            None => Turn::Now,
+            Some((shown, is_needed)) if self.is_soon(shown, waiting, is_needed) => Turn::Late(key),
+            Some(_) => Turn::TooLate,
+        }
+    }
+
+    // Whether a segment is sent soon after an arrival. `is_needed`: it shows that the arrival waited.
+    fn is_soon(&self, shown: Shown<'_>, waiting: Waiting, is_needed: bool) -> bool {
+        let longest = match self.progress.slack() {
+            Some(slack) if is_needed => slack,
+            Some(slack) => slack.min(LATE),
+            None => LATE,
+        };
+        self.moment_of(shown).saturating_sub(waiting.moment) <= longest
+    }
+
+    // Whether the next segment of the receiver of an arrival was built before, and is sent soon after it.
+    fn is_late(&self, waiting: Waiting) -> bool {
+        match self.earlier(waiting.host, waiting.line) {
+            Some((shown, is_needed)) => self.is_soon(shown, waiting, is_needed),
+            None => false,
+        }
+    }
+
+    // When a segment is sent.
+    fn moment_of(&self, shown: Shown<'_>) -> u64 {
+        self.sought
+            .lines
+            .get(shown.place)
+            .map_or(0, |line| line.moment)
+    }
+
+    /// An endpoint sent a segment: it processes what is late there, up to the first that was built after the next
+    /// segment.
+    pub(crate) fn catch_up(&mut self, key: EndpointKey) -> Result<(), Stop> {
+        for _ in 0..self.late.count(key) {
+            let Some(waiting) = self.late.first(key) else {
+                break;
+            };
+            if self.is_late(waiting) {
+                break;
+            }
+            self.late.remove_first(key);
+            let how = self.choices.arrival(waiting.place);
+            self.resolve_arrival(waiting.host, waiting.line, how)?;
+        }
+        Ok(())
+    }
+
+    /// An endpoint processes the first arrival that is late there, and what was built before is built now. The result
+    /// is whether there was one.
+    pub(crate) fn hurry(&mut self, key: EndpointKey) -> Result<bool, Stop> {
+        let Some(waiting) = self.late.first(key) else {
+            return Ok(false);
+        };
+        self.late.remove_first(key);
+        let mut how = self.choices.arrival(waiting.place);
+        how.is_prompt = true;
+        self.resolve_arrival(waiting.host, waiting.line, how)?;
+        Ok(true)
+    }
+
+    // The arrival of the current line waits at its host. The result is the line's number.
+    fn bring_in(&mut self, host: Host, wire: &'t Wire, how: Arrival) -> Result<u64, Stop> {
+        if self.sought.header.version.is_half() {
+            return self.progress.hear(host, wire);
+        }
+        let sent = self.copies.sent_by(host.other());
+        let Some(place) = sent.place(wire.bytes.as_slice()) else {
+            return self.progress.arrive(host, 0, wire);
+        };
+        let copied = self.copied_line(host, wire, place, how);
+        let line = self.progress.arrive(host, copied, wire)?;
+        let sent = self.copies.sent_by(host.other());
+        sent.arrive(place, copied, self.progress.moment());
+        Ok(line)
+    }
+
+    // The line that an arrival copies: of those with its bytes, which are at this place, the first that has no copy
+    // yet, unless others show that it is too old; else the last.
+    fn copied_line(&mut self, host: Host, wire: &Wire, place: usize, how: Arrival) -> u64 {
+        let moment = self.progress.moment();
+        let world = self.progress.world();
+        let sent = self.copies.sent_by(host.other());
+        if how.is_of_last {
+            return sent.last(place).unwrap_or(0);
+        }
+        for _ in 0..self.sought.lines.len() {
+            let Some(line) = sent.first(place, moment) else {
+                break;
+            };
+            match world.admits_arrival(host, moment, line, wire) {
+                Err(Rule::Lifetime) => sent.pass(place),
+                _ => return line,
+            }
+        }
+        sent.last(place).unwrap_or(0)
+    }
+
+    // What was built before an arrival is built, and the arrival is processed, answered or dropped.
+    fn resolve_arrival(&mut self, host: Host, line: u64, mut how: Arrival) -> Result<(), Stop> {
+        if how.is_dropped && self.progress.try_dropping(host, line)? {
+            return Ok(());
+        }
+        how.is_not_kept |= !self.make_earlier(host, line, how)?;
+        self.process(host, line, how)
+    }
+
+    // An arrival is processed, or answered or dropped if that isn't permitted.
+    fn process(&mut self, host: Host, line: u64, how: Arrival) -> Result<(), Stop> {
+        if how.is_widened {
+            self.progress.widen(host, line)?;
+        }
+        if self.is_unanswered(host, line) {
+            let dropped = self.progress.drop_arrival(host, line, Will::Try);
+            if permitted(dropped)?.is_some() {
+                return Ok(());
+            }
+        }
+        if self.try_processing(host, line, how)? {
+            return Ok(());
+        }
+        if self.progress.leaves_time_wait(host, line)? && self.try_processing(host, line, how)? {
+            return Ok(());
+        }
+        self.answer_or_drop(host, line)
+    }
+
+    // Whether a SYN that would create an endpoint isn't answered in time, if duties are judged.
+    fn is_unanswered(&self, host: Host, line: u64) -> bool {
+        let slack = self.progress.slack();
+        let (Some(slack), Some((key, m))) = (slack, self.progress.waiting(host, line)) else {
+            return false;
+        };
+        if !m.flags.syn || self.progress.read(key, m).is_some() {
+            return false;
+        }
+        let latest = self
+            .progress
+            .moment()
+            .saturating_add(slack)
+            .saturating_add(DELAY);
+        match self.outgoing.next(key) {
+            Some(shown) => latest < self.moment_of(shown),
+            None => true,
+        }
+    }
+
+    // Answers an arrival by a reset, or drops it.
+    fn answer_or_drop(&mut self, host: Host, line: u64) -> Result<(), Stop> {
+        if self.try_answer(host, line)? {
+            return Ok(());
+        }
+        match self.progress.drop_arrival(host, line, Will::Try) {
+            Err(Stop::Broken(_)) => self.resolve_at_last(host, line),
+            done => done,
+        }
+    }
+
+    // An arrival may not be dropped: it is processed with nothing chosen, or answered by a reset that no line shows.
+    fn resolve_at_last(&mut self, host: Host, line: u64) -> Result<(), Stop> {
+        let bare = TakeChoice {
+            cwnd: 0,
+            keep: false,
+            sample: false,
+        };
+        let key = self.progress.waiting(host, line).map(|(key, _)| key);
+        if let (Some(key), Some(())) = (
+            key,
+            permitted(self.progress.take(host, line, bare, Will::Try))?,
+        ) {
+            return self.wake_receiver(key);
+        }
+        if permitted(self.progress.reply_with_reset(host, line))?.is_some() {
+            return Ok(());
+        }
+        self.progress.drop_arrival(host, line, Will::Insist)
+    }
+
+    // Processes an arrival, if that's permitted.
+    fn try_processing(&mut self, host: Host, line: u64, how: Arrival) -> Result<bool, Stop> {
+        let Some((key, choice)) = self.progress.choice(host, line, how) else {
+            return Ok(false);
+        };
+        self.progress.take_or_keep(host, line, choice)?;
+        self.wake_receiver(key)?;
+        Ok(true)
+    }
+
+    // Calls on the endpoint that processed a segment are tried, and those on its listener.
+    fn wake_receiver(&mut self, key: EndpointKey) -> Result<(), Stop> {
+        let endpoint = self.progress.endpoint(key);
+        let listener = endpoint.and_then(|endpoint| endpoint.listener);
+        self.wake_endpoint(key)?;
+        match listener {
+            Some(listener) => self.wake(listener_at(key.host(), listener)),
+            None => Ok(()),
+        }
+    }
+
+    // Answers an arrival by a reset, if its receiver sends that reset next.
+    fn try_answer(&mut self, host: Host, line: u64) -> Result<bool, Stop> {
+        let Some(shown) = self.answer_to(host, line) else {
+            return Ok(false);
+        };
+        let Some(made) = permitted(self.progress.reply_with_reset(host, line))? else {
+            return Ok(false);
+        };
+        self.outgoing.build_reset(shown, made)?;
+        Ok(true)
+    }
+
+    // The line of the reset that answers an arrival.
+    fn answer_to(&self, host: Host, line: u64) -> Option<Shown<'t>> {
+        let (key, m) = self.progress.waiting(host, line)?;
+        let shown = self.outgoing.next_reset(key)?;
+        is_answer(self.sought, m, shown.wire).then_some(shown)
+    }
+
+    // Builds what is sent later and was built before this arrival was processed. The result is whether the arrival is
+    // kept. It isn't if a segment that doesn't acknowledge it is sent too late to have been built before.
+    fn make_earlier(&mut self, host: Host, line: u64, how: Arrival) -> Result<bool, Stop> {
+        for _ in 0..self.sought.lines.len() {
+            let Some((shown, is_needed)) = self.earlier(host, line) else {
+                return Ok(true);
+            };
+            if (is_needed && !how.is_prompt) || !self.try_making(shown)? {
+                return Ok(!is_needed);
+            }
+        }
+        Ok(true)
+    }
+
+    // The next segment of the receiver of an arrival, if it was built before, and whether its acknowledgment number
+    // shows that.
+    fn earlier(&self, host: Host, line: u64) -> Option<(Shown<'t>, bool)> {
+        let (key, m) = self.progress.waiting(host, line)?;
+        let shown = self.outgoing.next(key)?;
+        let (endpoint, read) = self.progress.read(key, m)?;
+        // What meets a closed window is dropped and answered, if duties are judged.
+        let is_open = self.progress.slack().is_none()
+            || 0 < endpoint.receive_window()
+            || endpoint.irs.is_none();
+        Some((shown, built_before(endpoint, &read, shown.wire, is_open)?))
+    }
+
+    // Whether a segment that is built now is sent in time.
+    fn is_in_time(&self, shown: Shown<'_>) -> bool {
+        let Some(slack) = self.progress.slack() else {
+            return true;
+        };
+        let wait = self.moment_of(shown).saturating_sub(self.progress.moment());
+        wait <= slack || self.sought.forgives
+    }
+
+    // Builds a segment before its line. The result is whether that's permitted.
+    fn try_making(&mut self, shown: Shown<'t>) -> Result<bool, Stop> {
+        if !self.is_in_time(shown) {
+            return Ok(false);
+        }
+        let plan = self.progress.plan_of(shown.key, shown.wire);
+        let Some(made) = permitted(self.progress.make(shown.key.host(), plan, Will::Try))? else {
+            return Ok(false);
+        };
+        self.outgoing.build(shown, made)?;
+        Ok(true)
+    }
+
+    /// The segment of the line at a place is built now, if that's permitted and it wasn't before.
+    pub(crate) fn make_early(&mut self, place: usize) -> Result<(), Stop> {
+        let lines = self.sought.lines;
+        let event = lines.get(place).map(|line| &line.event);
+        if let Some(Event::Sent(host, wire)) = event {
+            if self.progress.log.is_ahead(place) && !self.outgoing.is_built(place) {
+                let key = EndpointKey::sender(*host, wire);
+                self.try_making(Shown { key, place, wire })?;
+            }
+        }
+        Ok(())
+    }
+}

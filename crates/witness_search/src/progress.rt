@@ -1,0 +1,99 @@
+//! The world after the steps so far, what its hosts owe, and the log of these steps.
+//!
+//! - `steps`: methods that do a step and write it down
+//! - `owed`: what endpoints owe, and what is late at the end
+
+mod owed;
+mod steps;
+
+use crate::key::EndpointKey;
+use crate::log::Log;
+use case_forms::{Header, Host};
+use duties::Duties;
+use endpoint_state::{Endpoint, World};
+pub(crate) use owed::Overdue;
+use spec_tcp::{Arrived, Emission};
+use std::alloc::Global;
+
+/// Whether something else may be done in place of a step.
+#[derive(Clone, Copy, PartialEq, Eq)]
+pub(crate) enum Will {
+    Try,
+    /// Nothing else is left to do. If the step is refused, it is written down: the witness then ends with it.
+    Insist,
+}
+
+/// The world after the steps so far, what its hosts owe, and these steps.
+#[derive(Drop)]
+pub(crate) struct Progress {
+    world: World,
+    duties: Duties,
+    /// How late a host may be with what it must do, in microseconds. None: no duty is judged.
+    slack: Option<u64>,
+    /// Whether what duties refuse is done if nothing else is left to do.
+    forgives: bool,
+    pub log: Log,
+}
+
+/// The number, or the greatest of 32 bits if it's above.
+pub(crate) fn saturated(number: u64) -> u32 {
+    u32::try_from(number).unwrap_or(u32::MAX)
+}
+
+impl Progress {
+    /// Before the first line. `forgives`: what duties refuse is done if nothing else is left to do.
+    pub(crate) fn new(alloc: Global, header: &Header, forgives: bool) -> Progress {
+        Progress {
+            world: World::start(alloc, header),
+            duties: Duties::start(alloc),
+            slack: header.slack,
+            forgives,
+            log: Log::new(alloc, header),
+        }
+    }
+
+    pub(crate) fn world(&self) -> &World {
+        &self.world
+    }
+
+    pub(crate) fn moment(&self) -> u64 {
+        self.log.moment
+    }
+
+    /// Whether what duties refuse is done if nothing else is left to do.
+    pub(crate) fn forgives(&self) -> bool {
+        self.forgives
+    }
+
+    /// How late a host may be with what it must do, in microseconds. None: no duty is judged.
+    pub(crate) fn slack(&self) -> Option<u64> {
+        self.slack
+    }
+
+    /// An endpoint. None: it doesn't exist.
+    pub(crate) fn endpoint(&self, key: EndpointKey) -> Option<&Endpoint> {
+        let body = self.world.body(key.host());
+        body.endpoint_of(key.lport, key.rport)
+    }
+
+    /// A segment that arrived with a line and waits, and the endpoint for which it is meant.
+    pub(crate) fn waiting(&self, host: Host, line: u64) -> Option<(EndpointKey, &Emission)> {
+        let m = self.world.waiting(host, line)?;
+        Some((EndpointKey::receiver(host, m), m))
+    }
+
+    /// An endpoint, and a segment as the endpoint reads it. None: it doesn't exist, or is CLOSED or beyond all
+    /// positions.
+    pub(crate) fn read<'m>(
+        &self,
+        key: EndpointKey,
+        m: &'m Emission,
+    ) -> Option<(&Endpoint, Arrived<'m>)> {
+        let endpoint = self.endpoint(key)?;
+        if endpoint.state.is_closed() {
+            return None;
+        }
+        let read = Arrived::checked_read(self.world.header().version, endpoint, m)?;
+        Some((endpoint, read))
+    }
+}
