@@ -10,7 +10,7 @@ use replayed::{Refused, ReplayFault, refused_by};
 use std::alloc::{AllocError, Global};
 use thiserror::Error;
 use trace_reader::{Counted, read_trace};
-use witness_search::{CaseLines, CaseText, Ending, Found, case_lines, find_witness};
+use witness_search::{CaseLines, CaseText, Ending, Found, case_lines, find_witness, SearchOptions};
 
 /// Why a trace can't be judged.
 #[derive(Clone, Copy, Debug, Error)]
@@ -129,7 +129,7 @@ fn search(
 ) -> Result<(Found, Connections), JudgeFault> {
     let trace = read_trace(alloc, text)?;
     let lines = trace.lines.as_slice();
-    let found = find_witness(alloc, header, lines, budget)?;
+    let found = find_witness(alloc, header, lines, SearchOptions { budget, ..SearchOptions::usual() })?;
     let explained = Explained {
         header,
         lines,

@@ -13,7 +13,7 @@ use remarks::remark;
 use replayed::{Case, ReplayFault};
 use std::alloc::{AllocError, Global};
 use why::{Origin, explain};
-use witness_search::find_within;
+use witness_search::{SearchOptions, find_within};
 
 // The other statuses.
 const DONE: u8 = 0;
@@ -174,7 +174,7 @@ fn slack_of(number: u64) -> Option<Slack> {
 
 // The case that is found for a trace.
 fn find(alloc: Global, trace: &[u8], budget: u64) -> Result<Output, AllocError> {
-    match find_within(alloc, trace, budget) {
+    match find_within(alloc, trace, SearchOptions { budget, ..SearchOptions::usual() }) {
         Ok(found) => Ok(Output {
             text: found.case.joined(alloc)?,
             status: DONE,

@@ -6,6 +6,7 @@ use crate::output::{
 };
 use crate::report::{JudgedReport, RemarkedReport, Report};
 use crate::words::{Asked, Form, Judging};
+use case_forms::Host;
 use counted::Counted;
 use drawing::{draw, show};
 use judging::{JudgeFault, Judgement, judge};
@@ -18,7 +19,7 @@ use std::io::{Eprint, ErrorKind, Input, Read, Write};
 use std::rt::Files;
 use verdict::Verdict;
 use why::{Explanation, explain};
-use witness_search::{CaseText, Ending, FoundCase, find_within};
+use witness_search::{CaseText, Ending, FoundCase, WayWords, Ways, find_within};
 
 /// Does what is asked for with the text of standard input, and returns the status: 0 if it is done, 1 if the answer is
 /// no, 2 if the text is refused, 4 if memory ran out, and 5 if a read or a write failed.
@@ -47,7 +48,7 @@ fn write_answer<H: Files + Eprint, W: Write>(
     w: &mut Counted<W>,
 ) -> u8 {
     match asked {
-        Asked::Find(budget) => match find_within(alloc, text, budget) {
+        Asked::Find(options) => match find_within(alloc, text, options) {
             Ok(found) => write_found(rt, &found, w),
             Err(fault) => say_bad_trace(rt, alloc, Form::Lines, "find", text, &fault, w),
         },
@@ -216,7 +217,20 @@ fn write_found<H: Eprint, W: Write>(rt: &H, found: &FoundCase<'_>, w: &mut Count
             "line {line} of the trace isn't explained, and a case can't have more steps; other choices tried: {tried}"
         ),
     };
+    say_ways(rt, &found.ways);
     say_written(rt, found.case.write_to(w), w, DONE)
+}
+
+// Writes in which ways the hosts explain most, if they aren't the usual ones.
+fn say_ways<H: Eprint>(rt: &H, ways: &Ways) {
+    for host in [Host::Zero, Host::One] {
+        for words in ways.of_host(host).words() {
+            if let Some(WayWords { name, does }) = words {
+                let host = host as u8;
+                let _ = eprintln!(rt; "host {host} {does}: --ways {host}:{name}");
+            }
+        }
+    }
 }
 
 // Writes a text.

@@ -1,12 +1,13 @@
 //! What the words after the program's name request.
 
+use crate::search_words::{expiries_of, ways_of};
 use case_forms::Judged;
 use drawing::Range;
 use help::{Program, Topic, topic_of};
 use judging::{GREATEST_SLACK, Slack};
 use std::env::{Env, FillError};
 use why::Origin;
-use witness_search::USUAL_BUDGET;
+use witness_search::{SearchOptions, USUAL_BUDGET};
 
 /// What the words request.
 #[derive(Clone, Copy)]
@@ -22,8 +23,7 @@ pub(crate) enum Request<'w> {
 /// What is done with the text of standard input.
 #[derive(Clone, Copy)]
 pub(crate) enum Asked<'w> {
-    /// How many steps are spent on going back.
-    Find(u64),
+    Find(SearchOptions),
     /// Where the segments of the case come from.
     Explain(Origin, Form),
     Show,
@@ -81,7 +81,7 @@ fn asked_by<'w>(words: &[&'w str]) -> Option<Asked<'w>> {
         return None;
     };
     match (*subcommand, options) {
-        ("find", _) => Some(Asked::Find(find_budget(options)?)),
+        ("find", _) => Some(Asked::Find(find_options(options)?)),
         ("judge", _) => Some(Asked::Judge(judging_of(options)?, form_of(options))),
         ("draw", _) => Some(Asked::Draw(range_of(options)?)),
         ("explain", _) => Some(Asked::Explain(origin_of(options)?, form_of(options))),
@@ -129,12 +129,21 @@ fn origin_of(options: &[&str]) -> Option<Origin> {
     }
 }
 
-// The budget that `--budget N` gives, or the usual one. None: other words, or a number that is badly written.
-fn find_budget(options: &[&str]) -> Option<u64> {
-    if !are_options(options, &["--budget"]) {
+// What `--budget N`, `--ways WAYS` and `--expiries HOSTS` ask of a search. None: other words.
+fn find_options(options: &[&str]) -> Option<SearchOptions> {
+    if !are_options(options, &["--budget", "--ways", "--expiries"]) {
         return None;
     }
-    budget_of(value_of(options, "--budget"))
+    search_options(options)
+}
+
+// What the words of a search ask of it. None: a value that is badly written.
+fn search_options(options: &[&str]) -> Option<SearchOptions> {
+    Some(SearchOptions {
+        budget: budget_of(value_of(options, "--budget"))?,
+        expiries: expiries_of(value_of(options, "--expiries"))?,
+        ways: ways_of(value_of(options, "--ways"))?,
+    })
 }
 
 // What `--least LEVEL`, `--slack SLACK`, `--case FILE` and `--budget N` ask for, in any order and each at most once;

@@ -7,14 +7,13 @@ use crate::findings::Findings;
 use crate::later_lines::LaterLines;
 use crate::pass::Sought;
 use crate::retries::Retries;
+use crate::search_options::SearchOptions;
+use crate::ways::Ways;
 use case_forms::{Header, Line, OutOfMemory, Steps, Witness};
 use line_fields::TextFault;
 use std::alloc::Global;
 use std::mem::replace;
 use trace_reader::read_trace;
-
-/// How many steps are spent on going back for one line, unless another budget is given.
-pub const USUAL_BUDGET: u64 = 2_000_000;
 
 /// How a search ended.
 #[derive(Clone, Copy, Debug, PartialEq, Eq)]
@@ -38,6 +37,8 @@ pub struct Found {
     pub ending: Ending,
     /// How many times the search went back.
     pub tried: u64,
+    /// How the hosts do what the RFCs leave open.
+    pub ways: Ways,
 }
 
 /// A case that was found, and how far it explains its trace.
@@ -47,6 +48,8 @@ pub struct FoundCase<'t> {
     pub ending: Ending,
     /// How many times the search went back.
     pub tried: u64,
+    /// How the hosts do what the RFCs leave open.
+    pub ways: Ways,
 }
 
 /// The text of a case: the trace, with added lines for the expiries that it doesn't show and that were needed, and a
@@ -54,14 +57,17 @@ pub struct FoundCase<'t> {
 /// the rule. If explaining all lines takes more than 40,000,000 steps, it ends there. The error is the trace's first
 /// fault; its kind is `OutOfMemory` if memory ran out.
 pub fn find(alloc: Global, text: &[u8]) -> Result<Vec<u8>, TextFault> {
-    let search = Searched::new(alloc, text, USUAL_BUDGET)?;
+    let search = Searched::new(alloc, text, SearchOptions::usual())?;
     Ok(join_case(alloc, search.header, search.events, &search.found)?)
 }
 
-/// Like `find`, but spends at most this many steps on going back for one line, and 20 times as many in all, and also
-/// returns how the search ended. With 0, the search goes over the lines once.
-pub fn find_within(alloc: Global, text: &[u8], budget: u64) -> Result<FoundCase<'_>, TextFault> {
-    let mut search = Searched::new(alloc, text, budget)?;
+/// Like `find`, with these options; it also returns how the search ended.
+pub fn find_within(
+    alloc: Global,
+    text: &[u8],
+    options: SearchOptions,
+) -> Result<FoundCase<'_>, TextFault> {
+    let mut search = Searched::new(alloc, text, options)?;
     Ok(case_of(alloc, &mut search)?)
 }
 
@@ -75,11 +81,15 @@ struct Searched<'t> {
 }
 
 impl<'t> Searched<'t> {
-    // Searches within this budget. The trace isn't kept.
-    fn new(alloc: Global, text: &'t [u8], budget: u64) -> Result<Searched<'t>, TextFault> {
+    // Searches with these options. The trace isn't kept.
+    fn new(
+        alloc: Global,
+        text: &'t [u8],
+        options: SearchOptions,
+    ) -> Result<Searched<'t>, TextFault> {
         let trace = read_trace(alloc, text)?;
         let above = trace.header.first_event_line().saturating_sub(1) as usize;
-        let found = find_witness(alloc, &trace.header, trace.lines.as_slice(), budget);
+        let found = find_witness(alloc, &trace.header, trace.lines.as_slice(), options);
         drop(trace);
         let (header, events) = split_lines(text, above);
         Ok(Searched {
@@ -98,16 +108,16 @@ fn case_of<'t>(alloc: Global, search: &mut Searched<'t>) -> Result<FoundCase<'t>
         case: CaseText::new(alloc, header, search.events, found)?,
         ending: found.ending,
         tried: found.tried,
+        ways: found.ways,
     })
 }
 
-/// A witness for a trace with this header and these lines, whose own numbers aren't read. The budget is that of
-/// `find_within`.
+/// A witness for a trace with this header and these lines, whose own numbers aren't read.
 pub fn find_witness(
     alloc: Global,
     header: &Header,
     lines: &[Line],
-    budget: u64,
+    options: SearchOptions,
 ) -> Result<Found, OutOfMemory> {
     let later = LaterLines::new(alloc, lines)?;
     let sought = Sought {
@@ -115,18 +125,31 @@ pub fn find_witness(
         header,
         lines,
         later: &later,
+        ways: options.ways,
+        expiries: options.expiries,
         forgives: false,
     };
-    let mut retries = Retries::new(sought, budget);
-    let found = found_by(&mut retries);
-    drop(retries);
+    let found = find_sought(sought, options);
     drop(later);
     found
 }
 
-// Runs a search. The result is what it found.
-fn found_by(retries: &mut Retries<'_>) -> Result<Found, OutOfMemory> {
+// Runs a search. If it tried other ways in vain, one without them follows, and the one that explains more counts.
+fn find_sought(sought: Sought<'_>, options: SearchOptions) -> Result<Found, OutOfMemory> {
+    let mut retries = Retries::new(sought, options.budget, true);
     retries.run()?;
+    if retries.fails_with_other_ways(options.ways) {
+        let mut usual = Retries::new(sought, options.budget, false);
+        usual.run()?;
+        if !retries.explains_more(&usual) {
+            return found_by(&mut usual);
+        }
+    }
+    found_by(&mut retries)
+}
+
+// What a search found.
+fn found_by(retries: &mut Retries<'_>) -> Result<Found, OutOfMemory> {
     let sought = retries.sought;
     let findings = &mut retries.best.findings;
     end_with_forgiven(sought.alloc, findings)?;
@@ -141,6 +164,7 @@ fn found_by(retries: &mut Retries<'_>) -> Result<Found, OutOfMemory> {
         added,
         ending: ending_of(retries),
         tried: retries.tried,
+        ways: sought.ways,
     })
 }
 

@@ -5,6 +5,7 @@
 //!
 //! A trace becomes a case:
 //!
+//! - `search_options`: what a search is asked for
 //! - `found`: what a search found, and how it ended
 //! - `added_lines`: the lines that are added to the trace
 //! - `case_text`: the text of the case, in pieces; `witness_text`: those of the witness
@@ -27,6 +28,7 @@
 //!   - `arrivals`: an arrival is processed at once or late, answered by a reset or dropped
 //!   - `effects`: a call has its effect as soon as the model permits the answer that its end shows
 //!   - `expiries`: expiries that the trace shows, and lines that are added for others
+//! - `ways`: how a host does, throughout a run, what the RFCs leave open
 //! - `choices`: what is chosen at lines where more than one step is possible
 //! - `progress`: the world after the steps so far, the steps that it can do, and what its hosts owe
 //! - `log`: the witness that a pass writes, and at which line it is
@@ -58,13 +60,17 @@ mod pass;
 mod progress;
 mod retries;
 mod round_trips;
+mod search_options;
 mod stop;
 mod together;
 mod trace_lines;
 mod watch;
+mod ways;
 mod witness_text;
 
 pub use added_lines::AddedLines;
 pub use case_text::{CaseText, Pieces};
-pub use found::{Ending, Found, FoundCase, USUAL_BUDGET, find, find_within, find_witness};
+pub use found::{Ending, Found, FoundCase, find, find_within, find_witness};
+pub use search_options::{SearchOptions, ShownExpiries, USUAL_BUDGET};
 pub use trace_lines::{CaseLines, Comparison, case_lines};
+pub use ways::{Growth, HostWays, KINDS, Leaving, Samples, WayWords, Ways};

@@ -15,7 +15,9 @@ use crate::key::EndpointKey;
 use crate::late::{Late, Waiting};
 use crate::later_lines::{LaterLines, Outgoing};
 use crate::progress::{Overdue, Progress};
+use crate::search_options::ShownExpiries;
 use crate::stop::Stop;
+use crate::ways::Ways;
 use case_forms::{Event, Header, Line, OutOfMemory, Timer};
 use std::alloc::{AllocError, Global};
 use std::collections::BTreeMap;
@@ -29,6 +31,10 @@ pub(crate) struct Sought<'t> {
     pub header: &'t Header,
     pub lines: &'t [Line],
     pub later: &'t LaterLines,
+    /// How the hosts do what the RFCs leave open.
+    pub ways: Ways,
+    /// The hosts whose expiries the trace shows.
+    pub expiries: ShownExpiries,
     /// Whether what a duty refuses is done if nothing else is left to do.
     pub forgives: bool,
 }
@@ -55,7 +61,7 @@ impl<'t> Pass<'t> {
         Pass {
             sought,
             choices,
-            progress: Progress::new(alloc, sought.header, sought.forgives),
+            progress: Progress::new(&sought),
             outgoing: Outgoing::all(alloc, sought.lines, sought.later),
             copies: Copies::new(alloc),
             calls: Calls::new(alloc),

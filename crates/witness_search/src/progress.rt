@@ -8,12 +8,14 @@ mod steps;
 
 use crate::key::EndpointKey;
 use crate::log::Log;
-use case_forms::{Header, Host};
+use crate::pass::Sought;
+use crate::search_options::ShownExpiries;
+use crate::ways::WayState;
+use case_forms::Host;
 use duties::Duties;
 use endpoint_state::{Endpoint, World};
 pub(crate) use owed::Overdue;
 use spec_tcp::{Arrived, Emission};
-use std::alloc::Global;
 
 /// Whether something else may be done in place of a step.
 #[derive(Clone, Copy, PartialEq, Eq)]
@@ -32,6 +34,9 @@ pub(crate) struct Progress {
     slack: Option<u64>,
     /// Whether what duties refuse is done if nothing else is left to do.
     forgives: bool,
+    /// The hosts whose expiries the trace shows.
+    expiries: ShownExpiries,
+    ways: WayState,
     pub log: Log,
 }
 
@@ -41,13 +46,16 @@ pub(crate) fn saturated(number: u64) -> u32 {
 }
 
 impl Progress {
-    /// Before the first line. `forgives`: what duties refuse is done if nothing else is left to do.
-    pub(crate) fn new(alloc: Global, header: &Header, forgives: bool) -> Progress {
+    /// Before the first line.
+    pub(crate) fn new(sought: &Sought<'_>) -> Progress {
+        let (alloc, header) = (sought.alloc, sought.header);
         Progress {
             world: World::start(alloc, header),
             duties: Duties::start(alloc),
             slack: header.slack,
-            forgives,
+            forgives: sought.forgives,
+            expiries: sought.expiries,
+            ways: WayState::new(alloc, sought.ways),
             log: Log::new(alloc, header),
         }
     }
@@ -63,6 +71,16 @@ impl Progress {
     /// Whether what duties refuse is done if nothing else is left to do.
     pub(crate) fn forgives(&self) -> bool {
         self.forgives
+    }
+
+    /// Whether the trace shows each expiry of a host's timers.
+    pub(crate) fn shows_expiries(&self, host: Host) -> bool {
+        self.expiries.of_host(host)
+    }
+
+    /// The ways of both hosts, and what they depend on.
+    pub(crate) fn ways(&self) -> &WayState {
+        &self.ways
     }
 
     /// How late a host may be with what it must do, in microseconds. None: no duty is judged.

@@ -1,16 +1,17 @@
 //! If a line can't be explained, other choices are tried before it, within a budget.
 //!
-//! Each attempt goes over all lines anew, so its result depends on the choices alone, and the same budget gives the
-//! same case. Single candidates are tried first, the nearest to the line first, and those that explain a further line
-//! are kept. If none does, two candidates are tried at once. The budget begins anew whenever a further line is
-//! explained.
+//! Each attempt goes over all lines anew, so its result depends on the choices and ways alone, and the same budget
+//! gives the same case. The host of the line is tried in other ways first, for the whole run. Then single candidates are
+//! tried, the nearest to the line first. What explains a further line is kept. If no single one does, two candidates are
+//! tried at once. The budget begins anew whenever a further line is explained.
 
 use crate::alternatives::{Known, push_candidates};
 use crate::attempt::Attempt;
 use crate::candidates::Candidates;
 use crate::choices::Choices;
 use crate::pass::Sought;
-use case_forms::OutOfMemory;
+use crate::ways::Ways;
+use case_forms::{Host, OutOfMemory};
 use std::collections::BTreeMap;
 use std::mem::swap;
 use verdict::Rule;
@@ -71,11 +72,16 @@ pub(crate) struct Retries<'t> {
     cost: u64,
     /// How many of these led to the best attempt.
     cost_of_best: u64,
+    /// Whether hosts are tried in other ways.
+    tries_ways: bool,
+    /// The place of the last line whose host was tried in other ways. None: no host was.
+    ways_place: Option<usize>,
 }
 
 impl<'t> Retries<'t> {
     /// A search that spends at most this many steps on going back for one line, and 20 times as many in all.
-    pub(crate) fn new(sought: Sought<'t>, budget: u64) -> Retries<'t> {
+    /// `tries_ways`: it tries hosts in other ways.
+    pub(crate) fn new(sought: Sought<'t>, budget: u64, tries_ways: bool) -> Retries<'t> {
         let alloc = sought.alloc;
         Retries {
             sought,
@@ -92,6 +98,8 @@ impl<'t> Retries<'t> {
             tried: 0,
             cost: 0,
             cost_of_best: 0,
+            tries_ways,
+            ways_place: None,
         }
     }
 
@@ -208,21 +216,88 @@ impl<'t> Retries<'t> {
 
     // Makes one attempt with the choices. The result is whether it explains the line at a place; the path goes on then.
     fn try_once(&mut self, place: usize) -> Result<bool, OutOfMemory> {
-        self.last.search(self.sought, &self.choices)?;
-        self.tried = self.tried.saturating_add(1);
-        let steps = self.last.cost.saturating_add(self.choices.len() as u64);
-        self.spend(steps);
+        self.attempt()?;
         let is_further = self.last.explains(place);
         if is_further {
             self.go_on_from_last(LISTS)?;
         }
+        self.keep_if_best()?;
+        Ok(is_further)
+    }
+
+    // Makes one attempt with the choices.
+    fn attempt(&mut self) -> Result<(), OutOfMemory> {
+        self.last.search(self.sought, &self.choices)?;
+        self.tried = self.tried.saturating_add(1);
+        let steps = self.last.cost.saturating_add(self.choices.len() as u64);
+        self.spend(steps);
+        Ok(())
+    }
+
+    // The last attempt is the best one if it explains more. The result is whether it does.
+    fn keep_if_best(&mut self) -> Result<bool, OutOfMemory> {
         let best = self.best.failure();
-        if best.is_some_and(|failure| self.last.explains(failure.place)) {
+        let is_best = best.is_some_and(|failure| self.last.explains(failure.place));
+        if is_best {
             swap(&mut self.best, &mut self.last);
             self.chosen.set(&self.choices)?;
             self.cost_of_best = self.cost;
         }
+        Ok(is_best)
+    }
+
+    // Tries the host of the line that the best attempt doesn't explain in other ways, unless that was done. The result
+    // is whether one explains a further line; the path begins anew then.
+    fn try_ways(&mut self) -> Result<bool, OutOfMemory> {
+        let Some(failure) = self.best.failure() else {
+            return Ok(false);
+        };
+        let Some(key) = failure.key else {
+            return Ok(false);
+        };
+        if !self.tries_ways || self.ways_place == Some(failure.place) {
+            return Ok(false);
+        }
+        self.ways_place = Some(failure.place);
+        let is_further = self.try_ways_of(key.host(), failure.rule)?;
+        if is_further {
+            self.begin_anew()?;
+        }
         Ok(is_further)
+    }
+
+    // Tries a host in the ways that a broken rule suggests, and keeps the one that explains most. The result is whether
+    // one explains a further line.
+    fn try_ways_of(&mut self, host: Host, rule: Rule) -> Result<bool, OutOfMemory> {
+        let before = self.sought.ways;
+        let mut best = before;
+        for ways in before.of_host(host).others(rule) {
+            let Some(ways) = ways else {
+                break;
+            };
+            if self.is_over() {
+                break;
+            }
+            self.sought.ways = before.with(host, ways);
+            self.choices.set(&self.chosen)?;
+            self.attempt()?;
+            if self.keep_if_best()? {
+                best = self.sought.ways;
+            }
+        }
+        self.sought.ways = best;
+        Ok(best != before)
+    }
+
+    /// Whether the search didn't explain all lines, and tried other ways for the whole run than this.
+    pub(crate) fn fails_with_other_ways(&self, ways: Ways) -> bool {
+        self.best.failure().is_some() && self.sought.ways != ways
+    }
+
+    /// Whether it explains more than another search.
+    pub(crate) fn explains_more(&self, other: &Retries<'_>) -> bool {
+        let failure = other.best.failure();
+        failure.is_some_and(|failure| self.best.explains(failure.place))
     }
 
     // Puts the level of the last attempt on the path, unless candidates were listed this often for its line.
@@ -299,6 +374,9 @@ impl<'t> Retries<'t> {
         for _ in 0..self.most() {
             if self.is_over() || self.cost >= most {
                 break;
+            }
+            if self.try_ways()? {
+                continue;
             }
             let Some(level) = self.path.pop() else {
                 break;

@@ -35,6 +35,16 @@ enum Turn {
     TooLate,
 }
 
+// How an arrival is processed.
+#[derive(Clone, Copy)]
+struct Processing {
+    /// The endpoint for which it is meant.
+    key: EndpointKey,
+    choice: TakeChoice,
+    /// The position below which it acknowledges everything.
+    ack: u64,
+}
+
 // Whether a segment acknowledges exactly what its sender received, or nothing if that has met no peer.
 fn acknowledges_next(endpoint: &Endpoint, wire: &Wire) -> bool {
     match endpoint.irs {
@@ -85,15 +95,16 @@ impl Progress {
         self.take(host, line, TakeChoice { keep, ..choice }, Will::Insist)
     }
 
-    // The endpoint for which an arrival is meant, and the greatest choice with which it may be processed.
-    fn choice(&self, host: Host, line: u64, how: Arrival) -> Option<(EndpointKey, TakeChoice)> {
+    // How an arrival is processed: with the greatest choice that is permitted in the ways of its host.
+    fn processing(&self, host: Host, line: u64, how: Arrival) -> Option<Processing> {
         let world = self.world();
         let moment = self.moment();
         let (key, m) = self.waiting(host, line)?;
+        let ack = self.acknowledged(key, m);
         let mut choice = TakeChoice {
             cwnd: self.greatest_window(key, m, how),
             keep: !how.is_not_kept,
-            sample: !how.is_unmeasured,
+            sample: !how.is_unmeasured && self.ways().measures(key, ack),
         };
         match world.admits_taking(host, moment, line, choice) {
             Ok(()) => {}
@@ -103,16 +114,25 @@ impl Progress {
             }
             Err(_) => return None,
         }
-        Some((key, choice))
+        Some(Processing { key, choice, ack })
     }
 
-    // The greatest congestion window with which a segment may be processed, which may have to stay as it is; 0 at a
-    // listener.
+    // The position below which a segment acknowledges everything; 0 if it acknowledges nothing.
+    fn acknowledged(&self, key: EndpointKey, m: &Emission) -> u64 {
+        match self.read(key, m) {
+            Some((_, read)) if read.flags().ack => read.ack(),
+            _ => 0,
+        }
+    }
+
+    // The greatest congestion window with which a segment may be processed in the ways of its host, which may have to
+    // stay as it is; 0 at a listener.
     fn greatest_window(&self, key: EndpointKey, m: &Emission, how: Arrival) -> u32 {
         let Some((endpoint, read)) = self.read(key, m) else {
             return 0;
         };
         let greatest = saturated(greatest_taking(endpoint, &read, self.moment()));
+        let greatest = self.ways().window(key, endpoint, &read, greatest);
         if how.is_not_grown {
             greatest.min(endpoint.control.values.cwnd)
         } else {
@@ -361,10 +381,12 @@ impl<'t> Pass<'t> {
 
     // Processes an arrival, if that's permitted.
     fn try_processing(&mut self, host: Host, line: u64, how: Arrival) -> Result<bool, Stop> {
-        let Some((key, choice)) = self.progress.choice(host, line, how) else {
+        let Some(Processing { key, choice, ack }) = self.progress.processing(host, line, how)
+        else {
             return Ok(false);
         };
         self.progress.take_or_keep(host, line, choice)?;
+        self.progress.acknowledge(key, ack);
         self.wake_receiver(key)?;
         Ok(true)
     }

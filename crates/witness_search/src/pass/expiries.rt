@@ -37,9 +37,12 @@ impl Progress {
         Some(endpoint_at(key.host(), place))
     }
 
-    /// Adds a line for an expiry, if the timer may expire now: before the current line, or after it if its step was
+    /// Adds a line for an expiry, if the timer may expire now and the trace doesn't show its host's expiries: before the current line, or after it if its step was
     /// written. The result is whether the line was added.
     pub(crate) fn add_expiry(&mut self, key: EndpointKey, timer: Timer) -> Result<bool, Stop> {
+        if self.shows_expiries(key.host()) {
+            return Ok(false);
+        }
         let expired = self.greatest_expiry(key, timer);
         Ok(permitted(self.add_line(key, expired))?.is_some())
     }
@@ -56,7 +59,7 @@ impl Progress {
             cwnd: saturated(cwnd),
             ssthresh: saturated(ssthresh),
         };
-        Ok(permitted(self.recover(key.host(), recovery))?.is_some())
+        Ok(permitted(self.recover(key, recovery))?.is_some())
     }
 }
 

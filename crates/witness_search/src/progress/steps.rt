@@ -192,13 +192,22 @@ impl Progress {
     pub(crate) fn expire(&mut self, key: EndpointKey, expired: Expired) -> Result<u64, Stop> {
         has_room(&self.world)?;
         let done = self.expire_by(key, expired, Will::Insist);
+        self.note_expiry(key, expired);
         self.log.push_current(extras_of(expired), done)
+    }
+
+    // The ways of the hosts see an expiry.
+    fn note_expiry(&mut self, key: EndpointKey, expired: Expired) {
+        if let Expired::Rto(_) = expired {
+            self.ways.expire(key);
+        }
     }
 
     /// A timer expires with an added line, which precedes the first line that has no step yet.
     pub(crate) fn add_line(&mut self, key: EndpointKey, expired: Expired) -> Result<(), Stop> {
         has_room(&self.world)?;
         self.expire_by(key, expired, Will::Try)?;
+        self.note_expiry(key, expired);
         self.log.push_added(key, expired)
     }
 
@@ -212,11 +221,19 @@ impl Progress {
         if plan.pos > GREATEST_POSITION {
             return Err(Stop::OutOfMemory);
         }
-        if !EndpointKey::new(host, plan.lport, plan.rport).can_build() {
+        let key = EndpointKey::new(host, plan.lport, plan.rport);
+        if !key.can_build() {
             return Err(Stop::Broken(Rule::NotMade));
         }
+        let max = self.built_at(key);
         self.hidden(Hidden::Build { host, plan: &plan }, will)?;
+        self.ways.build(key, max, &plan)?;
         Ok(self.world.count())
+    }
+
+    // The position after all that an endpoint built.
+    fn built_at(&self, key: EndpointKey) -> u64 {
+        self.endpoint(key).map_or(0, |endpoint| endpoint.snd_max())
     }
 
     /// A host processes the segment that arrived with a line.
@@ -242,8 +259,15 @@ impl Progress {
     }
 
     /// An endpoint enters fast recovery.
-    pub(crate) fn recover(&mut self, host: Host, recovery: Recovery) -> Result<(), Stop> {
-        self.hidden(Hidden::Recover { host, recovery }, Will::Try)
+    pub(crate) fn recover(&mut self, key: EndpointKey, recovery: Recovery) -> Result<(), Stop> {
+        let (host, max) = (key.host(), self.built_at(key));
+        self.hidden(Hidden::Recover { host, recovery }, Will::Try)?;
+        Ok(self.ways.recover(key, max)?)
+    }
+
+    /// An endpoint processed an acknowledgment of what is below a position.
+    pub(crate) fn acknowledge(&mut self, key: EndpointKey, ack: u64) {
+        self.ways.acknowledge(key, ack);
     }
 
     /// Whether the model permits a host to build a segment now.
