@@ -6,7 +6,6 @@ use crate::output::{
 };
 use crate::report::{JudgedReport, RemarkedReport, Report};
 use crate::words::{Asked, Form, Judging};
-use case_forms::Host;
 use counted::Counted;
 use drawing::{draw, show};
 use judging::{JudgeFault, Judgement, judge};
@@ -19,7 +18,7 @@ use std::io::{Eprint, ErrorKind, Input, Read, Write};
 use std::rt::Files;
 use verdict::Verdict;
 use why::{Explanation, explain};
-use witness_search::{CaseText, Ending, FoundCase, WayWords, Ways, find_within};
+use witness_search::{CaseText, Ending, FoundCase, Unusual, Ways, find_within};
 
 /// Does what is asked for with the text of standard input, and returns the status: 0 if it is done, 1 if the answer is
 /// no, 2 if the text is refused, 4 if memory ran out, and 5 if a read or a write failed.
@@ -221,14 +220,12 @@ fn write_found<H: Eprint, W: Write>(rt: &H, found: &FoundCase<'_>, w: &mut Count
     say_written(rt, found.case.write_to(w), w, DONE)
 }
 
-// Writes in which ways the hosts explain most, if they aren't the usual ones.
+// Writes which ways of the hosts explain most, if they aren't the usual ones.
 fn say_ways<H: Eprint>(rt: &H, ways: &Ways) {
-    for host in [Host::Zero, Host::One] {
-        for words in ways.of_host(host).words() {
-            if let Some(WayWords { name, does }) = words {
-                let host = host as u8;
-                let _ = eprintln!(rt; "host {host} {does}: --ways {host}:{name}");
-            }
+    for unusual in ways.unusual() {
+        if let Some(Unusual { host, words }) = unusual {
+            let (host, name, does) = (host as u8, words.name, words.does);
+            let _ = eprintln!(rt; "host {host} {does}: --ways {host}:{name}");
         }
     }
 }

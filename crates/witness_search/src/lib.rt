@@ -73,4 +73,4 @@ pub use case_text::{CaseText, Pieces};
 pub use found::{Ending, Found, FoundCase, find, find_within, find_witness};
 pub use search_options::{SearchOptions, ShownExpiries, USUAL_BUDGET};
 pub use trace_lines::{CaseLines, Comparison, case_lines};
-pub use ways::{Growth, HostWays, KINDS, Leaving, Samples, WayWords, Ways};
+pub use ways::{Growth, HostWays, Leaving, Samples, Unusual, WayWords, Ways};

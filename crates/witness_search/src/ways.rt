@@ -45,18 +45,17 @@ const USUAL: HostWays = HostWays {
     leaving: Leaving::FirstAck,
 };
 
-/// How many kinds of ways there are.
-pub const KINDS: usize = 3;
+// How many kinds of ways there are.
+const KINDS: usize = 3;
+
+/// A way of a host that isn't the usual one.
+#[derive(Clone, Copy)]
+pub struct Unusual {
+    pub host: Host,
+    pub words: WayWords,
+}
 
 impl HostWays {
-    /// What the ways that aren't usual are called, by their kind.
-    pub fn words(self) -> [Option<WayWords>; KINDS] {
-        [
-            self.growth.words(),
-            self.samples.words(),
-            self.leaving.words(),
-        ]
-    }
 
     // These ways, but the one that has this name. None: no way has it.
     fn with_named(self, name: &str) -> Option<HostWays> {
@@ -138,6 +137,19 @@ impl Ways {
             zero: USUAL,
             one: USUAL,
         }
+    }
+
+    /// The ways that aren't usual, those of host 0 first.
+    pub fn unusual(&self) -> [Option<Unusual>; 6] {
+        let of = |host, words: Option<WayWords>| words.map(|words| Unusual { host, words });
+        [
+            of(Host::Zero, self.zero.growth.words()),
+            of(Host::Zero, self.zero.samples.words()),
+            of(Host::Zero, self.zero.leaving.words()),
+            of(Host::One, self.one.growth.words()),
+            of(Host::One, self.one.samples.words()),
+            of(Host::One, self.one.leaving.words()),
+        ]
     }
 
     /// The ways of a host.
