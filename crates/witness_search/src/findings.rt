@@ -48,6 +48,8 @@ pub(crate) struct Findings {
     pub late: Vec<usize>,
     /// The first step that a duty refuses. None: no duty refuses any.
     pub forgiven: Option<Forgiven>,
+    /// How many choices did something.
+    pub effective: u64,
 }
 
 impl Findings {
@@ -60,6 +62,7 @@ impl Findings {
             beyond: Vec::new(alloc),
             late: Vec::new(alloc),
             forgiven: None,
+            effective: 0,
         }
     }
 }

@@ -85,6 +85,12 @@ impl Log {
         }
     }
 
+    /// A choice did something, or not.
+    pub(crate) fn count_choice(&mut self, is_effective: bool) {
+        let effective = &mut self.findings.effective;
+        *effective = effective.saturating_add(u64::from(is_effective));
+    }
+
     // Writes down the step of the next line, with these extra numbers. The result is the line's number.
     fn push_line(&mut self, extras: Extras) -> Result<u64, Stop> {
         let number = self.number;

@@ -135,21 +135,20 @@ impl<'t> Pass<'t> {
         let choices = self.choices;
         for choice in choices.at(place) {
             if let Change::Before(at, remedy) = choice.change {
-                self.apply(at, remedy)?;
+                let is_applied = self.apply(at, remedy)?;
+                self.progress.log.count_choice(is_applied);
             }
         }
         Ok(())
     }
 
-    fn apply(&mut self, at: EndpointKey, remedy: Remedy) -> Result<(), Stop> {
+    // Lets something happen at an endpoint. The result is whether it did.
+    fn apply(&mut self, at: EndpointKey, remedy: Remedy) -> Result<bool, Stop> {
         let timer = match remedy {
             Remedy::Rto => Timer::Rto,
             Remedy::Persist => Timer::Persist,
             Remedy::TimeWaitOver => Timer::Msl2,
-            Remedy::Recovery => {
-                self.progress.try_recovery(at)?;
-                return Ok(());
-            }
+            Remedy::Recovery => return self.progress.try_recovery(at),
         };
         self.try_expiry(at, timer)
     }
@@ -158,13 +157,13 @@ impl<'t> Pass<'t> {
     fn build_chosen(&mut self, place: usize) -> Result<(), Stop> {
         let choices = self.choices;
         for choice in choices.at(place) {
-            match choice.change {
+            let is_built = match choice.change {
                 Change::Build(later) => self.make_early(later)?,
-                Change::BuildUnseen(at, unseen) => {
-                    self.make_unseen(at, unseen, u64::MAX)?;
-                }
-                Change::Fate(_) | Change::WaitUntil(_) | Change::Before(..) => {}
-            }
+                Change::BuildUnseen(at, unseen) => self.make_unseen(at, unseen, u64::MAX)?,
+                Change::Fate(_) => choice.place == place,
+                Change::WaitUntil(_) | Change::Before(..) => false,
+            };
+            self.progress.log.count_choice(is_built);
         }
         Ok(())
     }
@@ -175,6 +174,7 @@ impl<'t> Pass<'t> {
         for choice in choices.at(place) {
             if choice.change == Change::WaitUntil(place) {
                 self.end_wait(choice.place)?;
+                self.progress.log.count_choice(true);
             }
         }
         Ok(())

@@ -63,6 +63,8 @@ pub(crate) struct Retries<'t> {
     candidates: Candidates,
     /// The candidates that are tried in pairs, and the choices before these.
     pairs: Candidates,
+    /// Of these, the ones that do something.
+    effective: Vec<usize>,
     before_pairs: Choices,
     /// For the place of a line, how many times candidates were listed for it.
     listed: BTreeMap<usize, u32>,
@@ -93,6 +95,7 @@ impl<'t> Retries<'t> {
             path: Vec::new(alloc),
             candidates: Candidates::new(alloc),
             pairs: Candidates::new(alloc),
+            effective: Vec::new(alloc),
             before_pairs: Choices::new(alloc),
             listed: BTreeMap::new(alloc),
             tried: 0,
@@ -176,20 +179,34 @@ impl<'t> Retries<'t> {
         self.pairs.truncate(0);
         let looks = push_candidates(&mut self.pairs, &known)?;
         self.spend(looks / LOOKS);
-        for second in 1..self.pairs.len().min(PAIRED) {
+        self.effective.clear();
+        for second in 0..self.pairs.len().min(PAIRED) {
+            if !self.is_effective(second)? {
+                continue;
+            }
             if self.try_pairs_with(place, second)? {
                 return Ok(true);
             }
             if self.is_over() {
                 break;
             }
+            self.effective.push(second)?;
         }
         Ok(false)
     }
 
-    // Tries a candidate together with each that precedes it.
+    // Whether a candidate does something, besides the choices of the best attempt.
+    fn is_effective(&mut self, index: usize) -> Result<bool, OutOfMemory> {
+        self.choices.set(&self.chosen)?;
+        self.choices.push_all(self.pairs.at(index))?;
+        self.attempt()?;
+        Ok(self.last.findings.effective != self.best.findings.effective)
+    }
+
+    // Tries a candidate together with each that precedes it and does something.
     fn try_pairs_with(&mut self, place: usize, second: usize) -> Result<bool, OutOfMemory> {
-        for first in 0..second {
+        for index in 0..self.effective.len() {
+            let first = self.effective.get(index).copied().unwrap_or(0);
             self.choices.set(&self.chosen)?;
             self.choices.push_all(self.pairs.at(first))?;
             self.choices.push_all(self.pairs.at(second))?;

@@ -470,16 +470,17 @@ impl<'t> Pass<'t> {
         Ok(true)
     }
 
-    /// The segment of the line at a place is built now, if that's permitted and it wasn't before.
-    pub(crate) fn make_early(&mut self, place: usize) -> Result<(), Stop> {
+    /// The segment of the line at a place is built now, if that's permitted and it wasn't before. The result is whether
+    /// it is.
+    pub(crate) fn make_early(&mut self, place: usize) -> Result<bool, Stop> {
         let lines = self.sought.lines;
         let event = lines.get(place).map(|line| &line.event);
         if let Some(Event::Sent(host, wire)) = event {
             if self.progress.log.is_ahead(place) && !self.outgoing.is_built(place) {
                 let key = EndpointKey::sender(*host, wire);
-                self.try_making(Shown { key, place, wire })?;
+                return self.try_making(Shown { key, place, wire });
             }
         }
-        Ok(())
+        Ok(false)
     }
 }

@@ -80,11 +80,13 @@ impl Pass<'_> {
         Ok(())
     }
 
-    /// Adds a line for an expiry, if that's permitted now, and tries the calls on the endpoint.
-    pub(crate) fn try_expiry(&mut self, key: EndpointKey, timer: Timer) -> Result<(), Stop> {
-        if self.progress.add_expiry(key, timer)? {
+    /// Adds a line for an expiry, if that's permitted now, and tries the calls on the endpoint. The result is whether it
+    /// did.
+    pub(crate) fn try_expiry(&mut self, key: EndpointKey, timer: Timer) -> Result<bool, Stop> {
+        let is_added = self.progress.add_expiry(key, timer)?;
+        if is_added {
             self.wake_endpoint(key)?;
         }
-        Ok(())
+        Ok(is_added)
     }
 }
