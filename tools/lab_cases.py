@@ -21,6 +21,7 @@ USAGE = [[], ["Draw"], ["draw", "--from"], ["draw", "--from", "0"], ["draw", "--
          ["draw", "--from", "99999999999999999999"], ["draw", "9"], ["draw", "--from", "9", "--to", "9", "--to", "9"],
          ["find", "x"], ["show", "--from", "9"], ["explain", ""], ["remark", "x"], ["remark", ""], ["judge", "none"],
          ["judge", "--least"], ["judge", "--least", "None"], ["judge", "--least", "none", "--least", "none"],
+         ["judge", "--from"], ["judge", "--from", "none"], ["judge", "--from", "none", "--least", "recovery"],
          ["judge", "--case"], ["judge", "--case", ""], ["judge", "--case", "-x"],
          ["judge", "--case", "x", "--case", "x"], ["draw", "--from="], ["draw", "--from=0"],
          ["draw", "--from=9", "--to=8"], ["draw", "--from=9", "--from", "9"], ["judge", "--least="],

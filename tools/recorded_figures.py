@@ -23,7 +23,8 @@ def strictest(options, kernel, size, loss, seed):
     """The strictest level with a yes, or "no"."""
     with tempfile.TemporaryDirectory() as folder:
         words = [RECORD, "--lab", options.lab, "--out", folder, "--kernel", kernel, "--congestion", "none",
-                 "--transfer", str(size), "--loss", str(loss), "--seed", str(seed), "--chunk", str(options.chunk)]
+                 "--from", "full", "--transfer", str(size), "--loss", str(loss), "--seed", str(seed), "--chunk",
+                 str(options.chunk)]
         done = subprocess.run(words, capture_output=True, text=True, check=False)
     if done.returncode not in (0, 1):
         print(done.stderr, file=sys.stderr)

@@ -75,12 +75,13 @@ class Completion(unittest.TestCase):
         self.assertEqual(self.completed("tcpwit_lab", "draw", ""), ["--from", "--to", "--help"])
         self.assertEqual(self.completed("tcpwit_lab", "draw", "--from", "1", ""), ["--from", "--to"])
         self.assertEqual(self.completed("tcpwit_lab", "judge", ""),
-                         ["--least", "--slack", "--budget", "--case", "--json", "--help"])
+                         ["--least", "--from", "--slack", "--budget", "--case", "--json", "--help"])
         self.assertEqual(self.completed("tcpwit_lab", "judge", "--budget", ""), [])
         self.assertEqual(self.completed("tcpwit_lab", "judge", "--budget", "0", "--b"), ["--budget"])
 
     def test_values(self):
-        self.assertEqual(self.completed("tcpwit_lab", "judge", "--least", ""), LEVELS)
+        for option in ("--least", "--from"):
+            self.assertEqual(self.completed("tcpwit_lab", "judge", option, ""), LEVELS)
         self.assertEqual(self.completed("tcpwit_lab", "judge", "--slack", ""), ["any"])
         self.assertEqual(self.completed("tcpwit", "record", "--format", ""), ["1", "2"])
         for words in (["tcpwit", "many", "--workers"], ["tcpwit", "record", "--rounds"], ["tcpwit", "record", "--lose"],

@@ -55,6 +55,12 @@ def line_of(found):
     return f"{found['answer']} {fault['line']} {fault['start']} {fault['stop']} {fault['kind']}"
 
 
+def refusals(said):
+    """Each level that the lines of `judge` name as refused, with its sentence, in their order."""
+    found = [re.fullmatch("Under ([a-z, ]+): (.*)", line) for line in said if ", without duties: " not in line]
+    return [(level, line[2]) for line in found if line for level in re.split(", | and ", line[1])]
+
+
 class Json(unittest.TestCase):
     @classmethod
     def setUpClass(cls):
@@ -121,9 +127,8 @@ class Json(unittest.TestCase):
             if "without_duties" in level:
                 self.assertIn(f"Under {level['level']}, without duties: {line_of(level['without_duties'])}",
                               found["said"])
-        said = [line for line in found["said"] if line.startswith("Under ") and ", without" not in line]
-        self.assertLessEqual(set(said),
-                             {f"Under {level['level']}: {level.get('sentence')}" for level in found["levels"]})
+        self.assertEqual(refusals(found["said"]),
+                         [(level["level"], level["sentence"]) for level in found["levels"] if "sentence" in level])
 
     def test_the_refused_line_as_it_was_given(self):
         seen = set()

@@ -39,6 +39,18 @@ def no(rule="ack-late", **input_line):
 
 
 NO = no()
+
+
+def laxer(**input_line):
+    """An answer with a yes at `none`, after two noes; the second one may have the line of the trace that it refuses."""
+    verdict = {"answer": "no", "witness_line": 7, "trace_line": 0}
+    levels = [{"level": "full", **verdict, "rule": "congestion", "sentence": "line 5 sends 9 bytes (congestion)."},
+              {"level": "recovery", **verdict, **input_line, "rule": "old-data",
+               "sentence": "line 14 retransmits data (old-data)."},
+              {"level": "none", **YES["levels"][0], "level": "none"}]
+    return {"levels": levels, "said": ["none      yes 57 88", "Under recovery: line 14 retransmits data (old-data)."]}
+
+
 INFERRED = "Calls were inferred: their answers aren't judged.\n" \
     "Nor is how soon a host sends what its program gave it (rule start-late).\n"
 
@@ -111,22 +123,46 @@ class Lines(WithCaptures):
         status, out, _ = run(*self.files(), *self.lab(NO, 1))
         self.assertEqual(status, 1)
         self.assertEqual(out.splitlines()[0],
-                         "10.9.0.1:4000 -> 10.9.0.2:80   none      no 7 8 ack-late   line 8: none is late.")
+                         "10.9.0.1:4000 -> 10.9.0.2:80   none      no 7 8 ack-late; line 8: none is late")
         self.assertIn("1 connection: 0 yes, 1 no. ", out)
 
     def test_the_packet_of_a_no(self):
-        for line, place in ((13, "   (FOLDER/c0.pcap, packet 1)"), (12, ""), (10, ""), (999, ""), (None, "")):
+        for line, place in ((13, "packet 1 of FOLDER/c0.pcap"), (12, "line 8"), (10, "line 8"), (999, "line 8"),
+                            (None, "line 8")):
             _, out, _ = run(*self.files(), *self.lab(no(**{} if line is None else {"input_line": line}), 1))
             self.assertEqual(out.splitlines()[0].replace(self.folder, "FOLDER").split("ack-late")[1],
-                             "   line 8: none is late." + place)
+                             f"; {place}: none is late")
         for words in ([], ["--report", f"{self.folder}/kept"]):
             _, out, _ = run(*self.files(), *self.lab(no(input_line=13), 1), "--json", *words)
             self.assertEqual((os.path.basename(json.loads(out)["capture"]), json.loads(out)["packet"]), ("c0.pcap", 1))
+
+    def test_what_a_stricter_level_refused(self):
+        begin = "10.9.0.1:4000 -> 10.9.0.2:80   none      yes 57 88; recovery: "
+        for given, words, place in (({}, self.files(), "line 14"),
+                                    ({"input_line": 13}, self.files(), "packet 1 of FOLDER/c0.pcap"),
+                                    ({"input_line": 13}, [*self.files(hosts=(0,)), "--host", "client"], "packet 1")):
+            status, out, _ = run(*words, *self.lab(laxer(**given)))
+            self.assertEqual((status, out.splitlines()[0].replace(self.folder, "FOLDER")),
+                             (0, f"{begin}{place} retransmits data (old-data)"))
+
+    def test_the_levels_in_json_and_in_a_report(self):
+        report = f"{self.folder}/kept"
+        answer = laxer(input_line=13)
+        _, out, _ = run(*self.files(), *self.lab(answer), "--report", report, "--json")
+        found, capture = json.loads(out), f"{self.folder}/c0.pcap"
+        full, recovery, none = answer["levels"]
+        self.assertEqual(found["levels"], [full, recovery | {"capture": capture, "packet": 1}, none])
+        self.assertEqual((found["level"], found["answer"], found["lines"], found["steps"]), ("none", "yes", 57, 88))
+        self.assertFalse({"capture", "packet"} & found.keys())
+        self.assertEqual(self.text(os.path.relpath(found["files"][3], self.folder)).splitlines(),
+                         [*answer["said"], f"Line 14 is packet 1 of {capture}.", "", "explained"])
 
     def test_options_of_judge(self):
         run(*self.files(), *self.lab(), "--level", "none", "--slack", "any", "--budget", "7")
         self.assertIn("judge --json --least none --slack any --budget 7 --case ", self.text("words"))
         self.assertIn("\nslack any\n", self.text("given"))
+        run(*self.files(), *self.lab(), "--level", "none", "--from", "recovery")
+        self.assertIn("judge --json --least none --from recovery --case ", self.text("words"))
         run(*self.files(), *self.lab(), "--minrto", "1000000", "--initial", "5681", "--grain", "1", "--msl", "2")
         self.assertIn("\nmsl 2\ngrain 1\nminrto 1000000\nextra 65535\ninitial 5681\n", self.text("given"))
 
@@ -211,7 +247,7 @@ class Lines(WithCaptures):
         self.assertEqual(json.loads(out), {
             "client": "10.9.0.1:4000", "server": "10.9.0.2:80", "begun": 100.0, "segments": 14, "judged": True,
             "hosts": 2, "level": "none", "answer": "no", "status": 1, "witness_line": 7, "trace_line": 8,
-            "rule": "ack-late", "sentence": "line 8: none is late.", "said": NO["said"]})
+            "rule": "ack-late", "sentence": "line 8: none is late.", "levels": NO["levels"], "said": NO["said"]})
         _, out, _ = run(*self.files(), *self.lab(), "--json")
         self.assertEqual((json.loads(out)["lines"], json.loads(out)["steps"]), (57, 88))
 
@@ -369,6 +405,8 @@ class Faults(WithCaptures):
         self.assertIn("is given twice", self.fails(names[0], names[0], *self.lab()))
         self.assertIn("--host or --between is given with two captures",
                       self.fails(*names, "--host", "client", *self.lab()))
+        self.assertIn("--from none is laxer than --level recovery",
+                      self.fails(*names, "--level", "recovery", "--from", "none", *self.lab()))
 
     def test_compressed_captures(self):
         for name in self.files():

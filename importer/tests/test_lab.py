@@ -70,6 +70,18 @@ class Judging(test_command.WithFiles):
         for wrong in ("-1", "1.5", "x", str(2**64)):
             self.assertEqual(self.importing(*self.lab(LINES), "--budget=" + wrong)[0], 2)
 
+    def test_the_first_level(self):
+        self.importing(*self.lab(LINES), "--congestion", "none", "--from", "full")
+        self.recorded(*self.lab(LINES), "--congestion", "none", "--from", "recovery")
+        self.assertEqual(self.text("words"),
+                         "judge --least none --from full --case ./run.case\njudge --least none --from recovery --case "
+                         "./run.case\ndraw\n")
+        self.refused([*self.captures, *self.logs, "--out", f"{self.folder}/run.trace", "--from", "none",
+                      *self.lab(LINES)], "--from none is laxer than --congestion full")
+        with mock.patch("os.geteuid", return_value=0):
+            self.refused(["--transfer", "5", "--congestion", "recovery", "--from", "none", *self.lab(LINES)],
+                         "--from none is laxer than --congestion recovery", recording)
+
     def test_the_slack(self):
         self.importing(*self.lab(LINES), "--slack", "any")
         self.assertEqual(self.text("run.trace").splitlines()[9], "slack any")

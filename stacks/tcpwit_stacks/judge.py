@@ -105,7 +105,8 @@ class Judge:
         """Looks for the strictest level with a yes, after a no at `full`."""
         try:
             with tempfile.NamedTemporaryFile() as file:
-                found = self.object([*LEVELS_OF, *self.budget, "--case", file.name], trace)
+                words = [*LEVELS_OF, "--least", LEVELS[1], *self.budget, "--case", file.name]
+                found = self.object(words, trace)
                 if found["answer"] != "yes":
                     return
                 with open(file.name, encoding="utf-8", errors="backslashreplace") as written:

@@ -221,7 +221,7 @@ class TheCommand(unittest.TestCase):
             self.run_it(*ran, *words)
             with open(asked) as file:
                 lines = {line.split(" --case")[0].strip() for line in file if line.startswith(("find", "judge"))}
-            self.assertEqual(lines, {f"find{budget}", "judge --json", f"judge --json{budget}"})
+            self.assertEqual(lines, {f"find{budget}", "judge --json", f"judge --json --least recovery{budget}"})
             os.remove(asked)
         for wrong in ("-1", "01", "1.5", "x", str(1 << 64)):
             self.assertEqual(self.run_it(*ran, "--budget=" + wrong)[0], 2)

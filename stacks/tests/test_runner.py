@@ -400,7 +400,7 @@ class StandIn(Judge):
                    ("explain", "--simulated", "--json"): json.dumps({"said": [self.fault, "what is compared", ""]}),
                    ("remark", "--json"): json.dumps({"said": [f"line 7: of {level}", "at the end: x"]})}
         if words[:2] == ["judge", "--json"]:
-            return self.judged(text, *words[3:]), 0
+            return self.judged(text, words[-1] if "--case" in words else None), 0
         return answers[tuple(words)], 0
 
     def judged(self, text, path=None):

@@ -60,12 +60,17 @@ pub(crate) static TCPWIT_LAB: CommandLine = CommandLine {
         Subcommand {
             name: "judge",
             about: "Finds the strictest level that gets a yes for a trace",
-            usage: "tcpwit_lab judge [--least LEVEL] [--slack SLACK] [--budget N] [--case FILE] [--json] < TRACE",
+            usage: JUDGE_USAGE,
             arguments: &[
                 Argument {
                     name: "least",
                     form: Form::Option("LEVEL"),
                     help: "The weakest level that gives status 0: full, recovery, none [default: full]",
+                },
+                Argument {
+                    name: "from",
+                    form: Form::Option("LEVEL"),
+                    help: "The level tried first, not laxer than --least [default: that of --least]",
                 },
                 Argument {
                     name: "slack",
@@ -140,16 +145,21 @@ const DRAW: &str = "\
 Input: a case, or a trace alone. Output: a picture (SVG). Time goes down, segments are arrows, a
 refused step is red.";
 
+const JUDGE_USAGE: &str = "\
+tcpwit_lab judge [--least LEVEL] [--from LEVEL] [--slack SLACK] [--budget N]
+                        [--case FILE] [--json] < TRACE";
+
 const JUDGE: &str = "\
 Input: a trace. It looks for a witness at the levels `full`, `recovery` and `none`, in this order,
-until the first yes. Output: a line for each level tried, what the yes means, and what `full`
-refused first. If a line can't be explained, it goes back, as find does.
+from that of --from until the first yes. Output: a line for each level tried, what the yes means,
+and what each level before it refused first. If a line can't be explained, it goes back, as find
+does.
 
 It judges duties, too, such as acknowledging in time: a host may be SLACK late with them. With
 `--slack any`, they aren't judged. A trace of version 5 has a slack of its own, which is the default
 then. If a duty refuses a level, the output has the verdict without duties, too.
 
-Status: 0 if LEVEL or a stricter one has a yes, 1 if none has.";
+Status: 0 if the level of --least or a stricter one has a yes, 1 if none has.";
 
 const REMARK: &str = "\
 Input: a case. Output: a line for each remark, with the trace lines that it is about. For a no, only

@@ -1,7 +1,7 @@
 //! The levels, one after the other until one has a yes.
 
 use crate::connections::Connections;
-use crate::levels::{Answer, Level};
+use crate::levels::{Answer, Level, is_stricter};
 use crate::one_level::{Facts, JudgeFault, Question, Tried, try_level};
 use crate::sentences::{answer, lines_kept};
 use crate::version_five::{Slack, header_of};
@@ -10,14 +10,25 @@ use std::alloc::{AllocError, Global};
 use verdict::Verdict;
 use witness_search::{CaseLines, CaseText};
 
+/// How a trace is judged.
+#[derive(Clone, Copy)]
+pub struct Settings {
+    /// The level that is tried first.
+    pub from: Judged,
+    /// How late a host may be with its duties.
+    pub slack: Slack,
+    /// How many search steps are spent on going back for one line, at each level.
+    pub budget: u64,
+}
+
 /// The answer for a trace.
 #[derive(Drop)]
 pub struct Judgement<'t> {
-    /// A line for each level that was tried, then what the answers mean.
+    /// A line for each level that was tried, then what a yes means, and what each level refused.
     pub text: String,
     /// Which lines of the trace the case has, as a line.
     pub kept: String,
-    /// The strictest level with a yes. None: no level has one.
+    /// The strictest of the levels tried that has a yes. None: no level has one.
     pub level: Option<Judged>,
     /// The levels that were tried, the strictest first.
     pub levels: Vec<Level>,
@@ -37,25 +48,23 @@ pub struct Judgement<'t> {
 }
 
 impl Judgement<'_> {
-    /// Whether this level or a stricter one has a yes.
+    /// Whether this level has a yes, or a stricter one that was tried.
     pub fn meets(&self, least: Judged) -> bool {
         match self.level {
-            Some(Judged::Full) => true,
-            Some(Judged::Recovery) => !matches!(least, Judged::Full),
-            Some(Judged::NoControl) => matches!(least, Judged::NoControl),
+            Some(level) => !is_stricter(least, level),
             None => false,
         }
     }
 }
 
-/// Judges a trace of any version, and tries no level after the first yes. At each level, going back may take `budget`
-/// search steps for each line. If a level is a no by a duty, it is tried without duties, too, which gives no level.
-pub fn judge(
-    alloc: Global,
-    text: &[u8],
-    slack: Slack,
-    budget: u64,
-) -> Result<Judgement<'_>, JudgeFault> {
+/// Judges a trace of any version, from a level on, and tries no level after the first yes. If a level is a no by a
+/// duty, it is tried without duties, too, which gives no level.
+pub fn judge(alloc: Global, text: &[u8], settings: Settings) -> Result<Judgement<'_>, JudgeFault> {
+    let Settings {
+        from,
+        slack,
+        budget,
+    } = settings;
     let header = header_of(alloc, text)?;
     let question = Question {
         text,
@@ -65,6 +74,9 @@ pub fn judge(
     };
     let mut levels = Vec::new(alloc);
     for judged in [Judged::Full, Judged::Recovery] {
+        if is_stricter(judged, from) {
+            continue;
+        }
         let tried = try_level(alloc, question, judged)?;
         let facts = tried.facts;
         if facts.refused.is_none() {

@@ -55,6 +55,15 @@ impl Level {
     }
 }
 
+/// Whether a level is stricter than another.
+pub fn is_stricter(level: Judged, other: Judged) -> bool {
+    match level {
+        Judged::Full => !matches!(other, Judged::Full),
+        Judged::Recovery => matches!(other, Judged::NoControl),
+        Judged::NoControl => false,
+    }
+}
+
 /// Whether one of these levels is known to have a yes if duties aren't judged.
 pub(crate) fn is_yes_without_duties(levels: &[Level]) -> bool {
     levels.iter().any(|level| match level.without_duties {

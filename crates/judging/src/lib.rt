@@ -1,15 +1,17 @@
 //! How much of the RFCs a recorded run follows.
 //!
 //! Few stacks follow RFC 5681 to the letter. So a trace is rewritten in version 5 of the texts, once for each level of
-//! the header line `congestion`, from `full` on, until `checker` accepts the witness that `witness_search` finds. The
-//! answer is the strictest level with a yes, and the first thing that `full` refused, as `replayed` reads it from the
-//! case. A level that a duty refuses is tried without duties, too, until one has a yes then. The time is linear in the
-//! size of the trace, and a budget bounds what the search spends on going back at each level. Of a long transfer, the
-//! search has the text and the parsed trace in memory; the parsed trace is freed before the case is judged, whose event
-//! lines aren't copied. Each function is proved only to be safe and to return.
+//! the header line `congestion`, from a chosen one on, until `checker` accepts the witness that `witness_search` finds.
+//! The answer is the first level with a yes, and what each level before it refused first, as `replayed` reads it from
+//! the case. A level that a duty refuses is tried without duties, too, until one has a yes then. The time is linear in
+//! the size of the trace, and a budget bounds what the search spends on going back at each level. Of a long transfer,
+//! the search has the text and the parsed trace in memory; the parsed trace is freed before the case is judged, whose
+//! event lines aren't copied. Each function is proved only to be safe and to return.
 //!
 //! - `judge`, `Judgement`: the answer for a trace, the level with a yes, and the case of the last level
+//! - `Settings`: how a trace is judged, from which level on
 //! - `Level`, `level_name`, `sentence`: a level that was tried, its name, and what it refused
+//! - `is_stricter`: which of two levels is stricter
 //! - `Answer`: a verdict, and which line of the trace it refuses
 //! - `Connections`: how many the case has
 //! - `Slack`: how late a host may be with its duties
@@ -32,8 +34,8 @@ mod sentences;
 mod version_five;
 
 pub use connections::Connections;
-pub use judgement::{Judgement, judge};
-pub use levels::{Answer, Level};
+pub use judgement::{Judgement, Settings, judge};
+pub use levels::{Answer, Level, is_stricter};
 pub use one_level::JudgeFault;
 pub use sentences::{level_name, sentence};
 pub use version_five::{GREATEST_SLACK, Slack};

@@ -60,37 +60,40 @@ fn say_meaning(
     }
 }
 
-// Writes what the last level refused, if it did. If `full` refused something else, or a duty refused another level,
-// that follows.
+// Writes what each level refused, if it did. Levels that follow each other share a line if they refused the same.
 fn say_refusals(
     alloc: Global,
     out: &mut String,
     slack: Option<u64>,
     levels: &[Level],
 ) -> Result<(), OutOfMemory> {
-    let [stricter @ .., last] = levels else {
-        return Ok(());
-    };
-    let of_last = sentence(alloc, slack, last)?;
-    say_under(out, last.judged, of_last.as_str())?;
-    let mut before = String::new(alloc);
-    for level in stricter {
-        if matches!(level.judged, Judged::Full) || level.without_duties.is_some() {
-            let own = sentence(alloc, slack, level)?;
-            if own != of_last && own != before {
-                say_under(out, level.judged, own.as_str())?;
-            }
-            before = own;
+    let mut names = Vec::new(alloc);
+    let mut said = String::new(alloc);
+    for level in levels {
+        let own = sentence(alloc, slack, level)?;
+        if own != said {
+            say_under(out, names.as_slice(), said.as_str())?;
+            names.clear();
+            said = own;
         }
+        names.push(level_name(level.judged))?;
     }
-    Ok(())
+    say_under(out, names.as_slice(), said.as_str())
 }
 
-fn say_under(out: &mut String, level: Judged, sentence: &str) -> Result<(), OutOfMemory> {
+// Writes what the levels with these names refused, if the sentence has it.
+fn say_under(out: &mut String, names: &[&str], sentence: &str) -> Result<(), OutOfMemory> {
     if sentence.is_empty() {
         return Ok(());
     }
-    writeln!(out, "Under {}: {sentence}", level_name(level))
+    match names {
+        [] => Ok(()),
+        [only] => writeln!(out, "Under {only}: {sentence}"),
+        [first, last] => writeln!(out, "Under {first} and {last}: {sentence}"),
+        [first, second, last, ..] => {
+            writeln!(out, "Under {first}, {second} and {last}: {sentence}")
+        }
+    }
 }
 
 // Writes the verdicts without duties.
@@ -218,33 +221,35 @@ fn say_late(out: &mut String, slack: Option<u64>, late: &Late) -> Result<(), Out
 }
 
 fn say_reason(out: &mut String, slack: Option<u64>, refused: &Refused) -> Result<(), OutOfMemory> {
+    let rule = refused.rule;
     match refused.reason {
         Reason::Beyond { bytes, cwnd } => {
             let (s, bytes) = (word_if(bytes != 1, "s"), Grouped(bytes));
             write!(out, " sends {bytes} byte{s} beyond the congestion window")?;
-            write!(out, " of {} (RFC 5681, 3.1)", Grouped(cwnd))
+            write!(out, " of {} ({rule}; RFC 5681, 3.1)", Grouped(cwnd))
         }
         Reason::Gap { pos, sent } => {
             write!(out, " begins at position {pos}, but only positions")?;
-            write!(out, " below {sent} were sent before (old-data)")
+            write!(out, " below {sent} were sent before ({rule})")
         }
         Reason::Acknowledged { pos, una } => {
             write!(out, " begins at position {pos}, and everything")?;
-            write!(out, " below {una} is acknowledged already (old-data)")
+            write!(out, " below {una} is acknowledged already ({rule})")
         }
         // Fast recovery begins after the handshake, so only a timeout permits retransmitting a SYN.
         Reason::Again { syn: true } => {
-            write!(out, " retransmits a SYN before its timeout (RFC 6298, 5)")
+            write!(out, " retransmits a SYN before its timeout")?;
+            write!(out, " ({rule}; RFC 6298, 5)")
         }
         Reason::Again { syn: false } => {
             write!(out, " retransmits data without a timeout, fast recovery")?;
-            write!(out, " or a reopened window (old-data)")
+            write!(out, " or a reopened window ({rule})")
         }
         Reason::Late(late) => {
-            say_rule(out, refused.rule)?;
+            say_rule(out, rule)?;
             say_late(out, slack, &late)
         }
-        Reason::Other => say_rule(out, refused.rule),
+        Reason::Other => say_rule(out, rule),
     }
 }
 

@@ -6,7 +6,7 @@
 use crate::texts::Text;
 use answers::{MEMORY, REFUSED};
 use case_forms::Judged;
-use judging::{GREATEST_SLACK, JudgeFault, Slack, judge};
+use judging::{GREATEST_SLACK, JudgeFault, Settings, Slack, judge};
 use line_fields::{FaultKind, TextFault};
 use plain_words::fault_line;
 use remarks::remark;
@@ -98,7 +98,7 @@ pub struct Judgement {
     pub case: Text,
 }
 
-/// Judges a trace at each level until one has a yes; the status is then 0. A slack is in microseconds, at most 10^18;
+/// Judges a trace at each level, from `full` on, until one has a yes; the status is then 0. A slack is in microseconds, at most 10^18;
 /// the greatest number takes that of the trace, and the one before it leaves duties unjudged. Each level may spend so
 /// many steps on going back for one line.
 #[unsafe(no_mangle)]
@@ -109,8 +109,8 @@ pub extern "C" fn tcpwit_judge(
     budget: u64,
     judgement: &mut Judgement,
 ) -> u32 {
-    let (answered, status) = match slack_of(slack) {
-        Some(slack) => judge_trace(alloc, trace, slack, budget),
+    let (answered, status) = match settings_of(slack, budget) {
+        Some(settings) => judge_trace(alloc, trace, settings),
         None => without_level(Output::line(alloc, "bad usage\n", USAGE)),
     };
     *judgement = answered;
@@ -118,8 +118,8 @@ pub extern "C" fn tcpwit_judge(
 }
 
 // Judges a trace, and gives the judgement with its status.
-fn judge_trace(alloc: Global, trace: &[u8], slack: Slack, budget: u64) -> (Judgement, u32) {
-    match judge(alloc, trace, slack, budget) {
+fn judge_trace(alloc: Global, trace: &[u8], settings: Settings) -> (Judgement, u32) {
+    match judge(alloc, trace, settings) {
         Ok(answer) => {
             let level = level_number(answer.level);
             let case = answer.case.joined(alloc);
@@ -162,14 +162,19 @@ fn level_number(level: Option<Judged>) -> u32 {
     }
 }
 
-// The slack that a number stands for. None: it is too large.
-fn slack_of(number: u64) -> Option<Slack> {
-    match number {
-        USUAL_SLACK => Some(Slack::Usual),
-        ANY_SLACK => Some(Slack::Any),
-        slack if slack <= GREATEST_SLACK => Some(Slack::Given(slack)),
-        _ => None,
-    }
+// How these numbers let a trace be judged, from `full` on. None: the slack is too large.
+fn settings_of(slack: u64, budget: u64) -> Option<Settings> {
+    let slack = match slack {
+        USUAL_SLACK => Slack::Usual,
+        ANY_SLACK => Slack::Any,
+        slack if slack <= GREATEST_SLACK => Slack::Given(slack),
+        _ => return None,
+    };
+    Some(Settings {
+        from: Judged::Full,
+        slack,
+        budget,
+    })
 }
 
 // The case that is found for a trace.

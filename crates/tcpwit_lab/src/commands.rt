@@ -132,7 +132,7 @@ fn write_judgement<H: Files + Eprint, W: Write>(
     text: &[u8],
     w: &mut Counted<W>,
 ) -> u8 {
-    let judgement = match judge(alloc, text, judging.slack, judging.budget) {
+    let judgement = match judge(alloc, text, judging.settings) {
         Ok(judgement) => judgement,
         Err(fault) => return say_unjudged(rt, alloc, form, text, fault, w),
     };

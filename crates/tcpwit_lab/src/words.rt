@@ -4,7 +4,7 @@ use crate::search_words::{expiries_of, ways_of};
 use case_forms::Judged;
 use drawing::Range;
 use help::{Program, Topic, topic_of};
-use judging::{GREATEST_SLACK, Slack};
+use judging::{GREATEST_SLACK, Settings, Slack, is_stricter};
 use std::env::{Env, FillError};
 use why::Origin;
 use witness_search::{SearchOptions, USUAL_BUDGET};
@@ -58,10 +58,8 @@ pub(crate) struct Judging<'w> {
     pub least: Judged,
     /// The file in which the case of the last level is kept. None: it isn't kept.
     pub case: Option<&'w str>,
-    /// How late a host may be with its duties.
-    pub slack: Slack,
-    /// How many search steps are spent on going back at each level.
-    pub budget: u64,
+    /// How the trace is judged. The first level is `least` or a stricter one.
+    pub settings: Settings,
 }
 
 /// What the words request.
@@ -146,29 +144,42 @@ fn search_options(options: &[&str]) -> Option<SearchOptions> {
     })
 }
 
-// What `--least LEVEL`, `--slack SLACK`, `--case FILE` and `--budget N` ask for, in any order and each at most once;
-// `--json` may be among them.
-// LEVEL is `full`, `recovery` or `none`; `full` if it isn't given. FILE isn't empty. None: other words.
+// What `--least LEVEL`, `--from LEVEL`, `--slack SLACK`, `--case FILE` and `--budget N` ask for, in any order and each at
+// most once; `--json` may be among them. Without `--from`, the first level is that of `--least`; it isn't laxer with it.
+// FILE isn't empty. None: other words.
 fn judging_of<'w>(options: &[&'w str]) -> Option<Judging<'w>> {
-    if !are_options(options, &["--least", "--slack", "--case", "--budget", JSON]) {
+    let names = ["--least", "--from", "--slack", "--case", "--budget", JSON];
+    if !are_options(options, &names) {
         return None;
     }
-    let least = match value_of(options, "--least") {
-        None | Some("full") => Judged::Full,
-        Some("recovery") => Judged::Recovery,
-        Some("none") => Judged::NoControl,
-        Some(_) => return None,
+    let least = level_of(value_of(options, "--least"), Judged::Full)?;
+    let from = level_of(value_of(options, "--from"), least)?;
+    if is_stricter(least, from) {
+        return None;
+    }
+    let settings = Settings {
+        from,
+        slack: slack_of(value_of(options, "--slack"))?,
+        budget: budget_of(value_of(options, "--budget"))?,
     };
-    let slack = slack_of(value_of(options, "--slack"))?;
-    let budget = budget_of(value_of(options, "--budget"))?;
     match value_of(options, "--case") {
         Some("") => None,
         case => Some(Judging {
             least,
             case,
-            slack,
-            budget,
+            settings,
         }),
+    }
+}
+
+// The level that a value names, or the usual one if there is no value. None: another word.
+fn level_of(value: Option<&str>, usual: Judged) -> Option<Judged> {
+    match value {
+        None => Some(usual),
+        Some("full") => Some(Judged::Full),
+        Some("recovery") => Some(Judged::Recovery),
+        Some("none") => Some(Judged::NoControl),
+        Some(_) => None,
     }
 }
 

@@ -58,9 +58,11 @@ def case_of(trace):
 
 
 def judge_all(program, traces, options):
-    """Judges trace files at --congestion or stricter, with --slack, prints the lines of each and returns the highest
+    """Judges trace files from --from or --congestion on, with --slack, prints the lines of each and returns the highest
     status."""
     words = ["--least", options.congestion or FULL]
+    if options.start:
+        words += ["--from", options.start]
     if options.slack is not None:
         words += ["--slack", str(options.slack)]
     if options.budget is not None:

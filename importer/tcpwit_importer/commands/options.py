@@ -2,7 +2,7 @@
 import argparse
 import re
 
-from ..problem import named_file
+from ..problem import Problem, named_file
 from ..trace import header as headers
 
 
@@ -18,6 +18,19 @@ def add_words_of_judging(words):
     words.add_argument("--lab", type=named_file, metavar="PATH", help="the program tcpwit_lab, which judges traces")
     words.add_argument("--budget", type=number_within(0, 2**64 - 1), metavar="N",
                        help="how many steps its search spends on going back for one line (default: its own)")
+    add_first_level(words, "--congestion")
+
+
+def add_first_level(words, option):
+    """The option for the level that is tried first. The other option names the weakest level whose yes counts."""
+    words.add_argument("--from", dest="start", choices=headers.LEVELS,
+                       help=f"the level that is tried first, not laxer than {option} (default: that of {option})")
+
+
+def refuse_laxer(start, least, option):
+    """Refuses a first level that is laxer than the weakest one whose yes counts, which this option names."""
+    if start and headers.LEVELS.index(start) > headers.LEVELS.index(least):
+        raise Problem(f"--from {start} is laxer than {option} {least}", "leave out --from, or name a stricter level")
 
 
 def number_within(least, greatest):

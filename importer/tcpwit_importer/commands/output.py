@@ -50,7 +50,7 @@ def facts(result):
              "segments": result.segments}
     if result.is_part:
         found["part"] = True
-    if not result.answer:
+    if not result.levels:
         return found | {"judged": False, "reason": result.reason, "status": result.status}
     answer = result.answer
     found |= {"judged": True, "hosts": result.hosts, "level": answer["level"], "answer": result.verdict,
@@ -59,5 +59,11 @@ def facts(result):
         found |= {"lines": answer["lines"], "steps": answer["hidden"]}
     else:
         found |= {name: answer[name] for name in ("witness_line", "trace_line", "rule", "sentence")}
-        found |= {"capture": result.packet.capture, "packet": result.packet.count} if result.packet else {}
-    return found | {"said": result.said} | ({"files": result.files} if result.files else {})
+        found |= place(result.packets[-1])
+    levels = [level | place(packet) for level, packet in zip(result.levels, result.packets)]
+    return found | {"levels": levels, "said": result.said} | ({"files": result.files} if result.files else {})
+
+
+def place(packet):
+    """The members that say where a packet was captured, if there is one."""
+    return {"capture": packet.capture, "packet": packet.count} if packet else {}

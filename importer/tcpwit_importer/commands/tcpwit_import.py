@@ -18,7 +18,7 @@ from ..trace import header as headers
 from ..trace.cases import cases_by_listener
 from ..trace.lines import Writer
 from . import lab
-from .options import add_version_and_slack, add_words_of_judging, moment, number_within
+from .options import add_version_and_slack, add_words_of_judging, moment, number_within, refuse_laxer
 from .selection import addresses_of, chosen_connections
 
 DESCRIPTION = """Converts captures and system call logs of unmodified programs into traces for tcpwit.
@@ -233,6 +233,7 @@ def write(options, traces):
 
 def import_and_judge(options):
     """Builds, writes and judges the traces, and returns the exit status."""
+    refuse_laxer(options.start, options.congestion or headers.FULL, "--congestion")
     program = lab.program(options.lab) if options.out and not options.no_check else None
     notes = Notes()
     files = write(options, run(options, notes))

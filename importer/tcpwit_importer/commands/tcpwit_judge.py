@@ -15,7 +15,7 @@ from ..remedies import NOTHING_SENT
 from ..trace import header as headers
 from . import lab
 from .live import Pool, Reader, Stream, watch
-from .options import number_within, slack
+from .options import add_first_level, number_within, refuse_laxer, slack
 from .output import Output
 from .verdicts import Judge
 from .workers import results
@@ -31,7 +31,8 @@ end.
 The calls of the programs are inferred from the segments. So neither their answers are judged, nor how soon a host
 sends what its program gave it (rule start-late).
 
-Each connection has a line: its level and the answer of tcpwit_lab judge, or why it isn't judged.
+Each connection has a line: its level and the answer of tcpwit_lab judge, or why it isn't judged. If a level was
+refused, the line ends with what it refused, and in which packet; of several levels, it's the laxest.
 
 The status is the highest of all connections: 0 if a level of at least --level has a yes, 1 if not, 2 for an error.
 It's also 2 if nothing could be judged."""
@@ -55,6 +56,7 @@ def parser():
                        "capture (default: 1000000)")
     words.add_argument("--level", choices=headers.LEVELS, default=headers.FULL,
                        help="the weakest level whose yes gives status 0 (default: full)")
+    add_first_level(words, "--level")
     words.add_argument("--slack", type=slack, metavar="N", help=headers.HELP["slack"])
     words.add_argument("--budget", type=number_within(0, 2**64 - 1), metavar="N",
                        help="how many steps the search spends on going back for one line (default: its own)")
@@ -113,6 +115,7 @@ def refuse_words(options):
     if options.between and (options.host or options.slack is not None):
         raise Problem("--between is given with --host or --slack",
                       "leave these out: such a capture shows both hosts, and none of their duties")
+    refuse_laxer(options.start, options.level, "--level")
 
 
 def judge(options):

@@ -16,7 +16,7 @@ from ..recording.recorder import Recording, pair_words
 from ..trace import header as headers
 from . import tcpwit_import
 from . import lab
-from .options import add_version_and_slack, add_words_of_judging, number_within
+from .options import add_version_and_slack, add_words_of_judging, number_within, refuse_laxer
 
 DESCRIPTION = f"""Records a program's TCP, converts it into a trace, and judges it.
 
@@ -252,6 +252,7 @@ def record(options):
     if os.geteuid() != 0:
         raise Problem("captures and network namespaces need root",
                       "sudo tcpwit-record ..: the program itself runs as you")
+    refuse_laxer(options.start, options.congestion or headers.FULL, "--congestion")
     words = header_words(options)
     refuse_unknown_user(options)
     program = program_that_judges(options)

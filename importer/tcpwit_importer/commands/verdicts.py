@@ -1,6 +1,7 @@
 """Judges one connection: reads its packets, infers its calls, and runs `tcpwit_lab judge` on the trace."""
 import json
 import os
+import re
 import subprocess
 from dataclasses import dataclass, field
 from typing import Any
@@ -23,31 +24,39 @@ NUMBERS = {"yes": ("lines", "hidden"), "no": ("witness_line", "trace_line", "rul
 RULES = {"(rules 40 to 52)": "(rules 40 to 47 and 49 to 52)",
          "(rules 40 to 50 and 52)": "(rules 40 to 47, 49, 50 and 52)",
          "(rules 40 to 49 and 52)": "(rules 40 to 47, 49 and 52)"}
+# How a sentence of `judge` begins if it is about a line of the trace.
+LINE = re.compile(r"^line (\d+)")
 
 
 @dataclass
 class Result:
-    """What was found out about a connection: `answer` has the members of `judge --json` for the last level tried; if
-    it's empty, `reason` says why the connection wasn't judged."""
+    """What was found out about a connection: `levels` has the members of `judge --json` for each level tried, and
+    `packets` the packet that each refused, or None; without any, `reason` says why the connection wasn't judged."""
     client: str
     server: str
     begun: int
     segments: int
-    answer: dict = field(default_factory=dict)
+    levels: list = field(default_factory=list)
+    packets: list = field(default_factory=list)
     reason: str = ""
     hosts: int = 0
     status: int = 0
     said: list = field(default_factory=list)
     files: list = field(default_factory=list)
     notes: Any = None
-    # Whether only its beginning was judged, and the packet that the sentence is about.
+    # Whether only its beginning was judged, and of how many captures.
     is_part: bool = False
-    packet: Any = None
+    captures: int = 1
 
     @property
     def name(self):
         """The connection in the output."""
         return f"{self.client} -> {self.server}"
+
+    @property
+    def answer(self):
+        """The members for the last level; empty if it wasn't judged."""
+        return self.levels[-1] if self.levels else {}
 
     @property
     def verdict(self):
@@ -61,14 +70,33 @@ class Result:
 
     @property
     def line(self):
-        """Its verdict, or why it has none."""
-        if not self.answer:
+        """Its verdict, and what was refused by the laxest level that refused something; or why it has no verdict."""
+        if not self.levels:
             return f"not judged: {self.reason}"
         numbers = " ".join(str(self.answer[name]) for name in NUMBERS[self.verdict])
         row = f"{self.answer['level']:<10}{self.verdict} {numbers}"
-        packet = f"({self.packet.place})" if self.packet else ""
-        part = f"(its first {counted(self.segments, 'segment')})" if self.is_part else ""
-        return "   ".join(filter(None, (row, self.answer.get("sentence"), packet, part)))
+        failed = [pair for pair in zip(self.levels, self.packets) if pair[0]["answer"] == "no"]
+        if failed:
+            level, packet = failed[-1]
+            # A no has named its level already.
+            row += f"; {level['level']}: " if self.verdict == "yes" else "; "
+            row += self.sentence(level, packet)
+        return row + (f"   (its first {counted(self.segments, 'segment')})" if self.is_part else "")
+
+    def sentence(self, level, packet):
+        """What a level refused, in the words of `judge`, with the packet instead of its line if there is one."""
+        said = level["sentence"].removesuffix(".")
+        return LINE.sub(self.named(packet), said) if packet else said
+
+    def named(self, packet):
+        """A packet in words, with its capture if there are two."""
+        return f"packet {packet.count}" + (f" of {packet.capture}" if self.captures > 1 else "")
+
+    @property
+    def lines_of_packets(self):
+        """A line for each line of the trace that a level refused and that has a packet."""
+        found = [(LINE.match(level["sentence"]), packet) for level, packet in zip(self.levels, self.packets) if packet]
+        return list(dict.fromkeys(f"Line {line[1]} is {self.named(packet)}." for line, packet in found if line))
 
 
 class Judge:
@@ -86,7 +114,7 @@ class Judge:
         """The result of a connection, which is the one with this number. `moment` is when its recording ended, if its
         capture goes on."""
         found = Result(shown(indexed.client), shown(indexed.server), indexed.begun, indexed.count, notes=Notes())
-        found.is_part = getattr(indexed, "is_part", False)
+        found.is_part, found.captures = getattr(indexed, "is_part", False), len(self.files)
         try:
             if not indexed.whole:
                 raise Undecided(f"it began before the capture ({counted(indexed.count, 'segment')})")
@@ -136,11 +164,9 @@ class Judge:
     def judge_trace(self, number, trace, found):
         """Judges a trace."""
         if self.options.report:
-            self.report(os.path.join(self.options.report, file_name(number, found)), trace.lines(), found)
+            self.report(os.path.join(self.options.report, file_name(number, found)), trace, found)
         else:
-            self.run(trace.lines(), found)
-        line = found.answer.get("input_line")
-        found.packet = None if line is None else trace.packet(line)
+            self.run(trace, found)
 
     def refuse_lost(self, connection):
         """Refuses a connection of which a capture lost packets, unless the user accepts that."""
@@ -154,10 +180,11 @@ class Judge:
         """The options of `judge`."""
         options = self.options
         words = ["judge", "--json", "--least", options.level]
+        words += ["--from", options.start] if options.start else []
         words += ["--slack", str(options.slack)] if options.slack is not None else []
         return words + (["--budget", str(options.budget)] if options.budget is not None else [])
 
-    def run(self, lines, found):
+    def run(self, trace, found):
         """Judges a trace that isn't kept."""
         # With a file for the case, `judge` also says which lines of the trace it has.
         words = [self.program, *self.words(), "--case", os.devnull]
@@ -167,7 +194,7 @@ class Judge:
             raise Problem(f"{self.program}: {error.strerror}", lab.NAME_IT) from error
         with process:
             try:
-                process.stdin.writelines(map(str.encode, lines))
+                process.stdin.writelines(map(str.encode, trace.lines()))
             except BrokenPipeError:
                 # It has ended: its output says why.
                 pass
@@ -175,30 +202,33 @@ class Judge:
                 process.kill()
                 raise
             out, error = process.communicate()
-        read(found, out, error, process.returncode)
+        read(found, trace, out, error, process.returncode)
 
-    def report(self, trace, lines, found):
-        """Judges a trace that is kept, with its case, its picture and the explanation."""
-        write_file(trace, map(str.encode, lines))
-        case = lab.case_of(trace)
+    def report(self, name, trace, found):
+        """Judges a trace that is kept in the file with this name, with its case, its picture and the explanation."""
+        write_file(name, map(str.encode, trace.lines()))
+        case = lab.case_of(name)
         words = [self.program, *self.words(), "--case", "./" + os.path.basename(case)]
-        done = lab.on_file(words, trace, os.path.dirname(trace) or ".")
-        found.files = [trace]
-        read(found, done.stdout, done.stderr, done.returncode)
-        lab.draw(self.program, trace)
+        done = lab.on_file(words, name, os.path.dirname(name) or ".")
+        found.files = [name]
+        read(found, trace, done.stdout, done.stderr, done.returncode)
+        lab.draw(self.program, name)
         explained = lab.on_file([self.program, "explain"], case)
-        write_file(text_of(trace), [*(f"{line}\n".encode() for line in found.said), b"\n", explained.stdout])
-        kept = case, trace.removesuffix(".trace") + ".svg", text_of(trace)
+        said = [f"{line}\n".encode() for line in (*found.said, *found.lines_of_packets, "")]
+        write_file(text_of(name), [*said, explained.stdout])
+        kept = case, name.removesuffix(".trace") + ".svg", text_of(name)
         found.files += [name for name in kept if os.path.exists(name)]
 
 
-def read(found, out, error, status):
-    """Reads the object that `judge` printed into a result."""
+def read(found, trace, out, error, status):
+    """Reads the object that `judge` printed for a trace, whose lines were made, into a result."""
     if status not in (lab.YES, lab.NO):
         said = "; ".join(said_in(out)[:1] + decoded(error).splitlines()[-1:])
         raise Problem(said or lab.ended(status), "")
     judged = json.loads(out)
-    found.answer, found.status = judged["levels"][-1], status
+    found.levels, found.status = judged["levels"], status
+    lines = [level.get("input_line") for level in found.levels]
+    found.packets = [None if line is None else trace.packet(line) for line in lines]
     found.said = [inferred(line) for line in judged["said"]]
 
 
