@@ -8,7 +8,7 @@ use crate::version_five::{Slack, header_of};
 use case_forms::Judged;
 use std::alloc::{AllocError, Global};
 use verdict::Verdict;
-use witness_search::{CaseLines, CaseText};
+use witness_search::{CaseLines, CaseText, SearchOptions, Ways};
 
 /// How a trace is judged.
 #[derive(Clone, Copy)]
@@ -17,8 +17,8 @@ pub struct Settings {
     pub from: Judged,
     /// How late a host may be with its duties.
     pub slack: Slack,
-    /// How many search steps are spent on going back for one line, at each level.
-    pub budget: u64,
+    /// What the search at each level is asked for.
+    pub search: SearchOptions,
 }
 
 /// The answer for a trace.
@@ -41,6 +41,8 @@ pub struct Judgement<'t> {
     pub is_half: bool,
     /// The connections of the case.
     pub connections: Connections,
+    /// How the hosts of the case do what the RFCs leave open.
+    pub ways: Ways,
     /// The event lines of the case.
     pub lines: CaseLines,
     /// The case of the last level that was tried: the trace in version 5, and its witness.
@@ -63,14 +65,14 @@ pub fn judge(alloc: Global, text: &[u8], settings: Settings) -> Result<Judgement
     let Settings {
         from,
         slack,
-        budget,
+        search,
     } = settings;
     let header = header_of(alloc, text)?;
     let question = Question {
         text,
         header: &header,
         slack: slack.under(&header),
-        budget,
+        search,
     };
     let mut levels = Vec::new(alloc);
     for judged in [Judged::Full, Judged::Recovery] {
@@ -130,6 +132,7 @@ fn conclude<'t>(
         slack: question.slack,
         is_half: question.header.version.is_half(),
         connections: facts.connections,
+        ways: tried.ways,
         lines: facts.lines,
         case,
     })

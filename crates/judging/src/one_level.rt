@@ -10,7 +10,9 @@ use replayed::{Refused, ReplayFault, refused_by};
 use std::alloc::{AllocError, Global};
 use thiserror::Error;
 use trace_reader::{Counted, read_trace};
-use witness_search::{CaseLines, CaseText, Ending, Found, case_lines, find_witness, SearchOptions};
+use witness_search::{
+    CaseLines, CaseText, Ending, Found, SearchOptions, Ways, case_lines, find_witness,
+};
 
 /// Why a trace can't be judged.
 #[derive(Clone, Copy, Debug, Error)]
@@ -62,8 +64,8 @@ pub(crate) struct Question<'q, 't> {
     pub header: &'q Header,
     /// How late a host may be with its duties, in microseconds. None: they aren't judged.
     pub slack: Option<u64>,
-    /// How many search steps are spent on going back at each level.
-    pub budget: u64,
+    /// What the search at each level is asked for.
+    pub search: SearchOptions,
 }
 
 impl Question<'_, '_> {
@@ -84,6 +86,8 @@ pub(crate) struct Tried<'t> {
     pub case: CaseText<'t>,
     /// How the search ended.
     pub ending: Ending,
+    /// How the hosts do what the RFCs leave open.
+    pub ways: Ways,
     pub facts: Facts,
 }
 
@@ -103,18 +107,19 @@ pub(crate) fn try_level<'t>(
     question: Question<'_, 't>,
     level: Judged,
 ) -> Result<Tried<'t>, JudgeFault> {
-    let Question { text, budget, .. } = question;
+    let text = question.text;
     let first = question.header.first_event_line();
     let events = events_of(text, first);
     let header = header_at(question.header, level, question.slack);
-    let (found, connections) = search(alloc, text, &header, budget)?;
-    let ending = found.ending;
+    let (found, connections) = search(alloc, text, &header, question.search)?;
+    let (ending, ways) = (found.ending, found.ways);
     let case = case_of(alloc, &header, events, found)?;
     let facts = facts_of(alloc, &header, &case, events, first, connections)?;
     Ok(Tried {
         level,
         case,
         ending,
+        ways,
         facts,
     })
 }
@@ -125,11 +130,11 @@ fn search(
     alloc: Global,
     text: &[u8],
     header: &Header,
-    budget: u64,
+    options: SearchOptions,
 ) -> Result<(Found, Connections), JudgeFault> {
     let trace = read_trace(alloc, text)?;
     let lines = trace.lines.as_slice();
-    let found = find_witness(alloc, header, lines, SearchOptions { budget, ..SearchOptions::usual() })?;
+    let found = find_witness(alloc, header, lines, options)?;
     let explained = Explained {
         header,
         lines,

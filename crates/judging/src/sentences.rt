@@ -10,7 +10,7 @@ use replayed::{Late, Reason, Refused};
 use std::alloc::Global;
 use std::fmt;
 use verdict::{Rule, Verdict};
-use witness_search::{CaseLines, Ending};
+use witness_search::{CaseLines, Ending, Unusual, Ways};
 
 /// The name of a level.
 pub fn level_name(level: Judged) -> &'static str {
@@ -54,6 +54,7 @@ fn say_meaning(
         Verdict::Yes { .. } => {
             out.push_str(meaning(last.level))?;
             say_slack(out, question.slack, last.level)?;
+            say_ways(out, &last.ways)?;
             say_connections(out, last.facts.connections)
         }
         Verdict::No { .. } => say_none(out, levels, last.ending),
@@ -142,6 +143,20 @@ fn say_slack(out: &mut String, slack: Option<u64>, level: Judged) -> Result<(), 
             Time(slack)
         ),
     }
+}
+
+// Writes which ways of the hosts explain the run, if they aren't the usual ones.
+fn say_ways(out: &mut String, ways: &Ways) -> Result<(), OutOfMemory> {
+    for unusual in ways.unusual() {
+        if let Some(Unusual { host, words }) = unusual {
+            let (host, name, does) = (host as u8, words.name, words.does);
+            writeln!(
+                out,
+                "The run is a yes if host {host} {does}: --ways {host}:{name}."
+            )?;
+        }
+    }
+    Ok(())
 }
 
 // Writes how many connections were established, unless all were.

@@ -173,13 +173,21 @@ fn settings_of(slack: u64, budget: u64) -> Option<Settings> {
     Some(Settings {
         from: Judged::Full,
         slack,
-        budget,
+        search: search_within(budget),
     })
+}
+
+// The usual search within a budget.
+fn search_within(budget: u64) -> SearchOptions {
+    SearchOptions {
+        budget,
+        ..SearchOptions::usual()
+    }
 }
 
 // The case that is found for a trace.
 fn find(alloc: Global, trace: &[u8], budget: u64) -> Result<Output, AllocError> {
-    match find_within(alloc, trace, SearchOptions { budget, ..SearchOptions::usual() }) {
+    match find_within(alloc, trace, search_within(budget)) {
         Ok(found) => Ok(Output {
             text: found.case.joined(alloc)?,
             status: DONE,

@@ -9,6 +9,7 @@ use serde::Serialize;
 use std::alloc::{AllocError, Global};
 use verdict::Verdict;
 use why::Explanation;
+use witness_search::Unusual;
 
 /// The answer for a case, or why a text is refused.
 #[derive(Drop, Serialize)]
@@ -36,6 +37,9 @@ pub(crate) struct JudgedReport<'r> {
     /// None: no level has a yes.
     #[serde(skip_serializing_if = "Option::is_none")]
     connections: Option<ConnectionMembers>,
+    /// The ways of the hosts that the yes needs. None: it needs none, or there is no yes.
+    #[serde(skip_serializing_if = "Option::is_none")]
+    ways: Option<Vec<WayMembers>>,
     /// How many event lines of the trace the case has, and how many the search added.
     kept: u64,
     added: u64,
@@ -89,6 +93,13 @@ struct FaultMembers {
 struct ConnectionMembers {
     begun: u64,
     established: u64,
+}
+
+#[derive(Clone, Copy, Serialize)]
+struct WayMembers {
+    host: u8,
+    way: &'static str,
+    does: &'static str,
 }
 
 #[derive(Drop, Serialize)]
@@ -220,6 +231,7 @@ impl<'r> JudgedReport<'r> {
             hosts: if judgement.is_half { 1 } else { 2 },
             slack: judgement.slack,
             connections: judgement.level.map(|_| connections),
+            ways: ways_of(alloc, judgement)?,
             kept: judgement.lines.kept,
             added: judgement.lines.added,
             levels,
@@ -267,6 +279,23 @@ impl LevelMembers {
             without_duties: level.without_duties.map(Outcome::from_answer),
         })
     }
+}
+
+// The ways of the hosts that a yes needs.
+fn ways_of(
+    alloc: Global,
+    judgement: &Judgement<'_>,
+) -> Result<Option<Vec<WayMembers>>, OutOfMemory> {
+    let mut ways = Vec::new(alloc);
+    if judgement.level.is_some() {
+        for unusual in judgement.ways.unusual() {
+            if let Some(Unusual { host, words }) = unusual {
+                let (host, way, does) = (host as u8, words.name, words.does);
+                ways.push(WayMembers { host, way, does })?;
+            }
+        }
+    }
+    Ok((!ways.is_empty()).then_some(ways))
 }
 
 /// An object as a line.

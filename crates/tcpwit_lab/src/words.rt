@@ -144,11 +144,20 @@ fn search_options(options: &[&str]) -> Option<SearchOptions> {
     })
 }
 
-// What `--least LEVEL`, `--from LEVEL`, `--slack SLACK`, `--case FILE` and `--budget N` ask for, in any order and each at
-// most once; `--json` may be among them. Without `--from`, the first level is that of `--least`; it isn't laxer with it.
+// What `--least LEVEL`, `--from LEVEL`, `--slack SLACK`, `--case FILE` and the options of a search ask for, in any order
+// and each at most once; `--json` may be among them. Without `--from`, the first level is that of `--least`; it isn't laxer with it.
 // FILE isn't empty. None: other words.
 fn judging_of<'w>(options: &[&'w str]) -> Option<Judging<'w>> {
-    let names = ["--least", "--from", "--slack", "--case", "--budget", JSON];
+    let names = [
+        "--least",
+        "--from",
+        "--slack",
+        "--case",
+        "--budget",
+        "--ways",
+        "--expiries",
+        JSON,
+    ];
     if !are_options(options, &names) {
         return None;
     }
@@ -160,7 +169,7 @@ fn judging_of<'w>(options: &[&'w str]) -> Option<Judging<'w>> {
     let settings = Settings {
         from,
         slack: slack_of(value_of(options, "--slack"))?,
-        budget: budget_of(value_of(options, "--budget"))?,
+        search: search_options(options)?,
     };
     match value_of(options, "--case") {
         Some("") => None,

@@ -13,12 +13,11 @@ mod recovery;
 mod samples;
 mod state;
 
+use case_forms::Host;
 pub use growth::Growth;
 pub use recovery::Leaving;
 pub use samples::Samples;
 pub(crate) use state::WayState;
-
-use case_forms::Host;
 use verdict::Rule;
 
 /// What a way is called, and what a host does in it.
@@ -56,7 +55,6 @@ pub struct Unusual {
 }
 
 impl HostWays {
-
     // These ways, but the one that has this name. None: no way has it.
     fn with_named(self, name: &str) -> Option<HostWays> {
         if let Some(growth) = Growth::named(name) {

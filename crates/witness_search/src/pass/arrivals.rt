@@ -381,8 +381,7 @@ impl<'t> Pass<'t> {
 
     // Processes an arrival, if that's permitted.
     fn try_processing(&mut self, host: Host, line: u64, how: Arrival) -> Result<bool, Stop> {
-        let Some(Processing { key, choice, ack }) = self.progress.processing(host, line, how)
-        else {
+        let Some(Processing { key, choice, ack }) = self.progress.processing(host, line, how) else {
             return Ok(false);
         };
         self.progress.take_or_keep(host, line, choice)?;
