@@ -68,14 +68,15 @@ class Completion(unittest.TestCase):
         self.assertEqual(self.completed("tcpwit_lab", "show", ""), ["--help"])
         self.assertEqual(self.completed("tcpwit_lab", "remark", ""), ["--json", "--help"])
         self.assertEqual(self.completed("tcpwit_lab", "remark", "--json", ""), [])
-        self.assertEqual(self.completed("tcpwit_lab", "find", ""), ["--budget", "--help"])
+        self.assertEqual(self.completed("tcpwit_lab", "find", ""),
+                         ["--budget", "--ways", "--expiries", "--help"])
         self.assertEqual(self.completed("tcpwit_lab", "find", "--budget", ""), [])
         self.assertEqual(self.completed("tcpwit_lab", "explain", ""), ["--simulated", "--json", "--help"])
         self.assertEqual(self.completed("tcpwit_lab", "explain", "--simulated", "--j"), ["--json"])
         self.assertEqual(self.completed("tcpwit_lab", "draw", ""), ["--from", "--to", "--help"])
         self.assertEqual(self.completed("tcpwit_lab", "draw", "--from", "1", ""), ["--from", "--to"])
         self.assertEqual(self.completed("tcpwit_lab", "judge", ""),
-                         ["--least", "--from", "--slack", "--budget", "--case", "--json", "--help"])
+                         ["--least", "--from", "--slack", "--budget", "--ways", "--expiries", "--case", "--json", "--help"])
         self.assertEqual(self.completed("tcpwit_lab", "judge", "--budget", ""), [])
         self.assertEqual(self.completed("tcpwit_lab", "judge", "--budget", "0", "--b"), ["--budget"])
 
@@ -83,6 +84,9 @@ class Completion(unittest.TestCase):
         for option in ("--least", "--from"):
             self.assertEqual(self.completed("tcpwit_lab", "judge", option, ""), LEVELS)
         self.assertEqual(self.completed("tcpwit_lab", "judge", "--slack", ""), ["any"])
+        for command in ("find", "judge"):
+            self.assertEqual(self.completed("tcpwit_lab", command, "--ways", ""), [])
+            self.assertEqual(self.completed("tcpwit_lab", command, "--expiries", ""), ["0", "1", "0,1"])
         self.assertEqual(self.completed("tcpwit", "record", "--format", ""), ["1", "2"])
         for words in (["tcpwit", "many", "--workers"], ["tcpwit", "record", "--rounds"], ["tcpwit", "record", "--lose"],
                       ["tcpwit_lab", "draw", "--from"], ["tcpwit_lab", "draw", "--to"]):

@@ -10,12 +10,8 @@ pub(crate) static TCPWIT_LAB: CommandLine = CommandLine {
         Subcommand {
             name: "find",
             about: "Looks for a witness of a trace, and prints the case",
-            usage: "tcpwit_lab find [--budget N] < TRACE > CASE",
-            arguments: &[Argument {
-                name: "budget",
-                form: Form::Option("N"),
-                help: "How many steps are spent on going back for one line [default: 2000000]",
-            }],
+            usage: "tcpwit_lab find [--budget N] [--ways WAYS] [--expiries HOSTS] < TRACE > CASE",
+            arguments: &[BUDGET, WAYS, EXPIRIES],
             after: FIND,
         },
         Subcommand {
@@ -77,11 +73,9 @@ pub(crate) static TCPWIT_LAB: CommandLine = CommandLine {
                     form: Form::Option("SLACK"),
                     help: "How late a duty may be, in microseconds, or any [default: 1000000]",
                 },
-                Argument {
-                    name: "budget",
-                    form: Form::Option("N"),
-                    help: "How many steps are spent on going back for one line [default: 2000000]",
-                },
+                BUDGET,
+                WAYS,
+                EXPIRIES,
                 Argument {
                     name: "case",
                     form: Form::Option("FILE"),
@@ -100,6 +94,24 @@ pub(crate) static TCPWIT_LAB: CommandLine = CommandLine {
         },
     ],
     after: AFTER,
+};
+
+const BUDGET: Argument = Argument {
+    name: "budget",
+    form: Form::Option("N"),
+    help: "How many steps are spent on going back for one line [default: 2000000]",
+};
+
+const WAYS: Argument = Argument {
+    name: "ways",
+    form: Form::Option("WAYS"),
+    help: "How hosts do what the RFCs leave open, such as 0:bytes,1:newreno",
+};
+
+const EXPIRIES: Argument = Argument {
+    name: "expiries",
+    form: Form::Option("HOSTS"),
+    help: "The trace shows each expiry of these hosts' timers: 0, 1 or 0,1",
 };
 
 const JSON: Argument = Argument {
@@ -132,7 +144,17 @@ The answers of `tcpwit` don't depend on this program.";
 const FIND: &str = "\
 Input: a trace. Output: a case. If a line can't be explained, find goes back: it chooses otherwise
 before that line, and tries again. If no choice helps, or the budget is spent, the case ends with a
-step that `tcpwit check` refuses. Standard error then has the line, and which of the two it was.";
+step that `tcpwit check` refuses. Standard error then has the line, and which of the two it was.
+
+WAYS has ways of hosts, with commas between them: the host, a colon, and one of these.
+  bytes        congestion avoidance counts acknowledged bytes (RFC 5681, 3.1)
+  one-sample   one round trip is measured at a time (RFC 6298, 3)
+  last-sample  that of the last segment of a flight is measured
+  newreno      fast recovery ends once all is acknowledged that was sent before it (RFC 6582, 3.2)
+The search begins with them. If a line can't be explained, it tries the host in its other ways for
+the whole run; standard error has those that the case needs.
+
+HOSTS are 0, 1 or 0,1. For other hosts, find adds lines for timeouts that the trace doesn't show.";
 
 const EXPLAIN: &str = "\
 Input: a case. Output: the answer of `tcpwit check`. After a no: the refused step, the endpoint
@@ -147,13 +169,13 @@ refused step is red.";
 
 const JUDGE_USAGE: &str = "\
 tcpwit_lab judge [--least LEVEL] [--from LEVEL] [--slack SLACK] [--budget N]
-                        [--case FILE] [--json] < TRACE";
+                        [--ways WAYS] [--expiries HOSTS] [--case FILE] [--json] < TRACE";
 
 const JUDGE: &str = "\
 Input: a trace. It looks for a witness at the levels `full`, `recovery` and `none`, in this order,
 from that of --from until the first yes. Output: a line for each level tried, what the yes means,
-and what each level before it refused first. If a line can't be explained, it goes back, as find
-does.
+the ways of hosts that it needs, and what each level before it refused first. If a line can't be
+explained, it goes back, as find does; `tcpwit_lab find --help` has WAYS and HOSTS.
 
 It judges duties, too, such as acknowledging in time: a host may be SLACK late with them. With
 `--slack any`, they aren't judged. A trace of version 5 has a slack of its own, which is the default
