@@ -1,6 +1,6 @@
 #!/usr/bin/python3
-"""Tests the ways of a host in `tcpwit_lab find` and `judge`: recordings of a correct stack that counts bytes and measures
-one round trip at a time, and that shows its expiries; the options `--ways` and `--expiries`."""
+"""Tests the ways of a host in `tcpwit_lab find` and `judge`: recordings of a correct stack that counts bytes and
+measures one round trip at a time, and that shows its expiries; the options `--ways` and `--expiries`."""
 import glob
 import gzip
 import os

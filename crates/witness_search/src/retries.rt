@@ -1,9 +1,9 @@
 //! If a line can't be explained, other choices are tried before it, within a budget.
 //!
 //! Each attempt goes over all lines anew, so its result depends on the choices and ways alone, and the same budget
-//! gives the same case. The host of the line is tried in other ways first, for the whole run. Then single candidates are
-//! tried, the nearest to the line first. What explains a further line is kept. If no single one does, two candidates are
-//! tried at once. The budget begins anew whenever a further line is explained.
+//! gives the same case. The host of the line is tried in other ways first, for the whole run. Then single candidates
+//! are tried, the nearest to the line first. What explains a further line is kept. If no single one does, two are tried
+//! at once. The budget begins anew whenever a further line is explained.
 
 use crate::alternatives::{Known, push_candidates};
 use crate::attempt::Attempt;

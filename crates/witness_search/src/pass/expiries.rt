@@ -37,8 +37,8 @@ impl Progress {
         Some(endpoint_at(key.host(), place))
     }
 
-    /// Adds a line for an expiry, if the timer may expire now and the trace doesn't show its host's expiries: before the current line, or after it if its step was
-    /// written. The result is whether the line was added.
+    /// Adds a line for an expiry, if the timer may expire now and the trace doesn't show its host's expiries: before
+    /// the current line, or after it if its step was written. The result is whether the line was added.
     pub(crate) fn add_expiry(&mut self, key: EndpointKey, timer: Timer) -> Result<bool, Stop> {
         if self.shows_expiries(key.host()) {
             return Ok(false);
@@ -80,8 +80,8 @@ impl Pass<'_> {
         Ok(())
     }
 
-    /// Adds a line for an expiry, if that's permitted now, and tries the calls on the endpoint. The result is whether it
-    /// did.
+    /// Adds a line for an expiry, if that's permitted now, and tries the calls on the endpoint. The result is whether
+    /// it did.
     pub(crate) fn try_expiry(&mut self, key: EndpointKey, timer: Timer) -> Result<bool, Stop> {
         let is_added = self.progress.add_expiry(key, timer)?;
         if is_added {
