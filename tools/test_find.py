@@ -291,16 +291,34 @@ class Samples(unittest.TestCase):
         self.assertEqual(len(measured), 2)
         self.assertFalse(set(measured) & set(late))
 
-    def test_the_budget_begins_anew(self):
-        """Ten connections have this problem. Each needs fewer steps than the budget, and all together need more."""
+    def test_the_way_of_a_host(self):
+        """Ten connections of the host have this problem, and one way of the host explains them all."""
         parts = [Recording(4000 + at, 10_000_000 * at, 6 + at) for at in range(10)]
         for part in parts:
             self.slow_acknowledgments(part)
-        trace = "".join(line + "\n" for line in Recording.HEADER + [line for part in parts for line in part.lines])
-        said = find(trace, "--budget", "5000")[2]
+        said = find(joined(parts))[2]
+        self.assertRegex(said, "^every line is explained; other choices tried: 1\nhost 0 .*: --ways 0:one-sample\n$")
+
+
+def joined(parts):
+    """A trace of several recordings, one after the other."""
+    return "".join(line + "\n" for line in Recording.HEADER + [line for part in parts for line in part.lines])
+
+
+class Budget(unittest.TestCase):
+    def test_it_begins_anew(self):
+        """In each of twenty connections, the host ignores a reset. Each needs fewer steps than the budget, and all
+        together need more."""
+        parts = [Recording(4000 + at, 10_000_000 * at, 6 + at) for at in range(20)]
+        for part in parts:
+            part.call(f"send {part.opener} 78", "ok 1")
+            part.came(1, None, flags=0x04)
+            part.sent(1, 1, b"x")
+        trace = joined(parts)
+        said = find(trace, "--budget", "2000")[2]
         tried = re.fullmatch("every line is explained; other choices tried: ([0-9]+)\n", said)
         self.assertTrue(tried, said)
-        self.assertGreater(int(tried[1]) * trace.count("\n"), 5000)
+        self.assertGreater(int(tried[1]) * trace.count("\n") / 2, 2000)
 
 
 class Watched(Recording):
