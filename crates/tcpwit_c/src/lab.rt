@@ -98,9 +98,9 @@ pub struct Judgement {
     pub case: Text,
 }
 
-/// Judges a trace at each level, from `full` on, until one has a yes; the status is then 0. A slack is in microseconds, at most 10^18;
-/// the greatest number takes that of the trace, and the one before it leaves duties unjudged. Each level may spend so
-/// many steps on going back for one line.
+/// Judges a trace at each level, from `full` on, until one has a yes; the status is then 0. A slack is in microseconds,
+/// at most 10^18; the greatest number takes that of the trace, and the one before it leaves duties unjudged. Each level
+/// may spend so many steps on going back for one line.
 #[unsafe(no_mangle)]
 pub extern "C" fn tcpwit_judge(
     alloc: Global,

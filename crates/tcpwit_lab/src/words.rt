@@ -135,9 +135,9 @@ fn find_budget(options: &[&str]) -> Option<u64> {
     budget_of(value_of(options, "--budget"))
 }
 
-// What `--least LEVEL`, `--from LEVEL`, `--slack SLACK`, `--case FILE` and `--budget N` ask for, in any order and each at
-// most once; `--json` may be among them. Without `--from`, the first level is that of `--least`; it isn't laxer with it.
-// FILE isn't empty. None: other words.
+// What `--least LEVEL`, `--from LEVEL`, `--slack SLACK`, `--case FILE` and `--budget N` ask for, in any order and each
+// at most once; `--json` may be among them. LEVEL is `full`, `recovery` or `none`. Without `--from`, the first level is
+// that of `--least`. FILE isn't empty. None: other words, or a first level that is laxer.
 fn judging_of<'w>(options: &[&'w str]) -> Option<Judging<'w>> {
     let names = ["--least", "--from", "--slack", "--case", "--budget", JSON];
     if !are_options(options, &names) {
