@@ -145,9 +145,8 @@ fn search_options(options: &[&str]) -> Option<SearchOptions> {
 }
 
 // What `--least LEVEL`, `--from LEVEL`, `--slack SLACK`, `--case FILE` and the options of a search ask for, in any
-// order and each at most once; `--json` may be among them. Without `--from`, the first level is that of `--least`; it
-// isn't laxer with it.
-// FILE isn't empty. None: other words.
+// order and each at most once; `--json` may be among them. LEVEL is `full`, `recovery` or `none`. Without `--from`, the
+// first level is that of `--least`. FILE isn't empty. None: other words, or a first level that is laxer.
 fn judging_of<'w>(options: &[&'w str]) -> Option<Judging<'w>> {
     let names = [
         "--least",
