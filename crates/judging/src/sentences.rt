@@ -200,8 +200,8 @@ fn say_none(out: &mut String, levels: &[Level], ending: Ending) -> Result<(), Ou
     out.push_str(match ending {
         // If every line is explained, a duty is late at the end.
         Ending::Whole | Ending::Exhausted { .. } =>
-            "The search ran out of alternatives. It makes at most two changes at once, near the refused line;\n\
-a witness that needs other changes may still exist.\n",
+            "The search ran out of alternatives. It tries other ways of a host, and two changes at once near the\n\
+refused line; a witness that needs other changes may still exist.\n",
         Ending::BudgetSpent { .. } =>
             "The search spent its budget. With a larger one (--budget), it may find a witness.\n",
         Ending::TooManySteps { .. } =>
