@@ -321,6 +321,29 @@ class Budget(unittest.TestCase):
         self.assertGreater(int(tried[1]) * trace.count("\n") / 2, 2000)
 
 
+class Growth(unittest.TestCase):
+    def seconds(self, rounds):
+        """The least processor time of three searches for a witness of a transfer."""
+        case = subprocess.run([sys.executable, f"{TOP}/bench/bulk_transfer.py", str(rounds)], capture_output=True,
+                              text=True, check=True).stdout
+        trace = case[:case.index("witness 1\n")]
+        times = []
+        for _ in range(3):
+            before = resource.getrusage(resource.RUSAGE_CHILDREN).ru_utime
+            self.assertEqual(find(trace)[2], "")
+            times.append(resource.getrusage(resource.RUSAGE_CHILDREN).ru_utime - before)
+        return min(times)
+
+    def test_twice_as_many_lines(self):
+        """They take at most 2.3 times as long. A busy machine gets three attempts."""
+        ratios = []
+        for _ in range(3):
+            ratios.append(self.seconds(5_000) / self.seconds(2_500))
+            if ratios[-1] <= 2.3:
+                return
+        self.fail(ratios)
+
+
 class Watched(Recording):
     """Such a trace of version 5, whose duties are judged with a slack in microseconds."""
 
