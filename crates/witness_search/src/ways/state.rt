@@ -51,12 +51,14 @@ impl WayState {
             start: plan.pos,
             end: end_of(plan),
         };
-        self.timings.build(self.of(at).samples, at, building)
+        let way = self.of(at).samples;
+        self.timings.build(way, at, building)
     }
 
     /// Fast recovery begins at an endpoint that built all below a position.
     pub(crate) fn recover(&mut self, at: EndpointKey, max: u64) -> Result<(), OutOfMemory> {
-        self.recoveries.begin(self.of(at).leaving, at, max)
+        let way = self.of(at).leaving;
+        self.recoveries.begin(way, at, max)
     }
 
     /// The retransmission timer of an endpoint expires.
