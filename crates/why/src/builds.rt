@@ -1,6 +1,7 @@
 //! The rules of building segments.
 
 use crate::scene::Building;
+use crate::states::say_way_out;
 use case_forms::{Flags, OutOfMemory, POSITIONS, SegmentPlan};
 use endpoint_state::{Endpoint, World};
 use plain_words::{FlagWords, word_if};
@@ -166,7 +167,18 @@ pub(crate) fn state(out: &mut String, world: &World, it: Building) -> Result<(),
         out,
         "the segment: {flags}with {len} bytes; {a} reset is due, and the socket was {not}closed"
     )?;
-    may_build(out, world, it)
+    may_build(out, world, it)?;
+    if is_of_another_state(it) {
+        say_way_out(out, it.endpoint)
+    } else {
+        Ok(())
+    }
+}
+
+/// Whether it isn't a reset, and may be built in another state than that of its endpoint.
+pub(crate) fn is_of_another_state(it: Building) -> bool {
+    let state = it.endpoint.state;
+    !it.plan.flags.rst && !state.is_time_wait() && !state.is_closed()
 }
 
 const NO_FLAGS: Flags = Flags {

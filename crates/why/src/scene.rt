@@ -1,6 +1,7 @@
 //! A case up to the refused step: the world before it, and what the step is about.
 
 use crate::other_windows::OtherWindows;
+use crate::restarts::Restarts;
 use case_forms::{
     Answer, Event, Extras, Header, Host, Label, Line, NamedLine, Recovery, SegmentPlan, Step,
     TakeChoice, Timer, Wire,
@@ -21,6 +22,8 @@ pub(crate) struct Past<'c> {
     used: BTreeMap<u64, u64>,
     /// If the refused step builds a segment, other windows of the endpoint that builds it.
     others: Option<OtherWindows>,
+    /// If a retransmission timer expires at the refused step, when it was armed.
+    restarts: Option<Restarts>,
 }
 
 impl<'c> Past<'c> {
@@ -31,6 +34,7 @@ impl<'c> Past<'c> {
             replay: Replay::new(alloc, case),
             used: BTreeMap::new(alloc),
             others: OtherWindows::from_step(alloc, case.refused_step()),
+            restarts: Restarts::from_step(case, case.refused_step()),
         }
     }
 
@@ -47,12 +51,17 @@ impl<'c> Past<'c> {
     }
 
     fn do_step(&mut self, step: &Step) -> Result<(), ReplayFault> {
+        if let Some(restarts) = &mut self.restarts {
+            self.replay.apply(step)?;
+            restarts.follow(self.replay.world());
+            return Ok(());
+        }
         let Some(others) = &mut self.others else {
             return self.replay.apply(step);
         };
         others.note(self.replay.world(), step);
         self.replay.apply(step)?;
-        others.follow(self.replay.world())?;
+        others.follow(self.replay.world(), step.moment)?;
         Ok(())
     }
 
@@ -69,6 +78,7 @@ impl<'c> Past<'c> {
             duties: replay.duties(),
             used: &self.used,
             others: self.others.as_ref(),
+            restarts: self.restarts,
             touched: match step {
                 Some(step) => replay.touched(step),
                 None => None,
@@ -93,6 +103,8 @@ pub(crate) struct Scene<'c> {
     pub used: &'c BTreeMap<u64, u64>,
     /// If the step builds a segment, other windows of the endpoint that builds it.
     pub others: Option<&'c OtherWindows>,
+    /// If a retransmission timer expires at the step, when it was armed.
+    restarts: Option<Restarts>,
     /// The endpoint that the step touches. None: it touches none, or creates one.
     pub touched: Option<EndpointId>,
     /// The endpoint whose duty is late at the step or after the last one. None: the rule is none of 44 to 49.
@@ -217,6 +229,27 @@ impl<'c> Scene<'c> {
                 extras: Extras::Bare,
             },
         }
+    }
+
+    /// Since when the timer that expires would run if a new acknowledgment hadn't restarted it, if its expiry is then
+    /// on time.
+    pub(crate) fn unrestarted(&self) -> Option<u64> {
+        match (self.object(), &self.restarts) {
+            (Object::Expiring(it), Some(restarts)) => {
+                restarts.fitting(self.header(), it.endpoint.timers.rto, self.moment())
+            }
+            _ => None,
+        }
+    }
+
+    /// The endpoint that the step touches, or whose duty is late.
+    pub(crate) fn concerned(&self) -> Option<&Endpoint> {
+        let id = match (self.touched, self.debtor) {
+            (Some(id), _) => id,
+            (None, Some(debtor)) => debtor.id,
+            (None, None) => return None,
+        };
+        self.world.body(id.host).endpoint_at(id.number)
     }
 
     /// Whether the step builds a segment.
