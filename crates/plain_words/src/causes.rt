@@ -83,7 +83,8 @@ pub enum Known {
     GiveupOff,
     /// The segment acknowledges nothing new, or is a reset.
     NothingNew,
-    /// The timer is rto, and expires on time if a new acknowledgment didn't restart it.
+    /// The timer is rto, and expires on time, or the segment comes at that time, if a new acknowledgment didn't restart
+    /// the timer.
     NotRestarted,
     /// The timer is rto, and expires on time if the expiries before didn't double its timeout.
     NotDoubled,

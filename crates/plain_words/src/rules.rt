@@ -195,6 +195,7 @@ line)",
                 Known::Acknowledged,
                 Known::OutstandingAtNone,
                 Known::SynAtNone,
+                Known::NotRestarted,
             ],
             rfc: "9293, 3.8.1, 3.8.4; 6298, 5; 5681, 3.2",
             ..PLAIN

@@ -1,7 +1,8 @@
 //! The rules of building segments.
 
-use crate::scene::Building;
+use crate::scene::{Building, Scene};
 use crate::states::say_way_out;
+use crate::timers::say_unrestarted;
 use case_forms::{Flags, OutOfMemory, POSITIONS, SegmentPlan};
 use endpoint_state::{Endpoint, World};
 use plain_words::{FlagWords, word_if};
@@ -56,8 +57,8 @@ pub(crate) fn congestion(
 /// Where the segment begins, and what may be sent.
 pub(crate) fn old_data(
     out: &mut String,
+    scene: &Scene,
     Building { plan, endpoint, .. }: Building,
-    moment: u64,
 ) -> Result<(), OutOfMemory> {
     let (pos, end, una) = (plan.pos, end_of(plan), endpoint.stream.snd_una);
     let (sent, recover) = (endpoint.snd_max(), endpoint.recover);
@@ -74,7 +75,8 @@ pub(crate) fn old_data(
         Reason::Again { .. } | Reason::Beyond { .. } | Reason::Late(_) | Reason::Other => {
             write!(out, "; sent up to {sent}, may be retransmitted up to ")?;
             writeln!(out, "{recover} (raised by an expiry or fast recovery)")?;
-            timer_due(out, endpoint, moment)
+            timer_due(out, endpoint, scene.moment())?;
+            say_unrestarted(out, scene, endpoint.timers.rto)
         }
     }
 }

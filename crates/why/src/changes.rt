@@ -77,12 +77,13 @@ fn ready_end(endpoint: &Endpoint) -> u64 {
 
 /// The greatest window after an acknowledgment of this many positions. All other values but `counted` stay.
 pub(crate) fn grown(slow: SlowStart, was: &Congestion, acked: u64) -> Congestion {
-    if POSITIONS <= acked || POSITIONS <= was.counted {
-        return *was;
-    }
-    Congestion {
-        cwnd: may_grow(slow, was, acked) as u32,
-        counted: counted_after(was, acked),
-        ..*was
+    if acked < POSITIONS && was.counted < POSITIONS {
+        Congestion {
+            cwnd: may_grow(slow, was, acked) as u32,
+            counted: counted_after(was, acked),
+            ..*was
+        }
+    } else {
+        *was
     }
 }

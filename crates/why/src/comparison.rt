@@ -111,7 +111,7 @@ fn of_building(
         Rule::Iss => builds::iss(out, it),
         Rule::PayloadRange => builds::payload_range(out, it),
         Rule::AckField => builds::ack_field(out, it),
-        Rule::OldData => builds::old_data(out, it, scene.moment()),
+        Rule::OldData => builds::old_data(out, scene, it),
         Rule::Offered => builds::offered(out, it),
         Rule::Congestion => builds::congestion(out, "new bytes", it),
         Rule::ResentBeyond => builds::congestion(out, "outstanding bytes", it),

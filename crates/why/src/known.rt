@@ -4,7 +4,7 @@ use crate::arrivals::acknowledges_more;
 use crate::builds::is_of_another_state;
 use crate::other_windows::say_fitting;
 use crate::scene::{Building, Expiring, Object, Processing, Scene};
-use crate::sendable::sendable;
+use crate::sendable::sendable_bytes;
 use crate::{resets, wire};
 use case_forms::{Call, Extras, Judged, OutOfMemory, Timer, Wire};
 use endpoint::greatest_values;
@@ -82,7 +82,7 @@ fn is_known_of_timer(scene: &Scene, it: Expiring, known: Known) -> bool {
     match it.timer {
         Timer::Rto => is_known_of_rto(scene, it.endpoint, known),
         Timer::Persist => match known {
-            Known::PersistOpen => 0 < sendable(it.endpoint),
+            Known::PersistOpen => 0 < sendable_bytes(it.endpoint),
             _ => matches!(known, Known::PersistOff | Known::PersistEarly),
         },
         Timer::Msl2 => matches!(known, Known::Msl2Off | Known::Msl2Early),
@@ -156,6 +156,7 @@ fn is_known_of_built(scene: &Scene, it: Building, is_none: bool, known: Known) -
         Known::ResetAnswered | Known::ResetNumber | Known::Building => {
             is_known_of_reset(scene, known)
         }
+        Known::NotRestarted => scene.unrestarted().is_some(),
         _ => is_known_of(it, is_none, known),
     }
 }

@@ -18,8 +18,8 @@
 //! - `known`: what is known at the step of the causes of its rule
 //! - `other_windows`, `segment_window`, `loss_windows`, `changes`: the other windows that a segment would fit, kept
 //!   while the case is replayed; `restarts`: the same for a timer without its restarts
-//! - `states`, `sendable`, `resets`, `wrap`: what leads out of a state, what could be sent, the reset that a segment asks
-//!   for, and numbers near 2^32
+//! - `states`: what leads out of a state; `sendable`: what could be sent; `resets`: the reset that a segment asks for;
+//!   `wrap`: numbers near 2^32
 //! - `unjudged`: the level that leaves a refusal unjudged
 #![tactic(auto)]
 

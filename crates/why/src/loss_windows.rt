@@ -80,8 +80,8 @@ impl LossWindows {
         }
     }
 
-    /// The windows into which a segment of SMSS bytes that waits doesn't fit. A stack that had any other would have sent
-    /// it.
+    /// The windows into which a segment of SMSS bytes that waits doesn't fit. A stack that had any other would have
+    /// sent it.
     pub(crate) fn without_fitting(&self, now: &Values) -> LossWindows {
         let mut left = *self;
         if self.has_room(now, Known::NotDeflated) {

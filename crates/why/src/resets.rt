@@ -60,8 +60,8 @@ struct Shown<'c> {
     seg: &'c Segment,
 }
 
-/// Writes which segment came before the reset that the step builds, and what it asks for, if it asks for no reset or for
-/// another one.
+/// Writes which segment came before the reset that the step builds, and what it asks for, if it asks for no reset or
+/// for another one.
 pub(crate) fn say_reset(out: &mut String, scene: &Scene) -> Result<(), OutOfMemory> {
     if let Some(reset) = answered_reset(scene) {
         return writeln!(

@@ -1,11 +1,11 @@
-//! If a retransmission timer expires too early: since when it would run if an acknowledgment hadn't restarted it. It is
-//! kept for one endpoint while a case is replayed.
+//! If a retransmission timer expires too early, or data is retransmitted too early: since when the timer would run if
+//! an acknowledgment hadn't restarted it. It is kept for one endpoint while a case is replayed.
 
 use case_forms::{Event, Header, Host, Label, Step, Timer};
 use endpoint_state::World;
 use replayed::Case;
 
-/// When the retransmission timer that expires with a step's line was armed. Moments are microseconds.
+/// When the retransmission timer of a step's endpoint was armed. Moments are microseconds.
 #[derive(Clone, Copy)]
 pub(crate) struct Restarts {
     host: Host,
@@ -22,26 +22,33 @@ pub(crate) struct Restarts {
 }
 
 impl Restarts {
-    /// The timer that expires with a step. None: the step shows no expiry of a retransmission timer.
+    /// The timer of the endpoint that builds a segment, or the timer that expires. None: the step does neither.
     pub(crate) fn from_step(case: &Case, step: Option<&Step>) -> Option<Restarts> {
-        let Label::L(named) = &step?.label else {
-            return None;
-        };
-        let Event::Expired(host, lport, rport, Timer::Rto) = &case.line(named.number)?.event else {
-            return None;
-        };
-        Some(Restarts {
-            host: *host,
-            lport: *lport,
-            rport: *rport,
+        match &step?.label {
+            Label::M { host, plan } => Some(Restarts::new(*host, plan.lport, plan.rport)),
+            Label::L(named) => match &case.line(named.number)?.event {
+                Event::Expired(host, lport, rport, Timer::Rto) => {
+                    Some(Restarts::new(*host, *lport, *rport))
+                }
+                _ => None,
+            },
+            _ => None,
+        }
+    }
+
+    fn new(host: Host, lport: u16, rport: u16) -> Restarts {
+        Restarts {
+            host,
+            lport,
+            rport,
             una: 0,
             armed: None,
             before_last: None,
             before_all: None,
-        })
+        }
     }
 
-    /// Follows the world after one step.
+    /// Follows the world, once between two steps.
     pub(crate) fn follow(&mut self, world: &World) {
         let Some(endpoint) = world.body(self.host).endpoint_of(self.lport, self.rport) else {
             return;

@@ -1,5 +1,6 @@
 //! A case up to the refused step: the world before it, and what the step is about.
 
+use crate::allowed::endpoint_named;
 use crate::other_windows::OtherWindows;
 use crate::restarts::Restarts;
 use case_forms::{
@@ -8,7 +9,7 @@ use case_forms::{
 };
 use duties::Duties;
 use endpoint_state::{Endpoint, World};
-use replayed::{Case, Debtor, Refusal, Replay, ReplayFault};
+use replayed::{Case, Debtor, Refusal, Replay, ReplayFault, socket_of};
 use spec_tcp::{Arrived, Emission, EndpointId};
 use std::alloc::Global;
 use std::collections::BTreeMap;
@@ -22,7 +23,7 @@ pub(crate) struct Past<'c> {
     used: BTreeMap<u64, u64>,
     /// If the refused step builds a segment, other windows of the endpoint that builds it.
     others: Option<OtherWindows>,
-    /// If a retransmission timer expires at the refused step, when it was armed.
+    /// If the refused step builds a segment or a retransmission timer expires, when that timer was armed.
     restarts: Option<Restarts>,
 }
 
@@ -47,14 +48,15 @@ impl<'c> Past<'c> {
             }
             self.do_step(step)?;
         }
+        if let Some(restarts) = &mut self.restarts {
+            restarts.follow(self.replay.world());
+        }
         Ok(())
     }
 
     fn do_step(&mut self, step: &Step) -> Result<(), ReplayFault> {
         if let Some(restarts) = &mut self.restarts {
-            self.replay.apply(step)?;
             restarts.follow(self.replay.world());
-            return Ok(());
         }
         let Some(others) = &mut self.others else {
             return self.replay.apply(step);
@@ -103,7 +105,7 @@ pub(crate) struct Scene<'c> {
     pub used: &'c BTreeMap<u64, u64>,
     /// If the step builds a segment, other windows of the endpoint that builds it.
     pub others: Option<&'c OtherWindows>,
-    /// If a retransmission timer expires at the step, when it was armed.
+    /// If the step builds a segment or a retransmission timer expires, when that timer was armed.
     restarts: Option<Restarts>,
     /// The endpoint that the step touches. None: it touches none, or creates one.
     pub touched: Option<EndpointId>,
@@ -231,25 +233,33 @@ impl<'c> Scene<'c> {
         }
     }
 
-    /// Since when the timer that expires would run if a new acknowledgment hadn't restarted it, if its expiry is then
-    /// on time.
+    /// Since when the retransmission timer would run if a new acknowledgment hadn't restarted it, if an expiry at the
+    /// step is then on time. The step lets the timer expire or builds a segment.
     pub(crate) fn unrestarted(&self) -> Option<u64> {
-        match (self.object(), &self.restarts) {
-            (Object::Expiring(it), Some(restarts)) => {
-                restarts.fitting(self.header(), it.endpoint.timers.rto, self.moment())
-            }
-            _ => None,
-        }
+        let endpoint = match self.object() {
+            Object::Expiring(it) => it.endpoint,
+            Object::Building(it) => it.endpoint,
+            _ => return None,
+        };
+        let rto = endpoint.timers.rto;
+        self.restarts?.fitting(self.header(), rto, self.moment())
     }
 
-    /// The endpoint that the step touches, or whose duty is late.
+    /// The endpoint that the step touches, that its call or its segment names, or whose duty is late.
     pub(crate) fn concerned(&self) -> Option<&Endpoint> {
-        let id = match (self.touched, self.debtor) {
-            (Some(id), _) => id,
-            (None, Some(debtor)) => debtor.id,
-            (None, None) => return None,
-        };
-        self.world.body(id.host).endpoint_at(id.number)
+        if let Some(id) = self.touched {
+            return self.world.body(id.host).endpoint_at(id.number);
+        }
+        if let Some(Debtor { id, .. }) = self.debtor {
+            return self.world.body(id.host).endpoint_at(id.number);
+        }
+        match self.label()? {
+            Label::D { thread, .. } => {
+                endpoint_named(self.world, socket_of(self.world.pending_call(*thread)?)?)
+            }
+            Label::R { host, line } => self.taker(*host, self.world.waiting(*host, *line)?),
+            _ => None,
+        }
     }
 
     /// Whether the step builds a segment.

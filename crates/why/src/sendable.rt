@@ -5,9 +5,12 @@ use endpoint_state::Endpoint;
 use window_rules::offered_edge;
 
 /// How many bytes that it hasn't sent an endpoint could send: they wait, the peer's window is open, and cwnd has room.
-pub(crate) fn sendable(endpoint: &Endpoint) -> u64 {
+pub(crate) fn sendable_bytes(endpoint: &Endpoint) -> u64 {
     let (una, wnd) = (endpoint.stream.snd_una, endpoint.window.snd_wnd);
-    if una >= POSITIONS || wnd == 0 || !endpoint.is_up() {
+    if una >= POSITIONS {
+        return 0;
+    }
+    if wnd == 0 || !endpoint.is_up() {
         return 0;
     }
     let allowed = offered_edge(una, wnd, false).min(endpoint.control.send_edge(una));
@@ -17,7 +20,7 @@ pub(crate) fn sendable(endpoint: &Endpoint) -> u64 {
 
 /// Writes that the peer's window is open and what could be sent, if that is so.
 pub(crate) fn say_sendable(out: &mut String, endpoint: &Endpoint) -> Result<(), OutOfMemory> {
-    let (bytes, sent) = (sendable(endpoint), endpoint.snd_max());
+    let (bytes, sent) = (sendable_bytes(endpoint), endpoint.snd_max());
     if bytes == 0 {
         return Ok(());
     }

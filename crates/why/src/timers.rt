@@ -109,15 +109,24 @@ pub(crate) fn early(out: &mut String, scene: &Scene, it: Expiring) -> Result<(),
         "armed since {since}, it runs for {time} and may expire a clock tick ({grain}) early: "
     )?;
     writeln!(out, "from {earliest} on; the step's moment is {moment}")?;
-    match scene.unrestarted() {
-        Some(since) => unrestarted(out, since, time, grain),
-        None => Ok(()),
+    match it.timer {
+        Timer::Rto => say_unrestarted(out, scene, time),
+        Timer::Persist | Timer::Msl2 | Timer::Giveup => Ok(()),
     }
 }
 
-// From when on the timer could expire without its restarts.
-fn unrestarted(out: &mut String, since: u64, time: u64, grain: u64) -> Result<(), OutOfMemory> {
-    let earliest = since.saturating_add(time).saturating_sub(grain);
+/// From when on the timer, which runs for this time, could expire without a restart, if the step is then on time.
+pub(crate) fn say_unrestarted(
+    out: &mut String,
+    scene: &Scene,
+    time: u64,
+) -> Result<(), OutOfMemory> {
+    let Some(since) = scene.unrestarted() else {
+        return Ok(());
+    };
+    let earliest = since
+        .saturating_add(time)
+        .saturating_sub(scene.header().grain);
     writeln!(
         out,
         "if no new acknowledgment had restarted it, it would be armed since {since} and could expire from {earliest} on"

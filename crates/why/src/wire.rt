@@ -1,7 +1,7 @@
 //! The rules of lines that show segments.
 
 use crate::scene::{Scene, first_extra};
-use case_forms::{Event, Host, Label, Line, OutOfMemory, Wire};
+use case_forms::{Event, Host, Label, OutOfMemory, Wire};
 use plain_words::{HostName, word_if};
 use segment::{Flag, Segment};
 use spec_tcp::Emission;
@@ -45,17 +45,18 @@ pub(crate) fn describe_came(
 
 /// Whether the step's line shows a segment as received that differs in some bytes from a sent one.
 pub(crate) fn has_other_bytes(scene: &Scene) -> bool {
-    let Some(
-        Line {
-            event: Event::Came(host, wire),
-            ..
-        },
-    ) = scene.line(scene.named().number)
-    else {
+    let Some(line) = scene.line(scene.named().number) else {
         return false;
     };
-    match nearest(scene, host.other(), wire) {
-        Some((_, sent)) => differing(sent.bytes.as_slice(), wire.bytes.as_slice()) != 0,
+    match &line.event {
+        Event::Came(host, wire) => differs_from_nearest(scene, host.other(), wire),
+        _ => false,
+    }
+}
+
+fn differs_from_nearest(scene: &Scene, sender: Host, shown: &Wire) -> bool {
+    match nearest(scene, sender, shown) {
+        Some((_, sent)) => differing(sent.bytes.as_slice(), shown.bytes.as_slice()) != 0,
         None => false,
     }
 }
@@ -73,7 +74,8 @@ fn nearest<'c>(scene: &Scene<'c>, sender: Host, shown: &Wire) -> Option<(u64, &'
         {
             let count = differing(sent.bytes.as_slice(), shown.bytes.as_slice());
             if count <= fewest {
-                (found, fewest) = (Some((line.number, sent)), count);
+                found = Some((line.number, sent));
+                fewest = count;
             }
         }
     }

@@ -5,6 +5,9 @@ use case_forms::OutOfMemory;
 use endpoint_state::Endpoint;
 use seqno::{Word, number};
 
+// How many numbers there are.
+const NUMBERS: u64 = 1 << 32;
+
 // The greatest window that isn't scaled.
 const PLAIN_WINDOW: u64 = 65_535;
 
@@ -36,7 +39,7 @@ fn say_near(
     };
     let Word(number) = number(base, position);
     let (near, above) = (window.max(PLAIN_WINDOW), u64::from(number));
-    let below = u64::from(u32::MAX - number).saturating_add(1);
+    let below = NUMBERS.saturating_sub(above);
     if below <= near {
         return writeln!(
             out,
