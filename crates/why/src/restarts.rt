@@ -63,12 +63,17 @@ impl Restarts {
         self.una = una;
     }
 
-    /// Since when the timer would run without a restart if its expiry at a moment is then on time. None: it never is.
+    /// Since when the timer would run without a restart if its expiry at a moment is early, and then on time. None: it
+    /// isn't early, or not by a restart.
     pub(crate) fn fitting(&self, header: &Header, rto: u64, moment: u64) -> Option<u64> {
         let late = header.slack.unwrap_or(0).max(header.grain);
+        let latest = moment.saturating_add(header.grain);
+        if self.armed?.saturating_add(rto) <= latest {
+            return None;
+        }
         for since in [self.before_last, self.before_all] {
             if let Some(since) = since
-                && since.saturating_add(rto) <= moment.saturating_add(header.grain)
+                && since.saturating_add(rto) <= latest
                 && moment <= since.saturating_add(rto).saturating_add(late)
             {
                 return Some(since);
