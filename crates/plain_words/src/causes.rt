@@ -8,6 +8,9 @@ pub(crate) const JOINED_SEGMENTS: &str =
 
 pub(crate) const COARSE_CLOCK: &str = "the stack's clock is coarser than `grain`";
 
+pub(crate) const REWRITTEN: &str =
+    "a middlebox or a checksum offload rewrote the segment between the two captures";
+
 pub(crate) const SMALL_SLACK: &str =
     "`slack` is smaller than the delay between the capture and the stack";
 
@@ -28,10 +31,18 @@ pub enum Known {
     Close,
     /// The answer refused is that of `await`.
     Await,
+    /// The answer refused is that of `status`.
+    Status,
     /// The step builds a segment.
     Building,
     /// The step processes a segment.
     Processing,
+    /// The step builds or sends a reset, and the last segment that arrived at its ports is a reset.
+    ResetAnswered,
+    /// The step builds a reset with other numbers than those that the last segment at its ports asks for.
+    ResetNumber,
+    /// The step builds a segment that isn't a reset, in a state that isn't CLOSED.
+    OtherState,
     /// The endpoint that builds the segment is in TIME-WAIT.
     TimeWait,
     /// The segment begins beyond everything sent.
@@ -44,10 +55,26 @@ pub enum Known {
     SynAtNone,
     /// The segment has more bytes than SMSS.
     Oversized,
+    /// The segment fits, or is said to fit, a window that the end of fast recovery didn't deflate.
+    NotDeflated,
+    /// The segment fits a window if no loss set ssthresh; or the step chooses an ssthresh that is too great.
+    ThresholdKept,
+    /// The segment fits the window before the expiry; or the step chooses a cwnd that is too great at one.
+    NotReduced,
+    /// One or two duplicate acknowledgments arrived, and fast recovery didn't begin.
+    LimitedTransmit,
+    /// Nothing but the SYN is acknowledged, and no timer expired.
+    FirstWindow,
+    /// The window is in congestion avoidance.
+    Avoiding,
     /// The segment sent has a higher acknowledgment number than the one built, and else the same numbers.
     HigherAck,
     /// The segment sent has a lower acknowledgment number than the one built, and else the same numbers.
     LowerAck,
+    /// The segment received differs in some bytes from a segment that was sent.
+    OtherBytes,
+    /// The timer is persist and isn't running, the window is open, and data could be sent.
+    PersistOpen,
     /// The timer is persist, and isn't running.
     PersistOff,
     /// The timer is 2msl, and isn't running.
@@ -56,8 +83,15 @@ pub enum Known {
     GiveupOff,
     /// The segment acknowledges nothing new, or is a reset.
     NothingNew,
-    /// The timer is rto, and expires too early for the first time since a new acknowledgment.
-    FirstExpiry,
+    /// The timer is rto, and expires on time, or the segment comes at that time, if a new acknowledgment didn't restart
+    /// the timer.
+    NotRestarted,
+    /// The timer is rto, and expires on time if the expiries before didn't double its timeout.
+    NotDoubled,
+    /// The timer is rto, runs for less than a second, and no round trip was measured.
+    Unsampled,
+    /// The timer is rto, and runs for less than the minimum.
+    BelowMinimum,
     /// The timer is persist, and expires too early.
     PersistEarly,
     /// The timer is 2msl, and expires too early.
@@ -91,12 +125,21 @@ at the wrong place",
             Known::Await =>
                 "the stack reports a connection before its handshake is done or after it failed, or obeys a \
 reset outside its window; or the witness has the effect at the wrong place",
+            Known::Status =>
+                "the stack changes its state where it may not, or keeps it where it has to change; or the \
+witness has the effect at the wrong place",
             Known::Building =>
                 "the stack sends after a reset, an expiry or a call closed the connection, or before a call \
 opens it",
             Known::Processing =>
                 "the segment finds no connection, so the witness has to drop it (K) or answer it with a \
 reset (R)",
+            Known::ResetAnswered =>
+                "the stack answers a reset with a reset, which RFC 9293, 3.10.7.1, forbids",
+            Known::ResetNumber => "the stack takes the numbers of its reset from the wrong field",
+            Known::OtherState =>
+                "the stack changed its state where it may not, or hasn't where it has to; or the witness has \
+the step at the wrong place",
             Known::TimeWait => "the stack skips TIME-WAIT, or ends it before 2 `msl`",
             Known::HigherAck =>
                 "the stack acknowledges what never arrived, skips a gap, or accepts data after the FIN",
@@ -111,16 +154,38 @@ drops data (`keep` 0 in the witness)",
             Known::SynAtNone =>
                 "the trace lacks the expiry (a `T` line) before it, which a SYN needs at every level",
             Known::Oversized => IGNORED_MSS,
+            Known::NotDeflated =>
+                "the stack doesn't set cwnd to ssthresh when fast recovery ends (RFC 5681, 3.2, step 6)",
+            Known::ThresholdKept =>
+                "the stack doesn't set ssthresh at a loss, or sets it too high (RFC 5681, 3.1)",
+            Known::NotReduced => "the stack doesn't reduce cwnd after an expiry",
+            Known::LimitedTransmit =>
+                "the stack sends more than two segments beyond cwnd at duplicate acknowledgments (RFC 5681, \
+3.2, step 1)",
+            Known::FirstWindow => "the stack starts with more than `initial` allows",
+            Known::Avoiding =>
+                "the window grows faster than congestion avoidance allows, or the stack doesn't follow RFC \
+5681",
+            Known::OtherBytes => "the wire changed the segment",
+            Known::PersistOpen =>
+                "the stack doesn't send although the window is open, and waits for the persist timer",
             Known::PersistOff =>
                 "the stack probes although the window is open or nothing is left to send",
             Known::Msl2Off =>
-                "the witness lacks the segment that leads to TIME-WAIT, or has it later",
+                "the stack enters TIME-WAIT where it may not; or the witness lacks the segment that leads \
+there, or has it later",
             Known::GiveupOff =>
                 "the stack gives up after fewer than three expiries, or with nothing outstanding",
             Known::NothingNew =>
                 "the witness has sample 1 for a reset, or for a segment that acknowledges nothing new",
-            Known::FirstExpiry =>
-                "the timeout is below `minrto` or RFC 6298's formula, or uses a sample of data sent twice",
+            Known::NotRestarted =>
+                "the stack doesn't restart the timer at a new acknowledgment (RFC 6298, 5.3)",
+            Known::NotDoubled => "the timeout wasn't doubled after an expiry (RFC 6298, 5.5)",
+            Known::Unsampled =>
+                "the timeout before the first sample is below a second (RFC 6298, 2.1), or the witness lacks a \
+sample",
+            Known::BelowMinimum =>
+                "the timeout is below `minrto`, or `minrto` is above the stack's",
             Known::PersistEarly => "the stack probes a closed window before its timeout",
             Known::Msl2Early => "TIME-WAIT is shorter than 2 `msl`",
             Known::NothingOutstanding => "everything was already acknowledged",
@@ -134,7 +199,9 @@ drops data (`keep` 0 in the witness)",
             Known::LowerAck => "the stack processed a segment later than the capture shows",
             Known::Gap => "the capture lost the segments before this one",
             Known::Oversized => JOINED_SEGMENTS,
-            Known::FirstExpiry | Known::PersistEarly | Known::Msl2Early => COARSE_CLOCK,
+            Known::OtherBytes => REWRITTEN,
+            Known::NotRestarted | Known::NotDoubled | Known::Unsampled => COARSE_CLOCK,
+            Known::BelowMinimum | Known::PersistEarly | Known::Msl2Early => COARSE_CLOCK,
             _ => "",
         }
     }

@@ -2,7 +2,7 @@
 //!
 //! docs/reference/rules.md has the same texts; tools/test_rules.py compares them.
 
-use crate::causes::{COARSE_CLOCK, IGNORED_MSS, JOINED_SEGMENTS, Known, SMALL_SLACK};
+use crate::causes::{COARSE_CLOCK, IGNORED_MSS, JOINED_SEGMENTS, Known, REWRITTEN, SMALL_SLACK};
 use verdict::Rule;
 
 /// What a rule means to someone whose case breaks it.
@@ -122,6 +122,7 @@ the wrong place",
                 Known::Receive,
                 Known::Close,
                 Known::Await,
+                Known::Status,
             ],
             rfc: "9293, 3.9.1, 3.10.1 to 3.10.6",
             ..PLAIN
@@ -129,7 +130,12 @@ the wrong place",
         Rule::NoEndpoint => &Meaning {
             refused: "no connection or listener exists at these ports",
             usual: "a reset, an expiry or a call already closed the connection, or the witness has the open too late",
-            special: &[Known::Building, Known::Processing],
+            special: &[
+                Known::ResetAnswered,
+                Known::ResetNumber,
+                Known::Building,
+                Known::Processing,
+            ],
             rfc: "9293, 3.3.2, 3.10",
             ..PLAIN
         },
@@ -137,7 +143,12 @@ the wrong place",
             refused: "the state of the connection doesn't allow this segment",
             usual: "the stack does what this state doesn't allow, such as a reset with ACK, or a reset at \
 `connect(AF_UNSPEC)` (Linux); or the witness has the step at the wrong place",
-            special: &[Known::TimeWait],
+            special: &[
+                Known::ResetAnswered,
+                Known::ResetNumber,
+                Known::TimeWait,
+                Known::OtherState,
+            ],
             rfc: "9293, 3.3.2, 3.5, 3.5.2, 3.10.4, 3.10.5, 3.10.7.1 to 3.10.7.3",
             ..PLAIN
         },
@@ -184,6 +195,7 @@ line)",
                 Known::Acknowledged,
                 Known::OutstandingAtNone,
                 Known::SynAtNone,
+                Known::NotRestarted,
             ],
             rfc: "9293, 3.8.1, 3.8.4; 6298, 5; 5681, 3.2",
             ..PLAIN
@@ -198,9 +210,16 @@ or updates it although SND.WL1 is greater (Linux, once a hole is filled)",
         },
         Rule::Congestion => &Meaning {
             refused: "the segment ends beyond the congestion window",
-            usual: "the stack lacks slow start, doesn't reduce cwnd after an expiry, starts with more than `initial` \
-allows, or doesn't follow RFC 5681",
-            special: &[Known::Oversized],
+            usual: "the stack lacks slow start, or doesn't follow RFC 5681",
+            special: &[
+                Known::Oversized,
+                Known::NotDeflated,
+                Known::ThresholdKept,
+                Known::NotReduced,
+                Known::LimitedTransmit,
+                Known::FirstWindow,
+                Known::Avoiding,
+            ],
             rfc: "5681, 3.1, 3.2 (step 1); 6928, 2",
             ..PLAIN
         },
@@ -215,12 +234,13 @@ allows, or doesn't follow RFC 5681",
             refused: "no segment that the other host sent before is left to arrive here",
             usual: "the trace lacks the segment's O line, or the witness names another line",
             captured: "the sender's capture lost the segment, or the clocks are off by more than `skew`",
+            special: &[Known::OtherBytes],
             ..PLAIN
         },
         Rule::CopyDiffers => &Meaning {
             refused: "the segment arrives with other bytes than it was sent with",
             usual: "the wire changed the segment, or the witness names another segment's line",
-            captured: "a middlebox or a checksum offload rewrote the segment between the two captures",
+            captured: REWRITTEN,
             rfc: "9293, 3.1",
             ..PLAIN
         },
@@ -268,6 +288,7 @@ ignored the window",
         Rule::Growth => &Meaning {
             refused: "the congestion window or the slow start threshold is greater than allowed",
             usual: "the window grows faster than RFC 5681 allows; the witness may choose at most the greatest value",
+            special: &[Known::NotDeflated, Known::ThresholdKept, Known::NotReduced],
             rfc: "5681, 3.1, 3.2; 6928, 2",
             ..PLAIN
         },
@@ -282,16 +303,27 @@ ignored the window",
             refused: "a timer expires that isn't running",
             usual: "the stack doesn't stop the timer once all is acknowledged, or the witness has the acknowledgment \
 too early",
-            special: &[Known::PersistOff, Known::Msl2Off, Known::GiveupOff],
+            special: &[
+                Known::PersistOpen,
+                Known::PersistOff,
+                Known::Msl2Off,
+                Known::GiveupOff,
+            ],
             rfc: "6298, 5.1, 5.2; 9293, 3.6.1, 3.8.3, 3.8.6.1",
             ..PLAIN
         },
         Rule::TimerEarly => &Meaning {
             refused: "a timer expires too early",
-            usual: "the timeout wasn't doubled after an expiry, is below `minrto` or RFC 6298's formula, or uses a \
-sample of data sent twice",
+            usual: "the timeout is below RFC 6298's formula, or uses a sample of data sent twice",
             captured: COARSE_CLOCK,
-            special: &[Known::FirstExpiry, Known::PersistEarly, Known::Msl2Early],
+            special: &[
+                Known::NotRestarted,
+                Known::NotDoubled,
+                Known::Unsampled,
+                Known::BelowMinimum,
+                Known::PersistEarly,
+                Known::Msl2Early,
+            ],
             rfc: "6298, 2, 4, 5; 9293, 3.6.1, 3.8.6.1",
         },
         Rule::Recovery => &Meaning {

@@ -75,8 +75,8 @@ fn say_words(out: &mut String, world: &World, call: &Call) -> Result<(), OutOfMe
     Ok(())
 }
 
-// The endpoint that a socket number names.
-fn endpoint_named(world: &World, socket: u32) -> Option<&Endpoint> {
+/// The endpoint that a socket number names. None: it names none.
+pub(crate) fn endpoint_named(world: &World, socket: u32) -> Option<&Endpoint> {
     let body = world.body(giver(world, socket)?);
     match body.target(socket)? {
         SocketTarget::EndpointAt(place) => body.endpoint_at(place),

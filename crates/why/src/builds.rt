@@ -1,6 +1,8 @@
 //! The rules of building segments.
 
-use crate::scene::Building;
+use crate::scene::{Building, Scene};
+use crate::states::say_way_out;
+use crate::timers::say_unrestarted;
 use case_forms::{Flags, OutOfMemory, POSITIONS, SegmentPlan};
 use endpoint_state::{Endpoint, World};
 use plain_words::{FlagWords, word_if};
@@ -55,8 +57,8 @@ pub(crate) fn congestion(
 /// Where the segment begins, and what may be sent.
 pub(crate) fn old_data(
     out: &mut String,
+    scene: &Scene,
     Building { plan, endpoint, .. }: Building,
-    moment: u64,
 ) -> Result<(), OutOfMemory> {
     let (pos, end, una) = (plan.pos, end_of(plan), endpoint.stream.snd_una);
     let (sent, recover) = (endpoint.snd_max(), endpoint.recover);
@@ -73,7 +75,8 @@ pub(crate) fn old_data(
         Reason::Again { .. } | Reason::Beyond { .. } | Reason::Late(_) | Reason::Other => {
             write!(out, "; sent up to {sent}, may be retransmitted up to ")?;
             writeln!(out, "{recover} (raised by an expiry or fast recovery)")?;
-            timer_due(out, endpoint, moment)
+            timer_due(out, endpoint, scene.moment())?;
+            say_unrestarted(out, scene, endpoint.timers.rto)
         }
     }
 }
@@ -166,7 +169,18 @@ pub(crate) fn state(out: &mut String, world: &World, it: Building) -> Result<(),
         out,
         "the segment: {flags}with {len} bytes; {a} reset is due, and the socket was {not}closed"
     )?;
-    may_build(out, world, it)
+    may_build(out, world, it)?;
+    if is_of_another_state(it) {
+        say_way_out(out, it.endpoint)
+    } else {
+        Ok(())
+    }
+}
+
+/// Whether it isn't a reset, and may be built in another state than that of its endpoint.
+pub(crate) fn is_of_another_state(it: Building) -> bool {
+    let state = it.endpoint.state;
+    !it.plan.flags.rst && !state.is_time_wait() && !state.is_closed()
 }
 
 const NO_FLAGS: Flags = Flags {

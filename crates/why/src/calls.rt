@@ -1,8 +1,9 @@
 //! The rules of threads and calls.
 
-use crate::allowed::say_allowed;
+use crate::allowed::{endpoint_named, say_allowed};
 use crate::described::describe;
 use crate::scene::{Scene, witness_line};
+use crate::states::say_way_out;
 use crate::wire::first_difference;
 use case_forms::{Answer, Call, Event, Host, Label, OutOfMemory};
 use endpoint_state::World;
@@ -121,7 +122,19 @@ pub(crate) fn call_answer(
     say_answer(out, answer)?;
     out.push_str("allowed there:")?;
     say_allowed(out, scene, call)?;
-    out.push_str("\n")
+    out.push_str("\n")?;
+    match (call, answer) {
+        (Call::Status(socket), Answer::State(_)) => say_way_on(out, scene, *socket),
+        _ => Ok(()),
+    }
+}
+
+// Writes what leads out of the state of a socket's endpoint.
+fn say_way_on(out: &mut String, scene: &Scene, socket: u32) -> Result<(), OutOfMemory> {
+    match endpoint_named(scene.world, socket) {
+        Some(endpoint) => say_way_out(out, endpoint),
+        None => Ok(()),
+    }
 }
 
 // Writes what a call refers to.

@@ -1,7 +1,7 @@
 //! What the rule compares, by what the step is about.
 
 use crate::scene::{Building, Expiring, Object, Processing, Scene};
-use crate::{arrivals, builds, calls, inbox, late, limits, numbers, order, timers, wire};
+use crate::{arrivals, builds, calls, inbox, late, limits, numbers, order, resets, timers, wire};
 use case_forms::{Answer, OutOfMemory, Recovery, TakeChoice, Wire};
 use endpoint_state::Endpoint;
 use spec_tcp::{Arrived, Emission};
@@ -26,10 +26,12 @@ pub(crate) fn compare(out: &mut String, scene: &Scene, rule: Rule) -> Result<(),
         | Rule::ProbeLate
         | Rule::StartLate
         | Rule::ResetLate => late::owed(out, scene),
+        Rule::NoEndpoint | Rule::State => {
+            compare_at(out, scene, rule)?;
+            resets::say_reset(out, scene)
+        }
         Rule::Socket
         | Rule::CallAnswer
-        | Rule::NoEndpoint
-        | Rule::State
         | Rule::Iss
         | Rule::BytesDiffer
         | Rule::NotMade
@@ -109,7 +111,7 @@ fn of_building(
         Rule::Iss => builds::iss(out, it),
         Rule::PayloadRange => builds::payload_range(out, it),
         Rule::AckField => builds::ack_field(out, it),
-        Rule::OldData => builds::old_data(out, it, scene.moment()),
+        Rule::OldData => builds::old_data(out, scene, it),
         Rule::Offered => builds::offered(out, it),
         Rule::Congestion => builds::congestion(out, "new bytes", it),
         Rule::ResentBeyond => builds::congestion(out, "outstanding bytes", it),

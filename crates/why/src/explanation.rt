@@ -6,6 +6,7 @@ use crate::known::{Origin, say_cause};
 use crate::marks::mark;
 use crate::scene::{Object, Past, Scene};
 use crate::unjudged::say_unjudged;
+use crate::wrap::say_wrap;
 use crate::{arrivals, calls, inbox, late, wire};
 use case_forms::{Event, Label, Line, OutOfMemory, Step};
 use checker::{CaseFault, check_case};
@@ -147,6 +148,9 @@ fn explain_refusal(
 ) -> Result<(), OutOfMemory> {
     compare(out, scene, rule)?;
     say_cause(out, scene, rule, origin)?;
+    if !is_of_order(rule) {
+        say_wrap(out, scene)?;
+    }
     say_unjudged(out, scene, rule)
 }
 
@@ -215,7 +219,7 @@ fn describe_line(out: &mut String, scene: &Scene, line: &Line) -> Result<(), Out
         Event::CallBegin(_) => calls::describe_thread(out, scene, line.thread),
         Event::CallEnd(answer) => calls::describe_end(out, scene, line.thread, answer),
         Event::Sent(host, _) => wire::describe_sent(out, scene, *host),
-        Event::Came(host, _) => wire::describe_came(out, scene, *host),
+        Event::Came(host, wire) => wire::describe_came(out, scene, *host, wire),
         Event::Expired(host, lport, rport, _) => describe_ports(out, scene, *host, *lport, *rport),
     }
 }

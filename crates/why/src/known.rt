@@ -1,13 +1,21 @@
 //! What usually causes a step to break a rule, by what is known at the step.
 
 use crate::arrivals::acknowledges_more;
+use crate::builds::is_of_another_state;
 use crate::other_windows::say_fitting;
-use crate::scene::{Building, Object, Processing, Scene};
-use case_forms::{Call, Judged, OutOfMemory, Timer, Wire};
+use crate::scene::{Building, Expiring, Object, Processing, Scene};
+use crate::sendable::sendable_bytes;
+use crate::{resets, wire};
+use case_forms::{Call, Extras, Judged, OutOfMemory, Timer, Wire};
+use endpoint::greatest_values;
+use endpoint_state::Endpoint;
 use plain_words::{Known, about};
-use replayed::{Reason, old_data_reason};
+use replayed::{Reason, end_of, old_data_reason};
 use spec_tcp::Emission;
 use verdict::Rule;
+
+// The retransmission timeout before the first sample (RFC 6298, 2.1).
+const FIRST_RTO: u64 = 1_000_000;
 
 /// Where the segments of a trace come from.
 #[derive(Clone, Copy)]
@@ -43,22 +51,73 @@ fn is_known(scene: &Scene, known: Known) -> bool {
     let is_none = matches!(scene.header().congestion, Judged::NoControl);
     match scene.object() {
         Object::Effect(thread, _) => is_call(scene.world.pending_call(thread), known),
-        Object::Building(it) => is_known_of(it, is_none, known),
+        Object::Building(it) => is_known_of_built(scene, it, is_none, known),
         Object::Sent(made, _, wire) => is_ack(made, wire, known),
-        Object::Expiring(it) => match it.timer {
-            Timer::Rto => known == Known::FirstExpiry && it.endpoint.backoffs == 0,
-            Timer::Persist => matches!(known, Known::PersistOff | Known::PersistEarly),
-            Timer::Msl2 => matches!(known, Known::Msl2Off | Known::Msl2Early),
-            Timer::Giveup => known == Known::GiveupOff,
-        },
+        Object::Expiring(it) => is_known_of_timer(scene, it, known),
         Object::Processing(it) => match known {
             Known::NothingNew => gives_no_sample(scene, it),
+            Known::NotDeflated => it.endpoint.control.values.fast && !gives_no_sample(scene, it),
             _ => known == Known::Processing,
         },
         Object::Listening(..) => matches!(known, Known::Processing | Known::NothingNew),
         Object::Recovering(..) => known == Known::NothingOutstanding && is_none,
-        Object::Other => known == Known::Building && scene.builds(),
-        Object::End(..) | Object::Came(..) | Object::Answered(..) => false,
+        Object::Other if scene.builds() => is_known_of_reset(scene, known),
+        Object::Other => known == Known::OtherBytes && wire::has_other_bytes(scene),
+        Object::Answered(_, m) => known == Known::ResetAnswered && m.flags.rst,
+        Object::End(..) | Object::Came(..) => false,
+    }
+}
+
+// Whether this is known of a segment that is built where there may be no endpoint.
+fn is_known_of_reset(scene: &Scene, known: Known) -> bool {
+    match known {
+        Known::ResetAnswered => resets::answered_reset(scene).is_some(),
+        Known::ResetNumber => resets::has_wrong_numbers(scene),
+        _ => known == Known::Building,
+    }
+}
+
+// Whether this is known of a timer that expires.
+fn is_known_of_timer(scene: &Scene, it: Expiring, known: Known) -> bool {
+    match it.timer {
+        Timer::Rto => is_known_of_rto(scene, it.endpoint, known),
+        Timer::Persist => match known {
+            Known::PersistOpen => 0 < sendable_bytes(it.endpoint),
+            _ => matches!(known, Known::PersistOff | Known::PersistEarly),
+        },
+        Timer::Msl2 => matches!(known, Known::Msl2Off | Known::Msl2Early),
+        Timer::Giveup => known == Known::GiveupOff,
+    }
+}
+
+// Whether this is known of a retransmission timer that expires.
+fn is_known_of_rto(scene: &Scene, endpoint: &Endpoint, known: Known) -> bool {
+    let (timers, header, moment) = (&endpoint.timers, scene.header(), scene.moment());
+    let armed = timers.rto_armed.unwrap_or(moment);
+    let ran = moment.saturating_sub(armed).saturating_add(header.grain);
+    match known {
+        Known::NotRestarted => scene.unrestarted().is_some(),
+        Known::NotDoubled => 0 < endpoint.backoffs && before_backoffs(endpoint) <= ran,
+        Known::Unsampled => timers.srtt.is_none() && ran < FIRST_RTO,
+        Known::BelowMinimum => timers.srtt.is_some() && ran < header.minrto,
+        Known::ThresholdKept => keeps_threshold(scene, endpoint),
+        Known::NotReduced => !keeps_threshold(scene, endpoint),
+        _ => false,
+    }
+}
+
+// The retransmission timeout before the expiries since the last new acknowledgment doubled it.
+fn before_backoffs(endpoint: &Endpoint) -> u64 {
+    endpoint.timers.rto >> endpoint.backoffs.min(63)
+}
+
+// Whether the step chooses an ssthresh that is too great.
+fn keeps_threshold(scene: &Scene, endpoint: &Endpoint) -> bool {
+    match scene.named().extras {
+        Extras::Two(_, ssthresh) => {
+            greatest_values(endpoint, scene.moment()).1 < u64::from(ssthresh)
+        }
+        Extras::Bare | Extras::One(_) => false,
     }
 }
 
@@ -82,15 +141,34 @@ fn is_call(call: Option<&Call>, known: Known) -> bool {
         Call::Recv(_, _) => known == Known::Receive,
         Call::Close(_) | Call::Abort(_) => known == Known::Close,
         Call::Await(_) => known == Known::Await,
-        Call::Shut(_) | Call::Status(_) => false,
+        Call::Status(_) => known == Known::Status,
+        Call::Shut(_) => false,
     }
 }
 
-// Whether this is known of a segment that is built. `is_none`: the level is `none`.
-fn is_known_of(it: Building, is_none: bool, known: Known) -> bool {
-    let endpoint = it.endpoint;
+// Whether this is known of a segment that an endpoint builds. `is_none`: the level is `none`.
+fn is_known_of_built(scene: &Scene, it: Building, is_none: bool, known: Known) -> bool {
     match known {
-        Known::Building => true,
+        Known::NotDeflated | Known::ThresholdKept | Known::NotReduced => match scene.others {
+            Some(others) => others.fitting(known, end_of(it.plan)).is_some(),
+            None => false,
+        },
+        Known::ResetAnswered | Known::ResetNumber | Known::Building => {
+            is_known_of_reset(scene, known)
+        }
+        Known::NotRestarted => scene.unrestarted().is_some(),
+        _ => is_known_of(it, is_none, known),
+    }
+}
+
+// The same for what the endpoint's values show.
+fn is_known_of(it: Building, is_none: bool, known: Known) -> bool {
+    let (endpoint, values) = (it.endpoint, &it.endpoint.control.values);
+    match known {
+        Known::OtherState => is_of_another_state(it),
+        Known::LimitedTransmit => !values.fast && matches!(values.dup, 1 | 2),
+        Known::FirstWindow => endpoint.stream.snd_una <= 1 && endpoint.backoffs == 0,
+        Known::Avoiding => values.ssthresh <= values.cwnd,
         Known::TimeWait => endpoint.state.is_time_wait(),
         Known::Gap => matches!(old_data_reason(endpoint, it.plan), Reason::Gap { .. }),
         Known::Acknowledged => matches!(
@@ -99,7 +177,7 @@ fn is_known_of(it: Building, is_none: bool, known: Known) -> bool {
         ),
         Known::OutstandingAtNone => is_none && endpoint.is_up(),
         Known::SynAtNone => is_none && !endpoint.is_up(),
-        Known::Oversized => endpoint.control.values.smss < u32::from(it.plan.len),
+        Known::Oversized => values.smss < u32::from(it.plan.len),
         _ => false,
     }
 }

@@ -2,9 +2,11 @@
 
 use crate::described::describe;
 use crate::scene::{Object, Scene};
+use crate::sendable::say_sendable;
 use case_forms::{Label, OutOfMemory};
 use plain_words::about;
 use replayed::Refusal;
+use verdict::Rule;
 
 /// Writes which duty is late after the last step, if one is, and the endpoint whose it is.
 pub(crate) fn describe_end(out: &mut String, scene: &Scene) -> Result<(), OutOfMemory> {
@@ -66,8 +68,21 @@ pub(crate) fn built(out: &mut String, scene: &Scene, number: u32) -> Result<(), 
 pub(crate) fn owed(out: &mut String, scene: &Scene) -> Result<(), OutOfMemory> {
     describe_touched(out, scene)?;
     match scene.debtor {
-        Some(debtor) => say_due(out, scene, debtor.debt.what, debtor.debt.due),
+        Some(debtor) => {
+            say_due(out, scene, debtor.debt.what, debtor.debt.due)?;
+            say_open(out, scene, debtor.debt.rule)
+        }
         None => Ok(()),
+    }
+}
+
+// Writes what could be sent, if the duty is that of a window that was closed.
+fn say_open(out: &mut String, scene: &Scene, rule: Rule) -> Result<(), OutOfMemory> {
+    match scene.concerned() {
+        Some(endpoint) if matches!(rule, Rule::ProbeLate | Rule::ResendLate) => {
+            say_sendable(out, endpoint)
+        }
+        _ => Ok(()),
     }
 }
 

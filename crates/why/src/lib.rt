@@ -16,8 +16,10 @@
 //!   the same for duties
 //! - `allowed`: the answers that a call may have
 //! - `known`: what is known at the step of the causes of its rule
-//! - `other_windows`, `segment_window`, `changes`: the other windows that a segment would fit, kept while the case is
-//!   replayed
+//! - `other_windows`, `segment_window`, `loss_windows`, `changes`: the other windows that a segment would fit, kept
+//!   while the case is replayed; `restarts`: the same for a timer without its restarts
+//! - `states`: what leads out of a state; `sendable`: what could be sent; `resets`: the reset that a segment asks for;
+//!   `wrap`: numbers near 2^32
 //! - `unjudged`: the level that leaves a refusal unjudged
 #![tactic(auto)]
 
@@ -33,16 +35,22 @@ mod inbox;
 mod known;
 mod late;
 mod limits;
+mod loss_windows;
 mod marks;
 mod numbers;
 mod order;
 mod other_windows;
 mod owed;
+mod resets;
+mod restarts;
 mod scene;
 mod segment_window;
+mod sendable;
+mod states;
 mod timers;
 mod unjudged;
 mod wire;
+mod wrap;
 
 pub use explanation::{Explanation, explain};
 pub use known::Origin;

@@ -2,16 +2,18 @@
 //! one endpoint while a case is replayed, in constant time for each segment sent or acknowledged.
 
 use crate::arrivals::acknowledges_more;
-use crate::changes::{Change, Values};
+use crate::changes::{Change, Values, grown};
+use crate::loss_windows::LossWindows;
 use crate::scene::{Object, Scene};
 use crate::segment_window::SegmentWindow;
 use case_forms::{Host, Label, OutOfMemory, POSITIONS, Step};
 use endpoint_state::{Endpoint, World};
+use plain_words::Known;
 use replayed::end_of;
 use spec_tcp::Arrived;
 use std::alloc::Global;
 use verdict::Rule;
-use window_rules::{Congestion, SlowStart, congestion_edge, counted_after, may_grow, on_duplicate};
+use window_rules::{Congestion, SlowStart, congestion_edge, on_duplicate};
 
 /// Other windows of the endpoint that builds the segment of a step.
 #[derive(Drop)]
@@ -21,9 +23,12 @@ pub(crate) struct OtherWindows {
     rport: u16,
     /// The endpoint's values before the next step.
     now: Values,
+    /// The moment of the last step that sent or acknowledged something, in microseconds.
+    moved: u64,
     /// The greatest window if slow start adds SMSS bytes for each acknowledgment of new data, in bytes (RFC 5681, 3.1).
     upper: Congestion,
     segments: SegmentWindow,
+    losses: LossWindows,
     /// SND.WND if any new acknowledgment updates it, even if SND.WL1 is greater (Linux).
     latest: u32,
     /// SND.WND, SND.WL1 and SND.WL2 of the endpoint.
@@ -52,9 +57,12 @@ impl OtherWindows {
                 sent: 0,
                 backoffs: 0,
                 congestion,
+                ready: 0,
             },
+            moved: 0,
             upper: congestion,
             segments: SegmentWindow::new(alloc),
+            losses: LossWindows::new(),
             latest: 0,
             offered: (0, 0, 0),
         })
@@ -81,15 +89,23 @@ impl OtherWindows {
         acknowledges_more(endpoint, &m).then_some(endpoint.peer_window(&m))
     }
 
-    /// Follows the world after one step.
-    pub(crate) fn follow(&mut self, world: &World) -> Result<(), OutOfMemory> {
+    /// Follows the world after one step, which has this moment.
+    pub(crate) fn follow(&mut self, world: &World, moment: u64) -> Result<(), OutOfMemory> {
         let Some(endpoint) = world.body(self.host).endpoint_of(self.lport, self.rport) else {
             return Ok(());
         };
         let after = Values::new(endpoint);
         let change = self.now.change(&after);
         self.segments.follow(change, &self.now, &after)?;
-        self.upper = self.grown(change, &after);
+        if matches!(change, Change::Acknowledged(_)) && self.waits(world, moment) {
+            self.losses = self.losses.without_fitting(&self.now);
+        }
+        let slow = endpoint.control.profile.slow_start();
+        self.losses = self.losses.after(change, &self.now, &after, slow);
+        self.upper = self.upper_after(change, &after);
+        if self.now.una != after.una || self.now.sent != after.sent {
+            self.moved = moment;
+        }
         self.now = after;
         let offered = offered_to(endpoint);
         if self.offered != offered {
@@ -99,8 +115,14 @@ impl OtherWindows {
         Ok(())
     }
 
+    // Whether a segment of SMSS bytes waits at a moment although the stack had the time to send it.
+    fn waits(&self, world: &World, moment: u64) -> bool {
+        let slack = world.header().slack.unwrap_or(0);
+        self.moved.saturating_add(slack) < moment && self.now.next_end() <= self.now.ready
+    }
+
     // The upper window after a step. Only its growth differs from the endpoint's own.
-    fn grown(&self, change: Change, after: &Values) -> Congestion {
+    fn upper_after(&self, change: Change, after: &Values) -> Congestion {
         let was = Congestion {
             cwnd: self.upper.cwnd,
             counted: self.upper.counted,
@@ -108,10 +130,11 @@ impl OtherWindows {
         };
         match change {
             Change::Begins | Change::Timeout | Change::Recovery => after.congestion,
-            Change::Acknowledged(acked) if acked < POSITIONS && was.counted < POSITIONS => {
+            Change::Acknowledged(acked) => {
+                let Congestion { cwnd, counted, .. } = grown(SlowStart::Permitted, &was, acked);
                 Congestion {
-                    cwnd: may_grow(SlowStart::Permitted, &was, acked) as u32,
-                    counted: counted_after(&was, acked),
+                    cwnd,
+                    counted,
                     ..after.congestion
                 }
             }
@@ -119,7 +142,18 @@ impl OtherWindows {
                 cwnd: on_duplicate(&was) as u32,
                 ..was
             },
-            Change::Acknowledged(_) | Change::Other => was,
+            Change::Other => was,
+        }
+    }
+
+    /// The cwnd, in bytes, of a stack that leaves out a change at a loss, if a segment up to this position fits it.
+    pub(crate) fn fitting(&self, known: Known, end: u64) -> Option<u32> {
+        let (una, now) = (self.now.una, self.now.congestion);
+        let cwnd = self.losses.greater(&now, known)?;
+        if una < POSITIONS && end <= congestion_edge(una, &Congestion { cwnd, ..now }) {
+            Some(cwnd)
+        } else {
+            None
         }
     }
 }
@@ -136,6 +170,7 @@ pub(crate) fn say_fitting(out: &mut String, scene: &Scene, rule: Rule) -> Result
             if it.endpoint.control.profile.slow_start() == SlowStart::Recommended {
                 fits_upper(out, others, end_of(it.plan))?;
             }
+            fits_after_loss(out, others, end_of(it.plan))?;
             fits_segments(out, others)
         }
         _ => Ok(()),
@@ -166,6 +201,25 @@ fn fits_upper(out: &mut String, others: &OtherWindows, end: u64) -> Result<(), O
             "it would fit if slow start added one SMSS for each acknowledgment, with cwnd {cwnd}. RFC 5681, 3.1, \
 and version 5 allow that; this version allows min(N, SMSS)"
         )?;
+    }
+    Ok(())
+}
+
+// What a stack may leave out at a loss.
+const LEFT_OUT: [(Known, &str); 3] = [
+    (
+        Known::NotDeflated,
+        "the end of fast recovery hadn't set cwnd to ssthresh",
+    ),
+    (Known::ThresholdKept, "no loss had set ssthresh"),
+    (Known::NotReduced, "the expiry hadn't reduced cwnd"),
+];
+
+fn fits_after_loss(out: &mut String, others: &OtherWindows, end: u64) -> Result<(), OutOfMemory> {
+    for (known, what) in &LEFT_OUT {
+        if let Some(cwnd) = others.fitting(*known, end) {
+            writeln!(out, "it would fit if {what}, with cwnd {cwnd}")?;
+        }
     }
     Ok(())
 }

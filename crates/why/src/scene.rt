@@ -1,13 +1,15 @@
 //! A case up to the refused step: the world before it, and what the step is about.
 
+use crate::allowed::endpoint_named;
 use crate::other_windows::OtherWindows;
+use crate::restarts::Restarts;
 use case_forms::{
     Answer, Event, Extras, Header, Host, Label, Line, NamedLine, Recovery, SegmentPlan, Step,
     TakeChoice, Timer, Wire,
 };
 use duties::Duties;
 use endpoint_state::{Endpoint, World};
-use replayed::{Case, Debtor, Refusal, Replay, ReplayFault};
+use replayed::{Case, Debtor, Refusal, Replay, ReplayFault, socket_of};
 use spec_tcp::{Arrived, Emission, EndpointId};
 use std::alloc::Global;
 use std::collections::BTreeMap;
@@ -21,6 +23,8 @@ pub(crate) struct Past<'c> {
     used: BTreeMap<u64, u64>,
     /// If the refused step builds a segment, other windows of the endpoint that builds it.
     others: Option<OtherWindows>,
+    /// If the refused step builds a segment or a retransmission timer expires, when that timer was armed.
+    restarts: Option<Restarts>,
 }
 
 impl<'c> Past<'c> {
@@ -31,6 +35,7 @@ impl<'c> Past<'c> {
             replay: Replay::new(alloc, case),
             used: BTreeMap::new(alloc),
             others: OtherWindows::from_step(alloc, case.refused_step()),
+            restarts: Restarts::from_step(case, case.refused_step()),
         }
     }
 
@@ -43,16 +48,22 @@ impl<'c> Past<'c> {
             }
             self.do_step(step)?;
         }
+        if let Some(restarts) = &mut self.restarts {
+            restarts.follow(self.replay.world());
+        }
         Ok(())
     }
 
     fn do_step(&mut self, step: &Step) -> Result<(), ReplayFault> {
+        if let Some(restarts) = &mut self.restarts {
+            restarts.follow(self.replay.world());
+        }
         let Some(others) = &mut self.others else {
             return self.replay.apply(step);
         };
         others.note(self.replay.world(), step);
         self.replay.apply(step)?;
-        others.follow(self.replay.world())?;
+        others.follow(self.replay.world(), step.moment)?;
         Ok(())
     }
 
@@ -69,6 +80,7 @@ impl<'c> Past<'c> {
             duties: replay.duties(),
             used: &self.used,
             others: self.others.as_ref(),
+            restarts: self.restarts,
             touched: match step {
                 Some(step) => replay.touched(step),
                 None => None,
@@ -93,6 +105,8 @@ pub(crate) struct Scene<'c> {
     pub used: &'c BTreeMap<u64, u64>,
     /// If the step builds a segment, other windows of the endpoint that builds it.
     pub others: Option<&'c OtherWindows>,
+    /// If the step builds a segment or a retransmission timer expires, when that timer was armed.
+    restarts: Option<Restarts>,
     /// The endpoint that the step touches. None: it touches none, or creates one.
     pub touched: Option<EndpointId>,
     /// The endpoint whose duty is late at the step or after the last one. None: the rule is none of 44 to 49.
@@ -216,6 +230,35 @@ impl<'c> Scene<'c> {
                 number: 0,
                 extras: Extras::Bare,
             },
+        }
+    }
+
+    /// Since when the retransmission timer would run if a new acknowledgment hadn't restarted it, if an expiry at the
+    /// step is then on time. The step lets the timer expire or builds a segment.
+    pub(crate) fn unrestarted(&self) -> Option<u64> {
+        let endpoint = match self.object() {
+            Object::Expiring(it) => it.endpoint,
+            Object::Building(it) => it.endpoint,
+            _ => return None,
+        };
+        let rto = endpoint.timers.rto;
+        self.restarts?.fitting(self.header(), rto, self.moment())
+    }
+
+    /// The endpoint that the step touches, that its call or its segment names, or whose duty is late.
+    pub(crate) fn concerned(&self) -> Option<&Endpoint> {
+        if let Some(id) = self.touched {
+            return self.world.body(id.host).endpoint_at(id.number);
+        }
+        if let Some(Debtor { id, .. }) = self.debtor {
+            return self.world.body(id.host).endpoint_at(id.number);
+        }
+        match self.label()? {
+            Label::D { thread, .. } => {
+                endpoint_named(self.world, socket_of(self.world.pending_call(*thread)?)?)
+            }
+            Label::R { host, line } => self.taker(*host, self.world.waiting(*host, *line)?),
+            _ => None,
         }
     }
 

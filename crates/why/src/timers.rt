@@ -1,6 +1,8 @@
 //! The rules of expiries and of fast recovery.
 
 use crate::scene::{Expiring, Scene};
+use crate::sendable::say_sendable;
+use crate::states::say_way_out;
 use case_forms::{Extras, OutOfMemory, Recovery, Timer};
 use endpoint::{greatest_recovery, greatest_values};
 use endpoint_state::Endpoint;
@@ -35,7 +37,10 @@ pub(crate) fn off(out: &mut String, it: Expiring) -> Result<(), OutOfMemory> {
             )
         }
         Timer::Persist => persist_off(out, it.endpoint),
-        Timer::Msl2 => out.push_str("the timer is off: it is armed on entering TIME-WAIT\n"),
+        Timer::Msl2 => {
+            out.push_str("the timer is off: it is armed on entering TIME-WAIT\n")?;
+            say_way_out(out, it.endpoint)
+        }
         Timer::Giveup => giveup_off(out, it.endpoint),
     }
 }
@@ -43,10 +48,11 @@ pub(crate) fn off(out: &mut String, it: Expiring) -> Result<(), OutOfMemory> {
 fn persist_off(out: &mut String, endpoint: &Endpoint) -> Result<(), OutOfMemory> {
     let (stream, wnd) = (&endpoint.stream, endpoint.window.snd_wnd);
     if endpoint.timers.persist_armed.is_none() {
-        return writeln!(
+        writeln!(
             out,
             "the timer is off: a window of 0 arms it, and SND.WND is {wnd}"
-        );
+        )?;
+        return say_sendable(out, endpoint);
     }
     out.push_str("the timer is armed, but ")?;
     if !endpoint.is_up() {
@@ -102,7 +108,29 @@ pub(crate) fn early(out: &mut String, scene: &Scene, it: Expiring) -> Result<(),
         out,
         "armed since {since}, it runs for {time} and may expire a clock tick ({grain}) early: "
     )?;
-    writeln!(out, "from {earliest} on; the step's moment is {moment}")
+    writeln!(out, "from {earliest} on; the step's moment is {moment}")?;
+    match it.timer {
+        Timer::Rto => say_unrestarted(out, scene, time),
+        Timer::Persist | Timer::Msl2 | Timer::Giveup => Ok(()),
+    }
+}
+
+/// From when on the timer, which runs for this time, could expire without a restart, if the step is then on time.
+pub(crate) fn say_unrestarted(
+    out: &mut String,
+    scene: &Scene,
+    time: u64,
+) -> Result<(), OutOfMemory> {
+    let Some(since) = scene.unrestarted() else {
+        return Ok(());
+    };
+    let earliest = since
+        .saturating_add(time)
+        .saturating_sub(scene.header().grain);
+    writeln!(
+        out,
+        "if no new acknowledgment had restarted it, it would be armed since {since} and could expire from {earliest} on"
+    )
 }
 
 /// Why fast recovery may not begin, or not with these windows.

@@ -28,14 +28,88 @@ pub(crate) fn describe_came(
     out: &mut String,
     scene: &Scene,
     host: Host,
+    wire: &Wire,
 ) -> Result<(), OutOfMemory> {
     let (sender, copied) = (host.other(), u64::from(first_extra(scene.named().extras)));
     if scene.world.sent(sender, copied).is_some() {
         return Ok(());
     }
     let yet = word_if(sender_in(scene, copied) == Some(sender), " used yet; it is");
-    let sender = HostName(sender);
-    writeln!(out, "line {copied} isn't{yet} an O line of {sender}")
+    let name = HostName(sender);
+    writeln!(out, "line {copied} isn't{yet} an O line of {name}")?;
+    match nearest(scene, sender, wire) {
+        Some((line, sent)) => say_nearest(out, line, sent, wire),
+        None => Ok(()),
+    }
+}
+
+/// Whether the step's line shows a segment as received that differs in some bytes from a sent one.
+pub(crate) fn has_other_bytes(scene: &Scene) -> bool {
+    let Some(line) = scene.line(scene.named().number) else {
+        return false;
+    };
+    match &line.event {
+        Event::Came(host, wire) => differs_from_nearest(scene, host.other(), wire),
+        _ => false,
+    }
+}
+
+fn differs_from_nearest(scene: &Scene, sender: Host, shown: &Wire) -> bool {
+    match nearest(scene, sender, shown) {
+        Some((_, sent)) => differing(sent.bytes.as_slice(), shown.bytes.as_slice()) != 0,
+        None => false,
+    }
+}
+
+// The used O line of a host, and its segment, that differs in the fewest bytes from a segment that is like it. None: no
+// segment is like it.
+fn nearest<'c>(scene: &Scene<'c>, sender: Host, shown: &Wire) -> Option<(u64, &'c Wire)> {
+    let (mut found, mut fewest) = (None, u64::MAX);
+    for line in scene.lines() {
+        if let Event::Sent(host, sent) = &line.event
+            && *host == sender
+            && is_like(&sent.seg, &shown.seg)
+            && sent.bytes.len() == shown.bytes.len()
+            && scene.used_by(line.number).is_some()
+        {
+            let count = differing(sent.bytes.as_slice(), shown.bytes.as_slice());
+            if count <= fewest {
+                found = Some((line.number, sent));
+                fewest = count;
+            }
+        }
+    }
+    found
+}
+
+// Whether two segments have the same ports and the same sequence number.
+fn is_like(one: &Segment, other: &Segment) -> bool {
+    one.src == other.src && one.dst == other.dst && one.seq == other.seq
+}
+
+// In how many places two texts of the same length differ.
+fn differing(one: &[u8], other: &[u8]) -> u64 {
+    let mut count: u64 = 0;
+    for (a, b) in one.iter().zip(other) {
+        if a != b {
+            count = count.saturating_add(1);
+        }
+    }
+    count
+}
+
+// Writes the first byte in which the segment of an O line differs, if one does.
+fn say_nearest(out: &mut String, line: u64, sent: &Wire, shown: &Wire) -> Result<(), OutOfMemory> {
+    let (sent, shown) = (sent.bytes.as_slice(), shown.bytes.as_slice());
+    let count = differing(sent, shown);
+    if count == 0 {
+        return writeln!(out, "line {line} has the same bytes");
+    }
+    writeln!(
+        out,
+        "line {line} has the same ports, sequence number and length; bytes that differ: {count}"
+    )?;
+    first_difference(out, "byte of the segment", "sent", sent, shown)
 }
 
 // The host whose sent segment a line shows. None: it shows none.
