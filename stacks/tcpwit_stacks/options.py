@@ -73,6 +73,8 @@ def parser():
     words.add_argument("stack", metavar="STACK", help="a folder next to this program, a program, or a path")
     words.add_argument("scenario", metavar="SCENARIO", nargs="*",
                        help="names, files, or beginnings of names (default: all scenarios)")
+    words.add_argument("--vary", action="store_true",
+                       help="run each scenario that has a wire again with other delays, losses and seeds")
     words.add_argument("--profile", metavar="FILE", type=some_name,
                        help="the stack's profile (default: that of its folder)")
     words.add_argument("--least", choices=LEVELS, default=FULL,
@@ -116,7 +118,7 @@ def arguments():
     """The options and arguments of the command line."""
     words = parser()
     given = words.parse_intermixed_args()
-    if given.failed and given.scenario:
+    if given.failed and (given.scenario or given.vary):
         words.error("--failed selects the scenarios itself")
     if given.only_trace and given.remarks == "fail":
         words.error("--only-trace judges nothing, so there are no remarks")
