@@ -63,8 +63,8 @@ def stop(cause):
 
 
 def announce(text):
-    """Prints a line on standard error, and also on the terminal if standard error goes elsewhere, as with `2>&1 | tail`,
-    which shows nothing until the end."""
+    """Prints a line on standard error, and also on the terminal if standard error goes elsewhere, as with
+    `2>&1 | tail`, which shows nothing until the end."""
     print(text, file=sys.stderr, flush=True)
     if not sys.stderr.isatty():
         with contextlib.suppress(OSError), open("/dev/tty", "w", encoding="utf-8") as terminal:

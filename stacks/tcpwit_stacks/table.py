@@ -32,9 +32,8 @@ def show_head(names=NAMES):
 
 def show(outcome, verbose, names=NAMES):
     """Prints a row of the table and the lines below it."""
-    remarks = "?" if outcome.unremarked else len(outcome.remarks)
-    say(f"{outcome.scenario.name:{names}} {outcome.shown()[:WIDTH]:{WIDTH}} {outcome.missing:8} {len(outcome.waiting):5} "
-        f"{remarks:>8}")
+    remarks, verdict = "?" if outcome.unremarked else len(outcome.remarks), outcome.shown()[:WIDTH]
+    say(f"{outcome.scenario.name:{names}} {verdict:{WIDTH}} {outcome.missing:8} {len(outcome.waiting):5} {remarks:>8}")
     for line in details(outcome, verbose):
         say(f"    {line[:200]}")
 

@@ -72,8 +72,9 @@ class TheCommand(unittest.TestCase):
 
     def programs(self, check="echo yes 1 1", said="", name="judge", before_remark=""):
         """Options for a program that acts as `tcpwit`, with these commands of the shell for `check`, and as
-        `tcpwit_lab`: `find` prints the trace unchanged, `judge` finds a yes at `none`, and `explain` and `remark`, after
-        other commands, print the object whose lines are `said`. It lists its arguments in the file `asked`."""
+        `tcpwit_lab`: `find` prints the trace unchanged, `judge` finds a yes at `none`, and `explain` and `remark`
+        print the object whose lines are `said`, the latter after the commands `before_remark`. It lists its arguments
+        in the file `asked`."""
         path = f"{self.folder}/{name}"
         with open(path, "w") as file:
             file.write(JUDGE.format(asked=f"{self.folder}/asked", check=check, said=said, before_remark=before_remark))
@@ -413,7 +414,8 @@ class TheCommand(unittest.TestCase):
                                          "--scenario-limit", "1")
         self.assertEqual((status, error), (1, ""))
         self.assertIn("yes 1 1, but", out)
-        self.assertIn("\n    run: the scenario took more than 1 s, in judge remark; the remarks weren't finished\n", out)
+        self.assertIn("\n    run: the scenario took more than 1 s, in judge remark; the remarks weren't finished\n",
+                      out)
         self.assertNotIn("broken", out)
 
     def test_variants_are_rows_of_their_own(self):
@@ -444,7 +446,8 @@ class TheCommand(unittest.TestCase):
                          ["hostile-trickle", "end-states", "end-states+seed-2"])
         # The beginning of names selects those that can be varied so.
         self.assertEqual(names("end-s+loss-3"), ["end-send-after-shut+loss-3", "end-server-first+loss-3"])
-        for words, cause in ((["end-states+delay-0.7"], "end-states+delay-0.7: the scenario has a line `fixed` with delay"),
+        for words, cause in ((["end-states+delay-0.7"],
+                              "end-states+delay-0.7: the scenario has a line `fixed` with delay"),
                              (["hostile-trickle+seed-2"], "a scripted peer has no wire"),
                              (["hostile-w+seed-2"], "hostile-w+seed-2: none of these scenarios can be varied so"),
                              (["data-bulk+"], "+ isn't a variant, such as "), (["data-bulk+sed-2"], "isn't a variant"),
