@@ -24,7 +24,8 @@ enum defect {
     KARN_IGNORED, SYN_NOT_BACKED_OFF, SCALE_IGNORED, ROOM_NOT_FREED, RING_OFF_BY_ONE, SENT_NOT_MODULO, RECEIVED_NOT_MODULO,
     SCALE_ASSUMED, SYN_SCALED, WINDOW_DOUBLED, RTO_KEPT_AFTER_SYN, TIME_WAIT_REOPENED, SEND_AFTER_SHUT, PROBE_UNANSWERED, GAP_ANSWERED_ONCE,
     ACK_LATE, HALF_OPEN_ACCEPTED, PROBES_STEADY, ACK_DELAY_RESTARTED, FIN_WAITS, WINDOW_OF_OLDER_SEGMENT, WINDOW_OF_OLDER_ACK,
-    BACKLOG_LEAK, UNKNOWN_OPTION_STOPS, TIME_WAIT_NOT_RESTARTED, SYN_ACK_RESENT_ONCE, VARIANCE_UNUSED, DEFECTS
+    BACKLOG_LEAK, UNKNOWN_OPTION_STOPS, TIME_WAIT_NOT_RESTARTED, SYN_ACK_RESENT_ONCE, VARIANCE_UNUSED, ACCEPTED_BY_AGE,
+    DEFECTS
 };
 static const char *const defect_names[DEFECTS] = {
     "none", "window-ignored", "rto-not-doubled", "rto-too-early", "no-slow-start", "no-collapse", "fin-not-resent", "duplicates-delivered",
@@ -33,7 +34,7 @@ static const char *const defect_names[DEFECTS] = {
     "received-not-modulo", "scale-assumed", "syn-scaled", "window-doubled", "rto-kept-after-syn", "time-wait-reopened", "send-after-shut",
     "probe-unanswered", "gap-answered-once", "ack-late", "half-open-accepted", "probes-steady", "ack-delay-restarted", "fin-waits",
     "window-of-older-segment", "window-of-older-ack", "backlog-leak", "unknown-option-stops", "time-wait-not-restarted",
-    "syn-ack-resent-once", "variance-unused"
+    "syn-ack-resent-once", "variance-unused", "accepted-by-age"
 };
 static enum defect defect;
 
@@ -42,7 +43,7 @@ struct connection {
     unsigned local, remote;
     long fault;                            /* 0, or STACK_REFUSED .. */
     struct connection *listener;           /* of a child: the listener at which it waits until it is accepted */
-    unsigned backlog;                      /* of a listener */
+    unsigned backlog, order;               /* of a listener; of a connection: how many were established before it */
     int passive, dropped;                  /* opened by a listener; its socket was closed */
     /* Sending: `out` has the unacknowledged bytes, from `out_seq` on. A FIN follows once `shut` is set. */
     uint32_t iss, una, nxt, max;           /* `max`: one more than the greatest sequence number sent */
@@ -65,6 +66,7 @@ struct connection {
 
 static struct connection connections[CONNECTIONS];
 static int opened;
+static unsigned established;
 static struct stack_config config;
 
 static int before(uint32_t a, uint32_t b) { return (int32_t)(a - b) < 0; }
@@ -429,6 +431,7 @@ static void establish(struct connection *c, const struct segment *s)
     c->expiries = 0;
     take_window(c, s);
     c->state = !c->shut ? ESTABLISHED : FIN_WAIT_1;
+    c->order = defect == ACCEPTED_BY_AGE ? 0 : established++;
 }
 
 static void come_in_syn_sent(struct connection *c, const struct segment *s)
@@ -724,13 +727,15 @@ long stack_accept(long socket)
     const struct connection *listener = &connections[socket];
     if (listener->state != LISTEN) return STACK_NOTCONN;
     int too_early = defect == HALF_OPEN_ACCEPTED && waiting_at(listener) == listener->backlog;
+    struct connection *first = NULL;
     for (int i = 0; i < opened; i++) {
         struct connection *c = &connections[i];
         if (c->listener != listener || c->state < (too_early ? SYN_RECEIVED : ESTABLISHED)) continue;
-        c->listener = NULL;
-        return i;
+        if (!first || c->order < first->order) first = c;
     }
-    return STACK_AGAIN;
+    if (!first) return STACK_AGAIN;
+    first->listener = NULL;
+    return first - connections;
 }
 
 long stack_send(long socket, const void *bytes, size_t count)
