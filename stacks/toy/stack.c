@@ -1,8 +1,8 @@
 /* A small TCP that follows RFC 9293, 6298 and 5681, with window scaling (RFC 7323, 2). It acknowledges each segment at once. It has
  * room for 64 connections and never frees one.
  *
- * The variable TOY_DEFECT turns on one of the defects below; the file `defects` lists each with the scenario that finds it. Without
- * the variable, the stack is correct.
+ * The variable TOY_DEFECT turns on one of the defects below; the file `defects` lists each with the scenario that finds it, and the file
+ * `missed` those that no scenario finds. Without the variable, the stack is correct.
  */
 #define _POSIX_C_SOURCE 200809L
 #include "../tcpwit_stack.h"
@@ -25,7 +25,7 @@ enum defect {
     SCALE_ASSUMED, SYN_SCALED, WINDOW_DOUBLED, RTO_KEPT_AFTER_SYN, TIME_WAIT_REOPENED, SEND_AFTER_SHUT, PROBE_UNANSWERED, GAP_ANSWERED_ONCE,
     ACK_LATE, HALF_OPEN_ACCEPTED, PROBES_STEADY, ACK_DELAY_RESTARTED, FIN_WAITS, WINDOW_OF_OLDER_SEGMENT, WINDOW_OF_OLDER_ACK,
     BACKLOG_LEAK, UNKNOWN_OPTION_STOPS, TIME_WAIT_NOT_RESTARTED, SYN_ACK_RESENT_ONCE, VARIANCE_UNUSED, ACCEPTED_BY_AGE,
-    DEFECTS
+    NO_FAST_RETRANSMIT, NO_WINDOW_UPDATE, ROUND_TRIP_UNUSED, SILLY_WINDOWS, DEFECTS
 };
 static const char *const defect_names[DEFECTS] = {
     "none", "window-ignored", "rto-not-doubled", "rto-too-early", "no-slow-start", "no-collapse", "fin-not-resent", "duplicates-delivered",
@@ -34,7 +34,8 @@ static const char *const defect_names[DEFECTS] = {
     "received-not-modulo", "scale-assumed", "syn-scaled", "window-doubled", "rto-kept-after-syn", "time-wait-reopened", "send-after-shut",
     "probe-unanswered", "gap-answered-once", "ack-late", "half-open-accepted", "probes-steady", "ack-delay-restarted", "fin-waits",
     "window-of-older-segment", "window-of-older-ack", "backlog-leak", "unknown-option-stops", "time-wait-not-restarted",
-    "syn-ack-resent-once", "variance-unused", "accepted-by-age"
+    "syn-ack-resent-once", "variance-unused", "accepted-by-age", "no-fast-retransmit", "no-window-update", "round-trip-unused",
+    "silly-windows"
 };
 static enum defect defect;
 
@@ -142,7 +143,7 @@ static unsigned offer(struct connection *c, int in_syn)
 {
     uint32_t edge = c->rcv_nxt + c->room - c->unread;
     if (defect == WINDOW_SHRUNK && c->unread) edge = c->rcv_nxt + (c->room - c->unread) / 8;
-    if (defect == WINDOW_SHRUNK || edge - c->edge >= least(config.mss, c->room / 2)) c->edge = edge;
+    if (defect == WINDOW_SHRUNK || edge - c->edge >= (defect == SILLY_WINDOWS ? 1 : least(config.mss, c->room / 2))) c->edge = edge;
     uint32_t window = before(c->rcv_nxt, c->edge) ? c->edge - c->rcv_nxt : 0;
     if (in_syn) return least(window, 65535);
     return least(window >> (c->rcv_shift - (defect == WINDOW_DOUBLED && c->rcv_shift)), 65535);
@@ -235,6 +236,7 @@ static void output(struct connection *c)
 
 static void sample(struct connection *c, uint64_t rtt)
 {
+    if (defect == ROUND_TRIP_UNUSED) return;
     uint64_t off = rtt > c->srtt ? rtt - c->srtt : c->srtt - rtt;
     c->rttvar = c->sampled ? (3 * c->rttvar + off) / 4 : rtt / 2;
     c->srtt = c->sampled ? (7 * c->srtt + rtt) / 8 : rtt;
@@ -277,7 +279,8 @@ static void duplicate(struct connection *c)
 {
     c->duplicates++;
     if (c->fast) c->cwnd += c->mss;
-    if (c->duplicates != 3 || c->fast || before(c->una, c->recover) || defect == NO_RETRANSMISSION) return;
+    if (c->duplicates != 3 || c->fast || before(c->una, c->recover)) return;
+    if (defect == NO_RETRANSMISSION || defect == NO_FAST_RETRANSMIT) return;
     c->ssthresh = half_of_flight(c);
     c->cwnd = c->ssthresh + 3 * c->mss;
     c->fast = 1;
@@ -771,7 +774,7 @@ long stack_recv(long socket, void *bytes, size_t most)
     memset(c->have + c->room - count, 0, count);
     c->unread -= count;
     offer(c, 0);
-    if (c->edge != edge && c->state >= ESTABLISHED && !c->fin_taken) acknowledge(c);
+    if (c->edge != edge && c->state >= ESTABLISHED && !c->fin_taken && defect != NO_WINDOW_UPDATE) acknowledge(c);
     return (long)count;
 }
 
