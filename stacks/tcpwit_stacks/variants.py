@@ -3,6 +3,7 @@
 A variant's name is the scenario's with a suffix: `data-bulk+delay-0.13`, `data-bulk+loss-5+seed-2`.
 """
 import copy
+import re
 
 from .scenarios import FIXABLE, Fault, number, seconds
 
@@ -12,8 +13,10 @@ USUAL = ("+delay-0.13", "+delay-0.7", "+seed-2", "+loss-5", "+loss-5+seed-2")
 
 
 def split(word):
-    """The name or path of a scenario, and the suffix of its variant, empty if the word has none."""
-    at = word.find(MARK, word.rfind("/") + 1)
+    """The name or path of a scenario, and the suffix of its variant, empty if the word has none. A path may have a
+    `+` of its own."""
+    found = re.search(rf"([+]({'|'.join(FIXABLE)})-[^+/]*)+$", word)
+    at = found.start() if found else word.find(MARK, word.rfind("/") + 1)
     return (word, "") if at < 0 else (word[:at], word[at:])
 
 

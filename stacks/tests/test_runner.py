@@ -252,7 +252,8 @@ class Variants(unittest.TestCase):
         made = variants.variant(scenario, "+delay-0.13+loss-5+seed-3")
         self.assertEqual((made.name, made.delay, made.loss, made.seed), ("x+delay-0.13+loss-5+seed-3", 130000, 0.05, 3))
         self.assertEqual((scenario.name, scenario.delay, scenario.loss, scenario.seed), ("x", 500000, 0, 7))
-        for base, suffix in (("a", "+seed-2"), ("./b+c/a", ""), ("./b+c/a.scenario", "+loss-5+seed-2"), ("a", "")):
+        for base, suffix in (("a", "+seed-2"), ("./b+c/a", ""), ("./b+c/a.scenario", "+loss-5+seed-2"), ("a", ""),
+                             ("./b+c.scenario", "+seed-2"), ("a", "+sed-2")):
             self.assertEqual(variants.split(base + suffix), (base, suffix))
 
     def test_what_is_fixed_is_not_varied(self):
