@@ -113,6 +113,7 @@ class TheCommand(unittest.TestCase):
     def test_a_profile_that_cannot_be_used(self):
         for text, cause in (("mls 5", "profile: mls isn't a word of a profile"),
                             ("msl fast", "profile: msl 'fast' isn't a number"),
+                            ("expiries any", "profile: expiries 'any' is neither all nor some"),
                             ("msl", "profile: msl '' isn't a number"),
                             ("msl 5", "even an empty trace gets the answer 'bad trace 3'")):
             with open(f"{self.folder}/profile", "w") as file:
@@ -228,11 +229,28 @@ class TheCommand(unittest.TestCase):
             self.run_it(*ran, *words)
             with open(asked) as file:
                 lines = {line.split(" --case")[0].strip() for line in file if line.startswith(("find", "judge"))}
-            self.assertEqual(lines, {f"find{budget}", "judge --json", f"judge --json{budget}"})
+            # The trial before the first scenario has --expiries.
+            self.assertEqual(lines, {f"find{budget} --expiries 0,1", f"find{budget}", "judge --json",
+                                     f"judge --json{budget}"})
             os.remove(asked)
         for wrong in ("-1", "01", "1.5", "x", str(1 << 64)):
             self.assertEqual(self.run_it(*ran, "--budget=" + wrong)[0], 2)
         self.assertIn("nothing is searched", self.run_it(*ran, "--budget", "1", "--only-trace")[2])
+
+    def test_a_stack_that_reports_all_expiries(self):
+        """The search gets the hosts that are recorded: both, or only host 0 with a scripted peer."""
+        profile, check = f"{self.folder}/profile", "grep -q '^congestion none' && echo yes 1 1 || echo no 9 0 size"
+        ran = self.adapter(LISTENS), "--profile", profile, *self.programs(check)
+        for line, hosts in (("expiries all", {"0", "0,1"}), ("expiries some", set()), ("", set())):
+            with open(profile, "w") as file:
+                file.write(line + "\n")
+            self.run_it(*ran, self.scenario("  listen 80 as door\n"), "hostile-closed-ack")
+            with open(f"{self.folder}/asked") as file:
+                asked = file.read().splitlines()[4:]
+            for program in ("find", "judge"):
+                found = re.findall(f"^{program} .*--expiries (\\S+)", "\n".join(asked), re.M)
+                self.assertEqual(set(found), hosts, asked)
+            os.remove(f"{self.folder}/asked")
 
     def test_the_compared_values_are_shown(self):
         refused = self.outcome("no 9 0 congestion", "", "one")
@@ -277,8 +295,8 @@ class TheCommand(unittest.TestCase):
         with open(os.path.join(TOP, "README.md")) as file:
             named = set(re.findall(r"`(--[a-z-]+)", file.read()))
         options = re.findall(r"^  (?:-\w, )?(--[a-z-]+)", self.run_it("--help")[1], re.M)
-        # --all is an option of stacks/test.
-        self.assertLessEqual(named - {"--all"}, set(options))
+        # --all is an option of stacks/test, and --expiries of tcpwit_lab.
+        self.assertLessEqual(named - {"--all", "--expiries"}, set(options))
         self.assertIn("--failed", named)
 
     def test_the_outcomes_are_compared(self):

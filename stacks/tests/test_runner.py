@@ -441,7 +441,9 @@ class StandIn(Judge):
         if words[0] in self.slow:
             raise Broken("it took more than 60 s")
         level = re.search(r"congestion (\w+)", text)[1]
-        answers = {("check",): "yes 5 3" if level in self.yes else self.fault, ("find",): text,
+        if words[0] == "find":
+            return text, 0
+        answers = {("check",): "yes 5 3" if level in self.yes else self.fault,
                    ("explain", "--simulated", "--json"): json.dumps({"said": [self.fault, "what is compared", ""]}),
                    ("remark", "--json"): json.dumps({"said": [f"line 7: of {level}", "at the end: x"]})}
         if words[:2] == ["judge", "--json"]:
