@@ -11,6 +11,10 @@
 #include <stddef.h>
 #include <stdint.h>
 
+#ifdef __cplusplus
+extern "C" {
+#endif
+
 /* Answers below 0; the words of a trace, docs/reference/formats.md. */
 enum stack_answer {
     STACK_OK = 0,
@@ -67,5 +71,9 @@ long stack_shut(long socket);                                           /* shuts
 long stack_close(long socket);
 long stack_abort(long socket);
 const char *stack_state(long socket);                                   /* "ESTABLISHED" and so on, as in RFC 9293, 3.3.2 */
+
+#ifdef __cplusplus
+}
+#endif
 
 #endif

@@ -1,7 +1,9 @@
 #!/usr/bin/python3
 """Tests which programs the scripts of a clone run, and their messages if there is none. This needs no toolchain:
 scripts replace it."""
+import contextlib
 import os
+import pty
 import pwd
 import re
 import shutil
@@ -124,7 +126,7 @@ class Clone(unittest.TestCase):
         """Status, output and errors of a command whose PATH lacks this machine's toolchain."""
         environment = {"PATH": f"{self.folder}/bin:/usr/bin:/bin", "PYTHONDONTWRITEBYTECODE": "1", **variables}
         done = subprocess.run(words, cwd=self.top, env=environment, capture_output=True, text=True, timeout=60,
-                              check=False)
+                              check=False, start_new_session=True)
         return done.returncode, done.stdout, done.stderr
 
     def found(self, name):
@@ -171,6 +173,26 @@ class Clone(unittest.TestCase):
         error = self.found("stacks")[1]
         self.assertIn("tcpwit: building it", error)
         self.assertNotIn("tcpwit_lab: building it", error)
+
+    def test_a_build_is_announced_on_the_terminal(self):
+        """Standard error is a pipe, as with `2>&1 | tail`."""
+        self.toolchain()
+        code = "import sys; sys.path.insert(0, 'tools'); import unproved; unproved.kept('tcpwit')"
+        child, terminal = pty.fork()
+        if child == 0:
+            os.chdir(self.top)
+            os.environ["PATH"] = f"{self.folder}/bin:/usr/bin:/bin"
+            os.execv("/bin/sh", ["sh", "-c", f'"{sys.executable}" -B -c "{code}" 2>&1 | cat > {self.folder}/said'])
+        said = b""
+        with contextlib.suppress(OSError):
+            while more := os.read(terminal, 1 << 16):
+                said += more
+        os.close(terminal)
+        self.assertEqual(os.waitpid(child, 0)[1], 0)
+        with open(f"{self.folder}/said", encoding="utf-8") as file:
+            lines = file.read().splitlines()
+        self.assertIn("tcpwit: building it without proofs, once", lines[0])
+        self.assertEqual(said.decode().splitlines(), lines[:1])
 
     def test_both_programs_are_one(self):
         for name in ("tcpwit", "tcpwit_lab"):

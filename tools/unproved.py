@@ -16,6 +16,7 @@ that `rt try` passes to its compiler, and compiles and links it with the toolcha
 run-time check instead of each proof: if one fails, the program stops instead of continuing with a wrong value. The
 script depends on the folder layout of the November 2026 toolchain.
 """
+import contextlib
 import fcntl
 import glob
 import os
@@ -59,6 +60,15 @@ def stop(cause):
     """Ends, since there is no program."""
     print(cause, file=sys.stderr)
     sys.exit(NO_PROGRAM)
+
+
+def announce(text):
+    """Prints a line on standard error, and also on the terminal if standard error goes elsewhere, as with
+    `2>&1 | tail`, which shows nothing until the end."""
+    print(text, file=sys.stderr, flush=True)
+    if not sys.stderr.isatty():
+        with contextlib.suppress(OSError), open("/dev/tty", "w", encoding="utf-8") as terminal:
+            print(text, file=terminal)
 
 
 def need_toolchain(name):
@@ -301,8 +311,8 @@ def build_once(name, program):
         if is_current(program, name):
             return
         also = f", and {' and '.join(twin for twin in TWINS if twin != name)} with it" if name in TWINS else ""
-        print(f"{name}: building it without proofs, once, as {program}{also}; this takes about four minutes of one "
-              "processor", file=sys.stderr, flush=True)
+        announce(f"{name}: building it without proofs, once, as {program}{also}; this takes about four minutes of one "
+                 "processor")
         if name in TWINS:
             build_both()
         else:

@@ -1,4 +1,6 @@
 """The outcomes of an earlier run in a file, what differs from them, and which outcomes are failures."""
+import re
+
 from .files import read
 
 # The first line of such a file.
@@ -11,7 +13,7 @@ def brief(outcome):
     rule = f" [{outcome.rule()}]" if outcome.rule() else ""
     lost = f" missing {outcome.missing}" if outcome.missing else ""
     waiting = f" open {len(outcome.waiting)}" if outcome.waiting else ""
-    unexpected = "; ".join(line.split(": ", 1)[1] for line in outcome.unexpected)
+    unexpected = "; ".join(re.sub(r", line \d+$", "", line.split(": ", 1)[-1]) for line in outcome.unexpected)
     return (f"{outcome.scenario.name}: {outcome.verdict()}{rule}{outcome.but()}{lost}{waiting}"
             f"{f' ({unexpected})' if unexpected else ''}")
 

@@ -13,15 +13,15 @@ from .scenarios import Fault
 from .texts import shown
 
 
-def report(words, name, outcomes):
-    """Prints and writes the outcomes as they arrive, and returns the exit status."""
+def report(words, name, outcomes, width=table.NAMES):
+    """Prints and writes the outcomes as they arrive, and returns the exit status. `width`: that of the longest name."""
     seen, known = [], baseline.known_outcomes(words.against)
     bad = functools.partial(baseline.failure, least=words.least, known=known, remarks_fail=words.remarks == "fail")
     for outcome in outcomes:
         if not seen:
-            table.show_head()
+            table.show_head(width)
         seen.append(outcome)
-        table.show(outcome, words.verbose)
+        table.show(outcome, words.verbose, width)
         if words.junit and files.can_be_written_again(words.junit):
             junit.write_report(seen, name, words.junit, bad)
     table.show_sums(seen)
@@ -56,12 +56,13 @@ def main():
     try:
         words = arguments()
         named = selection.failed_last(words.stack) if words.failed else words.scenario
-        wanted = list(selection.scenarios_of(named))
+        wanted = list(selection.scenarios_of(named, words.vary))
         baseline.known_outcomes(words.against)
         with tempfile.TemporaryDirectory() as folder:
             task = tasks.task_of(words, folder)
             with contextlib.closing(tasks.outcomes_of(wanted, task, words.jobs)) as outcomes:
-                return report(words, task.values["name"], outcomes)
+                width = table.width_of(scenario.name for scenario in wanted)
+                return report(words, task.values["name"], outcomes, width)
     except OSError as fault:
         stop(f"{fault.filename}: {fault.strerror}" if fault.filename else str(fault))
     except (Fault, Broken, ValueError) as fault:

@@ -7,7 +7,7 @@ import tempfile
 from . import processes
 from .limits import Broken
 from .outcomes import FULL, LEVELS
-from .profiles import USUAL, VERSION, trace_of
+from .profiles import USUAL, VERSION, shown_expiries, trace_of
 from .texts import shown
 
 # The commands of tcpwit_lab. The segments came over a simulated wire, so no capture can have changed them.
@@ -46,9 +46,9 @@ class Judge:
             raise Broken(shown(f"{' '.join(self.check)} check printed nothing and ended with status {status}"))
         return shown(told.strip())
 
-    def case(self, trace):
-        """The trace with the witness that `tcpwit_lab find` finds."""
-        return self.call(self.lab, ["find", *self.budget], trace)[0]
+    def case(self, trace, shown=()):
+        """The trace with the witness that `tcpwit_lab find` finds. `shown`: the option for expiries, if any."""
+        return self.call(self.lab, ["find", *self.budget, *shown], trace)[0]
 
     def object(self, words, text):
         """The object that `tcpwit_lab` prints with --json."""
@@ -62,8 +62,9 @@ class Judge:
     # ---- before the first scenario ----
 
     def unfit(self):
-        """The program that is older than the suite, which needs format version 5 and --json; empty if none is."""
-        case = self.case(trace_of(USUAL, False, [], LEVELS[-1]))
+        """The program that is older than the suite, which needs format version 5, --expiries and --json; empty if none
+        is."""
+        case = self.case(trace_of(USUAL, False, [], LEVELS[-1]), shown_expiries({"expiries": "all"}, False))
         try:
             told = [self.object(words, case) for words in (EXPLAIN, REMARK, LEVELS_OF)]
         except Broken:
@@ -81,15 +82,15 @@ class Judge:
     def judge(self, outcome, run, values):
         """Finds witnesses and fills in the outcome. Returns the case of `full` and that of the strictest level with a
         yes, keyed by level."""
-        trace = trace_of(values, run.peer, run.lines, FULL)
-        cases = {FULL: self.case(trace)}
+        trace, shown = trace_of(values, run.peer, run.lines, FULL), shown_expiries(values, run.peer)
+        cases = {FULL: self.case(trace, shown)}
         outcome.answer = self.answer(cases[FULL])
         if outcome.answer.startswith("yes"):
             outcome.level = FULL
         else:
             self.explain(outcome, cases[FULL])
         if outcome.answer.startswith("no"):
-            self.try_laxer_levels(outcome, trace, cases)
+            self.try_laxer_levels(outcome, trace, cases, shown)
         if outcome.is_judged():
             self.remark(outcome, cases[outcome.level or FULL])
         return cases
@@ -101,11 +102,11 @@ class Judge:
         except Broken as cause:
             outcome.notes.append(f"run: {cause}; the explanation wasn't finished")
 
-    def try_laxer_levels(self, outcome, trace, cases):
+    def try_laxer_levels(self, outcome, trace, cases, shown):
         """Looks for the strictest level with a yes, after a no at `full`."""
         try:
             with tempfile.NamedTemporaryFile() as file:
-                words = [*LEVELS_OF, "--least", LEVELS[1], *self.budget, "--case", file.name]
+                words = [*LEVELS_OF, "--least", LEVELS[1], *self.budget, *shown, "--case", file.name]
                 found = self.object(words, trace)
                 if found["answer"] != "yes":
                     return

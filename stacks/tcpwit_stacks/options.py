@@ -12,7 +12,8 @@ Runs a stack through the scenarios and judges each run.
 STACK is a folder next to this program (`lwip`, `gvisor`), with a script `build` and a file `profile`, or a program
 linked with driver.c, whose profile --profile names. A word with a slash is a path: `./toy` is the program or folder
 `toy` here. SCENARIO selects one scenario by the name of its file in scenarios/ or by a path, or several by the
-beginning of their names. Without it, all scenarios run.
+beginning of their names. Without it, all scenarios run. A suffix, as in `data-bulk+delay-0.7`, `+loss-5` or `+seed-2`,
+selects a variant.
 
 A verdict first judges all of congestion control (full). After a no, less is judged: only when outstanding data is
 retransmitted (recovery), or nothing (none). The verdict shows the strictest level with a yes: `yes` at full, else `yes
@@ -73,6 +74,9 @@ def parser():
     words.add_argument("stack", metavar="STACK", help="a folder next to this program, a program, or a path")
     words.add_argument("scenario", metavar="SCENARIO", nargs="*",
                        help="names, files, or beginnings of names (default: all scenarios)")
+    words.add_argument("--vary", action="store_true",
+                       help="run each scenario that has a wire again with other delays, losses and seeds, "
+                            "as variants with names of their own")
     words.add_argument("--profile", metavar="FILE", type=some_name,
                        help="the stack's profile (default: that of its folder)")
     words.add_argument("--least", choices=LEVELS, default=FULL,
@@ -116,7 +120,7 @@ def arguments():
     """The options and arguments of the command line."""
     words = parser()
     given = words.parse_intermixed_args()
-    if given.failed and given.scenario:
+    if given.failed and (given.scenario or given.vary):
         words.error("--failed selects the scenarios itself")
     if given.only_trace and given.remarks == "fail":
         words.error("--only-trace judges nothing, so there are no remarks")

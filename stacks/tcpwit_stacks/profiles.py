@@ -7,9 +7,9 @@ HEADER = ("msl", "grain", "minrto", "extra", "initial")
 # The values of a stack if its profile has none. The clock is simulated, so a slack of 20 ms is enough for a stack whose
 # timers are on time.
 USUAL = {"name": "a stack", "msl": "120000000", "grain": "1000", "minrto": "0", "extra": "65535", "initial": "5681",
-         "slack": "20000", "options": ""}
+         "slack": "20000", "expiries": "some", "options": ""}
 # How the values are written.
-NUMBER, SLACK = "[0-9]+", "[0-9]+|any"
+NUMBER, SLACK, EXPIRIES = "[0-9]+", "[0-9]+|any", "all|some"
 
 
 def profile(text, path="profile"):
@@ -26,7 +26,15 @@ def profile(text, path="profile"):
                 raise ValueError(f"{path}: {word} {values[word]!r} isn't a number")
             if word == "slack" and not re.fullmatch(SLACK, values[word]):
                 raise ValueError(f"{path}: slack {values[word]!r} is neither a number nor any")
+            if word == "expiries" and not re.fullmatch(EXPIRIES, values[word]):
+                raise ValueError(f"{path}: expiries {values[word]!r} is neither all nor some")
     return values
+
+
+def shown_expiries(values, half):
+    """The option of `tcpwit_lab find` and `judge` for a stack that reports every expiry of its timers: the search then
+    adds none at the hosts that are recorded. Empty if it may report only some."""
+    return ["--expiries", "0" if half else "0,1"] if values["expiries"] == "all" else []
 
 
 def header_of(values, half, level):

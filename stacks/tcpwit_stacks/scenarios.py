@@ -5,6 +5,8 @@ from dataclasses import dataclass, field
 KINDS = ("syn", "syn-ack", "data", "fin", "ack", "rst", "any")
 CALLS = {"listen": 1, "open": 2, "await": 1, "accept": 1, "send": 2, "recv": 2, "shut": 1, "close": 1, "abort": 1,
          "status": 1}
+# What a variant changes; the line `fixed` forbids it.
+FIXABLE = ("delay", "loss", "seed")
 
 
 class Fault(Exception):
@@ -49,6 +51,7 @@ class Scenario:
     by: str = ""
     seed: int = 1
     delay: int = 20000
+    loss: float = 0.0                              # the share of segments that a variant loses besides
     until: int = 300_000_000
     linger: int = 2_000_000
     cuts: list = field(default_factory=list)
@@ -58,6 +61,7 @@ class Scenario:
     peer: tuple = ()                               # the peer's port, the stack's port
     script: list = field(default_factory=list)
     keeps: bool = True                             # False: bytes may be lost
+    fixed: tuple = ()                              # what no variant may change
 
 
 def seconds(text):
@@ -238,6 +242,10 @@ def top(scenario, words, line):
         scenario.settings[host(args[0]), word] = half(args[1]) if word == "mss" else number(args[1])
     elif word == "bytes-may-be-lost":
         scenario.keeps = False
+    elif word == "fixed":
+        if not args or not set(args) <= set(FIXABLE):
+            raise ValueError(f"fixed {'|'.join(FIXABLE)} ..")
+        scenario.fixed = tuple(args)
     elif word == "thread":
         if args[1] != "host":
             raise ValueError("thread N host H")

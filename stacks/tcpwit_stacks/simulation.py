@@ -156,9 +156,8 @@ class Run:
     def attempt(self, thread):
         """Tries an open call. Returns whether it was answered."""
         step, host, command = thread.open
-        answer = self.ask(host, command) if command else "badsocket"
         number = self.names.get(step.args[0]) if step.word not in ("listen", "open") else None
-        answer = self.told_again(number, step.word, answer)
+        answer = self.told_again(number, step.word, self.ask(host, command)) if command else "badsocket"
         if answer == "again" and step.word in ("await", "accept", "send", "recv") and "again" not in step.expected:
             return False
         thread.open = None

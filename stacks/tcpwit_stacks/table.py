@@ -2,8 +2,8 @@
 from .files import say
 from .outcomes import BUT, VERDICTS
 
-# How much of a verdict fits into the table.
-WIDTH = 39
+# How much of a verdict fits into the table, and the least width of the column of names.
+WIDTH, NAMES = 39, 34
 MEANING = ("but: something went wrong apart from the verdict, as the lines below the row show; a yes doesn't promise "
            "progress")
 
@@ -20,15 +20,20 @@ def details(outcome, verbose=False):
     return found + (outcome.said if verbose or outcome.word() == "broken" else [])
 
 
-def show_head():
-    say(f"{'scenario':34} {'verdict':{WIDTH}} {'missing':>8} {'open':>5} {'remarks':>8}")
+def width_of(names):
+    """The width of the column that shows these names."""
+    return max([NAMES, *map(len, names)])
 
 
-def show(outcome, verbose):
+def show_head(names=NAMES):
+    """Prints the head of the table. `names`: the width of the column of names."""
+    say(f"{'scenario':{names}} {'verdict':{WIDTH}} {'missing':>8} {'open':>5} {'remarks':>8}")
+
+
+def show(outcome, verbose, names=NAMES):
     """Prints a row of the table and the lines below it."""
-    remarks = "?" if outcome.unremarked else len(outcome.remarks)
-    say(f"{outcome.scenario.name:34} {outcome.shown()[:WIDTH]:{WIDTH}} {outcome.missing:8} {len(outcome.waiting):5} "
-        f"{remarks:>8}")
+    remarks, verdict = "?" if outcome.unremarked else len(outcome.remarks), outcome.shown()[:WIDTH]
+    say(f"{outcome.scenario.name:{names}} {verdict:{WIDTH}} {outcome.missing:8} {len(outcome.waiting):5} {remarks:>8}")
     for line in details(outcome, verbose):
         say(f"    {line[:200]}")
 

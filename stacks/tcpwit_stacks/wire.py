@@ -47,6 +47,8 @@ class Wire:
                 delay += rule.time
             else:
                 copies.append(self.scenario.delay + rule.time)
+        # Nobody sends a lost reset again, so the losses of a variant spare resets.
+        lost |= kind != "rst" and bool(self.scenario.loss) and self.random.random() < self.scenario.loss
         if any(first <= moment < last for first, last in self.scenario.cuts):
             return []
         return copies if lost else [delay, *copies]

@@ -13,7 +13,7 @@ import xml.etree.ElementTree
 from types import SimpleNamespace
 from unittest import mock
 
-from tcpwit_stacks import cli, options, programs, segments, selection, table, tasks
+from tcpwit_stacks import cli, options, programs, segments, selection, table, tasks, variants
 from tcpwit_stacks.judge import Judge
 from tcpwit_stacks.limits import Broken, Limits, Watch
 from tcpwit_stacks.outcomes import LEVELS, Outcome
@@ -29,7 +29,7 @@ check) {check} ;;
 find) exec cat ;;
 judge) echo '{{"answer":"yes","level":"none"}}' ;;
 explain) echo '{{"said":["no","{said}"]}}' ;;
-remark) echo '{{"said":["{said}"]}}' | sed 's/""//' ;;
+remark) {before_remark} echo '{{"said":["{said}"]}}' | sed 's/""//' ;;
 esac
 """
 # An adapter that answers every command the same way.
@@ -37,6 +37,12 @@ ADAPTER = """#!{python}
 import sys
 for line in sys.stdin:
     print({answer!r}, flush=True)
+"""
+# An adapter whose every call is successful, if it can be without a connection.
+LISTENS = """#!{python}
+import sys
+for line in sys.stdin:
+    print("= - ok" + " 0" * ("listen" in line), flush=True)
 """
 
 
@@ -64,13 +70,14 @@ class TheCommand(unittest.TestCase):
         os.chmod(path, 0o755)
         return path
 
-    def programs(self, check="echo yes 1 1", said="", name="judge"):
+    def programs(self, check="echo yes 1 1", said="", name="judge", before_remark=""):
         """Options for a program that acts as `tcpwit`, with these commands of the shell for `check`, and as
-        `tcpwit_lab`: `find` prints the trace unchanged, `judge` finds a yes at `none`, and `explain` and `remark` print
-        the object whose lines are `said`. It lists its arguments in the file `asked`."""
+        `tcpwit_lab`: `find` prints the trace unchanged, `judge` finds a yes at `none`, and `explain` and `remark`
+        print the object whose lines are `said`, the latter after the commands `before_remark`. It lists its arguments
+        in the file `asked`."""
         path = f"{self.folder}/{name}"
         with open(path, "w") as file:
-            file.write(JUDGE.format(asked=f"{self.folder}/asked", check=check, said=said))
+            file.write(JUDGE.format(asked=f"{self.folder}/asked", check=check, said=said, before_remark=before_remark))
         os.chmod(path, 0o755)
         return "--check", path, "--lab", path
 
@@ -95,7 +102,7 @@ class TheCommand(unittest.TestCase):
 
     def test_a_whole_name_is_one_scenario(self):
         def names(*words):
-            return [os.path.basename(path)[:-9] for path in selection.paths_of(words)]
+            return [os.path.basename(path)[:-9] for path, _ in selection.paths_of(words)]
         folder = os.path.join(TOP, "scenarios")
         self.assertEqual(names("data-bulk"), ["data-bulk"])
         self.assertEqual(names("data-bulk.scenario"), ["data-bulk"])
@@ -106,6 +113,7 @@ class TheCommand(unittest.TestCase):
     def test_a_profile_that_cannot_be_used(self):
         for text, cause in (("mls 5", "profile: mls isn't a word of a profile"),
                             ("msl fast", "profile: msl 'fast' isn't a number"),
+                            ("expiries any", "profile: expiries 'any' is neither all nor some"),
                             ("msl", "profile: msl '' isn't a number"),
                             ("msl 5", "even an empty trace gets the answer 'bad trace 3'")):
             with open(f"{self.folder}/profile", "w") as file:
@@ -221,11 +229,28 @@ class TheCommand(unittest.TestCase):
             self.run_it(*ran, *words)
             with open(asked) as file:
                 lines = {line.split(" --case")[0].strip() for line in file if line.startswith(("find", "judge"))}
-            self.assertEqual(lines, {f"find{budget}", "judge --json", f"judge --json --least recovery{budget}"})
+            # The trial before the first scenario has --expiries.
+            self.assertEqual(lines, {f"find{budget} --expiries 0,1", f"find{budget}", "judge --json",
+                                     f"judge --json --least recovery{budget}"})
             os.remove(asked)
         for wrong in ("-1", "01", "1.5", "x", str(1 << 64)):
             self.assertEqual(self.run_it(*ran, "--budget=" + wrong)[0], 2)
         self.assertIn("nothing is searched", self.run_it(*ran, "--budget", "1", "--only-trace")[2])
+
+    def test_a_stack_that_reports_all_expiries(self):
+        """The search gets the hosts that are recorded: both, or only host 0 with a scripted peer."""
+        profile, check = f"{self.folder}/profile", "grep -q '^congestion none' && echo yes 1 1 || echo no 9 0 size"
+        ran = self.adapter(LISTENS), "--profile", profile, *self.programs(check)
+        for line, hosts in (("expiries all", {"0", "0,1"}), ("expiries some", set()), ("", set())):
+            with open(profile, "w") as file:
+                file.write(line + "\n")
+            self.run_it(*ran, self.scenario("  listen 80 as door\n"), "hostile-closed-ack")
+            with open(f"{self.folder}/asked") as file:
+                asked = file.read().splitlines()[4:]
+            for program in ("find", "judge"):
+                found = re.findall(f"^{program} .*--expiries (\\S+)", "\n".join(asked), re.M)
+                self.assertEqual(set(found), hosts, asked)
+            os.remove(f"{self.folder}/asked")
 
     def test_the_compared_values_are_shown(self):
         refused = self.outcome("no 9 0 congestion", "", "one")
@@ -270,8 +295,8 @@ class TheCommand(unittest.TestCase):
         with open(os.path.join(TOP, "README.md")) as file:
             named = set(re.findall(r"`(--[a-z-]+)", file.read()))
         options = re.findall(r"^  (?:-\w, )?(--[a-z-]+)", self.run_it("--help")[1], re.M)
-        # --all is an option of stacks/test.
-        self.assertLessEqual(named - {"--all"}, set(options))
+        # --all is an option of stacks/test, and --expiries of tcpwit_lab.
+        self.assertLessEqual(named - {"--all", "--expiries"}, set(options))
         self.assertIn("--failed", named)
 
     def test_the_outcomes_are_compared(self):
@@ -400,6 +425,56 @@ class TheCommand(unittest.TestCase):
                                      "--jobs", "1", *self.programs())
         self.assertEqual((status, out.count("\n    broken the run took more than 1 s, "), "2 broken" in out),
                          (1, 2, True))
+
+    def test_a_verdict_outlives_remarks_that_take_too_long(self):
+        judge = self.programs(before_remark="grep -q ' B status' && sleep 1000;")
+        status, out, error = self.run_it(self.adapter(answer="= - ok"), self.scenario("  close c\n"), *judge,
+                                         "--scenario-limit", "1")
+        self.assertEqual((status, error), (1, ""))
+        self.assertIn("yes 1 1, but", out)
+        self.assertIn("\n    run: the scenario took more than 1 s, in judge remark; the remarks weren't finished\n",
+                      out)
+        self.assertNotIn("broken", out)
+
+    def test_variants_are_rows_of_their_own(self):
+        scenario, names = self.scenario("  listen 80 as door\n"), ["own", *("own" + each for each in variants.USUAL)]
+        files = [f"{self.folder}/{name}" for name in ("report.xml", "written")]
+        ran = (self.adapter(LISTENS), "--junit", files[0], "--out", self.folder,
+               *self.programs("grep -q ' B status' && echo no 9 0 size || echo yes 1 1"))
+        status, out, _ = self.run_it(*ran, scenario, "--vary", "--write-against", files[1])
+        self.assertEqual((status, [line.split()[0] for line in out.split("\n") if line.startswith("own")]), (1, names))
+        cases = xml.etree.ElementTree.parse(files[0]).iter("testcase")
+        self.assertEqual([case.get("name") for case in cases], names)
+        with open(files[1]) as file:
+            self.assertEqual([line.split(":")[0] for line in file.read().splitlines()[1:]], names)
+        for name in names:
+            self.assertTrue(os.path.exists(f"{self.folder}/{name}.trace"))
+        # --failed repeats them, and each can be run alone.
+        self.assertIn("own+delay-0.7 ", self.run_it(*ran, "--failed")[1])
+        self.assertEqual(self.run_it(*ran, "--failed", "--vary")[0], 2)
+        self.assertEqual(self.run_it(*ran, scenario + "+delay-0.7", "--against", files[1])[0], 0)
+
+    def test_which_variants_are_selected(self):
+        def names(*words, vary=False):
+            return [scenario.name for scenario in selection.scenarios_of(words, vary)]
+        usual = list(variants.USUAL)
+        self.assertEqual(names("data-bulk", vary=True), ["data-bulk", *("data-bulk" + each for each in usual)])
+        self.assertEqual(names("data-bulk+delay-0.13", vary=True), ["data-bulk+delay-0.13"])
+        self.assertEqual(names("hostile-trickle", "end-states", vary=True),
+                         ["hostile-trickle", "end-states", "end-states+seed-2"])
+        # The beginning of names selects those that can be varied so.
+        self.assertEqual(names("end-s+loss-3"), ["end-send-after-shut+loss-3", "end-server-first+loss-3"])
+        for words, cause in ((["end-states+delay-0.7"],
+                              "end-states+delay-0.7: the scenario has a line `fixed` with delay"),
+                             (["hostile-trickle+seed-2"], "a scripted peer has no wire"),
+                             (["hostile-w+seed-2"], "hostile-w+seed-2: none of these scenarios can be varied so"),
+                             (["data-bulk+"], "+ isn't a variant, such as "), (["data-bulk+sed-2"], "isn't a variant"),
+                             (["data-bulk+seed-2+seed-3"], "isn't a variant"), (["data-bulk+delay-x"], "isn't a time"),
+                             (["data-bulk+loss-101"], "101 is above 100"),
+                             (["data-blk+seed-2"], "is neither a file nor the beginning"),
+                             (["./data-blk+seed-2"], "./data-blk+seed-2: No such file")):
+            status, _, error = self.run_it("true", *words)
+            self.assertEqual((status, cause in error), (2, True), error)
 
     def scenario(self, steps, whole=""):
         """A file of a scenario with one thread."""

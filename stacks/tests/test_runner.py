@@ -6,7 +6,8 @@ import unittest
 from types import SimpleNamespace
 from unittest import mock
 
-from tcpwit_stacks import baseline, host, peer, profiles, scenarios, segments, simulation, storms, table, texts, wire
+from tcpwit_stacks import (baseline, host, peer, profiles, scenarios, segments, simulation, storms, table, texts,
+                           variants, wire)
 from tcpwit_stacks.judge import Judge
 from tcpwit_stacks.limits import Broken
 from tcpwit_stacks.outcomes import LEVELS, Outcome
@@ -243,6 +244,38 @@ class Again(unittest.TestCase):
         self.assertFalse(sent.is_again(1, segment(syn, 2**31 + 9)))
 
 
+class Variants(unittest.TestCase):
+    TEXT = HEAD + "seed 7\ndelay 0.5\n"
+
+    def test_a_variant(self):
+        scenario = scenarios.read("x", self.TEXT)
+        made = variants.variant(scenario, "+delay-0.13+loss-5+seed-3")
+        self.assertEqual((made.name, made.delay, made.loss, made.seed), ("x+delay-0.13+loss-5+seed-3", 130000, 0.05, 3))
+        self.assertEqual((scenario.name, scenario.delay, scenario.loss, scenario.seed), ("x", 500000, 0, 7))
+        for base, suffix in (("a", "+seed-2"), ("./b+c/a", ""), ("./b+c/a.scenario", "+loss-5+seed-2"), ("a", ""),
+                             ("./b+c.scenario", "+seed-2"), ("a", "+sed-2")):
+            self.assertEqual(variants.split(base + suffix), (base, suffix))
+
+    def test_what_is_fixed_is_not_varied(self):
+        scenario = scenarios.read("x", self.TEXT + "fixed delay loss\n")
+        self.assertEqual([each for each in variants.USUAL if variants.is_fit(scenario, each)], ["+seed-2"])
+        with self.assertRaisesRegex(scenarios.Fault, "x[+]loss-5: the scenario has a line `fixed` with loss"):
+            variants.variant(scenario, "+loss-5")
+        for line in ("fixed", "fixed window"):
+            with self.assertRaisesRegex(scenarios.Fault, "x, line 5: fixed delay|loss|seed"):
+                scenarios.read("x", self.TEXT + line)
+
+    def test_losses_spare_resets_and_depend_on_the_seed(self):
+        def lost(suffix, flags):
+            made = wire.Wire(variants.variant(scenarios.read("x", self.TEXT), suffix))
+            return [at for at in range(200) if not made.delays(0, segment(flags), 0)]
+        self.assertEqual((len(lost("+loss-100", segments.ACK)), lost("+loss-100", segments.RST)), (200, []))
+        self.assertTrue(5 < len(lost("+loss-10", segments.ACK)) < 40)
+        self.assertEqual(lost("+loss-10", segments.ACK), lost("+loss-10", segments.ACK))
+        self.assertNotEqual(lost("+loss-10", segments.ACK), lost("+loss-10+seed-8", segments.ACK))
+        self.assertEqual(lost("+seed-8", segments.ACK), [])
+
+
 class TheEnd(unittest.TestCase):
     """The call that ends a recording."""
     LINES = ["B status 0", "E badsocket"]
@@ -270,6 +303,16 @@ class TheEnd(unittest.TestCase):
                          [])
         self.assertNotIn(simulation.LAST_THREAD, range(simulation.TIMER_THREAD + 2))
 
+    def test_a_number_of_the_stack_may_be_used_again(self):
+        lines = self.lines("  open 4000 80 as c\n  close c\n  open 4001 80 as d\n  close d\n")
+        self.assertEqual([line.split(" ", 2)[2] for line in lines[1:-2:2]], ["E ok 2", "E ok", "E ok 3", "E ok"])
+        self.assertEqual(lines[6].split(" ", 2)[2], "B close 3")
+
+    def test_a_closed_socket_repeats_no_fault(self):
+        steps = "  open 4000 80 as c\n  recv c 5 is reset\n  shut c is reset\n  close c\n  send c 5 is badsocket\n"
+        self.assertEqual([line.split(" ", 2)[2] for line in self.lines(steps)[3:-2:2]],
+                         ["E reset", "E reset", "E ok", "E badsocket"])
+
     def test_a_run_that_is_ended_early_lasts_until_then(self):
         self.assertEqual(self.lines("  wait 3\n  wait 3\n  wait 3\n", "", 2)[-2:],
                          [f"3001000 {simulation.LAST_THREAD} {line}" for line in self.LINES])
@@ -289,7 +332,7 @@ class Silent:
         pass
 
     def ask(self, call, command):
-        return {"open": "ok 0", "await": "again"}.get(call, "ok"), []
+        return {"open": "ok 0", "await": "again", "recv": "reset"}.get(call, "ok"), []
 
 
 class Storms(unittest.TestCase):
@@ -374,6 +417,8 @@ class Verdicts(unittest.TestCase):
                               (self.outcome("no 9 0 size", missing=7, waiting=["a"],
                                             unexpected=["thread 1, line 2: b"]),
                                "x: no [size], but missing 7 open 1 (b)"),
+                              (self.outcome("yes 5 3", "full", unexpected=["thread 1 waits, line 2"]),
+                               "x: yes, but (thread 1 waits)"),
                               (self.outcome("skipped iss at host 0"), "x: skipped")):
             self.assertEqual(baseline.brief(outcome), line)
 
@@ -396,7 +441,9 @@ class StandIn(Judge):
         if words[0] in self.slow:
             raise Broken("it took more than 60 s")
         level = re.search(r"congestion (\w+)", text)[1]
-        answers = {("check",): "yes 5 3" if level in self.yes else self.fault, ("find",): text,
+        if words[0] == "find":
+            return text, 0
+        answers = {("check",): "yes 5 3" if level in self.yes else self.fault,
                    ("explain", "--simulated", "--json"): json.dumps({"said": [self.fault, "what is compared", ""]}),
                    ("remark", "--json"): json.dumps({"said": [f"line 7: of {level}", "at the end: x"]})}
         if words[:2] == ["judge", "--json"]:

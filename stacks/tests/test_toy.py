@@ -12,9 +12,10 @@ TOP = os.path.dirname(os.path.dirname(os.path.abspath(__file__)))
 TOY = os.path.join(TOP, "toy")
 
 
-def rows():
-    """The lines of toy/defects: a defect, its scenario, and the outcome's line."""
-    with open(os.path.join(TOY, "defects")) as file:
+def rows(name="defects"):
+    """The lines of toy/defects: a defect, its scenario, and the outcome's line. In toy/missed, a reason replaces the
+    outcome."""
+    with open(os.path.join(TOY, name)) as file:
         for line in file:
             if not line.startswith("#"):
                 defect, outcome = line.rstrip("\n").split(maxsplit=1)
@@ -53,6 +54,17 @@ class Toy(unittest.TestCase):
             found = list(workers.map(lambda row: self.run_one(*row), wanted))
         self.assertEqual([text for text in found if text], [])
 
+    def test_missed_defects_get_a_yes(self):
+        for defect, scenario, _ in rows("missed"):
+            self.assertEqual(self.run_one(defect, scenario, f"{scenario}: yes"), "")
+            traces = []
+            for each in ("", defect):
+                out = os.path.join(self.folder.name, f"missed-{each}")
+                self.run_it(scenario, "--only-trace", "--out", out, defect=each)
+                with open(os.path.join(out, scenario + ".trace")) as file:
+                    traces.append(file.read())
+            self.assertNotEqual(*traces, defect)
+
     def test_delayed_data_makes_the_timer_expire(self):
         out = os.path.join(self.folder.name, "delayed")
         self.run_it("data-slower-later", "--only-trace", "--out", out)
@@ -79,7 +91,7 @@ class Toy(unittest.TestCase):
         with open(os.path.join(TOY, "stack.c")) as file:
             names = re.search(r"defect_names\[DEFECTS\] = \{(.*?)\}", file.read(), re.DOTALL).group(1)
         self.assertEqual(sorted(re.findall(r'"([a-z-]+)"', names)),
-                         sorted(["none", *(defect for defect, _, _ in rows())]))
+                         sorted(["none", *(defect for name in ("defects", "missed") for defect, _, _ in rows(name))]))
 
     def test_the_page_has_the_number_of_defects(self):
         with open(os.path.join(TOP, "README.md")) as file:

@@ -1,8 +1,8 @@
 /* A small TCP that follows RFC 9293, 6298 and 5681, with window scaling (RFC 7323, 2). It acknowledges each segment at once. It has
  * room for 64 connections and never frees one.
  *
- * The variable TOY_DEFECT turns on one of the defects below; the file `defects` lists each with the scenario that finds it. Without
- * the variable, the stack is correct.
+ * The variable TOY_DEFECT turns on one of the defects below; the file `defects` lists each with the scenario that finds it, and the file
+ * `missed` those that no scenario finds. Without the variable, the stack is correct.
  */
 #define _POSIX_C_SOURCE 200809L
 #include "../tcpwit_stack.h"
@@ -23,14 +23,19 @@ enum defect {
     ACK_BEYOND, ACK_OF_UNSENT, DATA_AFTER_FIN, ANY_RESET, NO_TIME_WAIT, MSS_IGNORED, NO_RETRANSMISSION, NO_PROBES, WINDOW_SHRUNK,
     KARN_IGNORED, SYN_NOT_BACKED_OFF, SCALE_IGNORED, ROOM_NOT_FREED, RING_OFF_BY_ONE, SENT_NOT_MODULO, RECEIVED_NOT_MODULO,
     SCALE_ASSUMED, SYN_SCALED, WINDOW_DOUBLED, RTO_KEPT_AFTER_SYN, TIME_WAIT_REOPENED, SEND_AFTER_SHUT, PROBE_UNANSWERED, GAP_ANSWERED_ONCE,
-    ACK_LATE, HALF_OPEN_ACCEPTED, PROBES_STEADY, DEFECTS
+    ACK_LATE, HALF_OPEN_ACCEPTED, PROBES_STEADY, ACK_DELAY_RESTARTED, FIN_WAITS, WINDOW_OF_OLDER_SEGMENT, WINDOW_OF_OLDER_ACK,
+    BACKLOG_LEAK, UNKNOWN_OPTION_STOPS, TIME_WAIT_NOT_RESTARTED, SYN_ACK_RESENT_ONCE, VARIANCE_UNUSED, ACCEPTED_BY_AGE,
+    NO_FAST_RETRANSMIT, NO_WINDOW_UPDATE, ROUND_TRIP_UNUSED, SILLY_WINDOWS, DEFECTS
 };
 static const char *const defect_names[DEFECTS] = {
     "none", "window-ignored", "rto-not-doubled", "rto-too-early", "no-slow-start", "no-collapse", "fin-not-resent", "duplicates-delivered",
     "holes-delivered", "ack-beyond", "ack-of-unsent", "data-after-fin", "any-reset", "no-time-wait", "mss-ignored", "no-retransmission",
     "no-probes", "window-shrunk", "karn-ignored", "syn-not-backed-off", "scale-ignored", "room-not-freed", "ring-off-by-one", "sent-not-modulo",
     "received-not-modulo", "scale-assumed", "syn-scaled", "window-doubled", "rto-kept-after-syn", "time-wait-reopened", "send-after-shut",
-    "probe-unanswered", "gap-answered-once", "ack-late", "half-open-accepted", "probes-steady"
+    "probe-unanswered", "gap-answered-once", "ack-late", "half-open-accepted", "probes-steady", "ack-delay-restarted", "fin-waits",
+    "window-of-older-segment", "window-of-older-ack", "backlog-leak", "unknown-option-stops", "time-wait-not-restarted",
+    "syn-ack-resent-once", "variance-unused", "accepted-by-age", "no-fast-retransmit", "no-window-update", "round-trip-unused",
+    "silly-windows"
 };
 static enum defect defect;
 
@@ -39,7 +44,7 @@ struct connection {
     unsigned local, remote;
     long fault;                            /* 0, or STACK_REFUSED .. */
     struct connection *listener;           /* of a child: the listener at which it waits until it is accepted */
-    unsigned backlog;                      /* of a listener */
+    unsigned backlog, order;               /* of a listener; of a connection: how many were established before it */
     int passive, dropped;                  /* opened by a listener; its socket was closed */
     /* Sending: `out` has the unacknowledged bytes, from `out_seq` on. A FIN follows once `shut` is set. */
     uint32_t iss, una, nxt, max;           /* `max`: one more than the greatest sequence number sent */
@@ -62,6 +67,7 @@ struct connection {
 
 static struct connection connections[CONNECTIONS];
 static int opened;
+static unsigned established;
 static struct stack_config config;
 
 static int before(uint32_t a, uint32_t b) { return (int32_t)(a - b) < 0; }
@@ -85,6 +91,7 @@ static void read_options(struct segment *segment, const unsigned char *at, const
     while (at < end && *at) {
         if (*at == 1) { at++; continue; }
         if (at + 1 >= end || at[1] < 2 || at + at[1] > end) return;
+        if (at[0] > 3 && defect == UNKNOWN_OPTION_STOPS) return;
         if (at[0] == 2 && at[1] == 4) segment->mss = (uint32_t)(at[2] << 8 | at[3]);
         if (at[0] == 3 && at[1] == 3) segment->shift = at[2] < 14 ? at[2] : 14;
         at += at[1];
@@ -136,7 +143,7 @@ static unsigned offer(struct connection *c, int in_syn)
 {
     uint32_t edge = c->rcv_nxt + c->room - c->unread;
     if (defect == WINDOW_SHRUNK && c->unread) edge = c->rcv_nxt + (c->room - c->unread) / 8;
-    if (defect == WINDOW_SHRUNK || edge - c->edge >= least(config.mss, c->room / 2)) c->edge = edge;
+    if (defect == WINDOW_SHRUNK || edge - c->edge >= (defect == SILLY_WINDOWS ? 1 : least(config.mss, c->room / 2))) c->edge = edge;
     uint32_t window = before(c->rcv_nxt, c->edge) ? c->edge - c->rcv_nxt : 0;
     if (in_syn) return least(window, 65535);
     return least(window >> (c->rcv_shift - (defect == WINDOW_DOUBLED && c->rcv_shift)), 65535);
@@ -215,7 +222,7 @@ static void output(struct connection *c)
         if (!count) break;
         send_piece(c, c->nxt, count);
     }
-    if (may_send && c->shut && c->nxt == end_of(c)) send_piece(c, c->nxt, 0);
+    if (may_send && c->shut && c->nxt == end_of(c) && (c->window || defect != FIN_WAITS)) send_piece(c, c->nxt, 0);
     c->overridden = 0;
     int waits = may_send && before(c->nxt, end_of(c)) && c->nxt == c->una;
     if (!waits || c->window) c->persist_at = NEVER;
@@ -229,11 +236,12 @@ static void output(struct connection *c)
 
 static void sample(struct connection *c, uint64_t rtt)
 {
+    if (defect == ROUND_TRIP_UNUSED) return;
     uint64_t off = rtt > c->srtt ? rtt - c->srtt : c->srtt - rtt;
     c->rttvar = c->sampled ? (3 * c->rttvar + off) / 4 : rtt / 2;
     c->srtt = c->sampled ? (7 * c->srtt + rtt) / 8 : rtt;
     c->sampled = 1;
-    uint64_t rto = c->srtt + (4 * c->rttvar > GRAIN ? 4 * c->rttvar : GRAIN);
+    uint64_t rto = c->srtt + (4 * c->rttvar > GRAIN && defect != VARIANCE_UNUSED ? 4 * c->rttvar : GRAIN);
     c->rto = rto < SECOND ? SECOND : rto > LONGEST_RTO ? LONGEST_RTO : rto;
 }
 
@@ -271,7 +279,8 @@ static void duplicate(struct connection *c)
 {
     c->duplicates++;
     if (c->fast) c->cwnd += c->mss;
-    if (c->duplicates != 3 || c->fast || before(c->una, c->recover) || defect == NO_RETRANSMISSION) return;
+    if (c->duplicates != 3 || c->fast || before(c->una, c->recover)) return;
+    if (defect == NO_RETRANSMISSION || defect == NO_FAST_RETRANSMIT) return;
     c->ssthresh = half_of_flight(c);
     c->cwnd = c->ssthresh + 3 * c->mss;
     c->fast = 1;
@@ -285,9 +294,9 @@ static void stop_timers(struct connection *c) { c->rto_at = c->persist_at = c->o
 
 static void end(struct connection *c, long fault)
 {
+    if (defect != BACKLOG_LEAK || c->state != SYN_RECEIVED) c->listener = NULL;
     c->state = CLOSED;
     c->fault = fault;
-    c->listener = NULL;
     stop_timers(c);
 }
 
@@ -425,6 +434,7 @@ static void establish(struct connection *c, const struct segment *s)
     c->expiries = 0;
     take_window(c, s);
     c->state = !c->shut ? ESTABLISHED : FIN_WAIT_1;
+    c->order = defect == ACCEPTED_BY_AGE ? 0 : established++;
 }
 
 static void come_in_syn_sent(struct connection *c, const struct segment *s)
@@ -490,7 +500,8 @@ static int come_acknowledgment(struct connection *c, const struct segment *s)
     uint32_t window = c->window;
     int fin_sent = fin_was_sent(c), takes = !before(s->ack, c->una);
     int is_new = defect == SENT_NOT_MODULO ? c->una < s->ack : before(c->una, s->ack);
-    if (takes && (before(c->wl1, s->seq) || (c->wl1 == s->seq && !before(s->ack, c->wl2)))) take_window(c, s);
+    int is_newer = before(c->wl1, s->seq) || (c->wl1 == s->seq && !before(s->ack, c->wl2));
+    if ((takes && (is_newer || defect == WINDOW_OF_OLDER_SEGMENT)) || defect == WINDOW_OF_OLDER_ACK) take_window(c, s);
     if (is_new) take_acknowledged(c, s->ack);
     else if (s->ack == c->una && c->max != c->una && !length_of(s) && window == c->window && window) duplicate(c);
     if (!fin_sent || c->una != c->max) return 1;
@@ -539,6 +550,10 @@ static void come_fin(struct connection *c)
 static int is_ignored(struct connection *c, const struct segment *s)
 {
     if (defect == GAP_ANSWERED_ONCE) return before(c->rcv_nxt, s->seq) && before(c->rcv_nxt, c->farthest);
+    if (defect == ACK_DELAY_RESTARTED && s->count < c->mss && !(s->flags & FIN) && s->seq == c->rcv_nxt) {
+        c->ack_at = stack_now() + SECOND * 2 / 10;
+        return 1;
+    }
     if (defect != ACK_LATE || s->flags & FIN || s->seq != c->rcv_nxt || c->ack_at != NEVER) return 0;
     c->ack_at = stack_now() + SECOND * 6 / 10;
     return 1;
@@ -567,6 +582,7 @@ static void come(struct connection *c, const struct segment *given)
         if (!(s->flags & ACK)) { send_syn(c); return; }
         s->flags &= ~(unsigned)SYN;
         s->seq++;
+        c->ack_due = 1;
     }
     if (s->flags & RST) {
         if (is_acceptable(c, s) || defect == ANY_RESET) come_reset(c, s);
@@ -576,7 +592,7 @@ static void come(struct connection *c, const struct segment *given)
     if (defect == PROBE_UNANSWERED && s->count && c->edge == c->rcv_nxt) return;
     if (!is_acceptable(c, s)) {
         if (defect == DUPLICATES_DELIVERED) deliver_again(c, s);
-        if (c->state == TIME_WAIT && s->flags & FIN) wait_out(c);
+        if (c->state == TIME_WAIT && s->flags & FIN && defect != TIME_WAIT_NOT_RESTARTED) wait_out(c);
         acknowledge(c);
         return;
     }
@@ -610,6 +626,7 @@ static void expire_rto(struct connection *c)
     start_rto(c);
     if (c->state == SYN_SENT || c->state == SYN_RECEIVED) {
         c->timing = c->timing && defect == KARN_IGNORED;
+        if (defect == SYN_ACK_RESENT_ONCE && c->state == SYN_RECEIVED && c->expiries > 1) return;
         send_syn(c);
         return;
     }
@@ -713,13 +730,15 @@ long stack_accept(long socket)
     const struct connection *listener = &connections[socket];
     if (listener->state != LISTEN) return STACK_NOTCONN;
     int too_early = defect == HALF_OPEN_ACCEPTED && waiting_at(listener) == listener->backlog;
+    struct connection *first = NULL;
     for (int i = 0; i < opened; i++) {
         struct connection *c = &connections[i];
         if (c->listener != listener || c->state < (too_early ? SYN_RECEIVED : ESTABLISHED)) continue;
-        c->listener = NULL;
-        return i;
+        if (!first || c->order < first->order) first = c;
     }
-    return STACK_AGAIN;
+    if (!first) return STACK_AGAIN;
+    first->listener = NULL;
+    return first - connections;
 }
 
 long stack_send(long socket, const void *bytes, size_t count)
@@ -755,7 +774,7 @@ long stack_recv(long socket, void *bytes, size_t most)
     memset(c->have + c->room - count, 0, count);
     c->unread -= count;
     offer(c, 0);
-    if (c->edge != edge && c->state >= ESTABLISHED && !c->fin_taken) acknowledge(c);
+    if (c->edge != edge && c->state >= ESTABLISHED && !c->fin_taken && defect != NO_WINDOW_UPDATE) acknowledge(c);
     return (long)count;
 }
 
