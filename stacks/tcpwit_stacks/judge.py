@@ -82,15 +82,15 @@ class Judge:
     def judge(self, outcome, run, values):
         """Finds witnesses and fills in the outcome. Returns the case of `full` and that of the strictest level with a
         yes, keyed by level."""
-        trace, shown = trace_of(values, run.peer, run.lines, FULL), shown_expiries(values, run.peer)
-        cases = {FULL: self.case(trace, shown)}
+        trace, expiries = trace_of(values, run.peer, run.lines, FULL), shown_expiries(values, run.peer)
+        cases = {FULL: self.case(trace, expiries)}
         outcome.answer = self.answer(cases[FULL])
         if outcome.answer.startswith("yes"):
             outcome.level = FULL
         else:
             self.explain(outcome, cases[FULL])
         if outcome.answer.startswith("no"):
-            self.try_laxer_levels(outcome, trace, cases, shown)
+            self.try_laxer_levels(outcome, trace, cases, expiries)
         if outcome.is_judged():
             self.remark(outcome, cases[outcome.level or FULL])
         return cases
@@ -102,11 +102,11 @@ class Judge:
         except Broken as cause:
             outcome.notes.append(f"run: {cause}; the explanation wasn't finished")
 
-    def try_laxer_levels(self, outcome, trace, cases, shown):
+    def try_laxer_levels(self, outcome, trace, cases, expiries):
         """Looks for the strictest level with a yes, after a no at `full`."""
         try:
             with tempfile.NamedTemporaryFile() as file:
-                words = [*LEVELS_OF, "--least", LEVELS[1], *self.budget, *shown, "--case", file.name]
+                words = [*LEVELS_OF, "--least", LEVELS[1], *self.budget, *expiries, "--case", file.name]
                 found = self.object(words, trace)
                 if found["answer"] != "yes":
                     return
