@@ -46,9 +46,9 @@ class Judge:
             raise Broken(shown(f"{' '.join(self.check)} check printed nothing and ended with status {status}"))
         return shown(told.strip())
 
-    def case(self, trace, shown=()):
-        """The trace with the witness that `tcpwit_lab find` finds. `shown`: the option for expiries, if any."""
-        return self.call(self.lab, ["find", *self.budget, *shown], trace)[0]
+    def case(self, trace, expiries=()):
+        """The trace with the witness that `tcpwit_lab find` finds. `expiries`: the option for them, if any."""
+        return self.call(self.lab, ["find", *self.budget, *expiries], trace)[0]
 
     def object(self, words, text):
         """The object that `tcpwit_lab` prints with --json."""
