@@ -129,23 +129,33 @@ pub fn find_witness(
         expiries: options.expiries,
         forgives: false,
     };
-    let found = find_sought(sought, options);
+    let mut retries = Retries::new(sought, options.budget, true);
+    let found = find_by(&mut retries, options.ways);
+    drop(retries);
     drop(later);
     found
 }
 
-// Runs a search. If it tried other ways in vain, one without them follows, and the one that explains more counts.
-fn find_sought(sought: Sought<'_>, options: SearchOptions) -> Result<Found, OutOfMemory> {
-    let mut retries = Retries::new(sought, options.budget, true);
+// Runs a search. If it tried other ways than these in vain, one without them follows.
+fn find_by(retries: &mut Retries<'_>, ways: Ways) -> Result<Found, OutOfMemory> {
     retries.run()?;
-    if retries.fails_with_other_ways(options.ways) {
-        let mut usual = Retries::new(sought, options.budget, false);
-        usual.run()?;
-        if !retries.explains_more(&usual) {
-            return found_by(&mut usual);
-        }
+    if !retries.fails_with_other_ways(ways) {
+        return found_by(retries);
     }
-    found_by(&mut retries)
+    let mut usual = retries.without_other_ways(ways);
+    let found = better_of(retries, &mut usual);
+    drop(usual);
+    found
+}
+
+// Runs the second search. The result is what the one found that explains more.
+fn better_of(retries: &mut Retries<'_>, usual: &mut Retries<'_>) -> Result<Found, OutOfMemory> {
+    usual.run()?;
+    if retries.explains_more(usual) {
+        found_by(retries)
+    } else {
+        found_by(usual)
+    }
 }
 
 // What a search found.

@@ -311,6 +311,16 @@ impl<'t> Retries<'t> {
         self.best.failure().is_some() && self.sought.ways != ways
     }
 
+    /// A search for the same, with these ways and no others.
+    pub(crate) fn without_other_ways(&self, ways: Ways) -> Retries<'t> {
+        let sought = Sought {
+            ways,
+            forgives: false,
+            ..self.sought
+        };
+        Retries::new(sought, self.budget, false)
+    }
+
     /// Whether it explains more than another search.
     pub(crate) fn explains_more(&self, other: &Retries<'_>) -> bool {
         let failure = other.best.failure();
