@@ -61,7 +61,7 @@ pub(crate) static TCPWIT_LAB: CommandLine = CommandLine {
                 Argument {
                     name: "least",
                     form: Form::Option("LEVEL"),
-                    help: "The weakest level that gives status 0: full, recovery, none [default: full]",
+                    help: "The laxest level that gives status 0: full, recovery, none [default: full]",
                 },
                 Argument {
                     name: "from",
