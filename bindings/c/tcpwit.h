@@ -105,7 +105,7 @@ uint32_t tcpwit_explain(const char *text, size_t length, bool simulated, struct 
 uint32_t tcpwit_remark(const char *text, size_t length, struct tcpwit_text *said);
 
 /* How many steps the search may spend on going back for one line, if nothing else is known. */
-#define TCPWIT_USUAL_BUDGET UINT64_C(2000000)
+#define TCPWIT_USUAL_BUDGET UINT64_C(1000000)
 
 /* Looks for a witness of a trace, as `tcpwit_lab find` does: `said` is the case. */
 uint32_t tcpwit_find(const char *trace, size_t length, uint64_t budget, struct tcpwit_text *said);

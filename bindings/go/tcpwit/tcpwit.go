@@ -174,7 +174,7 @@ func Remark(text []byte) ([]byte, error) {
 }
 
 // UsualBudget is how many steps the search may spend on going back for one line, if nothing else is known.
-const UsualBudget = 2000000
+const UsualBudget = 1000000
 
 // Find returns a case of the trace, with the witness that the search found. If it found none, Check refuses the case.
 func Find(trace []byte, budget uint64) ([]byte, error) {

@@ -29,7 +29,7 @@ class Judgement(ctypes.Structure):
     _fields_ = [("level", ctypes.c_uint32), ("said", Text), ("found", Text)]
 
 
-USUAL_BUDGET = 2_000_000
+USUAL_BUDGET = 1_000_000
 USUAL_SLACK = 2**64 - 1
 ANY_SLACK = 2**64 - 2
 

@@ -5,7 +5,7 @@ use std::fmt;
 use std::ops::Deref;
 
 /// How many steps the search may spend on going back for one line, if nothing else is known.
-pub const USUAL_BUDGET: u64 = 2_000_000;
+pub const USUAL_BUDGET: u64 = 1_000_000;
 
 /// A text that the library made.
 pub struct Said(ffi::Text);

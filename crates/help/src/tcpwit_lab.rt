@@ -99,7 +99,7 @@ pub(crate) static TCPWIT_LAB: CommandLine = CommandLine {
 const BUDGET: Argument = Argument {
     name: "budget",
     form: Form::Option("N"),
-    help: "How many steps are spent on going back for one line [default: 2000000]",
+    help: "How many steps are spent on going back for one line [default: 1000000]",
 };
 
 const WAYS: Argument = Argument {

@@ -5,8 +5,9 @@ use crate::candidates::Candidates;
 use crate::choices::{Change, Fate, Remedy, Unseen};
 use crate::findings::Findings;
 use crate::key::EndpointKey;
+use crate::pass::Sought;
 use crate::together::Kind;
-use case_forms::{Event, Line, OutOfMemory, Timer};
+use case_forms::{Event, Judged, Line, OutOfMemory, Timer};
 use segment::Flag;
 use verdict::Rule;
 
@@ -34,6 +35,10 @@ pub(crate) struct Known<'t> {
     pub failure: Failure,
     /// For how many microseconds an arrival may wait.
     pub longest_wait: u64,
+    /// Whether arrivals are copies of lines: both hosts are recorded.
+    are_copies: bool,
+    /// Whether the congestion window is judged.
+    is_full: bool,
 }
 
 // A line that is examined, the first time or the second.
@@ -55,16 +60,15 @@ pub(crate) fn push_candidates(out: &mut Candidates, known: &Known<'_>) -> Result
 
 impl<'t> Known<'t> {
     /// What is known of an attempt's failure. None: it didn't fail.
-    pub(crate) fn from_attempt(
-        attempt: &'t Attempt,
-        lines: &'t [Line],
-        slack: Option<u64>,
-    ) -> Option<Known<'t>> {
+    pub(crate) fn from_attempt(attempt: &'t Attempt, sought: Sought<'t>) -> Option<Known<'t>> {
+        let header = sought.header;
         Some(Known {
-            lines,
+            lines: sought.lines,
             findings: &attempt.findings,
             failure: attempt.failure()?,
-            longest_wait: slack.unwrap_or(LONGEST_WAIT).min(LONGEST_WAIT),
+            longest_wait: header.slack.unwrap_or(LONGEST_WAIT).min(LONGEST_WAIT),
+            are_copies: !header.version.is_half(),
+            is_full: matches!(header.congestion, Judged::Full),
         })
     }
 
@@ -123,19 +127,39 @@ impl<'t> Known<'t> {
             return Ok(());
         }
         let fates = if is_far {
-            [Fate::OfLast, Fate::NotGrown]
-        } else if self.is_arrival_of(place, Kind::Has(Flag::Rst)) {
-            [Fate::Usual, Fate::Dropped]
+            self.far_fates()
         } else {
-            [Fate::NotKept, Fate::Dropped]
+            self.near_fates(place)
         };
-        for fate in fates {
+        for fate in fates.into_iter().flatten() {
             out.push(place, Change::Fate(fate))?;
         }
-        if !is_far && self.is_timed() {
-            out.push(place, Change::Fate(Fate::Unmeasured))?;
-        }
         self.wait_until(out, spot)
+    }
+
+    // What else may become of an arrival, less likely than what is near.
+    fn far_fates(&self) -> [Option<Fate>; 3] {
+        let of_last = self.are_copies.then_some(Fate::OfLast);
+        let not_grown = self.is_full.then_some(Fate::NotGrown);
+        [of_last, not_grown, None]
+    }
+
+    // What else may become of the arrival at a place.
+    fn near_fates(&self, place: usize) -> [Option<Fate>; 3] {
+        let unmeasured = self.is_timed().then_some(Fate::Unmeasured);
+        [self.kept_otherwise(place), Some(Fate::Dropped), unmeasured]
+    }
+
+    // How the arrival at a place may be processed otherwise. If nothing of it can be kept, it may be processed at once.
+    fn kept_otherwise(&self, place: usize) -> Option<Fate> {
+        if self.is_arrival_of(place, Kind::Has(Flag::Rst)) {
+            return Some(Fate::Usual);
+        }
+        if self.is_arrival_of(place, Kind::HasLength) {
+            return Some(Fate::NotKept);
+        }
+        let is_late = self.findings.late.binary_search(&place).is_ok();
+        is_late.then_some(Fate::Prompt)
     }
 
     // Whether a failure has to do with timers.

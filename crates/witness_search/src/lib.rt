@@ -31,7 +31,7 @@
 //! - `ways`: how a host does, throughout a run, what the RFCs leave open
 //! - `choices`: what is chosen at lines where more than one step is possible
 //! - `progress`: the world after the steps so far, the steps that it can do, and what its hosts owe
-//! - `log`: the witness that a pass writes, and at which line it is
+//! - `log`: the witness that a pass writes, at which line it is, and on what its steps depend
 //! - `findings`: what a pass finds
 //! - `later_lines`: what later lines show: ends of calls, segments that are sent
 //! - `calls`: calls that had no effect yet
@@ -73,4 +73,4 @@ pub use case_text::{CaseText, Pieces};
 pub use found::{Ending, Found, FoundCase, find, find_within, find_witness};
 pub use search_options::{SearchOptions, ShownExpiries, USUAL_BUDGET};
 pub use trace_lines::{CaseLines, Comparison, case_lines};
-pub use ways::{Growth, HostWays, Leaving, Samples, Unusual, WayWords, Ways};
+pub use ways::{Unusual, WayWords, Ways};

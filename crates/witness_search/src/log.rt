@@ -1,15 +1,17 @@
-//! The witness that a pass writes, and at which line of the trace the pass is.
+//! The witness that a pass writes, at which line of the trace the pass is, and on what its steps depend.
 
 use crate::findings::{Added, Findings, Forgiven};
 use crate::key::EndpointKey;
+use crate::pass::Sought;
+use crate::search_options::ShownExpiries;
 use crate::stop::Stop;
-use case_forms::{Expired, Extras, Header, Label, NamedLine, Span, Step};
+use crate::ways::WayState;
+use case_forms::{Expired, Extras, Label, NamedLine, Span, Step};
 use endpoint_state::StepFault;
-use std::alloc::Global;
 use verdict::Rule;
 
-/// What was done and found, and at which line. It is apart from the world: a method that changes a field of a value
-/// that has a world takes long to prove.
+/// What was done and found, and at which line; and what decides, besides the world, which step is done. It is apart
+/// from the world: a method that changes a field of a value that has a world takes long to prove.
 #[derive(Drop)]
 pub(crate) struct Log {
     pub findings: Findings,
@@ -21,6 +23,12 @@ pub(crate) struct Log {
     pub number: u64,
     /// The moment of the current line, in microseconds.
     pub moment: u64,
+    /// The ways of both hosts, and what they depend on.
+    pub ways: WayState,
+    /// The hosts whose expiries the trace shows.
+    pub expiries: ShownExpiries,
+    /// Whether what duties refuse is done if nothing else is left to do.
+    pub forgives: bool,
 }
 
 /// The numbers that a step adds to the line of an expiry.
@@ -32,13 +40,17 @@ pub(crate) fn extras_of(expired: Expired) -> Extras {
 }
 
 impl Log {
-    pub(crate) fn new(alloc: Global, header: &Header) -> Log {
+    /// Before the first line.
+    pub(crate) fn new(sought: &Sought<'_>) -> Log {
         Log {
-            findings: Findings::new(alloc),
+            findings: Findings::new(sought.alloc),
             place: 0,
             next: 0,
-            number: header.first_event_line(),
+            number: sought.header.first_event_line(),
             moment: 0,
+            ways: WayState::new(sought.alloc, sought.ways),
+            expiries: sought.expiries,
+            forgives: sought.forgives,
         }
     }
 

@@ -9,15 +9,13 @@ mod steps;
 use crate::key::EndpointKey;
 use crate::log::Log;
 use crate::pass::Sought;
-use crate::search_options::ShownExpiries;
-use crate::ways::WayState;
 use case_forms::Host;
 use duties::Duties;
 use endpoint_state::{Endpoint, World};
 pub(crate) use owed::Overdue;
 use spec_tcp::{Arrived, Emission};
 
-/// Whether something else may be done in place of a step.
+/// Whether something else may be done instead of a step.
 #[derive(Clone, Copy, PartialEq, Eq)]
 pub(crate) enum Will {
     Try,
@@ -30,13 +28,6 @@ pub(crate) enum Will {
 pub(crate) struct Progress {
     world: World,
     duties: Duties,
-    /// How late a host may be with what it must do, in microseconds. None: no duty is judged.
-    slack: Option<u64>,
-    /// Whether what duties refuse is done if nothing else is left to do.
-    forgives: bool,
-    /// The hosts whose expiries the trace shows.
-    expiries: ShownExpiries,
-    ways: WayState,
     pub log: Log,
 }
 
@@ -52,11 +43,7 @@ impl Progress {
         Progress {
             world: World::start(alloc, header),
             duties: Duties::start(alloc),
-            slack: header.slack,
-            forgives: sought.forgives,
-            expiries: sought.expiries,
-            ways: WayState::new(alloc, sought.ways),
-            log: Log::new(alloc, header),
+            log: Log::new(sought),
         }
     }
 
@@ -68,24 +55,9 @@ impl Progress {
         self.log.moment
     }
 
-    /// Whether what duties refuse is done if nothing else is left to do.
-    pub(crate) fn forgives(&self) -> bool {
-        self.forgives
-    }
-
-    /// Whether the trace shows each expiry of a host's timers.
-    pub(crate) fn shows_expiries(&self, host: Host) -> bool {
-        self.expiries.of_host(host)
-    }
-
-    /// The ways of both hosts, and what they depend on.
-    pub(crate) fn ways(&self) -> &WayState {
-        &self.ways
-    }
-
     /// How late a host may be with what it must do, in microseconds. None: no duty is judged.
     pub(crate) fn slack(&self) -> Option<u64> {
-        self.slack
+        self.world.header().slack
     }
 
     /// An endpoint. None: it doesn't exist.

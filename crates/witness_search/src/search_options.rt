@@ -4,7 +4,7 @@ use crate::ways::Ways;
 use case_forms::Host;
 
 /// How many steps are spent on going back for one line, unless another budget is given.
-pub const USUAL_BUDGET: u64 = 2_000_000;
+pub const USUAL_BUDGET: u64 = 1_000_000;
 
 /// The hosts of which a trace shows each expiry of a timer. A search adds no expiry for them.
 #[derive(Clone, Copy, Debug, PartialEq, Eq)]

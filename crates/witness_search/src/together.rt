@@ -19,6 +19,8 @@ pub(crate) const HALF: u32 = 0x8000_0000;
 pub(crate) enum Kind {
     /// They have this flag.
     Has(Flag),
+    /// They carry bytes or a FIN.
+    HasLength,
     /// They carry the byte that the failing line acknowledges next.
     Covers,
     /// They carry more than the failing line acknowledges.
@@ -226,6 +228,7 @@ impl Known<'_> {
         self.is_at_failing_endpoint(place)
             && match (kind, self.shown_ack()) {
                 (Kind::Has(flag), _) => wire.seg.has(flag),
+                (Kind::HasLength, _) => length_of(wire) > 0,
                 (Kind::Covers, Some(ack)) => covers(wire, ack),
                 (Kind::EndsBeyond, Some(ack)) => ends_beyond(wire, ack),
                 (Kind::Covers | Kind::EndsBeyond, None) => false,

@@ -14,9 +14,9 @@ mod samples;
 mod state;
 
 use case_forms::Host;
-pub use growth::Growth;
-pub use recovery::Leaving;
-pub use samples::Samples;
+pub(crate) use growth::Growth;
+pub(crate) use recovery::Leaving;
+pub(crate) use samples::Samples;
 pub(crate) use state::WayState;
 use verdict::Rule;
 
@@ -31,10 +31,10 @@ pub struct WayWords {
 
 /// The ways of a host.
 #[derive(Clone, Copy, Debug, PartialEq, Eq)]
-pub struct HostWays {
-    pub growth: Growth,
-    pub samples: Samples,
-    pub leaving: Leaving,
+pub(crate) struct HostWays {
+    growth: Growth,
+    samples: Samples,
+    leaving: Leaving,
 }
 
 // The usual ways.
@@ -151,7 +151,7 @@ impl Ways {
     }
 
     /// The ways of a host.
-    pub fn of_host(&self, host: Host) -> HostWays {
+    pub(crate) fn of_host(&self, host: Host) -> HostWays {
         match host {
             Host::Zero => self.zero,
             Host::One => self.one,

@@ -78,7 +78,7 @@ impl Progress {
     // Drops an arrival, unless a duty requires it to be processed.
     fn try_dropping(&mut self, host: Host, line: u64) -> Result<bool, Stop> {
         match self.drop_arrival(host, line, Will::Try) {
-            Err(Stop::Broken(Rule::Dropped)) if !self.forgives() => return Ok(false),
+            Err(Stop::Broken(Rule::Dropped)) if !self.log.forgives => return Ok(false),
             Err(Stop::Broken(_)) => self.drop_arrival(host, line, Will::Insist)?,
             done => done?,
         }
@@ -88,7 +88,7 @@ impl Progress {
     // Processes an arrival. If a duty requires it to be kept, it is.
     fn take_or_keep(&mut self, host: Host, line: u64, choice: TakeChoice) -> Result<(), Stop> {
         let keep = match self.take(host, line, choice, Will::Try) {
-            Err(Stop::Broken(Rule::Discarded)) if !self.forgives() => true,
+            Err(Stop::Broken(Rule::Discarded)) if !self.log.forgives => true,
             Err(Stop::Broken(_)) => choice.keep,
             done => return done,
         };
@@ -104,7 +104,7 @@ impl Progress {
         let mut choice = TakeChoice {
             cwnd: self.greatest_window(key, m, how),
             keep: !how.is_not_kept,
-            sample: !how.is_unmeasured && self.ways().measures(key, ack),
+            sample: !how.is_unmeasured && self.log.ways.measures(key, ack),
         };
         match world.admits_taking(host, moment, line, choice) {
             Ok(()) => {}
@@ -132,7 +132,7 @@ impl Progress {
             return 0;
         };
         let greatest = saturated(greatest_taking(endpoint, &read, self.moment()));
-        let greatest = self.ways().window(key, endpoint, &read, greatest);
+        let greatest = self.log.ways.window(key, endpoint, &read, greatest);
         if how.is_not_grown {
             greatest.min(endpoint.control.values.cwnd)
         } else {

@@ -40,7 +40,7 @@ impl Progress {
     /// Adds a line for an expiry, if the timer may expire now and the trace doesn't show its host's expiries: before
     /// the current line, or after it if its step was written. The result is whether the line was added.
     pub(crate) fn add_expiry(&mut self, key: EndpointKey, timer: Timer) -> Result<bool, Stop> {
-        if self.shows_expiries(key.host()) {
+        if self.log.expiries.of_host(key.host()) {
             return Ok(false);
         }
         let expired = self.greatest_expiry(key, timer);

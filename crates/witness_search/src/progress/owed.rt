@@ -19,7 +19,7 @@ pub(crate) struct Overdue {
 impl Progress {
     /// Whether an armed retransmission timer has to expire at some moment, if duties are judged.
     pub(crate) fn has_expiry_due(&self, key: EndpointKey) -> bool {
-        if self.slack.is_none() {
+        if self.slack().is_none() {
             return false;
         }
         let endpoint = self.endpoint(key);
@@ -28,7 +28,7 @@ impl Progress {
 
     /// Whether an endpoint sent as many mere acknowledgments as segments came, if duties are judged.
     pub(crate) fn is_all_answered(&self, key: EndpointKey) -> bool {
-        if self.slack.is_none() {
+        if self.slack().is_none() {
             return false;
         }
         let place = self.world.body(key.host()).place_of(key.lport, key.rport);
@@ -40,7 +40,7 @@ impl Progress {
 
     /// The duty that is late after the last line. None: no duty is.
     pub(crate) fn overdue_at_end(&self) -> Option<Overdue> {
-        let (slack, moment) = (self.slack?, self.log.moment);
+        let (slack, moment) = (self.slack()?, self.log.moment);
         if self.world.steps() > MOST_STEPS {
             return None;
         }

@@ -49,7 +49,7 @@ impl Progress {
         Watch {
             slack,
             moment: self.log.moment,
-            forgives: self.forgives && will == Will::Insist,
+            forgives: self.log.forgives && will == Will::Insist,
         }
     }
 
@@ -68,7 +68,7 @@ impl Progress {
         requires steps { self.old.world.steps < most_steps }
         requires small { IsSmall step }
     {
-        match self.slack {
+        match self.slack() {
             Some(slack) => {
                 let watch = self.watch(slack, will);
                 let broken = watch.hidden(&mut self.world, &mut self.duties, step)?;
@@ -111,7 +111,7 @@ impl Progress {
         has_room(&self.world)?;
         let (line, moment) = (self.log.number, self.log.moment);
         let wire = wire.copy()?;
-        let done = match self.slack {
+        let done = match self.slack() {
             Some(slack) => {
                 self.watch_line(
                     slack,
@@ -133,7 +133,7 @@ impl Progress {
     pub(crate) fn hear(&mut self, host: Host, wire: &Wire) -> Result<u64, Stop> {
         has_room(&self.world)?;
         let (line, moment) = (self.log.number, self.log.moment);
-        let done = match self.slack {
+        let done = match self.slack() {
             Some(slack) => {
                 let wire = wire.copy()?;
                 self.watch_line(slack, TakenLine::Heard { line, host, wire }, Will::Insist)
@@ -148,7 +148,7 @@ impl Progress {
         has_room(&self.world)?;
         let (line, moment) = (self.log.number, self.log.moment);
         let wire = wire.copy()?;
-        let done = match self.slack {
+        let done = match self.slack() {
             Some(slack) => {
                 self.watch_line(
                     slack,
@@ -171,7 +171,7 @@ impl Progress {
         requires { self.old.world.steps < most_steps }
     {
         let (host, ports, line) = (key.host(), key.ports(), self.log.number);
-        match self.slack {
+        match self.slack() {
             Some(slack) => {
                 self.watch_line(
                     slack,
@@ -199,7 +199,7 @@ impl Progress {
     // The ways of the hosts see an expiry.
     fn note_expiry(&mut self, key: EndpointKey, expired: Expired) {
         if let Expired::Rto(_) = expired {
-            self.ways.expire(key);
+            self.log.ways.expire(key);
         }
     }
 
@@ -227,7 +227,7 @@ impl Progress {
         }
         let max = self.built_at(key);
         self.hidden(Hidden::Build { host, plan: &plan }, will)?;
-        self.ways.build(key, max, &plan)?;
+        self.log.ways.build(key, max, &plan)?;
         Ok(self.world.count())
     }
 
@@ -262,12 +262,12 @@ impl Progress {
     pub(crate) fn recover(&mut self, key: EndpointKey, recovery: Recovery) -> Result<(), Stop> {
         let (host, max) = (key.host(), self.built_at(key));
         self.hidden(Hidden::Recover { host, recovery }, Will::Try)?;
-        Ok(self.ways.recover(key, max)?)
+        Ok(self.log.ways.recover(key, max)?)
     }
 
     /// An endpoint processed an acknowledgment of what is below a position.
     pub(crate) fn acknowledge(&mut self, key: EndpointKey, ack: u64) {
-        self.ways.acknowledge(key, ack);
+        self.log.ways.acknowledge(key, ack);
     }
 
     /// Whether the model permits a host to build a segment now.

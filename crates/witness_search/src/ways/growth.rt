@@ -5,7 +5,7 @@ use window_rules::Congestion;
 
 /// How it grows.
 #[derive(Clone, Copy, Debug, PartialEq, Eq)]
-pub enum Growth {
+pub(crate) enum Growth {
     /// At each acknowledgment, by a part of a segment: the usual way.
     EachAck,
     /// By a whole segment, once a whole window is acknowledged.

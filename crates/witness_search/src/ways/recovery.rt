@@ -9,7 +9,7 @@ use window_rules::Congestion;
 
 /// When fast recovery ends.
 #[derive(Clone, Copy, Debug, PartialEq, Eq)]
-pub enum Leaving {
+pub(crate) enum Leaving {
     /// At the first new acknowledgment (RFC 5681, 3.2, step 6): the usual way.
     FirstAck,
     /// Once all is acknowledged that was sent before it began (RFC 6582, 3.2). Until then, the window doesn't grow.

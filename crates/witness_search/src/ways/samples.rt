@@ -8,7 +8,7 @@ use std::collections::BTreeMap;
 
 /// Which round trips are measured.
 #[derive(Clone, Copy, Debug, PartialEq, Eq)]
-pub enum Samples {
+pub(crate) enum Samples {
     /// At each acknowledgment that permits it: the usual way.
     Each,
     /// One at a time: that of the first segment that is sent while none is measured.
