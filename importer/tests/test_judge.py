@@ -250,6 +250,9 @@ class Lines(WithCaptures):
             "rule": "ack-late", "sentence": "line 8: none is late.", "levels": NO["levels"], "said": NO["said"]})
         _, out, _ = run(*self.files(), *self.lab(), "--json")
         self.assertEqual((json.loads(out)["lines"], json.loads(out)["steps"]), (57, 88))
+        ways = [{"host": 0, "way": "bytes", "does": "counts acknowledged bytes"}]
+        _, out, _ = run(*self.files(), *self.lab(YES | {"ways": ways}), "--json")
+        self.assertEqual(json.loads(out)["ways"], ways)
 
     def test_a_report(self):
         report = f"{self.folder}/kept"

@@ -108,6 +108,8 @@ class Judge:
             with tempfile.NamedTemporaryFile() as file:
                 words = [*LEVELS_OF, "--least", LEVELS[1], *self.budget, *expiries, "--case", file.name]
                 found = self.object(words, trace)
+                outcome.laxer = [f"{level['level']}: {shown(level['sentence'])}" for level in found["levels"]
+                                 if "sentence" in level]
                 if found["answer"] != "yes":
                     return
                 with open(file.name, encoding="utf-8", errors="backslashreplace") as written:

@@ -27,7 +27,7 @@ echo "$@" >> {asked}
 case $1 in
 check) {check} ;;
 find) exec cat ;;
-judge) echo '{{"answer":"yes","level":"none"}}' ;;
+judge) echo '{{"answer":"yes","level":"none","levels":[{laxer},{{"level":"none"}}]}}' ;;
 explain) echo '{{"said":["no","{said}"]}}' ;;
 remark) {before_remark} echo '{{"said":["{said}"]}}' | sed 's/""//' ;;
 esac
@@ -77,7 +77,8 @@ class TheCommand(unittest.TestCase):
         in the file `asked`."""
         path = f"{self.folder}/{name}"
         with open(path, "w") as file:
-            file.write(JUDGE.format(asked=f"{self.folder}/asked", check=check, said=said, before_remark=before_remark))
+            file.write(JUDGE.format(asked=f"{self.folder}/asked", check=check, said=said, before_remark=before_remark,
+                                    laxer='{"level":"recovery","sentence":"line 12 sends it again (old-data)."}'))
         os.chmod(path, 0o755)
         return "--check", path, "--lab", path
 
@@ -698,7 +699,8 @@ for line in sys.stdin:
         status, out, _ = self.run_it(self.adapter(answer="= - ok"), "hostile-closed-ack", *self.programs(check, "why"))
         self.assertEqual(status, 1)
         self.assertIn("\nhostile-closed-ack                 yes at none 1 1, but  ", out)
-        self.assertIn("\n    full: no 9 0 size\n    why\n    peer, line 7: no rst arrived\n1 yes at none, but\n", out)
+        self.assertIn("\n    full: no 9 0 size\n    why\n    recovery: line 12 sends it again (old-data).\n"
+                      "    peer, line 7: no rst arrived\n1 yes at none, but\n", out)
         with open(f"{self.folder}/asked") as file:
             self.assertIn("explain --simulated --json\n", file.readlines())
 

@@ -456,7 +456,9 @@ class StandIn(Judge):
         if path:
             with open(path, "w") as file:
                 file.write(text.replace("congestion full", f"congestion {level}"))
-        return json.dumps({"answer": "yes" if self.yes else "no", "level": level})
+        laxer = LEVELS[1:LEVELS.index(level) + 1]
+        levels = [{"level": each} if each in self.yes else {"level": each, "sentence": f"of {each}"} for each in laxer]
+        return json.dumps({"answer": "yes" if self.yes else "no", "level": level, "levels": levels})
 
 
 class TheStrictestLevel(unittest.TestCase):
@@ -471,6 +473,8 @@ class TheStrictestLevel(unittest.TestCase):
             self.assertEqual(cases["full"][:8], "trace 5\n")
             self.assertEqual(outcome.remarks, [f"line 7: of {level or 'full'}", "at the end: x"])
             self.assertEqual(outcome.why, [] if level == "full" else ["what is compared"])
+            self.assertEqual(outcome.laxer, {"none": ["recovery: of recovery"],
+                                             "": ["recovery: of recovery", "none: of none"]}.get(level, []))
 
     def test_a_fault_is_judged_once(self):
         outcome, cases = StandIn("none", "bad trace 7 0 9 header").outcome()

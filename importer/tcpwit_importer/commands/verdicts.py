@@ -31,13 +31,15 @@ LINE = re.compile(r"^line (\d+)")
 @dataclass
 class Result:
     """What was found out about a connection: `levels` has the members of `judge --json` for each level tried, and
-    `packets` the packet that each refused, or None; without any, `reason` says why the connection wasn't judged."""
+    `packets` the packet that each refused, or None; without any, `reason` says why the connection wasn't judged.
+    `ways` has the ways of hosts that `judge --json` names."""
     client: str
     server: str
     begun: int
     segments: int
     levels: list = field(default_factory=list)
     packets: list = field(default_factory=list)
+    ways: list = field(default_factory=list)
     reason: str = ""
     hosts: int = 0
     status: int = 0
@@ -226,7 +228,7 @@ def read(found, trace, out, error, status):
         said = "; ".join(said_in(out)[:1] + decoded(error).splitlines()[-1:])
         raise Problem(said or lab.ended(status), "")
     judged = json.loads(out)
-    found.levels, found.status = judged["levels"], status
+    found.levels, found.ways, found.status = judged["levels"], judged.get("ways", []), status
     lines = [level.get("input_line") for level in found.levels]
     found.packets = [None if line is None else trace.packet(line) for line in lines]
     found.said = [inferred(line) for line in judged["said"]]
