@@ -5,9 +5,8 @@ use crate::candidates::Candidates;
 use crate::choices::{Change, Fate, Remedy, Unseen};
 use crate::findings::Findings;
 use crate::key::EndpointKey;
-use crate::pass::Sought;
 use crate::together::Kind;
-use case_forms::{Event, Judged, Line, OutOfMemory, Timer};
+use case_forms::{Event, Header, Judged, Line, OutOfMemory, Timer};
 use segment::Flag;
 use verdict::Rule;
 
@@ -60,10 +59,13 @@ pub(crate) fn push_candidates(out: &mut Candidates, known: &Known<'_>) -> Result
 
 impl<'t> Known<'t> {
     /// What is known of an attempt's failure. None: it didn't fail.
-    pub(crate) fn from_attempt(attempt: &'t Attempt, sought: Sought<'t>) -> Option<Known<'t>> {
-        let header = sought.header;
+    pub(crate) fn from_attempt(
+        attempt: &'t Attempt,
+        lines: &'t [Line],
+        header: &Header,
+    ) -> Option<Known<'t>> {
         Some(Known {
-            lines: sought.lines,
+            lines,
             findings: &attempt.findings,
             failure: attempt.failure()?,
             longest_wait: header.slack.unwrap_or(LONGEST_WAIT).min(LONGEST_WAIT),

@@ -168,7 +168,8 @@ impl<'t> Retries<'t> {
 
     // Tries two candidates of the best attempt at once. The result is whether they explain a further line.
     fn try_pairs(&mut self) -> Result<bool, OutOfMemory> {
-        let Some(known) = Known::from_attempt(&self.best, self.sought) else {
+        let Some(known) = Known::from_attempt(&self.best, self.sought.lines, self.sought.header)
+        else {
             return Ok(false);
         };
         let place = known.failure.place;
@@ -325,7 +326,8 @@ impl<'t> Retries<'t> {
 
     // Puts the level of the last attempt on the path, unless candidates were listed this often for its line.
     fn go_on_from_last(&mut self, lists: u32) -> Result<(), OutOfMemory> {
-        let Some(known) = Known::from_attempt(&self.last, self.sought) else {
+        let Some(known) = Known::from_attempt(&self.last, self.sought.lines, self.sought.header)
+        else {
             return Ok(());
         };
         let place = known.failure.place;
@@ -349,7 +351,8 @@ impl<'t> Retries<'t> {
     // If no choice explains a line, since its host didn't process what came, one that breaks a duty may do so. The
     // witness then ends with the step that the duty refuses, which tells more than the line.
     fn forgive(&mut self) -> Result<(), OutOfMemory> {
-        let Some(known) = Known::from_attempt(&self.best, self.sought) else {
+        let Some(known) = Known::from_attempt(&self.best, self.sought.lines, self.sought.header)
+        else {
             return Ok(());
         };
         if self.sought.header.slack.is_none() || !shows_what_came(known.failure.rule) {
