@@ -53,11 +53,19 @@ impl AddedLines {
 
     /// The text of an added line, empty if it doesn't exist.
     pub(crate) fn at(&self, index: usize) -> &[u8] {
-        let before = index.checked_sub(1);
-        let start = before.and_then(|before| self.all.get(before));
-        let start = start.map_or(0, |line| line.stop);
-        let stop = self.all.get(index).map_or(0, |line| line.stop);
-        self.text.get(start..stop).unwrap_or(&[])
+        let start = match index.checked_sub(1) {
+            Some(before) => self.stop_of(before),
+            None => 0,
+        };
+        self.text.get(start..self.stop_of(index)).unwrap_or(&[])
+    }
+
+    // The place after the text of an added line; 0 if it doesn't exist.
+    fn stop_of(&self, index: usize) -> usize {
+        match self.all.get(index) {
+            Some(line) => line.stop,
+            None => 0,
+        }
     }
 
     /// For each added line, where it comes in the text of the trace's event lines.

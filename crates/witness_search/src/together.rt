@@ -214,9 +214,11 @@ impl Known<'_> {
 
     // Whether a line applies to the endpoint of the failure, or that endpoint isn't known.
     fn is_at_failing_endpoint(&self, place: usize) -> bool {
-        let key = self.failure.key;
-        let line = self.lines.get(place);
-        line.is_some_and(|line| key.is_none() || EndpointKey::of_line(line) == key)
+        match (self.lines.get(place), self.failure.key) {
+            (Some(line), Some(key)) => EndpointKey::of_line(line) == Some(key),
+            (Some(_), None) => true,
+            (None, _) => false,
+        }
     }
 
     /// Whether a line shows an arrival of this kind at the endpoint of the failure.
