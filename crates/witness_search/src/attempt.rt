@@ -73,6 +73,9 @@ impl Attempt {
 
     /// Whether it explains the line at this place, and so all lines before it.
     pub(crate) fn explains(&self, place: usize) -> bool {
-        self.failure().is_none_or(|failure| failure.place > place)
+        match self.failure() {
+            Some(failure) => place < failure.place,
+            None => true,
+        }
     }
 }

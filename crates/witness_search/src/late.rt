@@ -34,7 +34,10 @@ impl Late {
 
     /// How many arrivals an endpoint has to process.
     pub(crate) fn count(&self, key: EndpointKey) -> usize {
-        self.0.get(&key).map_or(0, |all| all.len())
+        match self.0.get(&key) {
+            Some(all) => all.len(),
+            None => 0,
+        }
     }
 
     /// An endpoint processes an arrival after all others.

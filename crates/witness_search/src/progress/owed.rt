@@ -22,8 +22,10 @@ impl Progress {
         if self.slack().is_none() {
             return false;
         }
-        let endpoint = self.endpoint(key);
-        endpoint.is_some_and(|endpoint| expiry_due(&view_of(endpoint), 0).is_some())
+        match self.endpoint(key) {
+            Some(endpoint) => expiry_due(&view_of(endpoint), 0).is_some(),
+            None => false,
+        }
     }
 
     /// Whether an endpoint sent as many mere acknowledgments as segments came, if duties are judged.

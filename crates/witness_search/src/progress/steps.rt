@@ -233,7 +233,10 @@ impl Progress {
 
     // The position after all that an endpoint built.
     fn built_at(&self, key: EndpointKey) -> u64 {
-        self.endpoint(key).map_or(0, |endpoint| endpoint.snd_max())
+        match self.endpoint(key) {
+            Some(endpoint) => endpoint.snd_max(),
+            None => 0,
+        }
     }
 
     /// A host processes the segment that arrived with a line.
