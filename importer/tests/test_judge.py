@@ -393,8 +393,14 @@ class Faults(WithCaptures):
     def test_a_capture_that_was_cut(self):
         name, = self.files(hosts=(0,))
         with open(name, "r+b") as file:
-            file.truncate(200)
-        self.assertIn("ends within packet 3", self.fails(name, *self.lab(), "--host", "client"))
+            file.truncate(250)
+        status, out, error = run(name, *self.lab(), "--host", "client")
+        self.assertEqual((status, out.splitlines()[0]), (0, "10.9.0.1:4000 -> 10.9.0.2:80   full      yes 57 88"))
+        self.assertEqual(error, f"tcpwit-judge: {name}: ends within packet 4: the capture was cut there, and is judged "
+                         "up to packet 3\n")
+        with open(name, "r+b") as file:
+            file.truncate(70)
+        self.assertIn("ends within packet 1", self.fails(name, *self.lab(), "--host", "client"))
 
     def test_nothing_to_judge(self):
         pcap(f"{self.folder}/empty", [])

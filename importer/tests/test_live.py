@@ -135,9 +135,9 @@ class Command(test_judge.WithCaptures):
 
     def test_a_stream_that_is_cut(self):
         status, out, error = self.piped(self.data()[:-5], "--host", "client")
-        self.assertEqual(status, 2)
+        self.assertEqual(status, 0)
         self.assertIn("1 connection: 1 yes, 0 no. ", out)
-        self.assertIn("standard input: ends within packet 7", error)
+        self.assertIn("standard input: ends within packet 7: the capture was cut there", error)
 
     def test_bad_input(self):
         for data, message in ((b"", "neither pcap nor pcapng"), (b"nonsense", "neither pcap nor pcapng"),

@@ -93,7 +93,7 @@ class Capture:
     def packets(self, notes):
         """Its packets, in the order of the file."""
         with opened(self.file, READABLE) as file:
-            for packet in packets_of(self.name, file, notes, self.layout):
+            for packet in packets_of(self.name, file, notes, self.layout, lenient=True):
                 self.last = max(self.last, packet.moment)
                 yield packet
 

@@ -90,10 +90,10 @@ def read_capture(name, notes, known, may_be_empty=False):
     return packets
 
 
-def packets_of(name, file, notes, layout=None, whole=False):
+def packets_of(name, file, notes, layout=None, whole=False, lenient=False):
     """The TCP packets of a capture, in the order of the file, which may be a pipe. None is kept. `layout` becomes what
     `packet_at` needs. If they must be `whole`, a segment of which the capture lacks bytes is refused; else one whose
-    header is complete is among the packets."""
+    header is complete is among the packets. If `lenient`, the file may end within a packet, which is noted."""
     layout = Layout() if layout is None else layout
     again = not isinstance(file, gzip.GzipFile) and file.seekable()
     try:
@@ -109,8 +109,10 @@ def packets_of(name, file, notes, layout=None, whole=False):
             packet.offset = frame.offset if again else None
             yield packet
     except (Ended, EOFError) as error:
-        raise Problem(f"{name}: ends within packet {layout.frames + 1}",
-                      "stop tcpdump with SIGINT or SIGTERM and wait until it has ended") from error
+        cause = f"{name}: ends within packet {layout.frames + 1}"
+        if not lenient or not layout.frames:
+            raise Problem(cause, "stop tcpdump with SIGINT or SIGTERM and wait until it has ended") from error
+        notes.say(f"{cause}: the capture was cut there, and is judged up to packet {layout.frames}")
     except (Damaged, zlib.error, OSError) as error:
         raise Problem(f"{name}: {_said(error)} after packet {layout.frames}",
                       "copy the file again, or record again") from error

@@ -154,7 +154,8 @@ class Reader(threading.Thread):
 
     def run(self):
         try:
-            for packet in packets_of(self.capture.name, self.file, self.notes, self.capture.layout):
+            for packet in packets_of(self.capture.name, self.file, self.notes, self.capture.layout,
+                                     lenient=True):
                 self.found.put(packet)
         except BaseException as error:
             self.error = error
