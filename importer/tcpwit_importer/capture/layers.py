@@ -13,6 +13,8 @@ OUTGOING = 4
 TCP, FRAGMENT = 6, 44
 # Headers of IPv6 that may precede TCP: hop-by-hop options, routing, fragment, destination options.
 EXTENSIONS = (0, 43, FRAGMENT, 60)
+# What is left out of a capture whose snap length is too small.
+CUT = ("packets whose headers the capture cut", "segments whose TCP headers the capture cut")
 # No packet is longer, whatever the capture states.
 LONGEST = 1 << 20
 
@@ -45,8 +47,7 @@ def segment_in(link, frame, length):
         if kind == IPV6:
             return *_ipv6(frame, at, length), interface, sent
     except (struct.error, IndexError):
-        raise LeftOut("packets whose headers the capture cut" if len(frame) < length
-                      else "packets that end within their headers") from None
+        raise LeftOut(CUT[0] if len(frame) < length else "packets that end within their headers") from None
     raise LeftOut("packets that are neither IPv4 nor IPv6")
 
 

@@ -7,8 +7,8 @@ from ..files import opened
 from ..problem import Problem
 from ..remedies import NOTHING_SENT, OFFLOADS_OFF, WHOLE_PACKETS
 from .frames import Damaged, Ended, Layout, frame_at, frames_of
-from .layers import Fragment, LeftOut, segment_in
-from .segments import ACK, SHORTEST, SYN, acknowledgment, flags, header_length, number, payload, ports, size
+from .layers import CUT, Fragment, LeftOut, segment_in
+from .segments import ACK, FLAGS_END, SHORTEST, SYN, acknowledgment, flags, header_length, number, payload, ports, size
 
 
 class Packet:
@@ -26,7 +26,8 @@ class Packet:
     def __init__(self, moment, source, target, segment, outgoing, capture="", count=0, missing=0, offset=None,
                  identification=0, interface=None):
         self.moment, self.source, self.target = moment, source, target
-        self.segment, self.outgoing = segment[:16] + b"\0\0" + segment[18:] + bytes(missing), outgoing
+        segment += bytes(missing)
+        self.segment, self.outgoing = segment[:16] + b"\0\0" + segment[18:], outgoing
         self.capture, self.count = capture, count
         self.missing, self.offset = missing, offset
         self.identification, self.interface = identification, interface
@@ -68,6 +69,11 @@ class Packet:
         return size(self.segment)
 
     @property
+    def lacks_header(self):
+        """Whether the capture cut its TCP header: what was cut is zeros."""
+        return self.missing > self.size
+
+    @property
     def is_syn(self):
         """Whether SYN is set, and ACK isn't."""
         return flags(self.segment) & (SYN | ACK) == SYN
@@ -93,14 +99,15 @@ def read_capture(name, notes, known, may_be_empty=False):
 def packets_of(name, file, notes, layout=None, whole=False, lenient=False):
     """The TCP packets of a capture, in the order of the file, which may be a pipe. None is kept. `layout` becomes what
     `packet_at` needs. If they must be `whole`, a segment of which the capture lacks bytes is refused; else one whose
-    header is complete is among the packets. If `lenient`, the file may end within a packet, which is noted."""
+    header is complete is among the packets. If `lenient`, so is one whose header a snap length cut after the flags, and
+    the file may end within a packet, which is noted."""
     layout = Layout() if layout is None else layout
     again = not isinstance(file, gzip.GzipFile) and file.seekable()
     try:
         for frame in frames_of(name, file, layout):
             layout.frames += 1
             try:
-                packet = _packet(frame, name, layout.frames, whole)
+                packet = _packet(frame, name, layout.frames, whole, lenient)
             except LeftOut as reason:
                 if isinstance(reason, Fragment):
                     layout.add_fragment(name, *reason.ends)
@@ -130,15 +137,16 @@ def packet_at(name, file, layout, offset, count=0):
     place."""
     try:
         frame = frame_at(name, file, layout, offset)
-        packet = _packet(frame, name, count, False)
+        packet = _packet(frame, name, count, False, True)
     except (Damaged, Ended, LeftOut, OSError) as error:
         raise Problem(f"{name}: changed while it was read", "read it when it is complete") from error
     packet.offset = offset
     return packet
 
 
-def _packet(frame, name, count, whole):
-    """The packet of a frame; its offset isn't set."""
+def _packet(frame, name, count, whole, lenient):
+    """The packet of a frame; its offset isn't set. If `lenient`, a snap length may have cut its header after the
+    flags."""
     moment, link, data, length, interface, sent, _ = frame
     source, target, start, end, identification, own_interface, own_sent = segment_in(link, data, max(length, len(data)))
     segment, wanted = data[start:end], end - start
@@ -149,8 +157,8 @@ def _packet(frame, name, count, whole):
     head = header_length(segment) if captured > 12 else SHORTEST
     if head < SHORTEST or wanted < head:
         raise LeftOut("segments with a wrong data offset")
-    if captured < head:
-        raise LeftOut("segments whose TCP headers the capture cut")
+    if captured < (FLAGS_END if lenient and len(data) < length else head):
+        raise LeftOut(CUT[1])
     own_port, other_port = ports(segment)
     outgoing = sent if own_sent is None else own_sent
     if own_interface is not None:

@@ -8,10 +8,11 @@ from ipaddress import ip_address
 
 from ..capture.clocks import SAME, said
 from ..capture.index import Capture, indexed, plain
+from ..capture.layers import CUT
 from ..infer.hosts import BETWEEN, BOTH, CLIENT, SERVER, OneCapture, TwoCaptures
 from ..problem import Notes, Parser, Problem, named_file, say, status_of
 from ..progress import Part
-from ..remedies import NOTHING_SENT
+from ..remedies import NOTHING_SENT, WIDER
 from ..trace import header as headers
 from . import lab
 from .live import Pool, Reader, Stream, watch
@@ -139,7 +140,7 @@ def judge_live(options, program, notes):
     with contextlib.closing(Pool(judges, options.jobs, output, notes)) as pool:
         watch(reader, Stream(capture, pool.judge, idle * 10**9, options.memory * 10**6), pool)
     if not output.count:
-        raise reader.error or nothing_in([capture])
+        raise reader.error or nothing_in([capture], notes)
     say_notes(options, notes)
     status = output.finish()
     if reader.error:
@@ -153,7 +154,7 @@ def judge_files(options, program, notes):
         captures = [Capture(name, stack.enter_context(plain(name))) for name in options.files]
         connections = indexed(captures, notes)
         if not connections:
-            raise nothing_in(captures)
+            raise nothing_in(captures, notes)
         roles = TwoCaptures(captures, connections) if len(captures) == 2 else OneCapture(captures[0], options.host)
         roles.refuse_unknown(connections)
         judges = Judge(program, {capture.name: capture for capture in captures}, roles, options, header_values(options))
@@ -184,12 +185,14 @@ def prepare(folder):
         raise Problem(f"{folder} isn't empty", "name a new folder with --report")
 
 
-def nothing_in(captures):
+def nothing_in(captures, notes):
     """Why there's nothing to judge in captures."""
     names = ", ".join(capture.name for capture in captures)
     if not any(capture.layout.frames for capture in captures):
         return Problem(f"{names}: the capture is empty",
                        "start the capture before the programs, at the interface that they use")
+    if cut := next((place for kind, (_, place) in notes.left_out.items() if kind in CUT), None):
+        return Problem(f"{names}: the capture cut all TCP headers (first: {cut})", WIDER)
     return Problem(f"{names}: no TCP segment",
                    "capture at the interface that the programs use, with the filter tcp or none", NOTHING_SENT)
 

@@ -8,10 +8,11 @@ from typing import Any
 
 from ..capture.connections import refuse_gaps
 from ..capture.packets import shown
-from ..files import write_file
+from ..files import remove, write_file
 from ..infer.conversion import Trace
 from ..infer.hosts import Undecided
 from ..infer.midpoint import split
+from ..infer.refusals import extension, refuse
 from ..infer.silence import LATE
 from ..problem import Notes, Problem, decoded, place_of
 from ..remedies import LESS_AT_ONCE
@@ -26,6 +27,8 @@ RULES = {"(rules 40 to 52)": "(rules 40 to 47 and 49 to 52)",
          "(rules 40 to 49 and 52)": "(rules 40 to 47, 49 and 52)"}
 # How a sentence of `judge` begins if it is about a line of the trace.
 LINE = re.compile(r"^line (\d+)")
+# What it says of a trace with a fault: the line and the kind.
+FAULT, TOO_LONG = re.compile(r"bad trace (\d+) \d+ \d+ (.+)"), "too-many-lines"
 
 
 @dataclass
@@ -94,6 +97,12 @@ class Result:
         """A packet in words, with its capture if there are two."""
         return f"packet {packet.count}" + (f" of {packet.capture}" if self.captures > 1 else "")
 
+    def forget(self):
+        """Removes the answer, and the files that the report has of it."""
+        for name in self.files:
+            remove(name)
+        self.levels, self.packets, self.ways, self.said, self.files = [], [], [], [], []
+
     @property
     def lines_of_packets(self):
         """A line for each line of the trace that a level refused and that has a packet."""
@@ -151,7 +160,9 @@ class Judge:
         last = {host: moment or self.last[name] for host, name in captures.items()}
         connection = indexed.read(self.files, self.layouts)
         connection.hosts = indexed.hosts
+        refuse(connection)
         self.refuse_lost(connection)
+        unknown = extension(connection)
         if self.options.between:
             captures, last = split(connection, captures[None], self.options.skew * 1000), {0: last[None], 1: last[None]}
         found.hosts = 1 if list(captures) == [0] else 2
@@ -162,6 +173,9 @@ class Judge:
             if found.rule:
                 # Giving up doesn't help either: the first answer again.
                 self.judge_trace(number, Trace(*given, Notes(), self.clock), found)
+        if found.verdict == "no" and unknown:
+            found.forget()
+            raise Problem(unknown, "")
 
     def judge_trace(self, number, trace, found):
         """Judges a trace."""
@@ -226,12 +240,25 @@ def read(found, trace, out, error, status):
     """Reads the object that `judge` printed for a trace, whose lines were made, into a result."""
     if status not in (lab.YES, lab.NO):
         said = "; ".join(said_in(out)[:1] + decoded(error).splitlines()[-1:])
-        raise Problem(said or lab.ended(status), "")
+        raise Problem(refused(found, trace, said) or said or lab.ended(status), "")
     judged = json.loads(out)
     found.levels, found.ways, found.status = judged["levels"], judged.get("ways", []), status
     lines = [level.get("input_line") for level in found.levels]
     found.packets = [None if line is None else trace.packet(line) for line in lines]
     found.said = [inferred(line) for line in judged["said"]]
+
+
+def refused(found, trace, said):
+    """Why `judge` refused a trace: not a place in it, which nobody has, but the packet there. None if it's no fault of
+    the trace."""
+    fault = FAULT.match(said)
+    if not fault:
+        return None
+    if fault[2] == TOO_LONG:
+        return "its trace would have more than 10,000,000 lines"
+    packet = trace.packet(int(fault[1]))
+    where = f" ({found.named(packet)})" if packet else ""
+    return f"no trace can have this connection{where}: {fault[2]}; this is a bug: report it with the capture"
 
 
 def said_in(out):

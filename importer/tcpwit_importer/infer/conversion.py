@@ -1,5 +1,5 @@
 """Makes the trace of one connection from its captures."""
-from ..capture.clocks import SAME, bounds_of, clock_of
+from ..capture.clocks import SAME, bounds_of, clock_of, refuse_distant
 from ..capture.copies import without_copies
 from ..trace import header as headers
 from ..trace.lines import seen_once
@@ -11,6 +11,8 @@ from .streams import complete, streams_of
 
 # Each connection has a trace of its own, whose queue always has room.
 ROOM = 65535
+# The most nanoseconds that a trace's header may have as skew.
+MOST_SKEW = headers.LIMITS["skew"][1] * 1000
 
 
 class Trace:
@@ -23,6 +25,7 @@ class Trace:
         if len(captures) == 2:
             above, below = bounds_of([connection], captures)
             clock = clock_of(above, below) if above and below else clock
+            refuse_distant(clock, MOST_SKEW)
             leave_out_unsent(connection, captures, last, clock)
         else:
             clock = SAME
