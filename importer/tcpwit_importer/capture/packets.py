@@ -17,20 +17,20 @@ class Packet:
 
     `outgoing` states whether the capture marked it as sent by its host; None if the file doesn't show it. `missing` is
     how many bytes at the segment's end were not captured: they are zeros in `segment`. `offset` is where its record
-    begins in the file; None if the file can't be read again. `identification` is that of IPv4, else 0; `interface` is
-    the number of the interface, if the file shows it.
+    begins in the file; None if the file can't be read again. `identification` is that of IPv4, else 0; `lifetime` is
+    the TTL or hop limit; `interface` is the number of the interface, if the file shows it.
     """
     __slots__ = ("moment", "source", "target", "segment", "outgoing", "capture", "count", "missing", "offset",
-                 "identification", "interface")
+                 "identification", "lifetime", "interface")
 
     def __init__(self, moment, source, target, segment, outgoing, capture="", count=0, missing=0, offset=None,
-                 identification=0, interface=None):
+                 identification=0, interface=None, lifetime=None):
         self.moment, self.source, self.target = moment, source, target
         segment += bytes(missing)
         self.segment, self.outgoing = segment[:16] + b"\0\0" + segment[18:], outgoing
         self.capture, self.count = capture, count
         self.missing, self.offset = missing, offset
-        self.identification, self.interface = identification, interface
+        self.identification, self.lifetime, self.interface = identification, lifetime, interface
 
     def share(self, known):
         """Makes equal addresses and segments one object."""
@@ -148,7 +148,8 @@ def _packet(frame, name, count, whole, lenient):
     """The packet of a frame; its offset isn't set. If `lenient`, a snap length may have cut its header after the
     flags."""
     moment, link, data, length, interface, sent, _ = frame
-    source, target, start, end, identification, own_interface, own_sent = segment_in(link, data, max(length, len(data)))
+    source, target, start, end, identification, lifetime, own_interface, own_sent = segment_in(link, data, max(
+        length, len(data)))
     segment, wanted = data[start:end], end - start
     captured = len(segment)
     if whole and captured < (least := max(wanted, SHORTEST)):
@@ -164,7 +165,7 @@ def _packet(frame, name, count, whole, lenient):
     if own_interface is not None:
         interface = own_interface
     return Packet(moment, (source, own_port), (target, other_port), segment, outgoing, name, count, wanted - captured,
-                  None, identification, interface)
+                  None, identification, interface, lifetime)
 
 
 def shown(end):
