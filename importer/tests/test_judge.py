@@ -301,8 +301,11 @@ class Hosts(WithCaptures):
         self.assertEqual(self.hosts("--host", "both"), ("hosts 2", "O"))
 
     def test_an_unknown_host(self):
+        self.talk.frames[0] = self.talk.frames[0][:1]
         name, = self.files(hosts=(0,))
-        self.assertEqual(self.fails(name, *self.lab()), f"tcpwit-judge: {name} doesn't show which host it is of")
+        status, out, _ = run(name, *self.lab())
+        self.assertEqual(status, 2)
+        self.assertIn(f"not judged: nothing shows which of its hosts {name} is of (--host or --between says it)\n", out)
         self.assertIn("isn't client, server, both or an address", run(name, "--host", "x")[2])
 
     def test_another_host(self):

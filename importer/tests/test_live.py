@@ -13,7 +13,7 @@ from tcpwit_importer.capture.segments import ACK, FIN, RST, SYN
 from tcpwit_importer.commands.live import CONNECTION, Stream
 
 from . import test_judge
-from .wire import ONE, SECOND, ZERO, Talk, packets, segment
+from .wire import ONE, SECOND, ZERO, Talk, packed, packets, segment
 
 IDLE = 5 * SECOND
 
@@ -31,7 +31,8 @@ class Streams(unittest.TestCase):
 
     def packet(self, flags, at, number=0, payload=b"", source=ZERO, target=ONE):
         """A packet at a moment."""
-        return Packet(at, source, target, segment(source, target, number, 5001, flags, payload), None)
+        ends = ((packed(address), port) for address, port in (source, target))
+        return Packet(at, *ends, segment(source, target, number, 5001, flags, payload), None, lifetime=64)
 
     def ended(self):
         """A connection whose ends both closed it."""
@@ -147,9 +148,16 @@ class Command(test_judge.WithCaptures):
             self.assertIn(message, error)
 
     def test_an_unknown_host(self):
-        status, _, error = self.piped(self.data())
+        self.talk.frames[0] = self.talk.frames[0][:1]
+        status, out, _ = self.piped(self.data())
         self.assertEqual(status, 2)
-        self.assertIn("standard input doesn't show which host it is of", error)
+        self.assertIn("not judged: nothing shows which of its hosts standard input is of", out)
+
+    def test_the_host_that_a_capture_shows(self):
+        status, _, error = self.piped(self.data())
+        self.assertEqual(status, 0)
+        self.assertEqual(error, "tcpwit-judge: 10.9.0.1 counts as the captured host: it answers at once\n")
+        self.assertIn("hosts 1\n", self.text("given"))
 
     def test_standard_input_alone(self):
         self.assertIn("standard input is given with a file", test_judge.run("-", "x", *self.lab())[2])

@@ -17,6 +17,7 @@ from .connections import Connection, connections_of
 from .frames import Layout
 from .packets import packet_at, packets_of
 from .segments import FIN, RST, SYN
+from .signs import Signs
 
 READABLE = "name a capture that can be read"
 # How many SYNs of each capture are kept, to compare the captures' clocks.
@@ -27,12 +28,14 @@ class Indexed(Connection):
     """A connection without its packets. For each capture, `places` has their offsets and counts in the file, `syns` the
     moments of its first SYNs, and `own` the ends whose packets the capture marked as sent, or to which it marked
     packets as received. `others` counts packets that are neither SYN nor reset. `senders` has the ends that sent
-    something, `ends` those that sent a FIN; it's None after a reset."""
+    something, `ends` those that sent a FIN; it's None after a reset. `signs` shows where the capture was made, if it's
+    the only one, and `place` has what was decided about that."""
 
     def __init__(self, client, server, begun):
         super().__init__(client, server, begun)
         self.places, self.syns, self.own = {}, {}, {}
         self.fragmented, self.others, self.ends, self.senders = False, 0, set(), set()
+        self.signs, self.place = Signs(), None
 
     def add(self, capture, packet):
         """Adds the next packet of a capture."""
@@ -40,6 +43,7 @@ class Indexed(Connection):
         offsets.append(packet.offset)
         counts.append(packet.count)
         self.senders.add(packet.source)
+        self.signs.add(packet, packet.source == self.client)
         self.others += not packet.flags & (SYN | RST)
         if packet.flags & RST:
             self.ends = None

@@ -13,7 +13,7 @@ from .segments import ACK, FLAGS_END, SHORTEST, SYN, acknowledgment, flags, head
 
 class Packet:
     """A captured segment: its moment in nanoseconds, its source and destination, and its bytes from the TCP header on.
-    The checksum becomes 0, since offloads leave it unfinished.
+    There, the checksum is 0, since offloads leave it unfinished; `checksum` has it.
 
     `outgoing` states whether the capture marked it as sent by its host; None if the file doesn't show it. `missing` is
     how many bytes at the segment's end were not captured: they are zeros in `segment`. `offset` is where its record
@@ -21,13 +21,14 @@ class Packet:
     the TTL or hop limit; `interface` is the number of the interface, if the file shows it.
     """
     __slots__ = ("moment", "source", "target", "segment", "outgoing", "capture", "count", "missing", "offset",
-                 "identification", "lifetime", "interface")
+                 "identification", "lifetime", "interface", "checksum")
 
     def __init__(self, moment, source, target, segment, outgoing, capture="", count=0, missing=0, offset=None,
                  identification=0, interface=None, lifetime=None):
         self.moment, self.source, self.target = moment, source, target
         segment += bytes(missing)
         self.segment, self.outgoing = segment[:16] + b"\0\0" + segment[18:], outgoing
+        self.checksum = int.from_bytes(segment[16:18], "big")
         self.capture, self.count = capture, count
         self.missing, self.offset = missing, offset
         self.identification, self.lifetime, self.interface = identification, lifetime, interface

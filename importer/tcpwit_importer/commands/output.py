@@ -6,7 +6,7 @@ from .verdicts import counted
 
 INFERRED = ("Calls were inferred: their answers aren't judged.",
             "Nor is how soon a host sends what its program gave it (rule start-late).")
-BETWEEN = ("The capture was made between the hosts: no duty is judged, moments are estimates, and a no may also",
+BETWEEN = ("{} between the hosts: no duty is judged, moments are estimates, and a no may also",
            "come from segments that were lost or reordered on the way to the capture or from it.")
 HALF = "Only one host was captured: the other one isn't judged."
 SOME = "{} with one host captured: the other one isn't judged there."
@@ -18,7 +18,7 @@ class Output:
 
     def __init__(self, options, names=()):
         self.options, self.width = options, max(map(len, names), default=0)
-        self.count = self.yes = self.no = self.half = self.status = 0
+        self.count = self.yes = self.no = self.half = self.between = self.status = 0
 
     def add(self, result):
         """Prints a connection's result."""
@@ -26,6 +26,7 @@ class Output:
         self.yes += result.verdict == "yes"
         self.no += result.verdict == "no"
         self.half += result.hosts == 1
+        self.between += result.is_between and result.verdict is not None
         self.status = max(self.status, result.status)
         print(json.dumps(facts(result)) if self.options.json else plain(f"{result.name:<{self.width}}   {result.line}"),
               flush=True)
@@ -37,8 +38,10 @@ class Output:
             counts = f"{self.yes} yes, {self.no} no" + (f", {others} not judged" if others else "")
             print(f"{counted(self.count, 'connection')}: {counts}. {INFERRED[0]}")
             print(INFERRED[1])
-            if self.options.between:
-                print("\n".join(BETWEEN))
+            if self.between:
+                all_are = self.between == self.yes + self.no
+                print("\n".join(BETWEEN).format("The capture was made" if all_are else
+                                                f"{counted(self.between, 'connection')} captured"))
             if self.half:
                 print(HALF if self.half == self.yes + self.no else SOME.format(counted(self.half, "connection")))
         return self.status if self.yes + self.no else 2

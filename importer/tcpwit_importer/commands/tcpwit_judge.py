@@ -9,7 +9,8 @@ from ipaddress import ip_address
 from ..capture.clocks import SAME, said
 from ..capture.index import Capture, indexed, plain
 from ..capture.layers import CUT
-from ..infer.hosts import BETWEEN, BOTH, CLIENT, SERVER, OneCapture, TwoCaptures
+from ..infer.hosts import BOTH, CLIENT, SERVER, OneCapture, TwoCaptures
+from ..infer.place import BETWEEN, Places
 from ..problem import Notes, Parser, Problem, named_file, say, status_of
 from ..progress import Part
 from ..remedies import NOTHING_SENT, WIDER
@@ -46,8 +47,8 @@ def parser():
     words.add_argument("files", nargs="+", type=named_file, metavar="FILE", help="a capture")
     words.add_argument("--host", type=which, metavar="HOST",
                        help=f"whose capture it is, if you give only one: {CLIENT}, {SERVER}, an address, or {BOTH} for "
-                       "a capture that has each segment once for both hosts, such as one of lo (default: as the "
-                       "capture shows)")
+                       "a capture that has each segment once for both hosts, such as one of lo (default: what marks, "
+                       "checksums, TTLs and times show)")
     words.add_argument("--between", action="store_true",
                        help="the capture was made between the hosts, such as at a switch: it shows both, but neither "
                        "duties nor exact times can be judged")
@@ -123,7 +124,7 @@ def judge(options):
     """Judges all connections of the captures, and returns the exit status."""
     refuse_words(options)
     if options.between:
-        options.host, options.slack = BETWEEN, headers.ANY
+        options.host = BETWEEN
     program = lab.program(options.lab)
     if options.report:
         prepare(options.report)
@@ -137,15 +138,22 @@ def judge_live(options, program, notes):
     judges = Judge(program, {capture.name: capture}, OneCapture(capture, options.host), options, header_values(options))
     idle = options.idle or 2 * (options.msl or headers.VALUES["msl"]) // 10**6
     reader = Reader(capture, sys.stdin.buffer, notes)
-    with contextlib.closing(Pool(judges, options.jobs, output, notes)) as pool:
+    places = places_of(options, [capture])
+    with contextlib.closing(Pool(judges, options.jobs, output, notes, places)) as pool:
         watch(reader, Stream(capture, pool.judge, idle * 10**9, options.memory * 10**6), pool)
     if not output.count:
         raise reader.error or nothing_in([capture], notes)
+    notes.said += places.lines() if places else ()
     say_notes(options, notes)
     status = output.finish()
     if reader.error:
         raise reader.error
     return status
+
+
+def places_of(options, captures):
+    """What decides where the only capture was made; None if there are two, or if the user says it."""
+    return Places(captures[0].name) if len(captures) == 1 and not options.host else None
 
 
 def judge_files(options, program, notes):
@@ -156,7 +164,9 @@ def judge_files(options, program, notes):
         if not connections:
             raise nothing_in(captures, notes)
         roles = TwoCaptures(captures, connections) if len(captures) == 2 else OneCapture(captures[0], options.host)
-        roles.refuse_unknown(connections)
+        if places := places_of(options, captures):
+            places.decide(connections)
+            notes.said += places.lines()
         judges = Judge(program, {capture.name: capture for capture in captures}, roles, options, header_values(options))
         if judges.clock != SAME:
             notes.say(f"{said(judges.clock)} (host 0 is that of {captures[0].name})")

@@ -7,6 +7,7 @@ from dataclasses import dataclass, field
 from typing import Any
 
 from ..capture.connections import refuse_gaps
+from ..capture.copies import without_copies
 from ..capture.packets import shown
 from ..files import remove, write_file
 from ..infer.conversion import Trace
@@ -16,6 +17,7 @@ from ..infer.refusals import extension, refuse
 from ..infer.silence import LATE
 from ..problem import Notes, Problem, decoded, place_of
 from ..remedies import LESS_AT_ONCE
+from ..trace import header as headers
 from . import lab
 
 # What the line of a verdict has after its first word.
@@ -52,6 +54,8 @@ class Result:
     # Whether only its beginning was judged, and of how many captures.
     is_part: bool = False
     captures: int = 1
+    # Whether it was captured between its hosts.
+    is_between: bool = False
 
     @property
     def name(self):
@@ -161,12 +165,15 @@ class Judge:
         connection = indexed.read(self.files, self.layouts)
         connection.hosts = indexed.hosts
         refuse(connection)
+        self.roles.refuse_unknown(indexed)
         self.refuse_lost(connection)
-        unknown = extension(connection)
-        if self.options.between:
+        unknown, found.is_between = extension(connection), self.roles.is_between(indexed)
+        chosen = self.chosen | ({"slack": headers.ANY} if found.is_between else {})
+        if found.is_between:
+            connection.seen[captures[None]] = without_copies(connection.seen[captures[None]], found.notes)
             captures, last = split(connection, captures[None], self.options.skew * 1000), {0: last[None], 1: last[None]}
         found.hosts = 1 if list(captures) == [0] else 2
-        given = connection, captures, last, self.chosen
+        given = connection, captures, last, chosen
         self.judge_trace(number, Trace(*given, found.notes, self.clock), found)
         if found.rule in LATE and (other := Trace(*given, Notes(), self.clock, True)).may_differ:
             self.judge_trace(number, other, found)
@@ -192,18 +199,18 @@ class Judge:
         except Problem as problem:
             raise Problem(f"{problem.cause} (--keep-gaps judges it as it is)", problem.remedy) from problem
 
-    def words(self):
-        """The options of `judge`."""
+    def words(self, found):
+        """The options of `judge` for a connection."""
         options = self.options
-        words = ["judge", "--json", "--least", options.level]
+        words, slack = ["judge", "--json", "--least", options.level], headers.ANY if found.is_between else options.slack
         words += ["--from", options.start] if options.start else []
-        words += ["--slack", str(options.slack)] if options.slack is not None else []
+        words += ["--slack", str(slack)] if slack is not None else []
         return words + (["--budget", str(options.budget)] if options.budget is not None else [])
 
     def run(self, trace, found):
         """Judges a trace that isn't kept."""
         # With a file for the case, `judge` also says which lines of the trace it has.
-        words = [self.program, *self.words(), "--case", os.devnull]
+        words = [self.program, *self.words(found), "--case", os.devnull]
         try:
             process = subprocess.Popen(words, stdin=subprocess.PIPE, stdout=subprocess.PIPE, stderr=subprocess.PIPE)
         except OSError as error:
@@ -224,7 +231,7 @@ class Judge:
         """Judges a trace that is kept in the file with this name, with its case, its picture and the explanation."""
         write_file(name, map(str.encode, trace.lines()))
         case = lab.case_of(name)
-        words = [self.program, *self.words(), "--case", "./" + os.path.basename(case)]
+        words = [self.program, *self.words(found), "--case", "./" + os.path.basename(case)]
         done = lab.on_file(words, name, os.path.dirname(name) or ".")
         found.files = [name]
         read(found, trace, done.stdout, done.stderr, done.returncode)
