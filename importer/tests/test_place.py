@@ -1,4 +1,5 @@
 """Tests where tcpwit-judge says that a capture was made, and by which signs."""
+import json
 import os
 import struct
 import tarfile
@@ -95,6 +96,13 @@ class Place(WithCaptures):
         self.assertIn("slack 1000000\n", self.text("given"))
         _, out, _ = run(f"{self.folder}/c.pcap", *self.lab(), "--between")
         self.assertIn("The capture was made between the hosts: ", out)
+
+    def test_json(self):
+        for answer, reply, place in ((SLOW, FAST, "client"), (FAST, SLOW, "server"), (SLOW, SLOW, "between")):
+            self.place(self.talk_with(answer, reply))
+            for words, expected in (((), place), (("--host", "both"), "both"), (("--host", "10.9.0.2"), "server")):
+                found = json.loads(run(f"{self.folder}/c.pcap", *self.lab(), "--json", *words)[1])
+                self.assertEqual(found["place"], expected)
 
     def test_lifetimes(self):
         for lifetimes, place in (((64, 53), "client"), ((128, 53), "client"), ((255, 60), "client"),

@@ -20,7 +20,10 @@ class Sender:
     def add(self, packet):
         """A packet of this end. Checksums of segments with bytes don't count: a host that joins received segments
         leaves theirs unfinished, too. Those of resets don't, since hosts may finish them themselves."""
-        self.least, self.greatest = min(self.least, packet.lifetime), max(self.greatest, packet.lifetime)
+        if packet.lifetime < self.least:
+            self.least = packet.lifetime
+        if packet.lifetime > self.greatest:
+            self.greatest = packet.lifetime
         if self.checked < CHECKED and not packet.size and not packet.missing and not packet.flags & RST:
             self.checked += 1
             self.wrong += not is_right(packet)

@@ -63,6 +63,7 @@ def facts(result):
     else:
         found |= {name: answer[name] for name in ("witness_line", "trace_line", "rule", "sentence")}
         found |= place(result.packets[-1])
+    found |= {"place": result.place} if result.place else {}
     levels = [level | place(packet) for level, packet in zip(result.levels, result.packets)]
     found |= {"ways": result.ways} if result.ways else {}
     return found | {"levels": levels, "said": result.said} | ({"files": result.files} if result.files else {})

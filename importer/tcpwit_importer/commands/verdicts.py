@@ -13,6 +13,7 @@ from ..files import remove, write_file
 from ..infer.conversion import Trace
 from ..infer.hosts import Undecided
 from ..infer.midpoint import split
+from ..infer.place import BETWEEN
 from ..infer.refusals import extension, refuse
 from ..infer.silence import LATE
 from ..problem import Notes, Problem, decoded, place_of
@@ -54,13 +55,18 @@ class Result:
     # Whether only its beginning was judged, and of how many captures.
     is_part: bool = False
     captures: int = 1
-    # Whether it was captured between its hosts.
-    is_between: bool = False
+    # Where the only capture was made: client, server, both or between.
+    place: str = ""
 
     @property
     def name(self):
         """The connection in the output."""
         return f"{self.client} -> {self.server}"
+
+    @property
+    def is_between(self):
+        """Whether it was captured between its hosts."""
+        return self.place == BETWEEN
 
     @property
     def answer(self):
@@ -167,7 +173,7 @@ class Judge:
         refuse(connection)
         self.roles.refuse_unknown(indexed)
         self.refuse_lost(connection)
-        unknown, found.is_between = extension(connection), self.roles.is_between(indexed)
+        unknown, found.place = extension(connection), self.roles.place(indexed)
         chosen = self.chosen | ({"slack": headers.ANY} if found.is_between else {})
         if found.is_between:
             connection.seen[captures[None]] = without_copies(connection.seen[captures[None]], found.notes)

@@ -62,9 +62,12 @@ class OneCapture:
         connection.hosts = {own: 0, connection.other(own): 1}
         return {0: self.capture.name}
 
-    def is_between(self, connection):
-        """Whether it was captured between its hosts."""
-        return BETWEEN == (self.wanted or connection.place)
+    def place(self, connection):
+        """Where it was captured, in a word."""
+        if BETWEEN == (self.wanted or connection.place):
+            return BETWEEN
+        own = self.ends(connection)
+        return BOTH if own is None else CLIENT if own == connection.client else SERVER
 
     def refuse_unknown(self, connection):
         """Refuses a connection that doesn't show where it was captured."""
@@ -143,9 +146,9 @@ class TwoCaptures:
         return {0: self.captures[place].name}
 
     @staticmethod
-    def is_between(_):
-        """Each capture is one host's."""
-        return False
+    def place(_):
+        """Each capture is one host's, so no word is needed."""
+        return ""
 
     def refuse_unknown(self, connection):
         """Whose captures they are is decided for each connection."""
