@@ -5,6 +5,7 @@ import struct
 import tarfile
 import tempfile
 import unittest
+from unittest import mock
 
 from tcpwit_importer.capture.index import Capture, indexed
 from tcpwit_importer.capture.segments import ACK
@@ -142,6 +143,24 @@ class Place(WithCaptures):
         sure = self.talk_with(lifetimes=(64, 53), port=4001)
         self.assertEqual(self.place(sure, *(self.talk_with(port=port) for port in range(4002, 4009)))[1],
                          [host(1, "its packets have TTL 64")])
+
+    def test_several_addresses(self):
+        talks = [self.talk_with(SLOW, FAST, zero=f"10.9.0.{number}") for number in range(3, 8)]
+        for count, said in ((2, "10.9.0.3 and 10.9.0.4 count as"), (3, "10.9.0.3, 10.9.0.4 and 10.9.0.5 count as"),
+                            (5, "10.9.0.3, 10.9.0.4, 10.9.0.5 and 2 more count as")):
+            self.assertEqual(self.place(*talks[:count])[1], [f"{said} the captured host: {AT_ONCE}"])
+
+    def test_votes_against_addresses_are_forgotten(self):
+        places = Places("c.pcap")
+        with mock.patch("tcpwit_importer.infer.place.MOST", 3):
+            pcap(f"{self.folder}/c.pcap", self.talk_with(SLOW, FAST))
+            connection, = indexed([Capture(f"{self.folder}/c.pcap", f"{self.folder}/c.pcap")], Notes())
+            for number in range(100):
+                connection.server = (bytes([10, 9, 1, number]), 80)
+                places.decide([connection])
+                self.assertEqual(connection.place, connection.client)
+                self.assertLessEqual(len(places.votes), 3)
+        self.assertEqual(places.votes, {CLIENT: 100, connection.server[0]: -1})
 
     def test_a_connection_that_shows_nothing(self):
         syn = self.talk_with()[:1]

@@ -36,6 +36,8 @@ CERTAIN, STRONG, MEDIUM, WEAK = 10**6, 1000, 10, 1
 
 # Of how many addresses votes are kept, before those against them are forgotten.
 MOST = 10_000
+# How many addresses a line names.
+SHOWN = 3
 
 
 class Found(NamedTuple):
@@ -151,10 +153,11 @@ class Places:
                 connections = "1 connection" if count == 1 else f"{count} connections"
                 yield f"{self.capture} counts as made between the hosts ({connections}): {reasons}"
             else:
-                hosts.setdefault(reasons, []).append(ip_address(place))
-        for reasons, (first, *others) in hosts.items():
-            yield (f"{first} and {len(others)} others count as captured hosts: {reasons}" if others else
-                   f"{first} counts as the captured host: {reasons}")
+                hosts.setdefault(reasons, []).append(str(ip_address(place)))
+        for reasons, addresses in hosts.items():
+            more = [f"{len(addresses) - SHOWN} more"] if len(addresses) > SHOWN else []
+            yield (f"{listed(addresses[:SHOWN] + more)} count{'s' if len(addresses) == 1 else ''} as the captured host: "
+                   f"{reasons}")
 
 
 def key_of(place):
@@ -162,7 +165,7 @@ def key_of(place):
     return place if place == BETWEEN else place[0]
 
 
-def listed(reasons):
-    """Reasons in words."""
-    *first, last = reasons
+def listed(words):
+    """Words as a list in a sentence."""
+    *first, last = words
     return f"{', '.join(first)} and {last}" if first else last
