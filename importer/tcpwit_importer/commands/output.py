@@ -6,7 +6,7 @@ from .verdicts import counted
 
 INFERRED = ("Calls were inferred: their answers aren't judged.",
             "Nor is how soon a host sends what its program gave it (rule start-late).")
-BETWEEN = ("{} between the hosts: no duty is judged, moments are estimates, and a no may also",
+BETWEEN = ("{} no duty is judged, moments are estimates, and a no may also",
            "come from segments that were lost or reordered on the way to the capture or from it.")
 HALF = "Only one host was captured: the other one isn't judged."
 SOME = "{} with one host captured: the other one isn't judged there."
@@ -39,9 +39,9 @@ class Output:
             print(f"{counted(self.count, 'connection')}: {counts}. {INFERRED[0]}")
             print(INFERRED[1])
             if self.between:
-                all_are = self.between == self.yes + self.no
-                print("\n".join(BETWEEN).format("The capture was made" if all_are else
-                                                f"{counted(self.between, 'connection')} captured"))
+                where = ("The capture was made between the hosts:" if self.between == self.yes + self.no else
+                         f"Captured between the hosts: {counted(self.between, 'connection')}. There")
+                print("\n".join(BETWEEN).format(where))
             if self.half:
                 print(HALF if self.half == self.yes + self.no else SOME.format(counted(self.half, "connection")))
         return self.status if self.yes + self.no else 2

@@ -55,12 +55,13 @@ def extension(connection):
     """What a connection uses that the checker has no word for, in words; None if nothing. A no may come from that."""
     multipath = {}
     for packet in connection.packets():
-        kinds = [kind for kind, _ in listed(options(packet.segment))]
-        if packet.flags & SYN and packet.size:
-            option = ", with the option TCP Fast Open" if FAST_OPEN in kinds else ""
-            return f"data on a SYN ({named(connection, packet)}{option})"
-        if MULTIPATH in kinds:
-            multipath.setdefault(packet.source, packet)
+        if packet.flags & SYN:
+            kinds = [kind for kind, _ in listed(options(packet.segment))]
+            if packet.size:
+                option = ", with the option TCP Fast Open" if FAST_OPEN in kinds else ""
+                return f"data on a SYN ({named(connection, packet)}{option})"
+            if MULTIPATH in kinds:
+                multipath.setdefault(packet.source, packet)
     if len(multipath) == 2:
         return f"multipath TCP ({named(connection, multipath[connection.client])} has its option)"
     return None
