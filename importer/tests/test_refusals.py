@@ -93,10 +93,12 @@ class Refusals(WithCaptures):
         self.assertRegex(self.reason(*self.files()), r"the clocks of the two captures differ by \d+\.\d seconds more")
 
     def test_a_fault_of_the_trace(self):
-        for line, where in ((13, " (packet 1)"), (11, ""), (3, "")):
-            said = self.of_client(self.talk, {"status": 2, "said": [f"bad trace {line} 0 1 number"]})
-            self.assertEqual(said, f"no trace can have this connection{where}: number; this is a bug: report it with "
+        for line, kind, where in ((13, "segment short", " (packet 1)"), (11, "hex", ""), (3, "number", "")):
+            said = self.of_client(self.talk, {"status": 2, "said": [f"bad trace {line} 0 1 {kind}"]})
+            self.assertEqual(said, f"no trace can have this connection{where}: {kind}; this is a bug: report it with "
                              "the capture")
+        self.assertEqual(self.of_client(self.talk, {"said": ["bad trace 13 0 1 number"]}),
+                         "packet 1 was captured at a moment too far from that of the first packet")
         self.assertEqual(self.of_client(self.talk, {"said": ["bad trace 10000001 0 1 too-many-lines"]}),
                          "its trace would have more than 10,000,000 lines")
 

@@ -36,8 +36,8 @@ END = None
 
 class Live(Connection):
     """A connection whose packets arrive. `last` is the moment of the last one, `bytes` what it needs of memory; `own`
-    has the ends whose packets the capture marked as sent, `signs` shows where it was made, and `place` has
-    what was decided about that."""
+    has the ends whose packets the capture marked as sent, `signs` shows where it was made, and `place` has what was
+    decided about that."""
 
     def __init__(self, client, server, begun):
         super().__init__(client, server, begun)
@@ -158,8 +158,7 @@ class Reader(threading.Thread):
 
     def run(self):
         try:
-            for packet in packets_of(self.capture.name, self.file, self.notes, self.capture.layout,
-                                     lenient=True):
+            for packet in packets_of(self.capture.name, self.file, self.notes, self.capture.layout, lenient=True):
                 self.found.put(packet)
         except BaseException as error:
             self.error = error

@@ -30,6 +30,9 @@ were made at the same time, one at each host. With - as the only FILE, standard 
 as that of tcpdump -U -w -; each connection is judged once it has ended and was silent for --idle seconds, or at the
 end.
 
+Where a single capture was made is taken from what it shows, and said on standard error; --host and --between overrule
+it.
+
 The calls of the programs are inferred from the segments. So neither their answers are judged, nor how soon a host
 sends what its program gave it (rule start-late).
 
@@ -54,8 +57,8 @@ def parser():
                        "duties nor exact times can be judged")
     words.add_argument("--skew", type=number_within(*headers.LIMITS["skew"]), default=headers.VALUES["slack"],
                        metavar="N",
-                       help="with --between: how many microseconds a segment needs at most between a host and the "
-                       "capture (default: 1000000)")
+                       help="for a capture between the hosts: how many microseconds a segment needs at most between a "
+                       "host and the capture (default: 1000000)")
     words.add_argument("--level", choices=headers.LEVELS, default=headers.FULL,
                        help="the weakest level whose yes gives status 0 (default: full)")
     add_first_level(words, "--level")

@@ -30,8 +30,8 @@ RULES = {"(rules 40 to 52)": "(rules 40 to 47 and 49 to 52)",
          "(rules 40 to 49 and 52)": "(rules 40 to 47, 49 and 52)"}
 # How a sentence of `judge` begins if it is about a line of the trace.
 LINE = re.compile(r"^line (\d+)")
-# What it says of a trace with a fault: the line and the kind.
-FAULT, TOO_LONG = re.compile(r"bad trace (\d+) \d+ \d+ (.+)"), "too-many-lines"
+# What it says of a trace with a fault: the line and the kind. Only moments are numbers that may be too large.
+FAULT, TOO_LONG, NUMBER = re.compile(r"bad trace (\d+) \d+ \d+ (.+)"), "too-many-lines", "number"
 
 
 @dataclass
@@ -267,11 +267,13 @@ def refused(found, trace, said):
     fault = FAULT.match(said)
     if not fault:
         return None
-    if fault[2] == TOO_LONG:
+    packet, kind = trace.packet(int(fault[1])), fault[2]
+    if kind == TOO_LONG:
         return "its trace would have more than 10,000,000 lines"
-    packet = trace.packet(int(fault[1]))
+    if kind == NUMBER and packet:
+        return f"{found.named(packet)} was captured at a moment too far from that of the first packet"
     where = f" ({found.named(packet)})" if packet else ""
-    return f"no trace can have this connection{where}: {fault[2]}; this is a bug: report it with the capture"
+    return f"no trace can have this connection{where}: {kind}; this is a bug: report it with the capture"
 
 
 def said_in(out):
