@@ -14,8 +14,8 @@ from ..infer.conversion import Trace
 from ..infer.hosts import Undecided
 from ..infer.midpoint import split
 from ..infer.place import BETWEEN
-from ..infer.refusals import extension, refuse
 from ..infer.silence import LATE
+from ..infer.unjudged import extension, refuse
 from ..problem import Notes, Problem, decoded, place_of
 from ..remedies import LESS_AT_ONCE
 from ..trace import header as headers
