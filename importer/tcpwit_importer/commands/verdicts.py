@@ -153,7 +153,8 @@ class Judge:
         connection.hosts = indexed.hosts
         self.refuse_lost(connection)
         if self.options.between:
-            captures, last = split(connection, captures[None], self.options.skew * 1000), {0: last[None], 1: last[None]}
+            last = {0: last[None], 1: last[None]}
+            captures = split(connection, captures[None], self.options.skew * 1000, found.notes)
         found.hosts = 1 if list(captures) == [0] else 2
         given = connection, captures, last, self.chosen
         self.judge_trace(number, Trace(*given, found.notes, self.clock), found)
