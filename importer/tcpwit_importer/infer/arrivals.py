@@ -4,6 +4,9 @@ What a host sends shows what it hadn't received by then: it acknowledges less, o
 acknowledges. It also shows what it had received: it acknowledges that, or sends beyond the window that it knew. An
 arrival comes when it passed, unless what is sent later shows that it came later: then it comes as soon as it can.
 """
+from bisect import bisect, bisect_left
+
+from ..capture.segments import WRAP
 from .passages import moved
 
 # Above each position.
@@ -37,9 +40,11 @@ class Arrivals:
 
     def __init__(self, sent, others):
         self.sent, self.others = sent, others
-        self.limits = Limits([each.passage for each in sent])
-        # What waits, and what came: up to which position without a gap, what beyond, and the window's end.
-        self.held, self.reached, self.beyond, self.edge = [], 0, [], 0
+        self.limits, self.answered = Limits([each.passage for each in sent]), answered(sent, others)
+        self.places, self.extending = [each.place for each in others], extending(sent)
+        # What waits, and what came: up to which position without a gap, and what beyond; what was acknowledged, and the
+        # window's end.
+        self.held, self.reached, self.beyond, self.acknowledged, self.edge = [], 0, [], 0, 0
         self.found = []
 
     def packets(self):
@@ -62,18 +67,31 @@ class Arrivals:
         """Before the segment at a place is sent, what it needs comes, and what isn't shown to come later."""
         passage, held = self.sent[place].passage, []
         for arrival in self.held:
-            if self.limits.permit(place, arrival) or self.is_needed(arrival, passage):
+            if self.is_due(place, arrival) or self.is_needed(arrival, passage):
                 self.come(arrival)
             else:
                 held.append(arrival)
         self.held = held
 
+    def is_due(self, place, arrival):
+        """Whether an arrival may come before the segment at a place: what a reset answers comes just before that."""
+        reset = self.answered.get(arrival.place)
+        if reset is not None:
+            return place >= reset
+        return self.limits.permit(place, arrival) and not self.closes_early(place, arrival)
+
+    def closes_early(self, place, arrival):
+        """Whether an arrival makes the window smaller, and bytes are sent later that need the larger one, with nothing
+        between them that permits these bytes."""
+        if arrival.edge is None or arrival.edge >= self.edge or (at := self.extending[place]) is None:
+            return False
+        stop, first = self.sent[at].passage.stop, bisect(self.places, arrival.place)
+        between = self.others[first:bisect_left(self.places, self.sent[at].before)]
+        return arrival.edge < stop <= self.edge and not any((each.edge or 0) >= stop for each in between)
+
     def is_needed(self, arrival, passage):
-        """Whether a segment needs an arrival: it acknowledges it, answers it with a reset, or has bytes beyond the
-        window without it."""
-        if passage.is_reset:
-            return answers(passage.packet, arrival)
-        if arrival.is_reset:
+        """Whether a segment needs an arrival: it acknowledges it, or has bytes beyond the window without it."""
+        if arrival.is_reset or passage.is_reset:
             return False
         if passage.acknowledged is not None and arrival.start <= self.reached < min(arrival.stop, passage.acknowledged):
             return True
@@ -87,7 +105,8 @@ class Arrivals:
         self.found.append(moved(arrival.packet, moment))
         if arrival.is_reset:
             return
-        self.edge = max(self.edge, arrival.edge or 0)
+        if (arrival.acknowledged or 0) >= self.acknowledged and arrival.edge is not None:
+            self.acknowledged, self.edge = arrival.acknowledged, arrival.edge
         self.beyond = [(start, stop) for start, stop in [*self.beyond, (arrival.start, arrival.stop)]
                        if stop > self.reached]
         for start, stop in sorted(self.beyond):
@@ -95,8 +114,40 @@ class Arrivals:
                 self.reached = max(self.reached, stop)
 
 
+def extending(sent):
+    """For each place of what was sent, that of the next segment with bytes beyond all earlier ones, or None; and None
+    for the end."""
+    found, reached = [], 0
+    for each in sent:
+        passage = each.passage
+        found.append(passage.packet.size > 0 and passage.stop > reached and not passage.is_reset)
+        reached = reached if passage.is_reset else max(reached, passage.stop)
+    following = None
+    for place in reversed(range(len(sent))):
+        following = place if found[place] else following
+        found[place] = following
+    return [*found, None]
+
+
+def answered(sent, others):
+    """Which arrivals resets may answer: for the place of each in the capture, that of its reset in what was sent."""
+    found, left = {}, list(others)
+    for place in reversed(range(len(sent))):
+        if not sent[place].passage.is_reset:
+            continue
+        while left and left[-1].place >= sent[place].before:
+            left.pop()
+        match = next((at for at in reversed(range(len(left))) if answers(sent[place].passage.packet, left[at])), None)
+        if match is not None:
+            found[left[match].place] = place
+            del left[match:]
+    return found
+
+
 def answers(reset, arrival):
     """Whether a reset may answer an arrival (RFC 9293, 3.5.2)."""
+    if arrival.is_reset:
+        return False
     if arrival.acknowledged is None:
-        return reset.acknowledgment == (arrival.packet.number + arrival.length) % (1 << 32)
+        return reset.acknowledgment == (arrival.packet.number + arrival.length) % WRAP
     return reset.number == arrival.packet.acknowledgment

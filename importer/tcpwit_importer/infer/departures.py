@@ -36,7 +36,7 @@ class Departures:
         self.own = [passage for passage in found if passage.packet.source == end]
         self.others = [passage for passage in found if passage.packet.source != end]
         self.places = [passage.place for passage in self.others]
-        self.has_counter = counts([passage.packet.identification for passage in self.own])
+        self.has_counter = counts([each.packet.identification for each in self.own if each.packet.identification])
 
     def in_order(self, notes):
         """The segments as they were sent, with those that were lost before the capture."""
@@ -64,9 +64,14 @@ class Departures:
     def follows(self, earlier, passage, fills):
         """Whether a segment that passed earlier was sent after another one. `fills`: that one has bytes that weren't
         seen before, though later ones were."""
-        if earlier.is_reset or passage.acknowledged is None or earlier.acknowledged is None:
-            return False
         if passage.packet.moment - earlier.packet.moment > self.longest or self.shows_order(earlier, passage):
+            return False
+        if passage.acknowledged is None or passage.packet.flags & SYN:
+            return False
+        if earlier.is_reset:
+            # A host sends nothing after it reset a connection that both had opened.
+            return 0 < earlier.start <= passage.stop
+        if earlier.acknowledged is None:
             return False
         if passage.acknowledged < earlier.acknowledged:
             return True
@@ -76,7 +81,7 @@ class Departures:
     def shows_order(self, earlier, passage):
         """Whether two segments show that they passed in the order in which they were sent."""
         one, two = earlier.packet, passage.packet
-        if self.has_counter and 0 < (two.identification - one.identification) % (2 * HALF) < HALF:
+        if self.has_counter and one.identification and two.identification and 0 < (two.identification - one.identification) % (2 * HALF) < HALF:
             return True
         stamps = timestamp(one.segment), timestamp(two.segment)
         return None not in stamps and 0 < (stamps[1] - stamps[0]) % WRAP < WRAP // 2
