@@ -1,9 +1,11 @@
 """When a host received what passed a capture between the hosts: at some moment after that, or never.
 
-What a host sends shows what it hadn't received by then: it acknowledges less, or it sends again what an arrival
-acknowledges. It also shows what it had received: it acknowledges that, or sends beyond the window that it knew. An
-arrival comes when it passed, unless what is sent later shows that it came later: then it comes as soon as it can.
+What a host sends shows what it hadn't received by then: it acknowledges less, sends again what an arrival acknowledges,
+or has bytes beyond the window of an arrival. It also shows what it had received: it acknowledges that, or has bytes
+beyond the window that it knew. An arrival comes when it passed, unless what is sent later shows that it came later:
+then it comes as soon as it can. So what was lost behind the capture comes only after what shows that.
 """
+import heapq
 from bisect import bisect, bisect_left
 
 from ..capture.segments import WRAP
@@ -14,119 +16,136 @@ FAR = 1 << 62
 
 
 class Limits:
-    """What a host's segments show from one place on: the least that they acknowledge, the first position that they
-    have, and whether one of them is no reset."""
+    """What the segments of a host show, for each place of what it sent: the least that they acknowledge from there on,
+    the first position that they have, and the next of them with bytes beyond all earlier ones, if any. `plain` is the
+    place after the last one that isn't a reset."""
 
     def __init__(self, sent):
-        self.rows = [(FAR, FAR, False)]
-        for passage in reversed(sent):
-            least, first, goes_on = self.rows[-1]
-            if not passage.is_reset:
-                least = least if passage.acknowledged is None else min(least, passage.acknowledged)
-                first, goes_on = min(first, passage.start) if passage.length else first, True
-            self.rows.append((least, first, goes_on))
-        self.rows.reverse()
+        passages = [each.passage for each in sent]
+        self.least, self.first, self.extending, self.plain = [FAR], [FAR], [None], 0
+        for place in reversed(range(len(sent))):
+            least, first = FAR, FAR
+            if not passages[place].is_reset:
+                self.plain = max(self.plain, place + 1)
+                least = FAR if passages[place].acknowledged is None else passages[place].acknowledged
+                first = passages[place].start if passages[place].length else FAR
+            self.least.append(min(least, self.least[-1]))
+            self.first.append(min(first, self.first[-1]))
+        for place in reversed(extending(passages)):
+            self.extending.append(self.extending[-1] if place is None else place)
+        for row in (self.least, self.first, self.extending):
+            row.reverse()
 
-    def permit(self, place, arrival):
-        """Whether an arrival may have come before the segment at a place of what was sent."""
-        least, first, goes_on = self.rows[place]
+    def due(self, arrival):
+        """The first place of a segment before which an arrival may have come."""
         if arrival.is_reset:
-            return not goes_on
-        return (not arrival.length or arrival.stop <= least) and (arrival.acknowledged or 0) <= first
+            return self.plain
+        stops = bisect_left(self.least, arrival.stop) if arrival.length else 0
+        return max(stops, bisect_left(self.first, arrival.acknowledged or 0))
 
 
 class Arrivals:
     """Gives the arrivals at a host their moments. `sent` has what the host sent, in order."""
 
     def __init__(self, sent, others):
-        self.sent, self.others = sent, others
-        self.limits, self.answered = Limits([each.passage for each in sent]), answered(sent, others)
-        self.places, self.extending = [each.place for each in others], extending(sent)
-        # What waits, and what came: up to which position without a gap, and what beyond; what was acknowledged, and the
-        # window's end.
-        self.held, self.reached, self.beyond, self.acknowledged, self.edge = [], 0, [], 0, 0
+        self.sent, self.others, self.places = sent, others, [each.place for each in others]
+        self.limits, self.answered = Limits(sent), answered(sent, others)
+        # What waits: when it's due, its place in the capture, and the arrival.
+        self.held = []
+        # What came: up to which position without a gap, and what beyond; what was acknowledged, and the window's end.
+        self.reached, self.beyond, self.acknowledged, self.edge = 0, [], 0, 0
         self.found = []
 
     def packets(self):
         """All packets of the host, in order."""
-        steps = [(each.before, place) for place, each in enumerate(self.sent)]
         others = iter(self.others)
         arrival = next(others, None)
-        for before, place in steps:
-            while arrival and arrival.place < before:
-                self.held.append(arrival)
+        for place, each in enumerate(self.sent):
+            while arrival and arrival.place < each.before:
+                self.hold(arrival)
                 arrival = next(others, None)
             self.release(place)
-            self.found.append(self.sent[place].packet)
-        self.held += [] if arrival is None else [arrival, *others]
-        for arrival in self.held:
-            self.come(arrival)
+            self.found.append(each.packet)
+        while arrival:
+            self.hold(arrival)
+            arrival = next(others, None)
+        self.come(self.held)
         return self.found
 
+    def hold(self, arrival):
+        """An arrival passes. What a reset answers is due just before that."""
+        due = self.answered.get(arrival.place)
+        heapq.heappush(self.held, (self.limits.due(arrival) if due is None else due, arrival.place, arrival))
+
     def release(self, place):
-        """Before the segment at a place is sent, what it needs comes, and what isn't shown to come later."""
-        passage, held = self.sent[place].passage, []
-        for arrival in self.held:
-            if self.is_due(place, arrival) or self.is_needed(arrival, passage):
-                self.come(arrival)
-            else:
-                held.append(arrival)
-        self.held = held
+        """Before the segment at a place is sent, what is due comes, and what the segment needs."""
+        due = []
+        while self.held and self.held[0][0] <= place:
+            due.append(heapq.heappop(self.held))
+        self.come(due, place)
+        passage = self.sent[place].passage
+        if self.held and not passage.is_reset and self.needs_more(passage):
+            for entry in sorted(self.held, key=lambda entry: entry[1]):
+                if self.is_needed(entry[2], passage):
+                    self.held.remove(entry)
+                    self.come([entry])
+            heapq.heapify(self.held)
 
-    def is_due(self, place, arrival):
-        """Whether an arrival may come before the segment at a place: what a reset answers comes just before that."""
-        reset = self.answered.get(arrival.place)
-        if reset is not None:
-            return place >= reset
-        return self.limits.permit(place, arrival) and not self.closes_early(place, arrival)
-
-    def closes_early(self, place, arrival):
-        """Whether an arrival makes the window smaller, and bytes are sent later that need the larger one, with nothing
-        between them that permits these bytes."""
-        if arrival.edge is None or arrival.edge >= self.edge or (at := self.extending[place]) is None:
-            return False
-        stop, first = self.sent[at].passage.stop, bisect(self.places, arrival.place)
-        between = self.others[first:bisect_left(self.places, self.sent[at].before)]
-        return arrival.edge < stop <= self.edge and not any((each.edge or 0) >= stop for each in between)
+    def needs_more(self, passage):
+        """Whether a segment acknowledges what didn't come, or has bytes beyond the window."""
+        return (passage.acknowledged or 0) > self.reached or (passage.packet.size > 0 and passage.stop > self.edge)
 
     def is_needed(self, arrival, passage):
-        """Whether a segment needs an arrival: it acknowledges it, or has bytes beyond the window without it."""
-        if arrival.is_reset or passage.is_reset:
+        """Whether a segment that needs more needs this arrival."""
+        if arrival.is_reset:
             return False
-        if passage.acknowledged is not None and arrival.start <= self.reached < min(arrival.stop, passage.acknowledged):
+        if arrival.start <= self.reached < min(arrival.stop, passage.acknowledged or 0):
             return True
         return passage.packet.size > 0 and passage.stop > self.edge and (arrival.edge or 0) > self.edge
 
-    def come(self, arrival):
-        """An arrival comes, when it passed or after what came or was sent before."""
-        moment = arrival.packet.moment + 1
-        if self.found:
-            moment = max(moment, self.found[-1].moment)
-        self.found.append(moved(arrival.packet, moment))
-        if arrival.is_reset:
-            return
-        if (arrival.acknowledged or 0) >= self.acknowledged and arrival.edge is not None:
+    def come(self, entries, place=None):
+        """What waited comes, in the order in which it passed: when it passed, or after what came or was sent before. At
+        a place of what was sent, what closes the window too early waits again."""
+        for _, at, arrival in sorted(entries, key=lambda entry: entry[1]):
+            if place is not None and (later := self.closes_early(place, arrival)) is not None:
+                heapq.heappush(self.held, (later + 1, at, arrival))
+                continue
+            moment = arrival.packet.moment + 1
+            if self.found:
+                moment = max(moment, self.found[-1].moment)
+            self.found.append(moved(arrival.packet, moment))
+            if not arrival.is_reset:
+                self.add(arrival)
+
+    def add(self, arrival):
+        """An arrival that isn't a reset came."""
+        if arrival.edge is not None and arrival.acknowledged >= self.acknowledged:
             self.acknowledged, self.edge = arrival.acknowledged, arrival.edge
-        self.beyond = [(start, stop) for start, stop in [*self.beyond, (arrival.start, arrival.stop)]
-                       if stop > self.reached]
-        for start, stop in sorted(self.beyond):
-            if start <= self.reached:
-                self.reached = max(self.reached, stop)
+        if arrival.length and arrival.stop > self.reached:
+            heapq.heappush(self.beyond, (arrival.start, arrival.stop))
+        while self.beyond and self.beyond[0][0] <= self.reached:
+            self.reached = max(self.reached, heapq.heappop(self.beyond)[1])
+
+    def closes_early(self, place, arrival):
+        """The place of a segment with bytes beyond the window of an arrival, which makes it smaller, if nothing between
+        them permits these bytes; else None."""
+        if arrival.edge is None or arrival.edge >= self.edge or (at := self.limits.extending[place]) is None:
+            return None
+        stop = self.sent[at].passage.stop
+        if not arrival.edge < stop <= self.edge:
+            return None
+        between = range(bisect(self.places, arrival.place), bisect_left(self.places, self.sent[at].before))
+        return None if any((self.others[each].edge or 0) >= stop for each in between) else at
 
 
-def extending(sent):
-    """For each place of what was sent, that of the next segment with bytes beyond all earlier ones, or None; and None
-    for the end."""
+def extending(passages):
+    """For each of what was sent, its place if it has bytes beyond all earlier ones, else None."""
     found, reached = [], 0
-    for each in sent:
-        passage = each.passage
-        found.append(passage.packet.size > 0 and passage.stop > reached and not passage.is_reset)
+    for place, passage in enumerate(passages):
+        is_further = passage.packet.size > 0 and passage.stop > reached and not passage.is_reset
+        found.append(place if is_further else None)
         reached = reached if passage.is_reset else max(reached, passage.stop)
-    following = None
-    for place in reversed(range(len(sent))):
-        following = place if found[place] else following
-        found[place] = following
-    return [*found, None]
+    return found
 
 
 def answered(sent, others):

@@ -64,25 +64,25 @@ class Departures:
     def follows(self, earlier, passage, fills):
         """Whether a segment that passed earlier was sent after another one. `fills`: that one has bytes that weren't
         seen before, though later ones were."""
-        if passage.packet.moment - earlier.packet.moment > self.longest or self.shows_order(earlier, passage):
-            return False
         if passage.acknowledged is None or passage.packet.flags & SYN:
             return False
+        return (self.looks_later(earlier, passage, fills)
+                and passage.packet.moment - earlier.packet.moment <= self.longest
+                and not self.shows_order(earlier.packet, passage.packet))
+
+    def looks_later(self, earlier, passage, fills):
+        """Whether a segment that passed earlier looks as if it was sent after another one."""
         if earlier.is_reset:
             # A host sends nothing after it reset a connection that both had opened.
             return 0 < earlier.start <= passage.stop
-        if earlier.acknowledged is None:
-            return False
-        if passage.acknowledged < earlier.acknowledged:
-            return True
-        return (fills and passage.acknowledged == earlier.acknowledged and passage.start < earlier.start
-                and not self.may_be_repeated(earlier, passage))
+        if earlier.acknowledged is None or passage.acknowledged != earlier.acknowledged:
+            return earlier.acknowledged is not None and passage.acknowledged < earlier.acknowledged
+        return fills and passage.start < earlier.start and not self.may_be_repeated(earlier, passage)
 
-    def shows_order(self, earlier, passage):
-        """Whether two segments show that they passed in the order in which they were sent."""
-        one, two = earlier.packet, passage.packet
-        if self.has_counter and one.identification and two.identification and 0 < (two.identification - one.identification) % (2 * HALF) < HALF:
-            return True
+    def shows_order(self, one, two):
+        """Whether two packets show that they passed in the order in which they were sent."""
+        if self.has_counter and one.identification and two.identification:
+            return 0 < (two.identification - one.identification) % (2 * HALF) < HALF
         stamps = timestamp(one.segment), timestamp(two.segment)
         return None not in stamps and 0 < (stamps[1] - stamps[0]) % WRAP < WRAP // 2
 
