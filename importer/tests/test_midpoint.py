@@ -61,7 +61,7 @@ class Middle:
         """What each host sent and received: for each segment its host, its flags or its bytes, and the moment in
         milliseconds."""
         connection, self.notes = self.connection(), Notes()
-        names = split(connection, "x", longest, self.notes)
+        names, self.spread = split(connection, "x", longest, self.notes)
         return [[(connection.hosts[packet.source], packet.number - (5000 if packet.source == SERVER else 1000),
                   packet.size, (packet.moment - AT) // MS) for packet in connection.seen[names[host]]]
                 for host in (0, 1)]
@@ -115,7 +115,7 @@ class Split(unittest.TestCase):
             middle.add(0, 1 + number, 1, b"x", at=0)
         connection = middle.connection()
         connection.initial = {CLIENT: 1000, SERVER: 5000}
-        names = split(connection, "x", 0, Notes())
+        names, _ = split(connection, "x", 0, Notes())
         self.assertEqual([[packet.moment - AT for packet in connection.seen[names[host]]] for host in (0, 1)],
                          [[0, 2, 4], [1, 3, 5]])
 
@@ -208,7 +208,7 @@ class Order(unittest.TestCase):
         middle.add(0, 4, 1, at=5)
         middle.add(0, 1, 1, b"ab", FIN | ACK, at=900)
         connection = middle.connection()
-        names = split(connection, "x", MS, Notes())
+        names, _ = split(connection, "x", MS, Notes())
         sent = [packet for packet in connection.seen[names[0]] if packet.source == CLIENT]
         self.assertEqual([(packet.number - 1000, packet.payload, packet.flags) for packet in sent[2:]],
                          [(1, b"ab", ACK | FIN), (4, b"", ACK), (1, b"ab", ACK | FIN)])
@@ -220,7 +220,7 @@ class Order(unittest.TestCase):
             middle.add(0, 1, 5, at=5, identification=one)
             middle.add(0, 1, 3, at=6, identification=two)
             connection = middle.connection()
-            names = split(connection, "x", 10**9, Notes())
+            names, _ = split(connection, "x", 10**9, Notes())
             sent = [packet.acknowledgment - 5000 for packet in connection.seen[names[0]] if packet.source == CLIENT]
             self.assertEqual(sent[2:], [[3, 5], [5, 3]][place])
 

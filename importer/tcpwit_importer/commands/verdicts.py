@@ -15,6 +15,7 @@ from ..infer.midpoint import split
 from ..infer.silence import LATE
 from ..problem import Notes, Problem, decoded, place_of
 from ..remedies import LESS_AT_ONCE
+from ..trace import header as headers
 from . import lab
 
 # What the line of a verdict has after its first word.
@@ -152,11 +153,14 @@ class Judge:
         connection = indexed.read(self.files, self.layouts)
         connection.hosts = indexed.hosts
         self.refuse_lost(connection)
+        chosen = self.chosen
         if self.options.between:
             last = {0: last[None], 1: last[None]}
-            captures = split(connection, captures[None], self.options.skew * 1000, found.notes)
+            captures, spread = split(connection, captures[None], self.options.skew * 1000, found.notes)
+            # A timer may seem to expire so much too early.
+            chosen = {"grain": min(headers.LIMITS["grain"][1], headers.VALUES["grain"] + spread // 1000)} | chosen
         found.hosts = 1 if list(captures) == [0] else 2
-        given = connection, captures, last, self.chosen
+        given = connection, captures, last, chosen
         self.judge_trace(number, Trace(*given, found.notes, self.clock), found)
         if found.rule in LATE and (other := Trace(*given, Notes(), self.clock, True)).may_differ:
             self.judge_trace(number, other, found)

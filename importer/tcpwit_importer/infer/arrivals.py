@@ -28,7 +28,8 @@ class Limits:
             if not passages[place].is_reset:
                 self.plain = max(self.plain, place + 1)
                 least = FAR if passages[place].acknowledged is None else passages[place].acknowledged
-                first = passages[place].start if passages[place].length else FAR
+                # An empty segment may be one position below what is acknowledged, as a keep-alive is.
+                first = passages[place].start + (not passages[place].length)
             self.least.append(min(least, self.least[-1]))
             self.first.append(min(first, self.first[-1]))
         for place in reversed(extending(passages)):

@@ -47,48 +47,54 @@ class Departures:
                 # The network duplicated it.
                 continue
             seen.add(key)
-            place = self.place_in(sent, passage, holes.touches(passage))
+            place = self.place_in(sent, passage, holes.precedes(passage))
             follower = sent[place] if place < len(sent) else None
             before, moment = (follower.before, follower.moment) if follower else (passage.place, passage.packet.moment)
             sent.insert(place, Sent(passage, before, moment))
             holes.add(passage)
         return self.completed(sent, notes)
 
-    def place_in(self, sent, passage, fills):
+    def place_in(self, sent, passage, precedes):
         """The place of a segment among those sent before it passed."""
         place = len(sent)
-        while place and self.follows(sent[place - 1].passage, passage, fills):
+        while place and self.follows(sent[place - 1].passage, passage, precedes):
             place -= 1
         return place
 
-    def follows(self, earlier, passage, fills):
-        """Whether a segment that passed earlier was sent after another one. `fills`: that one has bytes that weren't
-        seen before, though later ones were."""
+    def follows(self, earlier, passage, precedes):
+        """Whether a segment that passed earlier was sent after another one. `precedes`: the positions of that one show
+        it."""
         if passage.acknowledged is None or passage.packet.flags & SYN:
             return False
-        return (self.looks_later(earlier, passage, fills)
-                and passage.packet.moment - earlier.packet.moment <= self.longest
-                and not self.shows_order(earlier.packet, passage.packet))
+        if passage.packet.moment - earlier.packet.moment > self.longest:
+            return False
+        shown = self.shown_order(earlier.packet, passage.packet)
+        return self.looks_later(earlier, passage, precedes) if shown is None else not shown
 
-    def looks_later(self, earlier, passage, fills):
+    def looks_later(self, earlier, passage, precedes):
         """Whether a segment that passed earlier looks as if it was sent after another one."""
         if earlier.is_reset:
             # A host sends nothing after it reset a connection that both had opened.
             return 0 < earlier.start <= passage.stop
         if earlier.acknowledged is None or passage.acknowledged != earlier.acknowledged:
             return earlier.acknowledged is not None and passage.acknowledged < earlier.acknowledged
-        return fills and passage.start < earlier.start and not self.may_be_repeated(earlier, passage)
+        return precedes and passage.start < earlier.start and not self.may_be_repeated(earlier, passage)
 
-    def shows_order(self, one, two):
-        """Whether two packets show that they passed in the order in which they were sent."""
+    def shown_order(self, one, two):
+        """Whether two packets show that they passed in the order in which they were sent; None if they don't show their
+        order."""
         if self.has_counter and one.identification and two.identification:
-            return 0 < (two.identification - one.identification) % (2 * HALF) < HALF
-        stamps = timestamp(one.segment), timestamp(two.segment)
-        return None not in stamps and 0 < (stamps[1] - stamps[0]) % WRAP < WRAP // 2
+            difference, whole = two.identification - one.identification, 2 * HALF
+        else:
+            stamps = timestamp(one.segment), timestamp(two.segment)
+            difference, whole = 0 if None in stamps else stamps[1] - stamps[0], WRAP
+        return None if difference == 0 else 0 < difference % whole < whole // 2
 
     def may_be_repeated(self, earlier, passage):
         """Whether a segment may have been sent again because one was lost, after a timeout or duplicate
         acknowledgments."""
+        if not passage.length:
+            return False
         if passage.packet.moment - earlier.packet.moment >= TIMEOUT:
             return True
         first, last = (bisect(self.places, each.place) for each in (earlier, passage))
@@ -145,6 +151,11 @@ class Holes:
     def touches(self, passage):
         """Whether a segment has such positions."""
         return any(start < passage.stop and passage.start < stop for start, stop in self.parts)
+
+    def precedes(self, passage):
+        """Whether a segment seems to have been sent before later ones: it has such positions, or it's an empty one at
+        an earlier position."""
+        return self.touches(passage) or (not passage.length and passage.start < self.reached)
 
     def add(self, passage):
         """A segment passed."""
