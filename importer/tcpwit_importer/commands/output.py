@@ -6,8 +6,7 @@ from .verdicts import counted
 
 INFERRED = ("Calls were inferred: their answers aren't judged.",
             "Nor is how soon a host sends what its program gave it (rule start-late).")
-BETWEEN = ("{} no duty is judged, moments are estimates, and a no may also",
-           "come from segments that were lost or reordered on the way to the capture or from it.")
+BETWEEN = ("{} no duty is judged. A segment counts as received at any moment after", "it passed, or never.")
 HALF = "Only one host was captured: the other one isn't judged."
 SOME = "{} with one host captured: the other one isn't judged there."
 

@@ -53,12 +53,12 @@ def parser():
                        "a capture that has each segment once for both hosts, such as one of lo (default: what marks, "
                        "checksums, TTLs and times show)")
     words.add_argument("--between", action="store_true",
-                       help="the capture was made between the hosts, such as at a switch: it shows both, but neither "
-                       "duties nor exact times can be judged")
+                       help="the capture was made between the hosts, such as at a switch: it shows both, but not when "
+                       "segments were received, so no duty is judged")
     words.add_argument("--skew", type=number_within(*headers.LIMITS["skew"]), default=headers.VALUES["slack"],
                        metavar="N",
-                       help="for a capture between the hosts: how many microseconds a segment needs at most between a "
-                       "host and the capture (default: 1000000)")
+                       help="for a capture between the hosts: how many microseconds a segment needs at most from its host "
+                       "to the capture; one that passes later isn't taken for reordered (default: 1000000)")
     words.add_argument("--level", choices=headers.LEVELS, default=headers.FULL,
                        help="the weakest level whose yes gives status 0 (default: full)")
     add_first_level(words, "--level")

@@ -7,7 +7,6 @@ from dataclasses import dataclass, field
 from typing import Any
 
 from ..capture.connections import refuse_gaps
-from ..capture.copies import without_copies
 from ..capture.packets import shown
 from ..files import remove, write_file
 from ..infer.conversion import Trace
@@ -173,11 +172,13 @@ class Judge:
         refuse(connection)
         self.roles.refuse_unknown(indexed)
         self.refuse_lost(connection)
-        unknown, found.place = extension(connection), self.roles.place(indexed)
-        chosen = self.chosen | ({"slack": headers.ANY} if found.is_between else {})
+        unknown, found.place, chosen = extension(connection), self.roles.place(indexed), self.chosen
         if found.is_between:
-            connection.seen[captures[None]] = without_copies(connection.seen[captures[None]], found.notes)
-            captures, last = split(connection, captures[None], self.options.skew * 1000), {0: last[None], 1: last[None]}
+            last = {0: last[None], 1: last[None]}
+            captures, spread = split(connection, captures[None], self.options.skew * 1000, found.notes)
+            # A timer may seem to expire so much too early.
+            grain = min(headers.LIMITS["grain"][1], headers.VALUES["grain"] + spread // 1000)
+            chosen = {"grain": grain} | chosen | {"slack": headers.ANY}
         found.hosts = 1 if list(captures) == [0] else 2
         given = connection, captures, last, chosen
         self.judge_trace(number, Trace(*given, found.notes, self.clock), found)
