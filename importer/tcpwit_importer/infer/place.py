@@ -156,8 +156,8 @@ class Places:
                 hosts.setdefault(reasons, []).append(str(ip_address(place)))
         for reasons, addresses in hosts.items():
             more = [f"{len(addresses) - SHOWN} more"] if len(addresses) > SHOWN else []
-            yield (f"{listed(addresses[:SHOWN] + more)} count{'s' if len(addresses) == 1 else ''} as the captured host: "
-                   f"{reasons}")
+            verb = "counts" if len(addresses) == 1 else "count"
+            yield f"{listed(addresses[:SHOWN] + more)} {verb} as the captured host: {reasons}"
 
 
 def key_of(place):

@@ -1,5 +1,7 @@
-"""Connections that can't be judged, each with a packet that shows why: a capture lacks something of them, or they have
-what a trace or the checker has no word for."""
+"""Connections that can't be judged, and the packet that shows why.
+
+A capture lacks something of them, or they have what a trace or the checker has no word for.
+"""
 from ..capture.packets import shown
 from ..capture.segments import ACK, FAST_OPEN, MULTIPATH, RST, SYN, are_damaged, listed, options
 from ..problem import Problem
