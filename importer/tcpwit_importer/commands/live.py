@@ -43,11 +43,11 @@ class Live(Connection):
         self.own, self.fins, self.closed, self.fragmented = {}, {}, set(), False
 
     def add(self, capture, packet):
-        """Adds the next packet. Those of a connection that isn't judged are only counted."""
+        """Adds the next packet. What follows a part that was judged is only counted."""
         self.count += 1
         self.last = max(self.last, packet.moment)
         self.note_end(packet)
-        if self.whole and not self.is_part:
+        if not self.is_part:
             super().add(capture, packet)
             self.bytes += len(packet.segment) + PACKET
             if packet.outgoing is not None:
@@ -173,8 +173,7 @@ class Pool:
 
     def judge(self, connection, moment):
         """Has a connection judged. Waits if enough others are waiting."""
-        if connection.whole:
-            self.judges.roles.refuse_unknown([connection])
+        self.judges.roles.refuse_unknown([connection])
         self.number += 1
         connection.fragmented = self.judges.is_fragmented(connection)
         self.waiting.add(self.pool.submit(self.judges.result, self.number, connection, moment))

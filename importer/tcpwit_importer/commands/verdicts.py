@@ -4,17 +4,21 @@ import os
 import re
 import subprocess
 from dataclasses import dataclass, field
+from itertools import filterfalse
 from typing import Any
 
 from ..capture.connections import refuse_gaps
 from ..capture.packets import shown
 from ..files import write_file
+from ..infer.begun import beginnings
 from ..infer.conversion import Trace
 from ..infer.hosts import Undecided
 from ..infer.midpoint import split
+from ..infer.opening import is_made_up
 from ..infer.silence import LATE
 from ..problem import Notes, Problem, decoded, place_of
 from ..remedies import LESS_AT_ONCE
+from ..trace.header import FULL, LEVELS, VALUES
 from . import lab
 
 # What the line of a verdict has after its first word.
@@ -26,6 +30,10 @@ RULES = {"(rules 40 to 52)": "(rules 40 to 47 and 49 to 52)",
          "(rules 40 to 49 and 52)": "(rules 40 to 47, 49 and 52)"}
 # How a sentence of `judge` begins if it is about a line of the trace.
 LINE = re.compile(r"^line (\d+)")
+# The strictest level of a connection that began before the capture: its congestion window isn't known.
+STRICTEST = "recovery"
+# The rank of its best answer.
+BEST = (False, LEVELS.index(STRICTEST))
 
 
 @dataclass
@@ -49,6 +57,9 @@ class Result:
     # Whether only its beginning was judged, and of how many captures.
     is_part: bool = False
     captures: int = 1
+    # If it began before the capture: the first packet judged in each capture, and which lines were made up.
+    since: list = field(default_factory=list)
+    made_up: range = range(0)
 
     @property
     def name(self):
@@ -71,6 +82,11 @@ class Result:
         return self.answer.get("rule")
 
     @property
+    def rank(self):
+        """Compares answers: a yes is before a no, and a stricter level before a laxer one."""
+        return self.verdict != "yes", LEVELS.index(self.answer["level"])
+
+    @property
     def line(self):
         """Its verdict, and what was refused by the laxest level that refused something; or why it has no verdict."""
         if not self.levels:
@@ -83,6 +99,8 @@ class Result:
             # A no has named its level already.
             row += f"; {level['level']}: " if self.verdict == "yes" else "; "
             row += self.sentence(level, packet)
+        if self.since:
+            row += f"   (judged from {' and '.join(map(self.named, self.since))} on: it began before the capture)"
         return row + (f"   (its first {counted(self.segments, 'segment')})" if self.is_part else "")
 
     def sentence(self, level, packet):
@@ -99,6 +117,13 @@ class Result:
         """A line for each line of the trace that a level refused and that has a packet."""
         found = [(LINE.match(level["sentence"]), packet) for level, packet in zip(self.levels, self.packets) if packet]
         return list(dict.fromkeys(f"Line {line[1]} is {self.named(packet)}." for line, packet in found if line))
+
+    @property
+    def lines_made_up(self):
+        """A line for those of the trace that no packet is behind."""
+        if not self.made_up:
+            return []
+        return [f"Lines {self.made_up[0]} to {self.made_up[-1]} were made up: the connection began before the capture."]
 
 
 class Judge:
@@ -118,7 +143,7 @@ class Judge:
         found = Result(shown(indexed.client), shown(indexed.server), indexed.begun, indexed.count, notes=Notes())
         found.is_part, found.captures = getattr(indexed, "is_part", False), len(self.files)
         try:
-            if not indexed.whole:
+            if not indexed.whole and self.options.between:
                 raise Undecided(f"it began before the capture ({counted(indexed.count, 'segment')})")
             if indexed.client == indexed.server:
                 raise Undecided("it connects a port with itself")
@@ -146,16 +171,38 @@ class Judge:
                    for name in indexed.places)
 
     def judge(self, number, indexed, found, moment):
-        """Judges a connection that is captured from its beginning."""
+        """Judges a connection."""
         captures = self.roles.assign(indexed)
         last = {host: moment or self.last[name] for host, name in captures.items()}
         connection = indexed.read(self.files, self.layouts)
         connection.hosts = indexed.hosts
+        found.hosts = 1 if list(captures) == [0] else 2
+        if not indexed.whole:
+            self.judge_begun(number, connection, captures, last, found)
+            return
         self.refuse_lost(connection)
         if self.options.between:
             captures, last = split(connection, captures[None], self.options.skew * 1000), {0: last[None], 1: last[None]}
-        found.hosts = 1 if list(captures) == [0] else 2
-        given = connection, captures, last, self.chosen
+        self.judge_silent(number, (connection, captures, last, self.chosen), found)
+
+    def judge_begun(self, number, connection, captures, last, found):
+        """Judges a connection that began before the capture. Of its possible beginnings, the one with the best answer
+        counts."""
+        least = 1000 * self.chosen.get("minrto", VALUES["minrto"])
+        best = latest = None
+        for begun in beginnings(connection, captures, self.clock, least):
+            self.refuse_lost(begun)
+            latest = begun, captures, last, self.chosen
+            found.since = [next(filterfalse(is_made_up, begun.seen[name])) for name in captures.values()]
+            self.judge_silent(number, latest, found)
+            best = min(best or (found.rank, latest), (found.rank, latest), key=lambda pair: pair[0])
+            if found.rank == BEST:
+                return
+        if best[1] is not latest:
+            self.judge_silent(number, best[1], found)
+
+    def judge_silent(self, number, given, found):
+        """Judges a connection whose host may have given up."""
         self.judge_trace(number, Trace(*given, found.notes, self.clock), found)
         if found.rule in LATE and (other := Trace(*given, Notes(), self.clock, True)).may_differ:
             self.judge_trace(number, other, found)
@@ -178,18 +225,20 @@ class Judge:
         except Problem as problem:
             raise Problem(f"{problem.cause} (--keep-gaps judges it as it is)", problem.remedy) from problem
 
-    def words(self):
+    def words(self, found):
         """The options of `judge`."""
-        options = self.options
-        words = ["judge", "--json", "--least", options.level]
-        words += ["--from", options.start] if options.start else []
+        options, levels = self.options, [self.options.level, self.options.start]
+        if found.since:
+            levels = [STRICTEST if level == FULL else level for level in levels]
+        words = ["judge", "--json", "--least", levels[0]]
+        words += ["--from", levels[1]] if levels[1] else []
         words += ["--slack", str(options.slack)] if options.slack is not None else []
         return words + (["--budget", str(options.budget)] if options.budget is not None else [])
 
     def run(self, trace, found):
         """Judges a trace that isn't kept."""
         # With a file for the case, `judge` also says which lines of the trace it has.
-        words = [self.program, *self.words(), "--case", os.devnull]
+        words = [self.program, *self.words(found), "--case", os.devnull]
         try:
             process = subprocess.Popen(words, stdin=subprocess.PIPE, stdout=subprocess.PIPE, stderr=subprocess.PIPE)
         except OSError as error:
@@ -210,13 +259,13 @@ class Judge:
         """Judges a trace that is kept in the file with this name, with its case, its picture and the explanation."""
         write_file(name, map(str.encode, trace.lines()))
         case = lab.case_of(name)
-        words = [self.program, *self.words(), "--case", "./" + os.path.basename(case)]
+        words = [self.program, *self.words(found), "--case", "./" + os.path.basename(case)]
         done = lab.on_file(words, name, os.path.dirname(name) or ".")
         found.files = [name]
         read(found, trace, done.stdout, done.stderr, done.returncode)
         lab.draw(self.program, name)
         explained = lab.on_file([self.program, "explain"], case)
-        said = [f"{line}\n".encode() for line in (*found.said, *found.lines_of_packets, "")]
+        said = [f"{line}\n".encode() for line in (*found.said, *found.lines_of_packets, *found.lines_made_up, "")]
         write_file(text_of(name), [*said, explained.stdout])
         kept = case, name.removesuffix(".trace") + ".svg", text_of(name)
         found.files += [name for name in kept if os.path.exists(name)]
@@ -232,6 +281,7 @@ def read(found, trace, out, error, status):
     lines = [level.get("input_line") for level in found.levels]
     found.packets = [None if line is None else trace.packet(line) for line in lines]
     found.said = [inferred(line) for line in judged["said"]]
+    found.made_up = trace.made_up()
 
 
 def said_in(out):

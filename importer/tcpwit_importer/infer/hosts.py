@@ -75,9 +75,8 @@ class OneCapture:
     def refuse_unknown(self, connections):
         """Refuses a capture that doesn't show which host it is of."""
         for connection in connections:
-            if connection.whole:
-                with contextlib.suppress(Undecided):
-                    self.ends(connection)
+            with contextlib.suppress(Undecided):
+                self.ends(connection)
 
     @staticmethod
     def clock():
