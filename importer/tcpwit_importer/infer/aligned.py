@@ -1,9 +1,26 @@
 """Two captures of a connection without its beginning: finds where to begin in each, so that they fit."""
 from bisect import bisect_right
 
+from ..capture.clocks import bounds_of
 from ..capture.segments import RST
 from .before import references, unwrapped
 from .hosts import Undecided
+
+
+def settle(connection, captures):
+    """Exchanges the hosts of a connection's ends if its segments fit better then: none arrives before it was sent. The
+    SYNs, which would have shown whose captures they are, are missing."""
+    exchanged = {end: 1 - host for end, host in connection.hosts.items()}
+    if len(captures) == 2 and room(connection, captures, exchanged) > room(connection, captures, connection.hosts):
+        connection.hosts = exchanged
+
+
+def room(connection, captures, hosts):
+    """How much the difference of two clocks may vary if the ends have these hosts; negative if no difference fits."""
+    given, connection.hosts = connection.hosts, hosts
+    above, below = bounds_of([connection], captures)
+    connection.hosts = given
+    return min((bound for _, bound in above), default=0) - max((bound for _, bound in below), default=0)
 
 
 def align(connection, captures, clock):

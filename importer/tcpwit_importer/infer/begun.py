@@ -5,7 +5,7 @@ from ..capture.clocks import bounds_of, clock_of
 from ..capture.connections import USUAL_SIZE
 from ..capture.segments import SHORTEST, header_length
 from ..problem import Notes
-from .aligned import align
+from .aligned import align, settle
 from .before import pause, references, round_trip
 from .conversion import put_in_order
 from .opening import with_beginning
@@ -22,6 +22,7 @@ ETHERNET = 1460
 def beginnings(connection, captures, clock, least):
     """The connection with a beginning, and perhaps with other ones, which explain retransmissions with long pauses.
     `least` is the shortest retransmission timeout in nanoseconds. Each has the same captured packets."""
+    settle(connection, captures)
     put_in_order(connection, captures, Notes())
     if len(captures) == 2:
         above, below = bounds_of([connection], captures)
