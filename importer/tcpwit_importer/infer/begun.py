@@ -9,14 +9,14 @@ from .aligned import align, settle
 from .before import pause, references, round_trip
 from .conversion import put_in_order
 from .opening import with_beginning
-from .state import both_ends, seen_by
+from .state import answer_to_syn, both_ends, seen_by
 
 # Nanoseconds before the first captured packet, and the shortest and the longest round trip that is made up.
 MARGIN, SHORT, LONG = 20 * 10**6, 10**6, 40 * 10**9
 # After several equal round trips, the timeout is this much longer than one.
 LONGER = 1.27
-# The most bytes of a segment on Ethernet; more may come from an offload.
-ETHERNET = 1460
+# The most bytes of a segment on Ethernet, if no offload enlarged it; and of any segment.
+ETHERNET, LARGEST = 1460, 65495
 
 
 def beginnings(connection, captures, clock, least):
@@ -71,7 +71,7 @@ def timings(connection, captures, ends, least):
 
 def size_of(connection):
     """The maximum segment size that explains the segments: that of the largest. If an offload may have enlarged that,
-    it's the size on Ethernet of which most of them are multiples."""
+    it's the size on Ethernet of which most of them are multiples. A SYN that a capture has counts, too."""
     sizes = Counter(packet.size for packet in connection.packets() if packet.size)
     given = max((header_length(packet.segment) - SHORTEST for packet in connection.packets() if packet.size), default=0)
     largest = max(sizes, default=0)
@@ -80,4 +80,6 @@ def size_of(connection):
         fitting = [size for size in sizes if USUAL_SIZE <= size + given <= ETHERNET and
                    2 * sum(not each % size for each in large) > len(large)]
         largest = max(fitting, default=largest)
-    return min(65535, max(USUAL_SIZE, largest + given))
+    found = min(LARGEST, max(USUAL_SIZE, largest + given))
+    answer = answer_to_syn(connection)
+    return found if answer is None else min(found, connection.sizes[answer.source] or USUAL_SIZE)
