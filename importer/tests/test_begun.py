@@ -49,8 +49,8 @@ class Output(WithCaptures):
     def test_two_captures(self):
         self.talk.frames[1] = self.talk.frames[1][4:]
         _, out, _ = run(*self.files(), *self.lab())
-        self.assertEqual(out.splitlines()[0].replace(self.folder, "F").split("   ")[-1],
-                         "(judged from packet 5 of F/c0.pcap and packet 1 of F/c1.pcap on: it began before the capture)")
+        self.assertIn("(judged from packet 5 of F/c0.pcap and packet 1 of F/c1.pcap on: it began before the capture)",
+                      out.replace(self.folder, "F"))
 
     def test_two_captures_that_both_begin_late(self):
         for host in (0, 1):
@@ -88,7 +88,8 @@ class Output(WithCaptures):
         self.judged()
         lines = [line.split() for line in self.text("given").splitlines()[10:]]
         segments = [(line[2], bytes.fromhex(line[4])) for line in lines if line[2] in "OI"]
-        self.assertEqual([(letter, each[13]) for letter, each in segments[:3]], [("O", SYN), ("I", SYN | ACK), ("O", ACK)])
+        self.assertEqual([(letter, each[13]) for letter, each in segments[:3]],
+                         [("O", SYN), ("I", SYN | ACK), ("O", ACK)])
         moments = [int(line[0]) for line in lines]
         self.assertEqual(moments, sorted(moments))
         # No captured packet is among those that were made up.
@@ -96,8 +97,8 @@ class Output(WithCaptures):
 
 
 def seen(*rows):
-    """Captured segments with their positions. A row has the sender (0 or 1), the number, the acknowledgment, the length,
-    and perhaps the window and the flags."""
+    """Captured segments with their positions. A row has the sender (0 or 1), the number, the acknowledgment, the
+    length, and perhaps the window and the flags."""
     talk = Talk()
     talk.frames[0] = []
     for at, (host, number, acknowledgment, size, *more) in enumerate(rows):

@@ -2,17 +2,27 @@
 from dataclasses import dataclass, field
 
 from ..capture.segments import ACK, SHIFT, SYN, options, values
-from .before import (FARTHEST, Received, WIDEST, acknowledged_before, edge_of, is_closed, references, sent_before,
-                     shift_of, unwrapped)
+from .before import (
+    FARTHEST,
+    WIDEST,
+    Received,
+    acknowledged_before,
+    edge_of,
+    is_closed,
+    references,
+    sent_before,
+    shift_of,
+    unwrapped,
+)
 from .hosts import Undecided
 
 
 @dataclass
 class End:
-    """One end. `low` is the lowest position in use; `sent` is the one up to which it had sent, `acknowledged` the one up
-    to which it knew that its bytes had arrived, and `received` the one up to which it had received the other's bytes,
-    besides those of `parts`. Its window has an `edge` and a `shift`, and may be `closed`. `flight` has the segments, with
-    their positions, that it had sent and that arrive in the other's capture."""
+    """One end. `low` is the lowest position in use. `sent` is the one up to which it had sent, and `acknowledged` the
+    one up to which it knew that its bytes had arrived. `received` is the one up to which it had received the other's
+    bytes; it had those of `parts`, too. Its window has an `edge` and a `shift`, and may be `closed`. `flight` has the
+    segments that it had sent, and that arrive in the other's capture."""
     shift: int
     edge: int
     closed: bool
