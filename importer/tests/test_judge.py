@@ -199,21 +199,6 @@ class Lines(WithCaptures):
         _, out, _ = run(*self.files(), *self.lab())
         self.assertEqual([line.split()[0] for line in out.splitlines()[:2]], ["10.9.0.1:4000"] * 2)
 
-    def test_a_missing_beginning(self):
-        self.talk.frames[0] = self.talk.frames[0][1:]
-        status, out, _ = run(*self.files(hosts=(0,)), *self.lab(), "--host", "client")
-        self.assertEqual(status, 2)
-        self.assertEqual(out.splitlines()[0],
-                         "10.9.0.1:4000 -> 10.9.0.2:80   not judged: it began before the capture (6 segments)")
-        self.assertIn("1 connection: 0 yes, 0 no, 1 not judged. ", out)
-
-    def test_a_beginning_that_one_capture_lacks(self):
-        self.talk.frames[1] = self.talk.frames[1][2:]
-        _, out, _ = run(*self.files(), *self.lab())
-        self.assertEqual(out.splitlines()[0],
-                         "10.9.0.1:4000 -> 10.9.0.2:80   not judged: it began before the capture (12 segments)")
-        self.assertEqual(len(out.splitlines()), 3)
-
     def test_a_lost_packet(self):
         del self.talk.frames[0][3]
         status, out, _ = run(*self.files(), *self.lab())

@@ -127,13 +127,14 @@ def without_strays(connections):
 
 def with_both_parts(connections):
     """Joins the parts of connections that begin differently in two captures. In a simultaneous open, each capture shows
-    its own host's SYN first. If only one of them has a connection's beginning, it counts as one without its
+    its own host's SYN first. If only one of them has a connection's beginning, or none, it counts as one without its
     beginning."""
     alone = [each for each in connections if each.whole and len(each.places) == 1]
     halves = {frozenset((each.client, each.server)): each for each in alone}
-    kept, opened_twice = [], {}
+    kept, opened_twice, begun = [], {}, {}
     for connection in connections:
-        half = None if connection.whole else halves.get(frozenset((connection.client, connection.server)))
+        pair = frozenset((connection.client, connection.server))
+        half = None if connection.whole else halves.get(pair) or begun.setdefault(pair, connection)
         if connection.whole and len(connection.places) == 1 and len(connection.initial) == 2:
             half = opened_twice.setdefault(frozenset(connection.initial.items()), connection)
         if half and not half.places.keys() & connection.places.keys():

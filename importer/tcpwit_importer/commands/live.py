@@ -46,12 +46,12 @@ class Live(Connection):
         self.signs, self.place = Signs(), None
 
     def add(self, capture, packet):
-        """Adds the next packet. Those of a connection that isn't judged are only counted."""
+        """Adds the next packet. What follows a part that was judged is only counted."""
         self.count += 1
         self.last = max(self.last, packet.moment)
         self.note_end(packet)
         self.signs.add(packet, packet.source == self.client)
-        if self.whole and not self.is_part:
+        if not self.is_part:
             super().add(capture, packet)
             self.bytes += len(packet.segment) + PACKET
             if packet.outgoing is not None:

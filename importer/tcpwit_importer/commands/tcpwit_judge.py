@@ -37,7 +37,8 @@ The calls of the programs are inferred from the segments. So neither their answe
 sends what its program gave it (rule start-late).
 
 Each connection has a line: its level and the answer of tcpwit_lab judge, or why it isn't judged. If a level was
-refused, the line ends with what it refused, and in which packet; of several levels, it's the laxest.
+refused, the line ends with what it refused, and in which packet; of several levels, it's the laxest. A connection that
+began before the capture is judged from its first captured packet on, at recovery at most.
 
 The status is the highest of all connections: 0 if a level of at least --level has a yes, 1 if not, 2 for an error.
 It's also 2 if nothing could be judged."""

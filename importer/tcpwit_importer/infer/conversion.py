@@ -4,6 +4,7 @@ from ..capture.copies import without_copies
 from ..trace import header as headers
 from ..trace.lines import seen_once
 from .calls import Calls
+from .opening import is_made_up
 from .queues import ignored_by
 from .script import AFTER, InferredWriter, Script
 from .silence import last_attempt
@@ -48,9 +49,18 @@ class Trace:
         yield from self.writer.lines()
 
     def packet(self, number):
-        """The packet of the line with this number, once the lines were made; None if it has none."""
+        """The captured packet of the line with this number, once the lines were made; None if it has none."""
         place = number - len(self.head) - 1
-        return self.writer.packets[place] if 0 <= place < len(self.writer.packets) else None
+        found = self.writer.packets[place] if 0 <= place < len(self.writer.packets) else None
+        return None if is_made_up(found) else found
+
+    def made_up(self):
+        """The numbers of the lines before the first captured packet, if some were made up, once the lines were made."""
+        packets = self.writer.packets
+        if not any(map(is_made_up, packets)):
+            return range(0)
+        first = next(place for place, packet in enumerate(packets) if packet and not is_made_up(packet))
+        return range(len(self.head) + 1, len(self.head) + 1 + first)
 
 
 def script_of(connection, captures, streams, last, notes):

@@ -124,7 +124,7 @@ class Places:
             self.count(connection)
         for connection in connections:
             connection.place = place = None if is_loopback(connection) else self.of(connection)
-            if place and connection.whole:
+            if place:
                 self.decided[key_of(place)] += 1
         if len(self.votes) > MOST:
             self.votes = +self.votes
