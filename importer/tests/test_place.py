@@ -101,7 +101,7 @@ class Place(WithCaptures):
     def test_the_summary_says_how_many_were_captured_between_the_hosts(self):
         self.place(self.talk_with(SLOW, FAST), self.talk_with(zero="10.9.0.7"), self.talk_with(zero="10.9.0.8"))
         _, out, _ = run(f"{self.folder}/c.pcap", *self.lab())
-        self.assertIn("\nCaptured between the hosts: 2 connections. There no duty is judged, moments are ", out)
+        self.assertIn("\nCaptured between the hosts: 2 connections. There no duty is judged", out)
         self.assertIn("\n1 connection with one host captured: the other one isn't judged there.\n", out)
 
     def test_json(self):
