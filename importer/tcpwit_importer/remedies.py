@@ -2,6 +2,7 @@
 
 # For your own captures and logs.
 WHOLE_PACKETS = "record complete packets: tcpdump -s 0"
+WIDER = "capture with -s 96 or more"
 BUFFER = "record again with a larger buffer: tcpdump -s 130000 -B 262144 --immediate-mode -U"
 ALL_CALLS = "trace all calls from the program's start, with strace -f and no -e (io_uring can't be traced)"
 OFFLOADS_OFF = "turn the offloads off: ethtool -K IF tso off gso off gro off"

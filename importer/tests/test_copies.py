@@ -43,6 +43,17 @@ class Copies(unittest.TestCase):
         self.assertEqual(self.kept(self.twice(lambda packet: links.ethernet(packet, [(0x8100, 5)]))),
                          list(range(1, 19, 2)))
 
+    def test_a_router_lowers_the_ttl_of_copies(self):
+        for options in ({"identified": False}, {"six": True}, {}):
+            with self.subTest(options):
+                place = 7 if "six" in options else 8
+                frames = self.twice(lambda packet: links.ethernet(packet[:place] + b"\x3f" + packet[place + 1:]),
+                                    **options)
+                self.assertEqual(self.kept(frames), list(range(1, 19, 2)))
+                # Two of the packets have no copy.
+                del frames[5], frames[3]
+                self.assertEqual(self.kept(frames), [1, 3, 4, 5, *range(7, 17, 2)])
+
     def test_packets_of_a_moment_ago_are_remembered(self):
         with mock.patch.object(copies, "FEW", 2):
             self.assertEqual(self.kept(self.twice()), list(range(1, 19, 2)))

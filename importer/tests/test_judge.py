@@ -199,21 +199,6 @@ class Lines(WithCaptures):
         _, out, _ = run(*self.files(), *self.lab())
         self.assertEqual([line.split()[0] for line in out.splitlines()[:2]], ["10.9.0.1:4000"] * 2)
 
-    def test_a_missing_beginning(self):
-        self.talk.frames[0] = self.talk.frames[0][1:]
-        status, out, _ = run(*self.files(hosts=(0,)), *self.lab(), "--host", "client")
-        self.assertEqual(status, 2)
-        self.assertEqual(out.splitlines()[0],
-                         "10.9.0.1:4000 -> 10.9.0.2:80   not judged: it began before the capture (6 segments)")
-        self.assertIn("1 connection: 0 yes, 0 no, 1 not judged. ", out)
-
-    def test_a_beginning_that_one_capture_lacks(self):
-        self.talk.frames[1] = self.talk.frames[1][2:]
-        _, out, _ = run(*self.files(), *self.lab())
-        self.assertEqual(out.splitlines()[0],
-                         "10.9.0.1:4000 -> 10.9.0.2:80   not judged: it began before the capture (12 segments)")
-        self.assertEqual(len(out.splitlines()), 3)
-
     def test_a_lost_packet(self):
         del self.talk.frames[0][3]
         status, out, _ = run(*self.files(), *self.lab())
@@ -301,8 +286,11 @@ class Hosts(WithCaptures):
         self.assertEqual(self.hosts("--host", "both"), ("hosts 2", "O"))
 
     def test_an_unknown_host(self):
+        self.talk.frames[0] = self.talk.frames[0][:1]
         name, = self.files(hosts=(0,))
-        self.assertEqual(self.fails(name, *self.lab()), f"tcpwit-judge: {name} doesn't show which host it is of")
+        status, out, _ = run(name, *self.lab())
+        self.assertEqual(status, 2)
+        self.assertIn(f"not judged: nothing shows which of its hosts {name} is of (--host or --between says it)\n", out)
         self.assertIn("isn't client, server, both or an address", run(name, "--host", "x")[2])
 
     def test_another_host(self):
@@ -393,8 +381,14 @@ class Faults(WithCaptures):
     def test_a_capture_that_was_cut(self):
         name, = self.files(hosts=(0,))
         with open(name, "r+b") as file:
-            file.truncate(200)
-        self.assertIn("ends within packet 3", self.fails(name, *self.lab(), "--host", "client"))
+            file.truncate(250)
+        status, out, error = run(name, *self.lab(), "--host", "client")
+        self.assertEqual((status, out.splitlines()[0]), (0, "10.9.0.1:4000 -> 10.9.0.2:80   full      yes 57 88"))
+        self.assertEqual(error, f"tcpwit-judge: {name}: ends within packet 4: the capture was cut there, and is judged "
+                         "up to packet 3\n")
+        with open(name, "r+b") as file:
+            file.truncate(70)
+        self.assertIn("ends within packet 1", self.fails(name, *self.lab(), "--host", "client"))
 
     def test_nothing_to_judge(self):
         pcap(f"{self.folder}/empty", [])

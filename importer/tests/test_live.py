@@ -13,7 +13,7 @@ from tcpwit_importer.capture.segments import ACK, FIN, RST, SYN
 from tcpwit_importer.commands.live import CONNECTION, Stream
 
 from . import test_judge
-from .wire import ONE, SECOND, ZERO, Talk, packets, segment
+from .wire import ONE, SECOND, ZERO, Talk, packed, packets, segment
 
 IDLE = 5 * SECOND
 
@@ -31,7 +31,8 @@ class Streams(unittest.TestCase):
 
     def packet(self, flags, at, number=0, payload=b"", source=ZERO, target=ONE):
         """A packet at a moment."""
-        return Packet(at, source, target, segment(source, target, number, 5001, flags, payload), None)
+        ends = ((packed(address), port) for address, port in (source, target))
+        return Packet(at, *ends, segment(source, target, number, 5001, flags, payload), None, lifetime=64)
 
     def ended(self):
         """A connection whose ends both closed it."""
@@ -74,13 +75,12 @@ class Streams(unittest.TestCase):
         self.stream.finish()
         self.assertEqual([connection.count for connection, _ in self.judged], [3, 3])
 
-    def test_a_connection_that_had_begun_is_only_counted(self):
+    def test_a_connection_that_had_begun(self):
         for number in range(50):
             self.stream.add(self.packet(ACK, number, number, bytes(1000)))
-        self.assertEqual(self.stream.bytes, CONNECTION)
         self.stream.finish()
         (connection, _), = self.judged
-        self.assertEqual((connection.whole, connection.count, connection.seen), (False, 50, {}))
+        self.assertEqual((connection.whole, connection.count, sum(map(len, connection.seen.values()))), (False, 50, 50))
 
     def test_a_large_connection_is_judged_in_part(self):
         self.stream.add(self.packet(SYN, 1))
@@ -135,9 +135,9 @@ class Command(test_judge.WithCaptures):
 
     def test_a_stream_that_is_cut(self):
         status, out, error = self.piped(self.data()[:-5], "--host", "client")
-        self.assertEqual(status, 2)
+        self.assertEqual(status, 0)
         self.assertIn("1 connection: 1 yes, 0 no. ", out)
-        self.assertIn("standard input: ends within packet 7", error)
+        self.assertIn("standard input: ends within packet 7: the capture was cut there", error)
 
     def test_bad_input(self):
         for data, message in ((b"", "neither pcap nor pcapng"), (b"nonsense", "neither pcap nor pcapng"),
@@ -147,9 +147,16 @@ class Command(test_judge.WithCaptures):
             self.assertIn(message, error)
 
     def test_an_unknown_host(self):
-        status, _, error = self.piped(self.data())
+        self.talk.frames[0] = self.talk.frames[0][:1]
+        status, out, _ = self.piped(self.data())
         self.assertEqual(status, 2)
-        self.assertIn("standard input doesn't show which host it is of", error)
+        self.assertIn("not judged: nothing shows which of its hosts standard input is of", out)
+
+    def test_the_host_that_a_capture_shows(self):
+        status, _, error = self.piped(self.data())
+        self.assertEqual(status, 0)
+        self.assertEqual(error, "tcpwit-judge: 10.9.0.1 counts as the captured host: it answers at once\n")
+        self.assertIn("hosts 1\n", self.text("given"))
 
     def test_standard_input_alone(self):
         self.assertIn("standard input is given with a file", test_judge.run("-", "x", *self.lab())[2])

@@ -1,50 +1,263 @@
-"""Tests captures that were made between the hosts."""
+"""Tests captures that were made between the hosts. data/middle.tar.xz has captures of one connection at the client, in
+the middle and at the server; a relay on each side of the middle delayed, reordered and lost segments."""
+import contextlib
+import json
+import os
+import tarfile
+import tempfile
 import unittest
 from types import SimpleNamespace
 
-from tcpwit_importer.capture.segments import ACK, FIN
+from tcpwit_importer.capture.connections import Connection
+from tcpwit_importer.capture.segments import ACK, FIN, RST, SYN
 from tcpwit_importer.infer import midpoint
+from tcpwit_importer.infer.departures import counts, timestamp
 from tcpwit_importer.infer.midpoint import split
+from tcpwit_importer.infer.passages import Numbers, passages, without_garbage
+from tcpwit_importer.problem import Notes
+from tcpwit_importer.trace.header import LEVELS
 
 from . import test_judge
-from .wire import Talk, packets
+from .wire import ONE, SIZE, ZERO, ethernet, ip_packet, packed, packets, segment
+
+AT, MS = 100 * 10**9, 10**6
+# The ends as captures have them.
+CLIENT, SERVER = ((packed(address), port) for address, port in (ZERO, ONE))
+LAB = os.environ.get("TCPWIT_LAB")
+DATA = os.path.join(os.path.dirname(os.path.realpath(__file__)), "data")
+
+
+class Middle:
+    """A capture between two hosts. Each segment is given by its host, positions and moment in milliseconds."""
+
+    def __init__(self, handshake=True):
+        self.frames = {0: []}
+        if handshake:
+            self.add(0, 0, flags=SYN, options=SIZE)
+            self.add(1, 0, 1, flags=SYN | ACK, options=SIZE)
+            self.add(0, 1, 1)
+
+    def add(self, host, number, acknowledgment=0, data=b"", flags=ACK, at=None, window=1000, options=b"",
+            identification=0):
+        """A segment passes, by default a millisecond after the one before."""
+        ends = (ZERO, ONE) if host == 0 else (ONE, ZERO)
+        base = (1000, 5000) if host == 0 else (5000, 1000)
+        made = segment(*ends, base[0] + number, base[1] + acknowledgment if flags & ACK else 0, flags, data, options,
+                       window)
+        frame = bytearray(ip_packet(*ends, made))
+        frame[4:6] = identification.to_bytes(2, "big")
+        last = self.frames[0][-1][0] if self.frames[0] else AT - MS
+        self.frames[0].append((last + MS if at is None else AT + int(at * MS), ethernet(bytes(frame))))
+
+    def connection(self):
+        """The connection of its packets."""
+        found = Connection(CLIENT, SERVER, AT)
+        for packet in packets(self, 0):
+            found.add("x", packet)
+        found.hosts = {CLIENT: 0, SERVER: 1}
+        return found
+
+    def sides(self, longest=10**9):
+        """What each host sent and received: for each segment its host, its flags or its bytes, and the moment in
+        milliseconds."""
+        connection, self.notes = self.connection(), Notes()
+        names, self.spread = split(connection, "x", longest, self.notes)
+        return [[(connection.hosts[packet.source], packet.number - (5000 if packet.source == SERVER else 1000),
+                  packet.size, (packet.moment - AT) // MS) for packet in connection.seen[names[host]]]
+                for host in (0, 1)]
+
+
+class Positions(unittest.TestCase):
+    def test_numbers_wrap(self):
+        numbers = Numbers((1 << 32) - 2)
+        self.assertEqual([numbers.position(number) for number in ((1 << 32) - 2, 0, 5)], [0, 2, 7])
+        self.assertEqual(numbers.position((1 << 32) - 3), -1)
+
+    def test_windows_are_scaled_if_both_scale(self):
+        for scales, edge in ((True, 1 + (1000 << 3)), (False, 1001)):
+            middle = Middle(False)
+            middle.add(0, 0, flags=SYN, options=SIZE + b"\1\3\3\3")
+            middle.add(1, 0, 1, flags=SYN | ACK, options=SIZE + (b"\1\3\3\7" if scales else b""))
+            middle.add(0, 1, 1)
+            found = passages(middle.connection(), packets(middle, 0))
+            self.assertEqual([(each.start, each.stop, each.acknowledged) for each in found],
+                             [(0, 1, None), (0, 1, 1), (1, 1, 1)])
+            self.assertEqual([each.edge for each in found], [None, 1001, edge])
+
+    def test_without_a_syn(self):
+        middle = Middle(False)
+        middle.add(0, 0, flags=SYN)
+        middle.add(0, 1, 1)
+        self.assertEqual(passages(middle.connection(), packets(middle, 0)), [])
+        self.assertEqual(middle.sides(), [[(0, 0, 0, 0), (0, 1, 0, 1)]] * 2)
+
+    def test_a_keep_alive_may_have_a_garbage_byte(self):
+        middle = Middle()
+        middle.add(0, 1, 1, b"ab")
+        middle.add(0, 2, 1, b"?")
+        middle.add(1, 1, 3)
+        middle.add(0, 2, 1, b"?")
+        found = without_garbage(passages(middle.connection(), packets(middle, 0)))
+        self.assertEqual([each.packet.size for each in found[3:]], [2, 1, 0, 0])
 
 
 class Split(unittest.TestCase):
-    def connection(self, talk):
-        """A connection with a capture that is 1 ms from host 0 and 2 ms from host 1; host 1 answers at once."""
-        return SimpleNamespace(seen={"x": packets(talk, 0)},
-                               hosts={(found.source): host for host, found in enumerate(packets(talk, 0)[:2])})
+    def test_nothing_waits_without_a_reason(self):
+        middle = Middle()
+        middle.add(0, 1, 1, b"ab")
+        middle.add(1, 1, 3)
+        one = [(0, 0, 0, 0), (1, 0, 0, 1), (0, 1, 0, 2), (0, 1, 2, 3), (1, 1, 0, 4)]
+        self.assertEqual(middle.sides(), [one, one])
 
-    def test_the_distance_of_a_host(self):
-        connection = self.connection(Talk())
-        client, server = connection.hosts
-        # Talk's host 0 receives a segment 1 ms after it was sent, and answers after another 1 ms; the SYN is answered
-        # after 3 ms.
-        self.assertEqual(midpoint.fastest_answer(connection.seen["x"], client), 10**6)
-        self.assertEqual(midpoint.fastest_answer(connection.seen["x"], server), 3 * 10**6)
-        self.assertEqual(midpoint.fastest_answer([], client), 0)
+    def test_equal_moments(self):
+        middle = Middle(False)
+        for number in range(3):
+            middle.add(0, 1 + number, 1, b"x", at=0)
+        connection = middle.connection()
+        connection.initial = {CLIENT: 1000, SERVER: 5000}
+        names, _ = split(connection, "x", 0, Notes())
+        self.assertEqual([[packet.moment - AT for packet in connection.seen[names[host]]] for host in (0, 1)],
+                         [[0, 2, 4], [1, 3, 5]])
 
-    def test_moments_of_both_hosts(self):
-        connection = self.connection(Talk())
-        names = split(connection, "x", 10**9)
-        self.assertEqual(names, {0: "x, host 0", 1: "x, host 1"})
-        zero, one = (connection.seen[names[host]] for host in (0, 1))
-        at = 100 * 10**9
-        self.assertEqual([packet.moment - at for packet in zero], [-500_000, 3_500_000, 3_500_000])
-        self.assertEqual([packet.moment - at for packet in one], [1_500_000, 1_500_000, 5_500_000])
+    def test_bytes_come_before_they_are_acknowledged(self):
+        middle = Middle()
+        middle.add(1, 1, 1, b"abc")
+        middle.add(1, 4, 1, b"def")
+        middle.add(0, 1, 4)
+        middle.add(0, 1, 7)
+        # The second segment passed at 4 ms, but its host acknowledged only the first one at 5 ms.
+        self.assertEqual(middle.sides()[0][3:], [(1, 1, 3, 3), (0, 1, 0, 5), (1, 4, 3, 5), (0, 1, 0, 6)])
+
+    def test_what_is_sent_again_was_not_acknowledged_yet(self):
+        middle = Middle()
+        middle.add(0, 1, 1, b"ab", at=3)
+        middle.add(1, 1, 3, at=250)
+        middle.add(0, 1, 1, b"ab", at=251)
+        middle.add(0, 3, 1, b"c", at=260)
+        self.assertEqual(middle.sides()[0][3:], [(0, 1, 2, 3), (0, 1, 2, 251), (1, 1, 0, 251), (0, 3, 1, 260)])
+
+    def test_a_window_opens_before_it_is_needed(self):
+        middle = Middle()
+        middle.add(0, 1, 1, bytes(1000), at=3)
+        middle.add(1, 1, 1001, at=4)
+        middle.add(0, 1001, 1, bytes(1000), at=5)
+        # Sent again, though the window that the acknowledgment opened was used: that is left to the rules.
+        middle.add(0, 1, 1, bytes(1000), at=6)
+        self.assertEqual([each[:3] for each in middle.sides()[0][3:]],
+                         [(0, 1, 1000), (1, 1, 0), (0, 1001, 1000), (0, 1, 1000)])
+
+    def test_a_window_closes_after_it_was_used(self):
+        middle = Middle()
+        middle.add(1, 1, 1, window=0, at=3)
+        middle.add(0, 1, 1, b"ab", at=4)
+        middle.add(1, 1, 1, window=0, at=5)
+        self.assertEqual(middle.sides()[0][3:], [(0, 1, 2, 4), (1, 1, 0, 4), (1, 1, 0, 5)])
+
+    def test_resets_answer_what_came(self):
+        middle = Middle()
+        for at, number in ((3, 1), (4, 4)):
+            middle.add(1, number, 1, b"abc", at=at)
+        middle.add(0, 1, flags=RST, at=5)
+        middle.add(0, 1, flags=RST, at=6)
+        self.assertEqual(middle.sides()[0][3:], [(1, 1, 3, 5 - 2), (0, 1, 0, 5), (1, 4, 3, 5), (0, 1, 0, 6)])
+
+    def test_a_reset_ends_what_its_receiver_sends(self):
+        middle = Middle()
+        middle.add(1, 1, flags=RST, at=3)
+        middle.add(0, 1, 1, b"ab", at=4)
+        self.assertEqual(middle.sides()[0][3:], [(0, 1, 2, 4), (1, 1, 0, 4)])
+
+
+class Order(unittest.TestCase):
+    def reordered(self, **words):
+        """A host's segments of which the second one passed after the third."""
+        middle = Middle()
+        middle.add(0, 1, 1, b"ab", at=3, identification=7)
+        middle.add(0, 5, 1, b"ef", at=4, identification=9)
+        middle.add(0, 3, 1, b"cd", **{"at": 5, "identification": 8} | words)
+        return middle
+
+    def test_reordered_before_the_capture(self):
+        middle = self.reordered()
+        self.assertEqual(middle.sides()[0][3:], [(0, 1, 2, 3), (0, 3, 2, 4), (0, 5, 2, 4)])
+        self.assertEqual(list(middle.notes.lines()), [])
+        # Their receiver gets them as they passed.
+        self.assertEqual(middle.sides()[1][3:], [(0, 1, 2, 3), (0, 5, 2, 4), (0, 3, 2, 5)])
+
+    def test_lost_before_the_capture(self):
+        for words in ({"at": 250}, {"identification": 10}):
+            middle = self.reordered(**words)
+            self.assertEqual([each[1:3] for each in middle.sides()[0][3:]], [(1, 2), (3, 2), (5, 2), (3, 2)])
+            self.assertIn("lost between their host and the capture", next(middle.notes.lines()))
 
     def test_a_limit(self):
-        connection = self.connection(Talk())
-        names = split(connection, "x", 1000)
-        self.assertEqual([packet.moment - 100 * 10**9 for packet in connection.seen[names[1]]],
-                         [1000, 2_999_000, 4_001_000])
+        self.assertEqual(len(self.reordered().sides(longest=MS)[0]), 6)
+        self.assertEqual(len(self.reordered().sides(longest=MS - 1)[0]), 7)
 
+    def test_duplicate_acknowledgments_ask_for_it(self):
+        middle = self.reordered(identification=0)
+        self.assertEqual(len(middle.sides()[0]), 6)
+        last = middle.frames[0].pop()
+        for number in range(3):
+            middle.add(1, 1, 3, at=4.1 + number / 10)
+        middle.frames[0].append(last)
+        self.assertEqual([each[1:3] for each in middle.sides()[0] if each[0] == 0][2:], [(1, 2), (3, 2), (5, 2), (3, 2)])
+
+    def test_a_fin_that_was_lost(self):
+        middle = Middle()
+        middle.add(0, 4, 1, at=5)
+        middle.add(0, 1, 1, b"ab", FIN | ACK, at=900)
+        connection = middle.connection()
+        names, _ = split(connection, "x", MS, Notes())
+        sent = [packet for packet in connection.seen[names[0]] if packet.source == CLIENT]
+        self.assertEqual([(packet.number - 1000, packet.payload, packet.flags) for packet in sent[2:]],
+                         [(1, b"ab", ACK | FIN), (4, b"", ACK), (1, b"ab", ACK | FIN)])
+
+    def test_acknowledgments_go_back_only_if_nothing_shows_their_order(self):
+        for one, two, place in ((0, 0, 0), (2, 1, 0), (1, 2, 1)):
+            middle = Middle()
+            middle.add(1, 1, 1, b"abcd", at=3)
+            middle.add(0, 1, 5, at=5, identification=one)
+            middle.add(0, 1, 3, at=6, identification=two)
+            connection = middle.connection()
+            names, _ = split(connection, "x", 10**9, Notes())
+            sent = [packet.acknowledgment - 5000 for packet in connection.seen[names[0]] if packet.source == CLIENT]
+            self.assertEqual(sent[2:], [[3, 5], [5, 3]][place])
+
+    def test_a_reset_passes_first(self):
+        middle = Middle()
+        middle.add(0, 4, flags=RST, at=5)
+        middle.add(0, 1, 1, b"ab", FIN | ACK, at=6)
+        self.assertEqual(middle.sides()[0][3:], [(0, 1, 2, 5), (0, 4, 0, 5)])
+
+    def test_a_duplicate_counts_as_received_only(self):
+        middle = Middle()
+        for at in (3, 5):
+            middle.add(0, 1, 1, b"ab", at=at, identification=3)
+        self.assertEqual([len(side) for side in middle.sides()], [4, 5])
+
+    def test_what_shows_an_order(self):
+        self.assertTrue(counts([65535, 0, 1, 5, 6]))
+        self.assertFalse(counts([5, 700, 30000, 6, 20000]))
+        self.assertFalse(counts([5]))
+        stamped = segment(ZERO, ONE, 1, 1, ACK, options=b"\1\1\x08\x0a\0\0\1\0\0\0\0\2")
+        self.assertEqual(timestamp(stamped), 256)
+        self.assertIsNone(timestamp(segment(ZERO, ONE, 1, 1, ACK)))
+
+
+class Marks(unittest.TestCase):
     def test_a_router_shows_each_segment_twice(self):
-        found = packets(Talk(), 0)
-        for place, packet in enumerate(found):
-            packet.outgoing = place == 1
-        self.assertEqual(len(midpoint.entering(found)), 2)
+        found = packets(Middle(), 0)
+        twice = [packet for packet in found for _ in range(2)]
+        marked = [SimpleNamespace(source=packet.source, segment=packet.segment, outgoing=bool(place % 2))
+                  for place, packet in enumerate(twice)]
+        self.assertEqual(midpoint.entering(marked), marked[::2])
+
+    def test_what_a_host_sent_isn_t_left_out(self):
+        found = packets(Middle(), 0)
+        for packet in found:
+            packet.outgoing = packet.source == CLIENT
+        self.assertEqual(midpoint.entering(found), found)
 
 
 class Command(test_judge.WithCaptures):
@@ -62,7 +275,7 @@ class Command(test_judge.WithCaptures):
         self.assertIn("is given with two captures", self.fails(*self.files(), "--between", *self.lab()))
 
     def test_a_fin_after_bytes_that_were_lost(self):
-        talk = Talk()
+        talk = test_judge.Talk()
         talk.send(0, payload=b"lost")
         talk.send(0, ACK | FIN)
         del talk.frames[0][3]

@@ -83,9 +83,9 @@ def said(clock):
     return text
 
 
-def refuse_distant(clock):
-    """Refuses a skew above a second, which is too large to be drift."""
-    if clock.skew > 10**9:
+def refuse_distant(clock, most=10**9):
+    """Refuses a skew above this many nanoseconds. One above a second is too large to be drift."""
+    if clock.skew > most:
         seconds = f"{clock.skew / 1e9:.1f} seconds"
         raise Problem(f"the clocks of the two captures differ by {seconds} more at one time than at another",
                       "synchronize both clocks before the recording, and don't set them during it")

@@ -208,7 +208,10 @@ def begun_by(packet, kind):
 
 
 def _ends(packet):
-    """Client and server of a connection whose SYN is missing: the server is assumed to have the lower port."""
+    """Client and server of a connection whose SYN is missing: the server answers it, or is assumed to have the lower
+    port."""
+    if packet.flags & SYN:
+        return packet.target, packet.source
     return (packet.source, packet.target) if packet.source[1] > packet.target[1] else (packet.target, packet.source)
 
 

@@ -1,5 +1,5 @@
-"""Removes copies of packets that a capture made itself: a mirror port shows a packet when it enters a switch and when
-it leaves it, and `-i any` shows it at a bridge and at the bridge's port."""
+"""Removes copies of packets that a capture made itself: a mirror port shows a packet when it enters a switch or router
+and when it leaves it, and `-i any` shows it at a bridge and at the bridge's port."""
 from collections import Counter
 
 # A copy comes at most this long after the packet, in nanoseconds.
@@ -11,20 +11,20 @@ FEW = 1000
 
 
 class _Transmission:
-    """A packet that was sent once: when it was captured, and at which interfaces."""
-    __slots__ = ("moment", "interfaces")
+    """A packet that was sent once: when it was captured, and where."""
+    __slots__ = ("moment", "places")
 
-    def __init__(self, moment, interface):
-        self.moment, self.interfaces = moment, {interface}
+    def __init__(self, moment, place):
+        self.moment, self.places = moment, {place}
 
 
 def without_copies(packets, notes):
     """A connection's packets of one host's captures, without copies.
 
     A packet may be a copy if one of the millisecond before has the same ends, segment, identification and direction. It
-    is one if that was captured at another interface. At the same one, it may also be a duplicate by the network, or a
-    second acknowledgment: it is a copy if both have an identification other than 0, and at least nine of ten packets of
-    its end were captured twice.
+    is one if that was captured at another interface, or with another TTL, which a router changes. Else, it may also be
+    a duplicate by the network, or a second acknowledgment: it is a copy if both have an identification other than 0,
+    and at least nine of ten packets of its end were captured twice.
     """
     copies, doubtful, originals = _compared(packets)
     for source, found in doubtful.items():
@@ -44,14 +44,14 @@ def _compared(packets):
             recent = {key: found for key, found in recent.items() if abs(packet.moment - found[-1].moment) <= SOON}
             full = 2 * len(recent) + FEW
         key = (packet.source, packet.identification, packet.outgoing, packet.segment)
-        interface = (packet.capture, packet.interface)
+        place = (packet.capture, packet.interface, packet.lifetime)
         before = [each for each in recent.get(key, ()) if abs(packet.moment - each.moment) <= SOON]
-        elsewhere = next((each for each in before if interface not in each.interfaces), None)
+        elsewhere = next((each for each in before if place not in each.places), None)
         if elsewhere:
-            elsewhere.interfaces.add(interface)
+            elsewhere.places.add(place)
             copies.add(at)
             continue
-        recent[key] = [*before, _Transmission(packet.moment, interface)]
+        recent[key] = [*before, _Transmission(packet.moment, place)]
         if before and packet.identification:
             doubtful.setdefault(packet.source, set()).add(at)
         else:

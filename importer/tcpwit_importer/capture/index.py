@@ -17,6 +17,7 @@ from .connections import Connection, connections_of
 from .frames import Layout
 from .packets import packet_at, packets_of
 from .segments import FIN, RST, SYN
+from .signs import Signs
 
 READABLE = "name a capture that can be read"
 # How many SYNs of each capture are kept, to compare the captures' clocks.
@@ -27,12 +28,14 @@ class Indexed(Connection):
     """A connection without its packets. For each capture, `places` has their offsets and counts in the file, `syns` the
     moments of its first SYNs, and `own` the ends whose packets the capture marked as sent, or to which it marked
     packets as received. `others` counts packets that are neither SYN nor reset. `senders` has the ends that sent
-    something, `ends` those that sent a FIN; it's None after a reset."""
+    something, `ends` those that sent a FIN; it's None after a reset. `signs` shows where the capture was made, if it's
+    the only one, and `place` has what was decided about that."""
 
     def __init__(self, client, server, begun):
         super().__init__(client, server, begun)
         self.places, self.syns, self.own = {}, {}, {}
         self.fragmented, self.others, self.ends, self.senders = False, 0, set(), set()
+        self.signs, self.place = Signs(), None
 
     def add(self, capture, packet):
         """Adds the next packet of a capture."""
@@ -40,6 +43,7 @@ class Indexed(Connection):
         offsets.append(packet.offset)
         counts.append(packet.count)
         self.senders.add(packet.source)
+        self.signs.add(packet, packet.source == self.client)
         self.others += not packet.flags & (SYN | RST)
         if packet.flags & RST:
             self.ends = None
@@ -93,7 +97,7 @@ class Capture:
     def packets(self, notes):
         """Its packets, in the order of the file."""
         with opened(self.file, READABLE) as file:
-            for packet in packets_of(self.name, file, notes, self.layout):
+            for packet in packets_of(self.name, file, notes, self.layout, lenient=True):
                 self.last = max(self.last, packet.moment)
                 yield packet
 
@@ -123,13 +127,14 @@ def without_strays(connections):
 
 def with_both_parts(connections):
     """Joins the parts of connections that begin differently in two captures. In a simultaneous open, each capture shows
-    its own host's SYN first. If only one of them has a connection's beginning, it counts as one without its
+    its own host's SYN first. If only one of them has a connection's beginning, or none, it counts as one without its
     beginning."""
     alone = [each for each in connections if each.whole and len(each.places) == 1]
     halves = {frozenset((each.client, each.server)): each for each in alone}
-    kept, opened_twice = [], {}
+    kept, opened_twice, begun = [], {}, {}
     for connection in connections:
-        half = None if connection.whole else halves.get(frozenset((connection.client, connection.server)))
+        pair = frozenset((connection.client, connection.server))
+        half = None if connection.whole else halves.get(pair) or begun.setdefault(pair, connection)
         if connection.whole and len(connection.places) == 1 and len(connection.initial) == 2:
             half = opened_twice.setdefault(frozenset(connection.initial.items()), connection)
         if half and not half.places.keys() & connection.places.keys():

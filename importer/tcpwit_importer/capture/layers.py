@@ -13,11 +13,13 @@ OUTGOING = 4
 TCP, FRAGMENT = 6, 44
 # Headers of IPv6 that may precede TCP: hop-by-hop options, routing, fragment, destination options.
 EXTENSIONS = (0, 43, FRAGMENT, 60)
+# What is left out of a capture whose snap length is too small.
+CUT = ("packets whose headers the capture cut", "segments whose TCP headers the capture cut")
 # No packet is longer, whatever the capture states.
 LONGEST = 1 << 20
 
-_IPV4 = struct.Struct("!BxHHHxB2x4s4s").unpack_from
-_IPV6 = struct.Struct("!4xHBx16s16s").unpack_from
+_IPV4 = struct.Struct("!BxHHHBB2x4s4s").unpack_from
+_IPV6 = struct.Struct("!4xHBB16s16s").unpack_from
 _KIND = struct.Struct("!H").unpack_from
 _COOKED_2 = struct.Struct("!H2xI2xB").unpack_from
 
@@ -36,8 +38,9 @@ class Fragment(LeftOut):
 
 def segment_in(link, frame, length):
     """Where a frame that had this length has its segment: the addresses of its packet, where it begins in the frame,
-    where it ends on the wire, IPv4's identification (0 for IPv6), the number of the interface, and whether the frame is
-    marked as sent by its host. The last two are None if the link's header doesn't show them."""
+    where it ends on the wire, IPv4's identification (0 for IPv6), the TTL or hop limit, the number of the interface,
+    and whether the frame is marked as sent by its host. The last two are None if the link's header doesn't show
+    them."""
     try:
         kind, at, interface, sent = _link(link, frame)
         if kind == IPV4:
@@ -45,8 +48,7 @@ def segment_in(link, frame, length):
         if kind == IPV6:
             return *_ipv6(frame, at, length), interface, sent
     except (struct.error, IndexError):
-        raise LeftOut("packets whose headers the capture cut" if len(frame) < length
-                      else "packets that end within their headers") from None
+        raise LeftOut(CUT[0] if len(frame) < length else "packets that end within their headers") from None
     raise LeftOut("packets that are neither IPv4 nor IPv6")
 
 
@@ -85,8 +87,8 @@ def _tagged(frame, kind, at):
 
 
 def _ipv4(frame, at, length):
-    """The addresses of a packet, the beginning and the end of its segment, and its identification."""
-    first, total, identification, fragment, protocol, source, target = _IPV4(frame, at)
+    """The addresses of a packet, the beginning and the end of its segment, its identification, and its TTL."""
+    first, total, identification, fragment, lifetime, protocol, source, target = _IPV4(frame, at)
     start = at + (first & 15) * 4
     # A segment that an offload will cut may have no length yet: it is the rest of the frame.
     end = at + total if total else length
@@ -96,12 +98,12 @@ def _ipv4(frame, at, length):
         raise LeftOut("packets that are not TCP")
     if fragment & 0x3FFF:
         raise Fragment(source, target)
-    return source, target, start, end, identification
+    return source, target, start, end, identification, lifetime
 
 
 def _ipv6(frame, at, length):
     """The same of an IPv6 packet."""
-    payload, protocol, source, target = _IPV6(frame, at)
+    payload, protocol, lifetime, source, target = _IPV6(frame, at)
     start = at + 40
     end = start + payload if payload else length
     if frame[at] >> 4 != 6:
@@ -117,4 +119,4 @@ def _ipv6(frame, at, length):
         raise Fragment(source, target)
     if not start <= end <= at + LONGEST:
         raise LeftOut("packets with wrong lengths in their IP headers")
-    return source, target, start, end, 0
+    return source, target, start, end, 0, lifetime

@@ -7,29 +7,31 @@ from ..files import opened
 from ..problem import Problem
 from ..remedies import NOTHING_SENT, OFFLOADS_OFF, WHOLE_PACKETS
 from .frames import Damaged, Ended, Layout, frame_at, frames_of
-from .layers import Fragment, LeftOut, segment_in
-from .segments import ACK, SHORTEST, SYN, acknowledgment, flags, header_length, number, payload, ports, size
+from .layers import CUT, Fragment, LeftOut, segment_in
+from .segments import ACK, FLAGS_END, SHORTEST, SYN, acknowledgment, flags, header_length, number, payload, ports, size
 
 
 class Packet:
     """A captured segment: its moment in nanoseconds, its source and destination, and its bytes from the TCP header on.
-    The checksum becomes 0, since offloads leave it unfinished.
+    There, the checksum is 0, since offloads leave it unfinished; `checksum` has it.
 
     `outgoing` states whether the capture marked it as sent by its host; None if the file doesn't show it. `missing` is
     how many bytes at the segment's end were not captured: they are zeros in `segment`. `offset` is where its record
-    begins in the file; None if the file can't be read again. `identification` is that of IPv4, else 0; `interface` is
-    the number of the interface, if the file shows it.
+    begins in the file; None if the file can't be read again. `identification` is that of IPv4, else 0; `lifetime` is
+    the TTL or hop limit; `interface` is the number of the interface, if the file shows it.
     """
     __slots__ = ("moment", "source", "target", "segment", "outgoing", "capture", "count", "missing", "offset",
-                 "identification", "interface")
+                 "identification", "lifetime", "interface", "checksum")
 
     def __init__(self, moment, source, target, segment, outgoing, capture="", count=0, missing=0, offset=None,
-                 identification=0, interface=None):
+                 identification=0, interface=None, lifetime=None):
         self.moment, self.source, self.target = moment, source, target
-        self.segment, self.outgoing = segment[:16] + b"\0\0" + segment[18:] + bytes(missing), outgoing
+        segment += bytes(missing)
+        self.segment, self.outgoing = segment[:16] + b"\0\0" + segment[18:], outgoing
+        self.checksum = int.from_bytes(segment[16:18], "big")
         self.capture, self.count = capture, count
         self.missing, self.offset = missing, offset
-        self.identification, self.interface = identification, interface
+        self.identification, self.lifetime, self.interface = identification, lifetime, interface
 
     def share(self, known):
         """Makes equal addresses and segments one object."""
@@ -68,6 +70,11 @@ class Packet:
         return size(self.segment)
 
     @property
+    def lacks_header(self):
+        """Whether the capture cut its TCP header: what was cut is zeros."""
+        return self.missing > self.size
+
+    @property
     def is_syn(self):
         """Whether SYN is set, and ACK isn't."""
         return flags(self.segment) & (SYN | ACK) == SYN
@@ -90,17 +97,18 @@ def read_capture(name, notes, known, may_be_empty=False):
     return packets
 
 
-def packets_of(name, file, notes, layout=None, whole=False):
+def packets_of(name, file, notes, layout=None, whole=False, lenient=False):
     """The TCP packets of a capture, in the order of the file, which may be a pipe. None is kept. `layout` becomes what
     `packet_at` needs. If they must be `whole`, a segment of which the capture lacks bytes is refused; else one whose
-    header is complete is among the packets."""
+    header is complete is among the packets. If `lenient`, so is one whose header a snap length cut after the flags, and
+    the file may end within a packet, which is noted."""
     layout = Layout() if layout is None else layout
     again = not isinstance(file, gzip.GzipFile) and file.seekable()
     try:
         for frame in frames_of(name, file, layout):
             layout.frames += 1
             try:
-                packet = _packet(frame, name, layout.frames, whole)
+                packet = _packet(frame, name, layout.frames, whole, lenient)
             except LeftOut as reason:
                 if isinstance(reason, Fragment):
                     layout.add_fragment(name, *reason.ends)
@@ -109,8 +117,10 @@ def packets_of(name, file, notes, layout=None, whole=False):
             packet.offset = frame.offset if again else None
             yield packet
     except (Ended, EOFError) as error:
-        raise Problem(f"{name}: ends within packet {layout.frames + 1}",
-                      "stop tcpdump with SIGINT or SIGTERM and wait until it has ended") from error
+        cause = f"{name}: ends within packet {layout.frames + 1}"
+        if not lenient or not layout.frames:
+            raise Problem(cause, "stop tcpdump with SIGINT or SIGTERM and wait until it has ended") from error
+        notes.say(f"{cause}: the capture was cut there, and is judged up to packet {layout.frames}")
     except (Damaged, zlib.error, OSError) as error:
         raise Problem(f"{name}: {_said(error)} after packet {layout.frames}",
                       "copy the file again, or record again") from error
@@ -128,17 +138,19 @@ def packet_at(name, file, layout, offset, count=0):
     place."""
     try:
         frame = frame_at(name, file, layout, offset)
-        packet = _packet(frame, name, count, False)
+        packet = _packet(frame, name, count, False, True)
     except (Damaged, Ended, LeftOut, OSError) as error:
         raise Problem(f"{name}: changed while it was read", "read it when it is complete") from error
     packet.offset = offset
     return packet
 
 
-def _packet(frame, name, count, whole):
-    """The packet of a frame; its offset isn't set."""
+def _packet(frame, name, count, whole, lenient):
+    """The packet of a frame; its offset isn't set. If `lenient`, a snap length may have cut its header after the
+    flags."""
     moment, link, data, length, interface, sent, _ = frame
-    source, target, start, end, identification, own_interface, own_sent = segment_in(link, data, max(length, len(data)))
+    source, target, start, end, identification, lifetime, own_interface, own_sent = segment_in(link, data, max(
+        length, len(data)))
     segment, wanted = data[start:end], end - start
     captured = len(segment)
     if whole and captured < (least := max(wanted, SHORTEST)):
@@ -147,14 +159,14 @@ def _packet(frame, name, count, whole):
     head = header_length(segment) if captured > 12 else SHORTEST
     if head < SHORTEST or wanted < head:
         raise LeftOut("segments with a wrong data offset")
-    if captured < head:
-        raise LeftOut("segments whose TCP headers the capture cut")
+    if captured < (FLAGS_END if lenient and len(data) < length else head):
+        raise LeftOut(CUT[1])
     own_port, other_port = ports(segment)
     outgoing = sent if own_sent is None else own_sent
     if own_interface is not None:
         interface = own_interface
     return Packet(moment, (source, own_port), (target, other_port), segment, outgoing, name, count, wanted - captured,
-                  None, identification, interface)
+                  None, identification, interface, lifetime)
 
 
 def shown(end):

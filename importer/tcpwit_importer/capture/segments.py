@@ -7,10 +7,11 @@ import struct
 FIN, SYN, RST, PSH, ACK, URG, CWR = 1, 2, 4, 8, 16, 32, 128
 # Sequence numbers are below this.
 WRAP = 1 << 32
-# The bytes of a header without options.
-SHORTEST = 20
-# Kinds of options: the end of all, padding, the maximum segment size, and the window shift.
+# The bytes of a header without options, and of one up to its flags.
+SHORTEST, FLAGS_END = 20, 14
+# Kinds of options: the end of all, padding, the maximum segment size, the window shift, multipath TCP, and Fast Open.
 END, PADDING, SIZE, SHIFT = range(4)
+MULTIPATH, FAST_OPEN = 30, 34
 
 _PORTS = struct.Struct("!HH").unpack_from
 
@@ -68,9 +69,25 @@ def values(kind, length, given):
 def listed(rest):
     """The kind and the value of each of these options, without padding, up to the first that doesn't end among them."""
     while rest and rest[0] != END:
-        length = 1 if rest[0] == PADDING else rest[1] if len(rest) > 1 else 0
-        if length > len(rest) or (length < 2 and rest[0] != PADDING):
+        if not (length := _length(rest)):
             return
         if rest[0] != PADDING:
             yield rest[0], rest[2:length]
         rest = rest[length:]
+
+
+def are_damaged(rest):
+    """Whether one of these options has a wrong length: its length is missing, below 2, or beyond the options' end."""
+    while rest and rest[0] != END:
+        if not (length := _length(rest)):
+            return True
+        rest = rest[length:]
+    return False
+
+
+def _length(rest):
+    """How many bytes the first of these options has; 0 if its length is wrong."""
+    if rest[0] == PADDING:
+        return 1
+    length = rest[1] if len(rest) > 1 else 0
+    return length if 2 <= length <= len(rest) else 0

@@ -18,6 +18,7 @@ from itertools import islice
 from ..capture.connections import Connection, begun_by, continues
 from ..capture.packets import packets_of
 from ..capture.segments import ACK, FIN, RST, WRAP
+from ..capture.signs import Signs
 from ..problem import Problem
 from ..remedies import LESS_AT_ONCE
 from . import workers
@@ -35,19 +36,22 @@ END = None
 
 class Live(Connection):
     """A connection whose packets arrive. `last` is the moment of the last one, `bytes` what it needs of memory; `own`
-    has the ends whose packets the capture marked as sent."""
+    has the ends whose packets the capture marked as sent, `signs` shows where it was made, and `place` has what was
+    decided about that."""
 
     def __init__(self, client, server, begun):
         super().__init__(client, server, begun)
         self.count, self.last, self.bytes, self.ended, self.is_part = 0, begun, CONNECTION, False, False
         self.own, self.fins, self.closed, self.fragmented = {}, {}, set(), False
+        self.signs, self.place = Signs(), None
 
     def add(self, capture, packet):
-        """Adds the next packet. Those of a connection that isn't judged are only counted."""
+        """Adds the next packet. What follows a part that was judged is only counted."""
         self.count += 1
         self.last = max(self.last, packet.moment)
         self.note_end(packet)
-        if self.whole and not self.is_part:
+        self.signs.add(packet, packet.source == self.client)
+        if not self.is_part:
             super().add(capture, packet)
             self.bytes += len(packet.segment) + PACKET
             if packet.outgoing is not None:
@@ -154,7 +158,7 @@ class Reader(threading.Thread):
 
     def run(self):
         try:
-            for packet in packets_of(self.capture.name, self.file, self.notes, self.capture.layout):
+            for packet in packets_of(self.capture.name, self.file, self.notes, self.capture.layout, lenient=True):
                 self.found.put(packet)
         except BaseException as error:
             self.error = error
@@ -162,10 +166,11 @@ class Reader(threading.Thread):
 
 
 class Pool:
-    """Judges connections in other processes, and hands each result to the output as soon as it is there."""
+    """Judges connections in other processes, and hands each result to the output as soon as it is there. `places`
+    decides where the capture of each was made, unless the user says it."""
 
-    def __init__(self, judges, jobs, output, notes):
-        self.judges, self.jobs, self.output, self.notes = judges, jobs, output, notes
+    def __init__(self, judges, jobs, output, notes, places=None):
+        self.judges, self.jobs, self.output, self.notes, self.places = judges, jobs, output, notes, places
         self.number, self.waiting = 0, set()
         self.pool = ProcessPoolExecutor(jobs, multiprocessing.get_context("fork"), initializer=begin)
         # The processes begin before there is a thread.
@@ -173,8 +178,8 @@ class Pool:
 
     def judge(self, connection, moment):
         """Has a connection judged. Waits if enough others are waiting."""
-        if connection.whole:
-            self.judges.roles.refuse_unknown([connection])
+        if self.places:
+            self.places.decide([connection])
         self.number += 1
         connection.fragmented = self.judges.is_fragmented(connection)
         self.waiting.add(self.pool.submit(self.judges.result, self.number, connection, moment))

@@ -6,8 +6,7 @@ from .verdicts import counted
 
 INFERRED = ("Calls were inferred: their answers aren't judged.",
             "Nor is how soon a host sends what its program gave it (rule start-late).")
-BETWEEN = ("The capture was made between the hosts: no duty is judged, moments are estimates, and a no may also",
-           "come from segments that were lost or reordered on the way to the capture or from it.")
+BETWEEN = ("{} no duty is judged. A segment counts as received at any moment after", "it passed, or never.")
 HALF = "Only one host was captured: the other one isn't judged."
 SOME = "{} with one host captured: the other one isn't judged there."
 
@@ -18,7 +17,7 @@ class Output:
 
     def __init__(self, options, names=()):
         self.options, self.width = options, max(map(len, names), default=0)
-        self.count = self.yes = self.no = self.half = self.status = 0
+        self.count = self.yes = self.no = self.half = self.between = self.status = 0
 
     def add(self, result):
         """Prints a connection's result."""
@@ -26,6 +25,7 @@ class Output:
         self.yes += result.verdict == "yes"
         self.no += result.verdict == "no"
         self.half += result.hosts == 1
+        self.between += result.is_between and result.verdict is not None
         self.status = max(self.status, result.status)
         print(json.dumps(facts(result)) if self.options.json else plain(f"{result.name:<{self.width}}   {result.line}"),
               flush=True)
@@ -37,8 +37,10 @@ class Output:
             counts = f"{self.yes} yes, {self.no} no" + (f", {others} not judged" if others else "")
             print(f"{counted(self.count, 'connection')}: {counts}. {INFERRED[0]}")
             print(INFERRED[1])
-            if self.options.between:
-                print("\n".join(BETWEEN))
+            if self.between:
+                where = ("The capture was made between the hosts:" if self.between == self.yes + self.no else
+                         f"Captured between the hosts: {counted(self.between, 'connection')}. There")
+                print("\n".join(BETWEEN).format(where))
             if self.half:
                 print(HALF if self.half == self.yes + self.no else SOME.format(counted(self.half, "connection")))
         return self.status if self.yes + self.no else 2
@@ -53,6 +55,9 @@ def facts(result):
     if not result.levels:
         return found | {"judged": False, "reason": result.reason, "status": result.status}
     answer = result.answer
+    if result.since:
+        found["judged_from"] = [place(packet) for packet in result.since]
+        found["made_up"] = [result.made_up[0], result.made_up[-1]]
     found |= {"judged": True, "hosts": result.hosts, "level": answer["level"], "answer": result.verdict,
               "status": result.status}
     if result.verdict == "yes":
@@ -60,6 +65,7 @@ def facts(result):
     else:
         found |= {name: answer[name] for name in ("witness_line", "trace_line", "rule", "sentence")}
         found |= place(result.packets[-1])
+    found |= {"place": result.place} if result.place else {}
     levels = [level | place(packet) for level, packet in zip(result.levels, result.packets)]
     found |= {"ways": result.ways} if result.ways else {}
     return found | {"levels": levels, "said": result.said} | ({"files": result.files} if result.files else {})

@@ -8,10 +8,12 @@ from ipaddress import ip_address
 
 from ..capture.clocks import SAME, said
 from ..capture.index import Capture, indexed, plain
-from ..infer.hosts import BETWEEN, BOTH, CLIENT, SERVER, OneCapture, TwoCaptures
+from ..capture.layers import CUT
+from ..infer.hosts import BOTH, CLIENT, SERVER, OneCapture, TwoCaptures
+from ..infer.place import BETWEEN, Places
 from ..problem import Notes, Parser, Problem, named_file, say, status_of
 from ..progress import Part
-from ..remedies import NOTHING_SENT
+from ..remedies import NOTHING_SENT, WIDER
 from ..trace import header as headers
 from . import lab
 from .live import Pool, Reader, Stream, watch
@@ -28,11 +30,15 @@ were made at the same time, one at each host. With - as the only FILE, standard 
 as that of tcpdump -U -w -; each connection is judged once it has ended and was silent for --idle seconds, or at the
 end.
 
+Where a single capture was made is taken from what it shows, and said on standard error; --host and --between overrule
+it.
+
 The calls of the programs are inferred from the segments. So neither their answers are judged, nor how soon a host
 sends what its program gave it (rule start-late).
 
 Each connection has a line: its level and the answer of tcpwit_lab judge, or why it isn't judged. If a level was
-refused, the line ends with what it refused, and in which packet; of several levels, it's the laxest.
+refused, the line ends with what it refused, and in which packet; of several levels, it's the laxest. A connection that
+began before the capture is judged from its first captured packet on, at recovery at most.
 
 The status is the highest of all connections: 0 if a level of at least --level has a yes, 1 if not, 2 for an error.
 It's also 2 if nothing could be judged."""
@@ -45,15 +51,15 @@ def parser():
     words.add_argument("files", nargs="+", type=named_file, metavar="FILE", help="a capture")
     words.add_argument("--host", type=which, metavar="HOST",
                        help=f"whose capture it is, if you give only one: {CLIENT}, {SERVER}, an address, or {BOTH} for "
-                       "a capture that has each segment once for both hosts, such as one of lo (default: as the "
-                       "capture shows)")
+                       "a capture that has each segment once for both hosts, such as one of lo (default: what marks, "
+                       "checksums, TTLs and times show)")
     words.add_argument("--between", action="store_true",
-                       help="the capture was made between the hosts, such as at a switch: it shows both, but neither "
-                       "duties nor exact times can be judged")
+                       help="the capture was made between the hosts, such as at a switch: it shows both, but not when "
+                       "segments were received, so no duty is judged")
     words.add_argument("--skew", type=number_within(*headers.LIMITS["skew"]), default=headers.VALUES["slack"],
                        metavar="N",
-                       help="with --between: how many microseconds a segment needs at most between a host and the "
-                       "capture (default: 1000000)")
+                       help="for a capture between the hosts: how many microseconds a segment needs at most from its host "
+                       "to the capture; one that passes later isn't taken for reordered (default: 1000000)")
     words.add_argument("--level", choices=headers.LEVELS, default=headers.FULL,
                        help="the weakest level whose yes gives status 0 (default: full)")
     add_first_level(words, "--level")
@@ -122,7 +128,7 @@ def judge(options):
     """Judges all connections of the captures, and returns the exit status."""
     refuse_words(options)
     if options.between:
-        options.host, options.slack = BETWEEN, headers.ANY
+        options.host = BETWEEN
     program = lab.program(options.lab)
     if options.report:
         prepare(options.report)
@@ -136,15 +142,22 @@ def judge_live(options, program, notes):
     judges = Judge(program, {capture.name: capture}, OneCapture(capture, options.host), options, header_values(options))
     idle = options.idle or 2 * (options.msl or headers.VALUES["msl"]) // 10**6
     reader = Reader(capture, sys.stdin.buffer, notes)
-    with contextlib.closing(Pool(judges, options.jobs, output, notes)) as pool:
+    places = places_of(options, [capture])
+    with contextlib.closing(Pool(judges, options.jobs, output, notes, places)) as pool:
         watch(reader, Stream(capture, pool.judge, idle * 10**9, options.memory * 10**6), pool)
     if not output.count:
-        raise reader.error or nothing_in([capture])
+        raise reader.error or nothing_in([capture], notes)
+    notes.said += places.lines() if places else ()
     say_notes(options, notes)
     status = output.finish()
     if reader.error:
         raise reader.error
     return status
+
+
+def places_of(options, captures):
+    """What decides where the only capture was made; None if there are two, or if the user says it."""
+    return Places(captures[0].name) if len(captures) == 1 and not options.host else None
 
 
 def judge_files(options, program, notes):
@@ -153,9 +166,11 @@ def judge_files(options, program, notes):
         captures = [Capture(name, stack.enter_context(plain(name))) for name in options.files]
         connections = indexed(captures, notes)
         if not connections:
-            raise nothing_in(captures)
+            raise nothing_in(captures, notes)
         roles = TwoCaptures(captures, connections) if len(captures) == 2 else OneCapture(captures[0], options.host)
-        roles.refuse_unknown(connections)
+        if places := places_of(options, captures):
+            places.decide(connections)
+            notes.said += places.lines()
         judges = Judge(program, {capture.name: capture for capture in captures}, roles, options, header_values(options))
         if judges.clock != SAME:
             notes.say(f"{said(judges.clock)} (host 0 is that of {captures[0].name})")
@@ -184,12 +199,14 @@ def prepare(folder):
         raise Problem(f"{folder} isn't empty", "name a new folder with --report")
 
 
-def nothing_in(captures):
+def nothing_in(captures, notes):
     """Why there's nothing to judge in captures."""
     names = ", ".join(capture.name for capture in captures)
     if not any(capture.layout.frames for capture in captures):
         return Problem(f"{names}: the capture is empty",
                        "start the capture before the programs, at the interface that they use")
+    if cut := next((place for kind, (_, place) in notes.left_out.items() if kind in CUT), None):
+        return Problem(f"{names}: the capture cut all TCP headers (first: {cut})", WIDER)
     return Problem(f"{names}: no TCP segment",
                    "capture at the interface that the programs use, with the filter tcp or none", NOTHING_SENT)
 

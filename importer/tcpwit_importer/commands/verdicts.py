@@ -4,17 +4,24 @@ import os
 import re
 import subprocess
 from dataclasses import dataclass, field
+from itertools import filterfalse
 from typing import Any
 
 from ..capture.connections import refuse_gaps
 from ..capture.packets import shown
-from ..files import write_file
+from ..files import remove, write_file
+from ..infer.begun import beginnings
 from ..infer.conversion import Trace
 from ..infer.hosts import Undecided
 from ..infer.midpoint import split
+from ..infer.opening import is_made_up
+from ..infer.place import BETWEEN
 from ..infer.silence import LATE
+from ..infer.unjudged import extension, refuse
 from ..problem import Notes, Problem, decoded, place_of
 from ..remedies import LESS_AT_ONCE
+from ..trace import header as headers
+from ..trace.header import FULL, LEVELS, VALUES
 from . import lab
 
 # What the line of a verdict has after its first word.
@@ -26,6 +33,12 @@ RULES = {"(rules 40 to 52)": "(rules 40 to 47 and 49 to 52)",
          "(rules 40 to 49 and 52)": "(rules 40 to 47, 49 and 52)"}
 # How a sentence of `judge` begins if it is about a line of the trace.
 LINE = re.compile(r"^line (\d+)")
+# What it says of a trace with a fault: the line and the kind. Only moments are numbers that may be too large.
+FAULT, TOO_LONG, NUMBER = re.compile(r"bad trace (\d+) \d+ \d+ (.+)"), "too-many-lines", "number"
+# The strictest level of a connection that began before the capture: its congestion window isn't known.
+STRICTEST = "recovery"
+# The rank of its best answer.
+BEST = (False, LEVELS.index(STRICTEST))
 
 
 @dataclass
@@ -49,11 +62,21 @@ class Result:
     # Whether only its beginning was judged, and of how many captures.
     is_part: bool = False
     captures: int = 1
+    # Where the only capture was made: client, server, both or between.
+    place: str = ""
+    # If it began before the capture: the first packet judged in each capture, and which lines were made up.
+    since: list = field(default_factory=list)
+    made_up: range = range(0)
 
     @property
     def name(self):
         """The connection in the output."""
         return f"{self.client} -> {self.server}"
+
+    @property
+    def is_between(self):
+        """Whether it was captured between its hosts."""
+        return self.place == BETWEEN
 
     @property
     def answer(self):
@@ -71,6 +94,11 @@ class Result:
         return self.answer.get("rule")
 
     @property
+    def rank(self):
+        """Compares answers: a yes is before a no, and a stricter level before a laxer one."""
+        return self.verdict != "yes", LEVELS.index(self.answer["level"])
+
+    @property
     def line(self):
         """Its verdict, and what was refused by the laxest level that refused something; or why it has no verdict."""
         if not self.levels:
@@ -83,6 +111,8 @@ class Result:
             # A no has named its level already.
             row += f"; {level['level']}: " if self.verdict == "yes" else "; "
             row += self.sentence(level, packet)
+        if self.since:
+            row += f"   (judged from {' and '.join(map(self.named, self.since))} on: it began before the capture)"
         return row + (f"   (its first {counted(self.segments, 'segment')})" if self.is_part else "")
 
     def sentence(self, level, packet):
@@ -94,11 +124,24 @@ class Result:
         """A packet in words, with its capture if there are two."""
         return f"packet {packet.count}" + (f" of {packet.capture}" if self.captures > 1 else "")
 
+    def forget(self):
+        """Removes the answer, and the files that the report has of it."""
+        for name in self.files:
+            remove(name)
+        self.levels, self.packets, self.ways, self.said, self.files = [], [], [], [], []
+
     @property
     def lines_of_packets(self):
         """A line for each line of the trace that a level refused and that has a packet."""
         found = [(LINE.match(level["sentence"]), packet) for level, packet in zip(self.levels, self.packets) if packet]
         return list(dict.fromkeys(f"Line {line[1]} is {self.named(packet)}." for line, packet in found if line))
+
+    @property
+    def lines_made_up(self):
+        """A line for those of the trace that no packet is behind."""
+        if not self.made_up:
+            return []
+        return [f"Lines {self.made_up[0]} to {self.made_up[-1]} were made up: the connection began before the capture."]
 
 
 class Judge:
@@ -118,8 +161,6 @@ class Judge:
         found = Result(shown(indexed.client), shown(indexed.server), indexed.begun, indexed.count, notes=Notes())
         found.is_part, found.captures = getattr(indexed, "is_part", False), len(self.files)
         try:
-            if not indexed.whole:
-                raise Undecided(f"it began before the capture ({counted(indexed.count, 'segment')})")
             if indexed.client == indexed.server:
                 raise Undecided("it connects a port with itself")
             if indexed.fragmented or self.is_fragmented(indexed):
@@ -146,16 +187,54 @@ class Judge:
                    for name in indexed.places)
 
     def judge(self, number, indexed, found, moment):
-        """Judges a connection that is captured from its beginning."""
+        """Judges a connection."""
         captures = self.roles.assign(indexed)
         last = {host: moment or self.last[name] for host, name in captures.items()}
         connection = indexed.read(self.files, self.layouts)
         connection.hosts = indexed.hosts
-        self.refuse_lost(connection)
-        if self.options.between:
-            captures, last = split(connection, captures[None], self.options.skew * 1000), {0: last[None], 1: last[None]}
+        refuse(connection)
+        self.roles.refuse_unknown(indexed)
+        unknown, found.place = extension(connection), self.roles.place(indexed)
         found.hosts = 1 if list(captures) == [0] else 2
-        given = connection, captures, last, self.chosen
+        if not indexed.whole:
+            if found.is_between:
+                raise Undecided(f"it began before the capture ({counted(indexed.count, 'segment')})")
+            self.judge_begun(number, connection, captures, last, found)
+        else:
+            self.refuse_lost(connection)
+            self.judge_silent(number, self.between(connection, captures, last, found), found)
+        if found.verdict == "no" and unknown:
+            found.forget()
+            raise Problem(unknown, "")
+
+    def between(self, connection, captures, last, found):
+        """What a trace is made of: if a connection was captured between its hosts, of one capture for each."""
+        if not found.is_between:
+            return connection, captures, last, self.chosen
+        captures, spread = split(connection, captures[None], self.options.skew * 1000, found.notes)
+        # A timer may seem to expire so much too early.
+        grain = min(headers.LIMITS["grain"][1], headers.VALUES["grain"] + spread // 1000)
+        return (connection, captures, {0: last[None], 1: last[None]},
+                {"grain": grain} | self.chosen | {"slack": headers.ANY})
+
+    def judge_begun(self, number, connection, captures, last, found):
+        """Judges a connection that began before the capture. Of its possible beginnings, the one with the best answer
+        counts."""
+        least = 1000 * self.chosen.get("minrto", VALUES["minrto"])
+        best = latest = None
+        for begun in beginnings(connection, captures, self.clock, least):
+            self.refuse_lost(begun)
+            latest = begun, captures, last, self.chosen
+            found.since = [next(filterfalse(is_made_up, begun.seen[name])) for name in captures.values()]
+            self.judge_silent(number, latest, found)
+            best = min(best or (found.rank, latest), (found.rank, latest), key=lambda pair: pair[0])
+            if found.rank == BEST:
+                return
+        if best[1] is not latest:
+            self.judge_silent(number, best[1], found)
+
+    def judge_silent(self, number, given, found):
+        """Judges a connection whose host may have given up."""
         self.judge_trace(number, Trace(*given, found.notes, self.clock), found)
         if found.rule in LATE and (other := Trace(*given, Notes(), self.clock, True)).may_differ:
             self.judge_trace(number, other, found)
@@ -178,18 +257,21 @@ class Judge:
         except Problem as problem:
             raise Problem(f"{problem.cause} (--keep-gaps judges it as it is)", problem.remedy) from problem
 
-    def words(self):
-        """The options of `judge`."""
-        options = self.options
-        words = ["judge", "--json", "--least", options.level]
-        words += ["--from", options.start] if options.start else []
-        words += ["--slack", str(options.slack)] if options.slack is not None else []
+    def words(self, found):
+        """The options of `judge` for a connection."""
+        options, levels = self.options, [self.options.level, self.options.start]
+        if found.since:
+            levels = [STRICTEST if level == FULL else level for level in levels]
+        slack = headers.ANY if found.is_between else options.slack
+        words = ["judge", "--json", "--least", levels[0]]
+        words += ["--from", levels[1]] if levels[1] else []
+        words += ["--slack", str(slack)] if slack is not None else []
         return words + (["--budget", str(options.budget)] if options.budget is not None else [])
 
     def run(self, trace, found):
         """Judges a trace that isn't kept."""
         # With a file for the case, `judge` also says which lines of the trace it has.
-        words = [self.program, *self.words(), "--case", os.devnull]
+        words = [self.program, *self.words(found), "--case", os.devnull]
         try:
             process = subprocess.Popen(words, stdin=subprocess.PIPE, stdout=subprocess.PIPE, stderr=subprocess.PIPE)
         except OSError as error:
@@ -210,13 +292,13 @@ class Judge:
         """Judges a trace that is kept in the file with this name, with its case, its picture and the explanation."""
         write_file(name, map(str.encode, trace.lines()))
         case = lab.case_of(name)
-        words = [self.program, *self.words(), "--case", "./" + os.path.basename(case)]
+        words = [self.program, *self.words(found), "--case", "./" + os.path.basename(case)]
         done = lab.on_file(words, name, os.path.dirname(name) or ".")
         found.files = [name]
         read(found, trace, done.stdout, done.stderr, done.returncode)
         lab.draw(self.program, name)
         explained = lab.on_file([self.program, "explain"], case)
-        said = [f"{line}\n".encode() for line in (*found.said, *found.lines_of_packets, "")]
+        said = [f"{line}\n".encode() for line in (*found.said, *found.lines_of_packets, *found.lines_made_up, "")]
         write_file(text_of(name), [*said, explained.stdout])
         kept = case, name.removesuffix(".trace") + ".svg", text_of(name)
         found.files += [name for name in kept if os.path.exists(name)]
@@ -226,12 +308,28 @@ def read(found, trace, out, error, status):
     """Reads the object that `judge` printed for a trace, whose lines were made, into a result."""
     if status not in (lab.YES, lab.NO):
         said = "; ".join(said_in(out)[:1] + decoded(error).splitlines()[-1:])
-        raise Problem(said or lab.ended(status), "")
+        raise Problem(refused(found, trace, said) or said or lab.ended(status), "")
     judged = json.loads(out)
     found.levels, found.ways, found.status = judged["levels"], judged.get("ways", []), status
     lines = [level.get("input_line") for level in found.levels]
     found.packets = [None if line is None else trace.packet(line) for line in lines]
     found.said = [inferred(line) for line in judged["said"]]
+    found.made_up = trace.made_up()
+
+
+def refused(found, trace, said):
+    """Why `judge` refused a trace: not a place in it, which nobody has, but the packet there. None if it's no fault of
+    the trace."""
+    fault = FAULT.match(said)
+    if not fault:
+        return None
+    packet, kind = trace.packet(int(fault[1])), fault[2]
+    if kind == TOO_LONG:
+        return "its trace would have more than 10,000,000 lines"
+    if kind == NUMBER and packet:
+        return f"{found.named(packet)} was captured at a moment too far from that of the first packet"
+    where = f" ({found.named(packet)})" if packet else ""
+    return f"no trace can have this connection{where}: {kind}; this is a bug: report it with the capture"
 
 
 def said_in(out):

@@ -1,9 +1,10 @@
 """Makes the trace of one connection from its captures."""
-from ..capture.clocks import SAME, bounds_of, clock_of
+from ..capture.clocks import SAME, bounds_of, clock_of, refuse_distant
 from ..capture.copies import without_copies
 from ..trace import header as headers
 from ..trace.lines import seen_once
 from .calls import Calls
+from .opening import is_made_up
 from .queues import ignored_by
 from .script import AFTER, InferredWriter, Script
 from .silence import last_attempt
@@ -11,6 +12,8 @@ from .streams import complete, streams_of
 
 # Each connection has a trace of its own, whose queue always has room.
 ROOM = 65535
+# The most nanoseconds that a trace's header may have as skew.
+MOST_SKEW = headers.LIMITS["skew"][1] * 1000
 
 
 class Trace:
@@ -23,6 +26,7 @@ class Trace:
         if len(captures) == 2:
             above, below = bounds_of([connection], captures)
             clock = clock_of(above, below) if above and below else clock
+            refuse_distant(clock, MOST_SKEW)
             leave_out_unsent(connection, captures, last, clock)
         else:
             clock = SAME
@@ -45,9 +49,18 @@ class Trace:
         yield from self.writer.lines()
 
     def packet(self, number):
-        """The packet of the line with this number, once the lines were made; None if it has none."""
+        """The captured packet of the line with this number, once the lines were made; None if it has none."""
         place = number - len(self.head) - 1
-        return self.writer.packets[place] if 0 <= place < len(self.writer.packets) else None
+        found = self.writer.packets[place] if 0 <= place < len(self.writer.packets) else None
+        return None if is_made_up(found) else found
+
+    def made_up(self):
+        """The numbers of the lines before the first captured packet, if some were made up, once the lines were made."""
+        packets = self.writer.packets
+        if not any(map(is_made_up, packets)):
+            return range(0)
+        first = next(place for place, packet in enumerate(packets) if packet and not is_made_up(packet))
+        return range(len(self.head) + 1, len(self.head) + 1 + first)
 
 
 def script_of(connection, captures, streams, last, notes):

@@ -1,12 +1,11 @@
 """Which host a capture is of, and which end of a connection is there."""
-import contextlib
 from ipaddress import ip_address
 
 from ..capture.clocks import SAME, clock_of
 from ..problem import Problem
+from .place import BETWEEN, is_forwarded, is_loopback
 
 CLIENT, SERVER, BOTH = "client", "server", "both"
-BETWEEN = "between"
 NAME_IT = ("name it with --host ADDRESS, --host client or --host server; with --host both if the capture has each "
            "segment once for both hosts, like that of lo; with --between if it was made between the hosts")
 # How many comparisons of moments a marked connection outweighs.
@@ -15,12 +14,6 @@ MARKED = 1000
 
 class Undecided(Exception):
     """A connection can't be judged, for a reason that the message states."""
-
-
-def is_loopback(connection):
-    """Whether a connection's addresses show that both its hosts are one."""
-    ends = connection.client, connection.server
-    return connection.client[0] == connection.server[0] or all(ip_address(end[0]).is_loopback for end in ends)
 
 
 def of_both(connection, capture):
@@ -44,7 +37,7 @@ class OneCapture:
             return None
         if self.wanted:
             return self.named(connection)
-        return self.marked(connection)
+        return self.shown(connection)
 
     def named(self, connection):
         """The end with the address that the user named."""
@@ -53,16 +46,13 @@ class OneCapture:
             raise Undecided(f"it isn't one of {self.wanted}")
         return own[0] if len(own) == 1 else None
 
-    def marked(self, connection):
-        """The end whose segments the capture marked as sent."""
+    def shown(self, connection):
+        """The end whose host the capture shows as its own; None if the place of the capture is another one."""
         if is_loopback(connection):
             return None
-        own = connection.own.get(self.capture.name, ())
-        if len(own) == 1:
-            return next(iter(own))
-        if own:
+        if len(connection.own.get(self.capture.name, ())) == 2 and not is_forwarded(connection.signs):
             raise Undecided("the captured host forwards its segments, or is both its hosts (--host both)")
-        raise Problem(f"{self.capture.name} doesn't show which host it is of", NAME_IT)
+        return None if connection.place == BETWEEN else connection.place
 
     def assign(self, connection):
         """Gives each end its host, and returns the captures of the hosts: half a case if only one is recorded."""
@@ -72,12 +62,18 @@ class OneCapture:
         connection.hosts = {own: 0, connection.other(own): 1}
         return {0: self.capture.name}
 
-    def refuse_unknown(self, connections):
-        """Refuses a capture that doesn't show which host it is of."""
-        for connection in connections:
-            if connection.whole:
-                with contextlib.suppress(Undecided):
-                    self.ends(connection)
+    def place(self, connection):
+        """Where it was captured, in a word."""
+        if BETWEEN == (self.wanted or connection.place):
+            return BETWEEN
+        own = self.ends(connection)
+        return BOTH if own is None else CLIENT if own == connection.client else SERVER
+
+    def refuse_unknown(self, connection):
+        """Refuses a connection that doesn't show where it was captured."""
+        if not self.wanted and not is_loopback(connection) and connection.place is None:
+            raise Problem(f"nothing shows which of its hosts {self.capture.name} is of (--host or --between says it)",
+                          NAME_IT)
 
     @staticmethod
     def clock():
@@ -150,7 +146,11 @@ class TwoCaptures:
         return {0: self.captures[place].name}
 
     @staticmethod
-    def refuse_unknown(connections):
+    def place(_):
+        """Each capture is one host's, so no word is needed."""
+        return ""
+
+    def refuse_unknown(self, connection):
         """Whose captures they are is decided for each connection."""
 
     def clock(self):

@@ -1,55 +1,71 @@
-"""A capture that was made between the hosts, such as at a switch, as two: what each host sent and received, a moment
-before or after."""
+"""A capture that was made between the hosts, such as at a switch, as two: what each host sent and received.
+
+It shows when a segment passed: it was sent before, and received after that or never. So each host has what it sent when
+that passed, and what it received at a moment that fits what it sent.
+"""
 import heapq
-from copy import copy
+from collections import Counter
 
-from ..capture.segments import ACK, FIN, RST, SYN, WRAP
+from ..capture.copies import without_copies
+from .arrivals import Arrivals
+from .departures import Departures
+from .passages import moved, passages, without_garbage
 
 
-def split(connection, name, longest):
-    """Replaces a connection's capture by one for each host, and returns their names. A segment was sent before it was
-    captured, and received after that, by as much as the fastest answer of its host permits: at most by so many
-    nanoseconds."""
-    packets = entering(connection.seen.pop(name))
+def split(connection, name, longest, notes):
+    """Replaces a connection's capture by one for each host. A segment needs at most `longest` nanoseconds from its host
+    to the capture. Returns their names, and by how many nanoseconds that time differs from segment to segment."""
+    packets = without_copies(entering(connection.seen[name]), notes)
+    packets = apart(sorted(packets, key=lambda packet: packet.moment))
+    found = without_garbage(passages(connection, packets))
     names = {host: f"{name}, host {host}" for host in (0, 1)}
+    sides, spread = {}, 0
     for end, host in connection.hosts.items():
-        # At equal moments, a segment might be received before it is sent.
-        delay = max(1, min(longest, fastest_answer(packets, end) // 2))
-        connection.seen[names[host]] = [moved(packet, -delay if packet.source == end else delay) for packet in packets]
-    return names
+        if found:
+            sent = Departures(connection, end, found, longest).in_order(notes)
+            sides[names[host]] = Arrivals(sent, [each for each in found if each.packet.source != end]).packets()
+            spread = max(spread, spread_of(found, end))
+        else:
+            sides[names[host]] = [moved(packet, packet.moment + (packet.source != end)) for packet in packets]
+    del connection.seen[name]
+    connection.seen.update(sides)
+    return names, min(spread, longest)
+
+
+def spread_of(found, end):
+    """How much longer an end's slowest acknowledgment took than its fastest: the time to the capture and back differs
+    at most by so much."""
+    waiting, times = [], []
+    for passage in found:
+        if passage.packet.source != end:
+            if passage.length and not passage.is_reset:
+                heapq.heappush(waiting, (passage.stop, passage.packet.moment))
+        elif passage.acknowledged is not None:
+            covered = []
+            while waiting and waiting[0][0] <= passage.acknowledged:
+                covered.append(heapq.heappop(waiting)[1])
+            times += [passage.packet.moment - max(covered)] if covered else []
+    return max(times) - min(times) if times else 0
+
+
+def apart(packets):
+    """Packets at moments that differ, also if the capture's clock is coarse: a segment comes after it was sent."""
+    found, last = [], 0
+    for packet in packets:
+        last = max(packet.moment, last + 2)
+        found.append(moved(packet, last))
+    return found
 
 
 def entering(packets):
     """A router's capture of all interfaces has a segment twice: when it arrives, and when it's forwarded. The first one
     counts."""
-    arrived = [packet for packet in packets if packet.outgoing is False]
-    return arrived or packets
-
-
-def moved(packet, delay):
-    """A packet at another moment."""
-    found = copy(packet)
-    found.moment, found.outgoing = packet.moment + delay, None
-    return found
-
-
-def fastest_answer(packets, end):
-    """The shortest time between a segment to an end and one by which it newly acknowledges all of that; 0 if there's
-    none."""
-    first, reached, shortest = None, 0, None
-    # A heap of the segments that aren't acknowledged yet: the end of each, and its moment.
-    waiting = []
-    for packet in sorted(packets, key=lambda packet: packet.moment):
-        if packet.source != end:
-            length = packet.size + (packet.flags & FIN) + bool(packet.flags & SYN)
-            first = packet.number if first is None else first
-            if length and not packet.flags & RST:
-                heapq.heappush(waiting, ((packet.number + length - first) % WRAP, packet.moment))
-        elif packet.flags & (ACK | RST) == ACK and waiting:
-            reached = max(reached, (packet.acknowledgment - first) % WRAP)
-            covered = None
-            while waiting and waiting[0][0] <= reached:
-                covered = max(heapq.heappop(waiting)[1], covered or 0)
-            if covered is not None:
-                shortest = min(packet.moment - covered, packet.moment - covered if shortest is None else shortest)
-    return shortest or 0
+    arrived, kept = Counter(), []
+    for packet in packets:
+        key = packet.source, packet.segment
+        if packet.outgoing and arrived[key]:
+            arrived[key] -= 1
+            continue
+        arrived[key] += packet.outgoing is False
+        kept.append(packet)
+    return kept

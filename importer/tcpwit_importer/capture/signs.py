@@ -1,0 +1,63 @@
+"""What the packets of a connection show about the place of their capture: TTLs, checksums, and the handshake's times.
+
+Only numbers are kept, since a capture may have many connections.
+"""
+from .segments import ACK, RST, SYN
+
+# How many checksums of each end are compared.
+CHECKED = 8
+TCP = 6
+
+
+class Sender:
+    """What the packets of one end show: their least and greatest TTL, and how many of its first checksums are wrong, of
+    how many."""
+    __slots__ = ("least", "greatest", "wrong", "checked")
+
+    def __init__(self):
+        self.least, self.greatest, self.wrong, self.checked = 255, 0, 0, 0
+
+    def add(self, packet):
+        """A packet of this end. Checksums of segments with bytes don't count: a host that joins received segments
+        leaves theirs unfinished, too. Those of resets don't, since hosts may finish them themselves."""
+        if packet.lifetime < self.least:
+            self.least = packet.lifetime
+        if packet.lifetime > self.greatest:
+            self.greatest = packet.lifetime
+        if self.checked < CHECKED and not packet.size and not packet.missing and not packet.flags & RST:
+            self.checked += 1
+            self.wrong += not is_right(packet)
+
+
+class Signs:
+    """What a connection's packets show: of its client and of its server, and the moments of the SYN, the SYN-ACK and
+    the ACK that completes the handshake; None if one is missing."""
+    __slots__ = ("client", "server", "opened", "answered", "completed")
+
+    def __init__(self):
+        self.client, self.server = Sender(), Sender()
+        self.opened = self.answered = self.completed = None
+
+    def add(self, packet, is_client):
+        """The next packet, which the client or the server sent."""
+        (self.client if is_client else self.server).add(packet)
+        if self.completed is None:
+            self.see_handshake(packet, is_client)
+
+    def see_handshake(self, packet, is_client):
+        """A packet until the handshake's end. Of retransmissions, the last one counts."""
+        flags = packet.flags & (SYN | ACK | RST)
+        if is_client and flags == SYN and self.answered is None:
+            self.opened = packet.moment
+        elif not is_client and flags == SYN | ACK and self.opened is not None:
+            self.answered = packet.moment
+        elif is_client and flags == ACK and self.answered is not None:
+            self.completed = packet.moment
+
+
+def is_right(packet):
+    """Whether a complete packet's checksum is right (RFC 9293, 3.1). An offload leaves that of the addresses and the
+    length. A number is its sum of 16-bit words modulo 0xFFFF."""
+    segment = packet.segment
+    words = int.from_bytes(packet.source[0], "big") + int.from_bytes(packet.target[0], "big") + TCP + len(segment)
+    return (words + int.from_bytes(segment + bytes(len(segment) % 2), "big") + packet.checksum) % 0xFFFF == 0

@@ -1,0 +1,183 @@
+"""What a host sent, from a capture between the hosts: segments may have been reordered or lost before they passed it."""
+from bisect import bisect
+from copy import copy
+
+from ..capture.segments import ACK, FIN, SYN, WRAP, header_length, listed, options
+from .passages import moved
+
+# The kind of the timestamps option (RFC 7323, 3.2).
+TIMESTAMPS = 8
+# Fast retransmit needs so many duplicate acknowledgments, and a timeout so many nanoseconds (RFC 5681, 3.2; RFC 6298).
+DUPLICATES, TIMEOUT = 3, 2 * 10**8
+# The numbers of IP packets show an order if the next one is at most so much greater, for nine of ten packets.
+NEAR, HALF = 1000, 1 << 15
+LOST = "segments that were lost between their host and the capture, completed from later ones"
+
+
+class Sent:
+    """A segment in the order in which its host sent it. `passage` is its own, and `before` the place in the capture
+    before which it was sent."""
+
+    def __init__(self, passage, before, moment):
+        self.passage, self.before, self.moment = passage, before, moment
+
+    @property
+    def packet(self):
+        """Its packet, at that moment."""
+        return moved(self.passage.packet, self.moment)
+
+
+class Departures:
+    """Puts the segments of one end in the order in which they were sent. One that passed after a later one was sent at
+    most `longest` nanoseconds before it passed."""
+
+    def __init__(self, connection, end, found, longest):
+        self.connection, self.end, self.longest = connection, end, longest
+        self.own = [passage for passage in found if passage.packet.source == end]
+        self.others = [passage for passage in found if passage.packet.source != end]
+        self.places = [passage.place for passage in self.others]
+        self.has_counter = counts([each.packet.identification for each in self.own if each.packet.identification])
+
+    def in_order(self, notes):
+        """The segments as they were sent, with those that were lost before the capture."""
+        sent, seen, holes = [], set(), Holes()
+        for passage in self.own:
+            key = passage.packet.identification, passage.packet.segment
+            if passage.packet.identification and key in seen:
+                # The network duplicated it.
+                continue
+            seen.add(key)
+            place = self.place_in(sent, passage, holes.precedes(passage))
+            follower = sent[place] if place < len(sent) else None
+            before, moment = (follower.before, follower.moment) if follower else (passage.place, passage.packet.moment)
+            sent.insert(place, Sent(passage, before, moment))
+            holes.add(passage)
+        return self.completed(sent, notes)
+
+    def place_in(self, sent, passage, precedes):
+        """The place of a segment among those sent before it passed."""
+        place = len(sent)
+        while place and self.follows(sent[place - 1].passage, passage, precedes):
+            place -= 1
+        return place
+
+    def follows(self, earlier, passage, precedes):
+        """Whether a segment that passed earlier was sent after another one. `precedes`: the positions of that one show
+        it."""
+        if passage.acknowledged is None or passage.packet.flags & SYN:
+            return False
+        if passage.packet.moment - earlier.packet.moment > self.longest:
+            return False
+        shown = self.shown_order(earlier.packet, passage.packet)
+        return self.looks_later(earlier, passage, precedes) if shown is None else not shown
+
+    def looks_later(self, earlier, passage, precedes):
+        """Whether a segment that passed earlier looks as if it was sent after another one."""
+        if earlier.is_reset:
+            # A host sends nothing after it reset a connection that both had opened.
+            return 0 < earlier.start <= passage.stop
+        if earlier.acknowledged is None or passage.acknowledged != earlier.acknowledged:
+            return earlier.acknowledged is not None and passage.acknowledged < earlier.acknowledged
+        return precedes and passage.start < earlier.start and not self.may_be_repeated(earlier, passage)
+
+    def shown_order(self, one, two):
+        """Whether two packets show that they passed in the order in which they were sent; None if they don't show their
+        order."""
+        if self.has_counter and one.identification and two.identification:
+            difference, whole = two.identification - one.identification, 2 * HALF
+        else:
+            stamps = timestamp(one.segment), timestamp(two.segment)
+            difference, whole = 0 if None in stamps else stamps[1] - stamps[0], WRAP
+        return None if difference == 0 else 0 < difference % whole < whole // 2
+
+    def may_be_repeated(self, earlier, passage):
+        """Whether a segment may have been sent again because one was lost, after a timeout or duplicate
+        acknowledgments."""
+        if not passage.length:
+            return False
+        if passage.packet.moment - earlier.packet.moment >= TIMEOUT:
+            return True
+        first, last = (bisect(self.places, each.place) for each in (earlier, passage))
+        asked = [each for each in self.others[first:last] if each.acknowledged == passage.start and not each.length]
+        return len(asked) >= DUPLICATES
+
+    def completed(self, sent, notes):
+        """What was sent, with the bytes that passed only later, or never."""
+        found, reached = [], 0
+        for each in sent:
+            start = each.passage.start
+            if reached < start and not each.passage.is_reset:
+                for packet in self.missing(each.passage, reached, start):
+                    found.append(Sent(each.passage._replace(packet=packet, start=reached, stop=start), each.before,
+                                      each.moment))
+                    notes.change(LOST, each.passage.packet.place)
+            if not each.passage.is_reset:
+                reached = max(reached, each.passage.stop)
+            found.append(each)
+        return found
+
+    def missing(self, passage, start, stop):
+        """The segments that have the positions from `start` to `stop`, before a segment: with its acknowledgment and
+        window."""
+        if not start or not passage.packet.flags & ACK or passage.packet.flags & SYN:
+            return
+        last = max((each.stop for each in self.own if each.packet.flags & FIN), default=None)
+        has_fin = last == stop
+        size = self.connection.piece_size(passage.packet.segment)
+        end = stop - has_fin
+        for at in range(start, max(end, start + 1), size):
+            length = max(0, min(size, end - at))
+            yield self.built(passage.packet, at, length, has_fin and at + length == end)
+
+    def built(self, model, at, length, has_fin):
+        """A segment like another one, with bytes from a position on."""
+        data = bytearray(length)
+        for offset, piece in self.connection.pieces(self.end, at - 1, length):
+            data[offset - at + 1:offset - at + 1 + len(piece)] = piece
+        packet, head = copy(model), header_length(model.segment)
+        number = (self.connection.initial[self.end] + at) % WRAP
+        packet.segment = (model.segment[:4] + number.to_bytes(4, "big") + model.segment[8:13]
+                          + bytes([ACK | (FIN if has_fin else 0)]) + model.segment[14:head] + bytes(data))
+        packet.missing = packet.identification = 0
+        return packet
+
+
+class Holes:
+    """The positions that weren't seen although later ones were."""
+
+    def __init__(self):
+        self.reached, self.parts = 0, []
+
+    def touches(self, passage):
+        """Whether a segment has such positions."""
+        return any(start < passage.stop and passage.start < stop for start, stop in self.parts)
+
+    def precedes(self, passage):
+        """Whether a segment seems to have been sent before later ones: it has such positions, or it's an empty one at
+        an earlier position."""
+        return self.touches(passage) or (not passage.length and passage.start < self.reached)
+
+    def add(self, passage):
+        """A segment passed."""
+        if passage.is_reset:
+            return
+        if self.touches(passage):
+            rest = [part for start, stop in self.parts
+                    for part in ((start, min(stop, passage.start)), (max(start, passage.stop), stop))]
+            self.parts = [(start, stop) for start, stop in rest if start < stop]
+        if self.reached < passage.start:
+            self.parts.append((self.reached, passage.start))
+        self.reached = max(self.reached, passage.stop)
+
+
+def counts(numbers):
+    """Whether the numbers of a host's IP packets count them."""
+    steps = [(two - one) % (2 * HALF) for one, two in zip(numbers, numbers[1:])]
+    near = sum(0 < step <= NEAR for step in steps)
+    return bool(steps) and near * 10 >= len(steps) * 9
+
+
+def timestamp(segment):
+    """The value of the timestamps option; None without one."""
+    found = [value for kind, value in listed(options(segment)) if kind == TIMESTAMPS and len(value) == 8]
+    return int.from_bytes(found[-1][:4], "big") if found else None

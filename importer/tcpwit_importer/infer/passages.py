@@ -1,0 +1,107 @@
+"""The segments of a connection as a capture between its hosts shows them, with their numbers as positions: an end's SYN
+has position 0, its first byte position 1."""
+from copy import copy
+from typing import Any, NamedTuple
+
+from ..capture.segments import ACK, FIN, RST, SHIFT, SYN, WRAP, options, payload, values, window
+
+
+class Passage(NamedTuple):
+    """A segment that passed the capture, and when: `place` counts all of the connection's segments. `start` and `stop`
+    are the positions that it has, `acknowledged` and `edge` those up to which it acknowledges and permits bytes; None
+    without ACK, and for a reset."""
+    packet: Any
+    place: int
+    start: int
+    stop: int
+    acknowledged: Any
+    edge: Any
+
+    @property
+    def is_reset(self):
+        """Whether it's a reset."""
+        return bool(self.packet.flags & RST)
+
+    @property
+    def length(self):
+        """How many positions it has."""
+        return self.stop - self.start
+
+
+class Numbers:
+    """Reads the numbers of one end near the last position that it has sent."""
+
+    def __init__(self, first):
+        self.first, self.last = first, 0
+
+    def position(self, number):
+        """The position of a sequence number."""
+        distance = (number - self.first - self.last) % WRAP
+        return self.last + distance - (WRAP if distance >= WRAP // 2 else 0)
+
+    def sent(self, packet):
+        """The positions of a segment."""
+        start = self.position(packet.number)
+        stop = start + packet.size + bool(packet.flags & SYN) + (packet.flags & FIN)
+        if not packet.flags & RST:
+            self.last = max(self.last, stop)
+        return start, stop
+
+
+def passages(connection, packets):
+    """The passages of packets, which are in order; none if a SYN is missing."""
+    ends = connection.client, connection.server
+    if any(end not in connection.initial for end in ends):
+        return []
+    numbers = {end: Numbers(connection.initial[end]) for end in ends}
+    shifts = shifts_of(packets)
+    found = []
+    for place, packet in enumerate(packets):
+        start, stop = numbers[packet.source].sent(packet)
+        acknowledged = edge = None
+        if packet.flags & (ACK | RST) == ACK:
+            acknowledged = numbers[connection.other(packet.source)].position(packet.acknowledgment)
+            shift = 0 if packet.flags & SYN else shifts.get(packet.source, 0)
+            edge = acknowledged + (window(packet.segment) << shift)
+        found.append(Passage(packet, place, start, stop, acknowledged, edge))
+    return found
+
+
+def shifts_of(packets):
+    """By how many bits each end shifts its windows, if both have the option (RFC 7323, 2.2)."""
+    found = {}
+    for packet in packets:
+        if packet.flags & SYN and (given := values(SHIFT, 1, options(packet.segment))):
+            found.setdefault(packet.source, min(14, given[-1][0]))
+    return found if len(found) == 2 else {}
+
+
+def moved(packet, moment):
+    """A packet at another moment, without a mark of its direction."""
+    found = copy(packet)
+    found.moment, found.outgoing = moment, None
+    return found
+
+
+def without_garbage(found):
+    """Passages in which keep-alives have no byte. One may have a garbage byte before the next position, when all is
+    acknowledged (RFC 9293, 3.8.4)."""
+    reached, acknowledged, kept = {}, {}, []
+    for passage in found:
+        source, last = passage.packet.source, reached.get(passage.packet.source, 0)
+        if (passage.packet.size == 1 and passage.length == 1 and passage.stop == last
+                and acknowledged.get(passage.packet.target) == last):
+            passage = shortened(passage)
+        if not passage.is_reset:
+            reached[source] = max(last, passage.stop)
+        if passage.acknowledged is not None:
+            acknowledged[source] = max(passage.acknowledged, acknowledged.get(source, 0))
+        kept.append(passage)
+    return kept
+
+
+def shortened(passage):
+    """A passage without its bytes."""
+    packet = copy(passage.packet)
+    packet.segment, packet.missing = packet.segment[:len(packet.segment) - len(payload(packet.segment))], 0
+    return passage._replace(packet=packet, stop=passage.start)
