@@ -1,6 +1,5 @@
 """Tests captures that were made between the hosts. data/middle.tar.xz has captures of one connection at the client, in
 the middle and at the server; a relay on each side of the middle delayed, reordered and lost segments."""
-import contextlib
 import json
 import os
 import tarfile
@@ -8,17 +7,17 @@ import tempfile
 import unittest
 from types import SimpleNamespace
 
-from tcpwit_importer.capture.connections import Connection
-from tcpwit_importer.capture.segments import ACK, FIN, RST, SYN
+from tcpwit_importer.capture.connections import Connection, connections_of
+from tcpwit_importer.capture.packets import packets_of
+from tcpwit_importer.capture.segments import ACK, FIN, RST, SYN, WRAP, acknowledgment, flags
 from tcpwit_importer.infer import midpoint
 from tcpwit_importer.infer.departures import counts, timestamp
 from tcpwit_importer.infer.midpoint import split
 from tcpwit_importer.infer.passages import Numbers, passages, without_garbage
 from tcpwit_importer.problem import Notes
-from tcpwit_importer.trace.header import LEVELS
 
 from . import test_judge
-from .wire import ONE, SIZE, ZERO, ethernet, ip_packet, packed, packets, segment
+from .wire import ONE, SIZE, ZERO, ethernet, ip_packet, packed, packets, pcap, segment
 
 AT, MS = 100 * 10**9, 10**6
 # The ends as captures have them.
@@ -258,6 +257,85 @@ class Marks(unittest.TestCase):
         for packet in found:
             packet.outgoing = packet.source == CLIENT
         self.assertEqual(midpoint.entering(found), found)
+
+
+class Recorded(unittest.TestCase):
+    """Connections that were captured at three places."""
+
+    @classmethod
+    def setUpClass(cls):
+        cls.folder = tempfile.TemporaryDirectory()
+        cls.addClassCleanup(cls.folder.cleanup)
+        with tarfile.open(os.path.join(DATA, "middle.tar.xz")) as archive:
+            archive.extractall(cls.folder.name)
+        cls.names = sorted({name.rsplit("-", 1)[0] for name in os.listdir(cls.folder.name)})
+
+    def file(self, name, place):
+        """The name of a capture."""
+        return f"{self.folder.name}/{name}-{place}.pcap"
+
+    def read(self, name, place):
+        """The connection of a capture."""
+        with open(self.file(name, place), "rb") as file:
+            [found] = connections_of({place: list(packets_of(place, file, Notes()))})
+        found.hosts = {found.client: 0, found.server: 1}
+        return found
+
+    def test_names(self):
+        self.assertEqual(self.names, ["abort", "download", "echo", "slow", "upload"])
+
+    def test_segments_are_in_the_order_in_which_they_were_sent(self):
+        for name in self.names:
+            middle = self.read(name, "middle")
+            sides, _ = split(middle, "middle", 10**9, Notes())
+            for host, place, end in ((0, "client", middle.client), (1, "server", middle.server)):
+                with self.subTest(name, place=place):
+                    passed = [packet.segment for packet in middle.seen[sides[host]]
+                              if packet.source == end and packet.identification]
+                    sent = iter([packet.segment for packet in self.read(name, place).seen[place]
+                                 if packet.source == end])
+                    self.assertGreater(len(passed), 10)
+                    self.assertTrue(all(segment in sent for segment in passed))
+
+    @unittest.skipUnless(LAB, "TCPWIT_LAB names no program")
+    def test_verdicts(self):
+        # The levels at which the captures of both hosts have a yes.
+        for name, level in (("abort", "recovery"), ("download", "none"), ("echo", "none"), ("slow", "full"),
+                            ("upload", "recovery")):
+            for words in (["--between", self.file(name, "middle")],
+                          ["--slack", "any", self.file(name, "client"), self.file(name, "server")]):
+                with self.subTest(name, words=words[0]):
+                    status, out, error = test_judge.run("--quiet", "--level", level, "--from", level, *words)
+                    self.assertEqual((status, error), (0, ""), out)
+
+    @unittest.skipUnless(LAB, "TCPWIT_LAB names no program")
+    def test_faults_are_found(self):
+        def acknowledging_more(found):
+            more = (acknowledgment(found) + 100_000) % WRAP
+            return found if flags(found) & SYN else found[:8] + more.to_bytes(4, "big") + found[12:]
+
+        def with_a_small_window(found):
+            return found[:14] + b"\0\1" + found[16:]
+
+        def with_a_fin(found):
+            return found[:13] + bytes([flags(found) | (0 if flags(found) & SYN else FIN)]) + found[14:]
+
+        for name, change, rule in (("upload", acknowledging_more, "bytes-differ"),
+                                   ("upload", with_a_small_window, "offered"),
+                                   ("download", with_a_fin, "payload-range")):
+            with self.subTest(rule):
+                status, out, _ = test_judge.run("--json", "--level", "none", "--from", "none", "--between",
+                                                "--keep-gaps", self.changed(name, change))
+                self.assertEqual((status, json.loads(out).get("rule")), (1, rule))
+
+    def changed(self, name, change):
+        """A capture in which each segment of the server was changed."""
+        with open(self.file(name, "middle"), "rb") as file:
+            found = list(packets_of(name, file, Notes()))
+        frames = [(packet.moment, ethernet(ip_packet(ZERO, ONE, packet.segment) if packet.source == found[0].source
+                                           else ip_packet(ONE, ZERO, change(packet.segment)))) for packet in found]
+        pcap(f"{self.folder.name}/changed.pcap", frames)
+        return f"{self.folder.name}/changed.pcap"
 
 
 class Command(test_judge.WithCaptures):

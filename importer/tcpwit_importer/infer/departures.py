@@ -11,7 +11,7 @@ TIMESTAMPS = 8
 DUPLICATES, TIMEOUT = 3, 2 * 10**8
 # The numbers of IP packets show an order if the next one is at most so much greater, for nine of ten packets.
 NEAR, HALF = 1000, 1 << 15
-LOST = "segments that were lost between their host and the capture, completed from later ones"
+LOST = "segments that were lost between their host and the capture, added"
 
 
 class Sent:
