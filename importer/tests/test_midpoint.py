@@ -160,6 +160,14 @@ class Split(unittest.TestCase):
         middle.add(0, 1, flags=RST, at=6)
         self.assertEqual(middle.sides()[0][3:], [(1, 1, 3, 5 - 2), (0, 1, 0, 5), (1, 4, 3, 5), (0, 1, 0, 6)])
 
+    def test_a_reset_doesn_t_answer_what_came_before(self):
+        middle = Middle()
+        middle.add(1, 1, 1, at=3)
+        middle.add(1, 1, 1, b"abc", at=4)
+        middle.add(0, 1, 4, at=5)
+        middle.add(0, 1, flags=RST, at=6)
+        self.assertEqual(middle.sides()[0][3:], [(1, 1, 3, 4), (0, 1, 0, 5), (1, 1, 0, 5), (0, 1, 0, 6)])
+
     def test_a_reset_ends_what_its_receiver_sends(self):
         middle = Middle()
         middle.add(1, 1, flags=RST, at=3)
@@ -176,17 +184,22 @@ class Order(unittest.TestCase):
         middle.add(0, 3, 1, b"cd", **{"at": 5, "identification": 8} | words)
         return middle
 
+    @staticmethod
+    def sent(middle):
+        """The positions and sizes of what host 0 sent after the handshake."""
+        return [each[1:3] for each in middle.sides()[0] if each[0] == 0][2:]
+
     def test_reordered_before_the_capture(self):
         middle = self.reordered()
         self.assertEqual(middle.sides()[0][3:], [(0, 1, 2, 3), (0, 3, 2, 4), (0, 5, 2, 4)])
         self.assertEqual(list(middle.notes.lines()), [])
-        # Their receiver gets them as they passed.
+        # Their receiver got them as they passed.
         self.assertEqual(middle.sides()[1][3:], [(0, 1, 2, 3), (0, 5, 2, 4), (0, 3, 2, 5)])
 
     def test_lost_before_the_capture(self):
         for words in ({"at": 250}, {"identification": 10}):
             middle = self.reordered(**words)
-            self.assertEqual([each[1:3] for each in middle.sides()[0][3:]], [(1, 2), (3, 2), (5, 2), (3, 2)])
+            self.assertEqual(self.sent(middle), [(1, 2), (3, 2), (5, 2), (3, 2)])
             self.assertIn("lost between their host and the capture", next(middle.notes.lines()))
 
     def test_a_limit(self):
@@ -200,7 +213,7 @@ class Order(unittest.TestCase):
         for number in range(3):
             middle.add(1, 1, 3, at=4.1 + number / 10)
         middle.frames[0].append(last)
-        self.assertEqual([each[1:3] for each in middle.sides()[0] if each[0] == 0][2:], [(1, 2), (3, 2), (5, 2), (3, 2)])
+        self.assertEqual(self.sent(middle), [(1, 2), (3, 2), (5, 2), (3, 2)])
 
     def test_a_fin_that_was_lost(self):
         middle = Middle()
@@ -211,6 +224,20 @@ class Order(unittest.TestCase):
         sent = [packet for packet in connection.seen[names[0]] if packet.source == CLIENT]
         self.assertEqual([(packet.number - 1000, packet.payload, packet.flags) for packet in sent[2:]],
                          [(1, b"ab", ACK | FIN), (4, b"", ACK), (1, b"ab", ACK | FIN)])
+
+    def test_a_segment_that_is_sent_again_may_be_late(self):
+        middle = Middle()
+        for number in range(20):
+            middle.add(0, 1 + number, 1, b"a", identification=1 + number)
+        middle.add(0, 21, 1, b"a", identification=23)
+        middle.add(0, 4, 1, b"a", identification=22)
+        self.assertEqual(self.sent(middle)[-3:], [(20, 1), (4, 1), (21, 1)])
+
+    def test_an_old_acknowledgment_is_late(self):
+        middle = Middle()
+        middle.add(0, 1, 1, b"ab")
+        middle.add(0, 1, 1)
+        self.assertEqual(self.sent(middle), [(1, 0), (1, 2)])
 
     def test_acknowledgments_go_back_only_if_nothing_shows_their_order(self):
         for one, two, place in ((0, 0, 0), (2, 1, 0), (1, 2, 1)):

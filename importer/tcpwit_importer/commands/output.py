@@ -6,8 +6,8 @@ from .verdicts import counted
 
 INFERRED = ("Calls were inferred: their answers aren't judged.",
             "Nor is how soon a host sends what its program gave it (rule start-late).")
-BETWEEN = ("The capture was made between the hosts: no duty is judged. A segment counts as received at any moment after",
-           "it passed, or never.")
+BETWEEN = ("The capture was made between the hosts: no duty is judged. A segment counts as received at any moment",
+           "after it passed, or never.")
 HALF = "Only one host was captured: the other one isn't judged."
 SOME = "{} with one host captured: the other one isn't judged there."
 

@@ -1,4 +1,4 @@
-"""What a host sent, from a capture between the hosts: segments may have been reordered or lost before they passed it."""
+"""What a host sent, from a capture between the hosts: segments may have been reordered or lost before they passed."""
 from bisect import bisect
 from copy import copy
 
@@ -78,7 +78,8 @@ class Departures:
             return 0 < earlier.start <= passage.stop
         if earlier.acknowledged is None or passage.acknowledged != earlier.acknowledged:
             return earlier.acknowledged is not None and passage.acknowledged < earlier.acknowledged
-        return precedes and passage.start < earlier.start and not self.may_be_repeated(earlier, passage)
+        after = earlier.start if passage.length else earlier.stop
+        return precedes and passage.start < after and not self.may_be_repeated(earlier, passage)
 
     def shown_order(self, one, two):
         """Whether two packets show that they passed in the order in which they were sent; None if they don't show their
