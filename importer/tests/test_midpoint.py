@@ -108,6 +108,17 @@ class Split(unittest.TestCase):
         one = [(0, 0, 0, 0), (1, 0, 0, 1), (0, 1, 0, 2), (0, 1, 2, 3), (1, 1, 0, 4)]
         self.assertEqual(middle.sides(), [one, one])
 
+    def test_how_much_the_time_to_the_capture_differs(self):
+        middle = Middle()
+        for at, number in ((10, 1), (100, 2)):
+            middle.add(0, number, 1, b"a", at=at)
+            middle.add(1, 1, number + 1, at=at + at / 2)
+        middle.sides()
+        # The SYN was answered after 1 ms, and the last byte after 50 ms.
+        self.assertEqual(middle.spread, 49 * MS)
+        middle.sides(longest=MS)
+        self.assertEqual(middle.spread, MS)
+
     def test_equal_moments(self):
         middle = Middle(False)
         for number in range(3):
@@ -238,6 +249,12 @@ class Order(unittest.TestCase):
         middle.add(0, 1, 1, b"ab")
         middle.add(0, 1, 1)
         self.assertEqual(self.sent(middle), [(1, 0), (1, 2)])
+
+    def test_bytes_that_were_lost_before_a_reset(self):
+        middle = Middle()
+        middle.add(0, 1, 1, b"ab")
+        middle.add(0, 5, flags=RST)
+        self.assertEqual(self.sent(middle), [(1, 2), (3, 2), (5, 0)])
 
     def test_acknowledgments_go_back_only_if_nothing_shows_their_order(self):
         for one, two, place in ((0, 0, 0), (2, 1, 0), (1, 2, 1)):

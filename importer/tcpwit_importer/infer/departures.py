@@ -11,6 +11,8 @@ TIMESTAMPS = 8
 DUPLICATES, TIMEOUT = 3, 2 * 10**8
 # The numbers of IP packets show an order if the next one is at most so much greater, for nine of ten packets.
 NEAR, HALF = 1000, 1 << 15
+# The most positions that count as lost before a segment.
+MOST = 1 << 20
 LOST = "segments that were lost between their host and the capture, added"
 
 
@@ -104,31 +106,32 @@ class Departures:
 
     def completed(self, sent, notes):
         """What was sent, with the bytes that passed only later, or never."""
-        found, reached = [], 0
+        found, reached, model = [], 0, None
         for each in sent:
-            start = each.passage.start
-            if reached < start and not each.passage.is_reset:
-                for packet in self.missing(each.passage, reached, start):
-                    found.append(Sent(each.passage._replace(packet=packet, start=reached, stop=start), each.before,
+            passage = each.passage
+            if not passage.is_reset:
+                model = passage
+            if model and 0 < reached < passage.start <= reached + MOST:
+                for packet in self.missing(model, reached, passage.start):
+                    found.append(Sent(model._replace(packet=packet, start=reached, stop=passage.start), each.before,
                                       each.moment))
-                    notes.change(LOST, each.passage.packet.place)
-            if not each.passage.is_reset:
-                reached = max(reached, each.passage.stop)
+                    notes.change(LOST, passage.packet.place)
+            if not passage.is_reset:
+                reached = max(reached, passage.stop)
             found.append(each)
         return found
 
-    def missing(self, passage, start, stop):
-        """The segments that have the positions from `start` to `stop`, before a segment: with its acknowledgment and
-        window."""
-        if not start or not passage.packet.flags & ACK or passage.packet.flags & SYN:
+    def missing(self, model, start, stop):
+        """The segments that have the positions from `start` to `stop`: with the acknowledgment and the window of the
+        next one, or of the last one before a reset."""
+        if model.packet.flags & (ACK | SYN) != ACK:
             return
-        last = max((each.stop for each in self.own if each.packet.flags & FIN), default=None)
-        has_fin = last == stop
-        size = self.connection.piece_size(passage.packet.segment)
+        has_fin = max((each.stop for each in self.own if each.packet.flags & FIN), default=None) == stop
+        size = self.connection.piece_size(model.packet.segment)
         end = stop - has_fin
         for at in range(start, max(end, start + 1), size):
             length = max(0, min(size, end - at))
-            yield self.built(passage.packet, at, length, has_fin and at + length == end)
+            yield self.built(model.packet, at, length, has_fin and at + length == end)
 
     def built(self, model, at, length, has_fin):
         """A segment like another one, with bytes from a position on."""
