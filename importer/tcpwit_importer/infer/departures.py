@@ -9,8 +9,9 @@ from .passages import moved
 TIMESTAMPS = 8
 # Fast retransmit needs so many duplicate acknowledgments, and a timeout so many nanoseconds (RFC 5681, 3.2; RFC 6298).
 DUPLICATES, TIMEOUT = 3, 2 * 10**8
-# The numbers of IP packets show an order if the next one is at most so much greater, for nine of ten packets.
-NEAR, HALF = 1000, 1 << 15
+# The numbers of a host's IP packets are below this. They show an order if the next one is at most so much greater, for
+# nine of ten packets.
+COUNTED, NEAR = 1 << 16, 1000
 # The most positions that count as lost before a segment.
 MOST = 1 << 20
 LOST = "segments that were lost between their host and the capture, added"
@@ -87,11 +88,14 @@ class Departures:
         """Whether two packets show that they passed in the order in which they were sent; None if they don't show their
         order."""
         if self.has_counter and one.identification and two.identification:
-            difference, whole = two.identification - one.identification, 2 * HALF
-        else:
-            stamps = timestamp(one.segment), timestamp(two.segment)
-            difference, whole = 0 if None in stamps else stamps[1] - stamps[0], WRAP
-        return None if difference == 0 else 0 < difference % whole < whole // 2
+            difference = (two.identification - one.identification) % COUNTED
+            if 0 < difference < COUNTED // 2:
+                return True
+            return False if difference >= COUNTED - NEAR else None
+        stamps = timestamp(one.segment), timestamp(two.segment)
+        if None in stamps or stamps[0] == stamps[1]:
+            return None
+        return (stamps[1] - stamps[0]) % WRAP < WRAP // 2
 
     def may_be_repeated(self, earlier, passage):
         """Whether a segment may have been sent again because one was lost, after a timeout or duplicate
@@ -176,7 +180,7 @@ class Holes:
 
 def counts(numbers):
     """Whether the numbers of a host's IP packets count them."""
-    steps = [(two - one) % (2 * HALF) for one, two in zip(numbers, numbers[1:])]
+    steps = [(two - one) % COUNTED for one, two in zip(numbers, numbers[1:])]
     near = sum(0 < step <= NEAR for step in steps)
     return bool(steps) and near * 10 >= len(steps) * 9
 
