@@ -17,7 +17,7 @@ from tcpwit_importer.infer.passages import Numbers, passages, without_garbage
 from tcpwit_importer.problem import Notes
 
 from . import test_judge
-from .wire import ONE, SIZE, ZERO, ethernet, ip_packet, packed, packets, pcap, segment
+from .wire import ONE, SECOND, SIZE, ZERO, ethernet, ip_packet, packed, packets, pcap, segment
 
 AT, MS = 100 * 10**9, 10**6
 # The ends as captures have them.
@@ -235,6 +235,14 @@ class Order(unittest.TestCase):
         sent = [packet for packet in connection.seen[names[0]] if packet.source == CLIENT]
         self.assertEqual([(packet.number - 1000, packet.payload, packet.flags) for packet in sent[2:]],
                          [(1, b"ab", ACK | FIN), (4, b"", ACK), (1, b"ab", ACK | FIN)])
+
+    def test_a_syn_waited_before_the_capture(self):
+        for longest, moments in ((SECOND, [-990, 10, 3010]), (SECOND // 2, [0, 10, 3010])):
+            middle = Middle(False)
+            for at in (0, 10, 3010):
+                middle.add(0, 0, flags=SYN, options=SIZE, at=at)
+            middle.add(1, 0, 1, flags=SYN | ACK, options=SIZE)
+            self.assertEqual([each[3] for each in middle.sides(longest)[0][:3]], moments)
 
     def test_a_segment_that_is_sent_again_may_be_late(self):
         middle = Middle()

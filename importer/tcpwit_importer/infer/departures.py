@@ -2,7 +2,7 @@
 from bisect import bisect
 from copy import copy
 
-from ..capture.segments import ACK, FIN, SYN, WRAP, header_length, listed, options
+from ..capture.segments import ACK, FIN, RST, SYN, WRAP, header_length, listed, options
 from .passages import moved
 
 # The kind of the timestamps option (RFC 7323, 3.2).
@@ -12,6 +12,7 @@ DUPLICATES, TIMEOUT = 3, 2 * 10**8
 # The numbers of a host's IP packets are below this. They show an order if the next one is at most so much greater, for
 # nine of ten packets.
 COUNTED, NEAR = 1 << 16, 1000
+SECOND = 10**9
 # The most positions that count as lost before a segment.
 MOST = 1 << 20
 LOST = "segments that were lost between their host and the capture, added"
@@ -55,7 +56,17 @@ class Departures:
             before, moment = (follower.before, follower.moment) if follower else (passage.place, passage.packet.moment)
             sent.insert(place, Sent(passage, before, moment))
             holes.add(passage)
+        self.space_syns(sent)
         return self.completed(sent, notes)
+
+    def space_syns(self, sent):
+        """A SYN is sent again after a second, then after twice as long each time (RFC 6298, 2.1 and 5.5). If less time
+        passed, the earlier one may have waited before the capture."""
+        syns = [each for each in sent if each.passage.packet.flags & (SYN | ACK | RST) == SYN]
+        for number in reversed(range(len(syns) - 1)):
+            syn, moment = syns[number], syns[number + 1].moment - (SECOND << number)
+            if syn.passage.packet.moment - self.longest <= moment < syn.moment:
+                syn.moment = moment
 
     def place_in(self, sent, passage, precedes):
         """The place of a segment among those sent before it passed."""
