@@ -252,6 +252,19 @@ class Order(unittest.TestCase):
         middle.add(0, 4, 1, b"a", identification=22)
         self.assertEqual(self.sent(middle)[-3:], [(20, 1), (4, 1), (21, 1)])
 
+    def test_identifications_far_apart_show_no_order(self):
+        middle = Middle()
+        for number in range(20):
+            middle.add(0, 1 + number, 1, b"a", identification=1 + number)
+        middle.add(0, 21, 1, b"a", identification=40_000)
+        self.assertEqual(self.sent(middle)[-2:], [(20, 1), (21, 1)])
+
+    def test_timestamps_show_the_order(self):
+        middle = Middle()
+        for number, stamp in ((1, 5), (2, 7), (1, 6)):
+            middle.add(0, number, 1, b"a", options=b"\1\1\x08\x0a\0\0\0" + bytes([stamp]) + bytes(4))
+        self.assertEqual(self.sent(middle), [(1, 1), (1, 1), (2, 1)])
+
     def test_an_old_acknowledgment_is_late(self):
         middle = Middle()
         middle.add(0, 1, 1, b"ab")
