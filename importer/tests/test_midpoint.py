@@ -1,6 +1,5 @@
 """Tests captures that were made between the hosts. data/middle.tar.xz has captures of one connection at the client, in
 the middle and at the server; a relay on each side of the middle delayed, reordered and lost segments."""
-import contextlib
 import json
 import os
 import tarfile
@@ -8,17 +7,17 @@ import tempfile
 import unittest
 from types import SimpleNamespace
 
-from tcpwit_importer.capture.connections import Connection
-from tcpwit_importer.capture.segments import ACK, FIN, RST, SYN
+from tcpwit_importer.capture.connections import Connection, connections_of
+from tcpwit_importer.capture.packets import packets_of
+from tcpwit_importer.capture.segments import ACK, FIN, RST, SYN, WRAP, acknowledgment, flags
 from tcpwit_importer.infer import midpoint
 from tcpwit_importer.infer.departures import counts, timestamp
 from tcpwit_importer.infer.midpoint import split
 from tcpwit_importer.infer.passages import Numbers, passages, without_garbage
 from tcpwit_importer.problem import Notes
-from tcpwit_importer.trace.header import LEVELS
 
 from . import test_judge
-from .wire import ONE, SIZE, ZERO, ethernet, ip_packet, packed, packets, segment
+from .wire import ONE, SECOND, SIZE, ZERO, ethernet, ip_packet, packed, packets, pcap, segment
 
 AT, MS = 100 * 10**9, 10**6
 # The ends as captures have them.
@@ -109,6 +108,17 @@ class Split(unittest.TestCase):
         one = [(0, 0, 0, 0), (1, 0, 0, 1), (0, 1, 0, 2), (0, 1, 2, 3), (1, 1, 0, 4)]
         self.assertEqual(middle.sides(), [one, one])
 
+    def test_how_much_the_time_to_the_capture_differs(self):
+        middle = Middle()
+        for at, number in ((10, 1), (100, 2)):
+            middle.add(0, number, 1, b"a", at=at)
+            middle.add(1, 1, number + 1, at=at + at / 2)
+        middle.sides()
+        # The SYN was answered after 1 ms, and the last byte after 50 ms.
+        self.assertEqual(middle.spread, 49 * MS)
+        middle.sides(longest=MS)
+        self.assertEqual(middle.spread, MS)
+
     def test_equal_moments(self):
         middle = Middle(False)
         for number in range(3):
@@ -161,6 +171,14 @@ class Split(unittest.TestCase):
         middle.add(0, 1, flags=RST, at=6)
         self.assertEqual(middle.sides()[0][3:], [(1, 1, 3, 5 - 2), (0, 1, 0, 5), (1, 4, 3, 5), (0, 1, 0, 6)])
 
+    def test_a_reset_doesn_t_answer_what_came_before(self):
+        middle = Middle()
+        middle.add(1, 1, 1, at=3)
+        middle.add(1, 1, 1, b"abc", at=4)
+        middle.add(0, 1, 4, at=5)
+        middle.add(0, 1, flags=RST, at=6)
+        self.assertEqual(middle.sides()[0][3:], [(1, 1, 3, 4), (0, 1, 0, 5), (1, 1, 0, 5), (0, 1, 0, 6)])
+
     def test_a_reset_ends_what_its_receiver_sends(self):
         middle = Middle()
         middle.add(1, 1, flags=RST, at=3)
@@ -177,17 +195,22 @@ class Order(unittest.TestCase):
         middle.add(0, 3, 1, b"cd", **{"at": 5, "identification": 8} | words)
         return middle
 
+    @staticmethod
+    def sent(middle):
+        """The positions and sizes of what host 0 sent after the handshake."""
+        return [each[1:3] for each in middle.sides()[0] if each[0] == 0][2:]
+
     def test_reordered_before_the_capture(self):
         middle = self.reordered()
         self.assertEqual(middle.sides()[0][3:], [(0, 1, 2, 3), (0, 3, 2, 4), (0, 5, 2, 4)])
         self.assertEqual(list(middle.notes.lines()), [])
-        # Their receiver gets them as they passed.
+        # Their receiver got them as they passed.
         self.assertEqual(middle.sides()[1][3:], [(0, 1, 2, 3), (0, 5, 2, 4), (0, 3, 2, 5)])
 
     def test_lost_before_the_capture(self):
         for words in ({"at": 250}, {"identification": 10}):
             middle = self.reordered(**words)
-            self.assertEqual([each[1:3] for each in middle.sides()[0][3:]], [(1, 2), (3, 2), (5, 2), (3, 2)])
+            self.assertEqual(self.sent(middle), [(1, 2), (3, 2), (5, 2), (3, 2)])
             self.assertIn("lost between their host and the capture", next(middle.notes.lines()))
 
     def test_a_limit(self):
@@ -201,7 +224,7 @@ class Order(unittest.TestCase):
         for number in range(3):
             middle.add(1, 1, 3, at=4.1 + number / 10)
         middle.frames[0].append(last)
-        self.assertEqual([each[1:3] for each in middle.sides()[0] if each[0] == 0][2:], [(1, 2), (3, 2), (5, 2), (3, 2)])
+        self.assertEqual(self.sent(middle), [(1, 2), (3, 2), (5, 2), (3, 2)])
 
     def test_a_fin_that_was_lost(self):
         middle = Middle()
@@ -212,6 +235,47 @@ class Order(unittest.TestCase):
         sent = [packet for packet in connection.seen[names[0]] if packet.source == CLIENT]
         self.assertEqual([(packet.number - 1000, packet.payload, packet.flags) for packet in sent[2:]],
                          [(1, b"ab", ACK | FIN), (4, b"", ACK), (1, b"ab", ACK | FIN)])
+
+    def test_a_syn_waited_before_the_capture(self):
+        for longest, moments in ((SECOND, [-990, 10, 3010]), (SECOND // 2, [0, 10, 3010])):
+            middle = Middle(False)
+            for at in (0, 10, 3010):
+                middle.add(0, 0, flags=SYN, options=SIZE, at=at)
+            middle.add(1, 0, 1, flags=SYN | ACK, options=SIZE)
+            self.assertEqual([each[3] for each in middle.sides(longest)[0][:3]], moments)
+
+    def test_a_segment_that_is_sent_again_may_be_late(self):
+        middle = Middle()
+        for number in range(20):
+            middle.add(0, 1 + number, 1, b"a", identification=1 + number)
+        middle.add(0, 21, 1, b"a", identification=23)
+        middle.add(0, 4, 1, b"a", identification=22)
+        self.assertEqual(self.sent(middle)[-3:], [(20, 1), (4, 1), (21, 1)])
+
+    def test_identifications_far_apart_show_no_order(self):
+        middle = Middle()
+        for number in range(20):
+            middle.add(0, 1 + number, 1, b"a", identification=1 + number)
+        middle.add(0, 21, 1, b"a", identification=40_000)
+        self.assertEqual(self.sent(middle)[-2:], [(20, 1), (21, 1)])
+
+    def test_timestamps_show_the_order(self):
+        middle = Middle()
+        for number, stamp in ((1, 5), (2, 7), (1, 6)):
+            middle.add(0, number, 1, b"a", options=b"\1\1\x08\x0a\0\0\0" + bytes([stamp]) + bytes(4))
+        self.assertEqual(self.sent(middle), [(1, 1), (1, 1), (2, 1)])
+
+    def test_an_old_acknowledgment_is_late(self):
+        middle = Middle()
+        middle.add(0, 1, 1, b"ab")
+        middle.add(0, 1, 1)
+        self.assertEqual(self.sent(middle), [(1, 0), (1, 2)])
+
+    def test_bytes_that_were_lost_before_a_reset(self):
+        middle = Middle()
+        middle.add(0, 1, 1, b"ab")
+        middle.add(0, 5, flags=RST)
+        self.assertEqual(self.sent(middle), [(1, 2), (3, 2), (5, 0)])
 
     def test_acknowledgments_go_back_only_if_nothing_shows_their_order(self):
         for one, two, place in ((0, 0, 0), (2, 1, 0), (1, 2, 1)):
@@ -258,6 +322,85 @@ class Marks(unittest.TestCase):
         for packet in found:
             packet.outgoing = packet.source == CLIENT
         self.assertEqual(midpoint.entering(found), found)
+
+
+class Recorded(unittest.TestCase):
+    """Connections that were captured at three places."""
+
+    @classmethod
+    def setUpClass(cls):
+        cls.folder = tempfile.TemporaryDirectory()
+        cls.addClassCleanup(cls.folder.cleanup)
+        with tarfile.open(os.path.join(DATA, "middle.tar.xz")) as archive:
+            archive.extractall(cls.folder.name)
+        cls.names = sorted({name.rsplit("-", 1)[0] for name in os.listdir(cls.folder.name)})
+
+    def file(self, name, place):
+        """The name of a capture."""
+        return f"{self.folder.name}/{name}-{place}.pcap"
+
+    def read(self, name, place):
+        """The connection of a capture."""
+        with open(self.file(name, place), "rb") as file:
+            [found] = connections_of({place: list(packets_of(place, file, Notes()))})
+        found.hosts = {found.client: 0, found.server: 1}
+        return found
+
+    def test_names(self):
+        self.assertEqual(self.names, ["abort", "download", "echo", "slow", "upload"])
+
+    def test_segments_are_in_the_order_in_which_they_were_sent(self):
+        for name in self.names:
+            middle = self.read(name, "middle")
+            sides, _ = split(middle, "middle", 10**9, Notes())
+            for host, place, end in ((0, "client", middle.client), (1, "server", middle.server)):
+                with self.subTest(name, place=place):
+                    passed = [packet.segment for packet in middle.seen[sides[host]]
+                              if packet.source == end and packet.identification]
+                    sent = iter([packet.segment for packet in self.read(name, place).seen[place]
+                                 if packet.source == end])
+                    self.assertGreater(len(passed), 10)
+                    self.assertTrue(all(segment in sent for segment in passed))
+
+    @unittest.skipUnless(LAB, "TCPWIT_LAB names no program")
+    def test_verdicts(self):
+        # The levels at which the captures of both hosts have a yes.
+        for name, level in (("abort", "recovery"), ("download", "none"), ("echo", "none"), ("slow", "full"),
+                            ("upload", "recovery")):
+            for words in (["--between", self.file(name, "middle")],
+                          ["--slack", "any", self.file(name, "client"), self.file(name, "server")]):
+                with self.subTest(name, words=words[0]):
+                    status, out, error = test_judge.run("--quiet", "--level", level, "--from", level, *words)
+                    self.assertEqual((status, error), (0, ""), out)
+
+    @unittest.skipUnless(LAB, "TCPWIT_LAB names no program")
+    def test_faults_are_found(self):
+        def acknowledging_more(found):
+            more = (acknowledgment(found) + 100_000) % WRAP
+            return found if flags(found) & SYN else found[:8] + more.to_bytes(4, "big") + found[12:]
+
+        def with_a_small_window(found):
+            return found[:14] + b"\0\1" + found[16:]
+
+        def with_a_fin(found):
+            return found[:13] + bytes([flags(found) | (0 if flags(found) & SYN else FIN)]) + found[14:]
+
+        for name, change, rule in (("upload", acknowledging_more, "bytes-differ"),
+                                   ("upload", with_a_small_window, "offered"),
+                                   ("download", with_a_fin, "payload-range")):
+            with self.subTest(rule):
+                status, out, _ = test_judge.run("--json", "--level", "none", "--from", "none", "--between",
+                                                "--keep-gaps", self.changed(name, change))
+                self.assertEqual((status, json.loads(out).get("rule")), (1, rule))
+
+    def changed(self, name, change):
+        """A capture in which each segment of the server was changed."""
+        with open(self.file(name, "middle"), "rb") as file:
+            found = list(packets_of(name, file, Notes()))
+        frames = [(packet.moment, ethernet(ip_packet(ZERO, ONE, packet.segment) if packet.source == found[0].source
+                                           else ip_packet(ONE, ZERO, change(packet.segment)))) for packet in found]
+        pcap(f"{self.folder.name}/changed.pcap", frames)
+        return f"{self.folder.name}/changed.pcap"
 
 
 class Command(test_judge.WithCaptures):

@@ -7,8 +7,9 @@ then it comes as soon as it can. So what was lost behind the capture comes only 
 """
 import heapq
 from bisect import bisect, bisect_left
+from itertools import accumulate
 
-from ..capture.segments import WRAP
+from ..capture.segments import ACK, WRAP
 from .passages import moved
 
 # Above each position.
@@ -152,22 +153,26 @@ def extending(passages):
 def answered(sent, others):
     """Which arrivals resets may answer: for the place of each in the capture, that of its reset in what was sent."""
     found, left = {}, list(others)
+    received = list(accumulate((each.passage.acknowledged or 0 for each in sent), max))
     for place in reversed(range(len(sent))):
-        if not sent[place].passage.is_reset:
+        reset = sent[place].passage
+        if not reset.is_reset:
             continue
         while left and left[-1].place >= sent[place].before:
             left.pop()
-        match = next((at for at in reversed(range(len(left))) if answers(sent[place].passage.packet, left[at])), None)
+        match = next((at for at in reversed(range(len(left))) if may_answer(reset.packet, left[at], received[place])),
+                     None)
         if match is not None:
             found[left[match].place] = place
             del left[match:]
     return found
 
 
-def answers(reset, arrival):
-    """Whether a reset may answer an arrival (RFC 9293, 3.5.2)."""
-    if arrival.is_reset:
+def may_answer(reset, arrival, received):
+    """Whether a reset may answer an arrival (RFC 9293, 3.5.2), if its host acknowledged all below a position before."""
+    if arrival.is_reset or (arrival.length and arrival.stop <= received):
         return False
-    if arrival.acknowledged is None:
-        return reset.acknowledgment == (arrival.packet.number + arrival.length) % WRAP
-    return reset.number == arrival.packet.acknowledgment
+    if reset.flags & ACK:
+        return (arrival.acknowledged is None
+                and reset.acknowledgment == (arrival.packet.number + arrival.length) % WRAP)
+    return arrival.acknowledged is not None and reset.number == arrival.packet.acknowledgment

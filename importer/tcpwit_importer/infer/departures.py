@@ -1,17 +1,21 @@
-"""What a host sent, from a capture between the hosts: segments may have been reordered or lost before they passed it."""
+"""What a host sent, from a capture between the hosts: segments may have been reordered or lost before they passed."""
 from bisect import bisect
 from copy import copy
 
-from ..capture.segments import ACK, FIN, SYN, WRAP, header_length, listed, options
+from ..capture.segments import ACK, FIN, RST, SYN, WRAP, header_length, listed, options
 from .passages import moved
 
 # The kind of the timestamps option (RFC 7323, 3.2).
 TIMESTAMPS = 8
 # Fast retransmit needs so many duplicate acknowledgments, and a timeout so many nanoseconds (RFC 5681, 3.2; RFC 6298).
 DUPLICATES, TIMEOUT = 3, 2 * 10**8
-# The numbers of IP packets show an order if the next one is at most so much greater, for nine of ten packets.
-NEAR, HALF = 1000, 1 << 15
-LOST = "segments that were lost between their host and the capture, completed from later ones"
+# The numbers of a host's IP packets are below this. They show an order if the next one is at most so much greater, for
+# nine of ten packets.
+COUNTED, NEAR = 1 << 16, 1000
+SECOND = 10**9
+# The most positions that count as lost before a segment.
+MOST = 1 << 20
+LOST = "segments that were lost between their host and the capture, added"
 
 
 class Sent:
@@ -52,7 +56,17 @@ class Departures:
             before, moment = (follower.before, follower.moment) if follower else (passage.place, passage.packet.moment)
             sent.insert(place, Sent(passage, before, moment))
             holes.add(passage)
+        self.space_syns(sent)
         return self.completed(sent, notes)
+
+    def space_syns(self, sent):
+        """A SYN is sent again after a second, then after twice as long each time (RFC 6298, 2.1 and 5.5). If less time
+        passed, the earlier one may have waited before the capture."""
+        syns = [each for each in sent if each.passage.packet.flags & (SYN | ACK | RST) == SYN]
+        for number in reversed(range(len(syns) - 1)):
+            syn, moment = syns[number], syns[number + 1].moment - (SECOND << number)
+            if syn.passage.packet.moment - self.longest <= moment < syn.moment:
+                syn.moment = moment
 
     def place_in(self, sent, passage, precedes):
         """The place of a segment among those sent before it passed."""
@@ -78,17 +92,21 @@ class Departures:
             return 0 < earlier.start <= passage.stop
         if earlier.acknowledged is None or passage.acknowledged != earlier.acknowledged:
             return earlier.acknowledged is not None and passage.acknowledged < earlier.acknowledged
-        return precedes and passage.start < earlier.start and not self.may_be_repeated(earlier, passage)
+        after = earlier.start if passage.length else earlier.stop
+        return precedes and passage.start < after and not self.may_be_repeated(earlier, passage)
 
     def shown_order(self, one, two):
         """Whether two packets show that they passed in the order in which they were sent; None if they don't show their
         order."""
         if self.has_counter and one.identification and two.identification:
-            difference, whole = two.identification - one.identification, 2 * HALF
-        else:
-            stamps = timestamp(one.segment), timestamp(two.segment)
-            difference, whole = 0 if None in stamps else stamps[1] - stamps[0], WRAP
-        return None if difference == 0 else 0 < difference % whole < whole // 2
+            difference = (two.identification - one.identification) % COUNTED
+            if 0 < difference < COUNTED // 2:
+                return True
+            return False if difference >= COUNTED - NEAR else None
+        stamps = timestamp(one.segment), timestamp(two.segment)
+        if None in stamps or stamps[0] == stamps[1]:
+            return None
+        return (stamps[1] - stamps[0]) % WRAP < WRAP // 2
 
     def may_be_repeated(self, earlier, passage):
         """Whether a segment may have been sent again because one was lost, after a timeout or duplicate
@@ -103,31 +121,32 @@ class Departures:
 
     def completed(self, sent, notes):
         """What was sent, with the bytes that passed only later, or never."""
-        found, reached = [], 0
+        found, reached, model = [], 0, None
         for each in sent:
-            start = each.passage.start
-            if reached < start and not each.passage.is_reset:
-                for packet in self.missing(each.passage, reached, start):
-                    found.append(Sent(each.passage._replace(packet=packet, start=reached, stop=start), each.before,
+            passage = each.passage
+            if not passage.is_reset:
+                model = passage
+            if model and 0 < reached < passage.start <= reached + MOST:
+                for packet in self.missing(model, reached, passage.start):
+                    found.append(Sent(model._replace(packet=packet, start=reached, stop=passage.start), each.before,
                                       each.moment))
-                    notes.change(LOST, each.passage.packet.place)
-            if not each.passage.is_reset:
-                reached = max(reached, each.passage.stop)
+                    notes.change(LOST, passage.packet.place)
+            if not passage.is_reset:
+                reached = max(reached, passage.stop)
             found.append(each)
         return found
 
-    def missing(self, passage, start, stop):
-        """The segments that have the positions from `start` to `stop`, before a segment: with its acknowledgment and
-        window."""
-        if not start or not passage.packet.flags & ACK or passage.packet.flags & SYN:
+    def missing(self, model, start, stop):
+        """The segments that have the positions from `start` to `stop`: with the acknowledgment and the window of the
+        next one, or of the last one before a reset."""
+        if model.packet.flags & (ACK | SYN) != ACK:
             return
-        last = max((each.stop for each in self.own if each.packet.flags & FIN), default=None)
-        has_fin = last == stop
-        size = self.connection.piece_size(passage.packet.segment)
+        has_fin = max((each.stop for each in self.own if each.packet.flags & FIN), default=None) == stop
+        size = self.connection.piece_size(model.packet.segment)
         end = stop - has_fin
         for at in range(start, max(end, start + 1), size):
             length = max(0, min(size, end - at))
-            yield self.built(passage.packet, at, length, has_fin and at + length == end)
+            yield self.built(model.packet, at, length, has_fin and at + length == end)
 
     def built(self, model, at, length, has_fin):
         """A segment like another one, with bytes from a position on."""
@@ -172,7 +191,7 @@ class Holes:
 
 def counts(numbers):
     """Whether the numbers of a host's IP packets count them."""
-    steps = [(two - one) % (2 * HALF) for one, two in zip(numbers, numbers[1:])]
+    steps = [(two - one) % COUNTED for one, two in zip(numbers, numbers[1:])]
     near = sum(0 < step <= NEAR for step in steps)
     return bool(steps) and near * 10 >= len(steps) * 9
 

@@ -11,6 +11,9 @@ from .arrivals import Arrivals
 from .departures import Departures
 from .passages import moved, passages, without_garbage
 
+# Segments may wait so many nanoseconds before the capture even if no acknowledgment shows it.
+LEAST = 20 * 10**6
+
 
 def split(connection, name, longest, notes):
     """Replaces a connection's capture by one for each host. A segment needs at most `longest` nanoseconds from its host
@@ -19,7 +22,7 @@ def split(connection, name, longest, notes):
     packets = apart(sorted(packets, key=lambda packet: packet.moment))
     found = without_garbage(passages(connection, packets))
     names = {host: f"{name}, host {host}" for host in (0, 1)}
-    sides, spread = {}, 0
+    sides, spread = {}, LEAST
     for end, host in connection.hosts.items():
         if found:
             sent = Departures(connection, end, found, longest).in_order(notes)
