@@ -65,7 +65,7 @@ def timings(connection, captures, ends, least):
     for each, first in longer:
         if each > timeout and None not in captures:
             # A closed window may be probed once the timeout has passed.
-            yield trips_for(each, least), max(MARGIN, each * (2 if closed else 1) - (first - begun))
+            yield trips_for(each, least), max(MARGIN, each * (3 if closed else 1) - (first - begun))
 
 
 def trips_for(timeout, least):

@@ -151,6 +151,7 @@ class Beginning:
 
     def __init__(self, wire, trips):
         self.wire, self.ends, self.connection, self.trips = wire, wire.ends, wire.connection, trips
+        self.first = wire.trip
         self.order = self.connection.client, self.connection.server
         self.flights = {end: sorted(state.flight, key=lambda each: each.reached or 0)
                         for end, state in wire.ends.items()}
@@ -165,7 +166,10 @@ class Beginning:
                 self.wire.carry(end, self.wire.sent[end] + (0 if closed else 1))
         self.wire.acknowledge(self.order[0])
         for end in self.order:
-            self.wire.burst(end, self.ends[end].acknowledged, self.single_bytes(end))
+            cuts = self.single_bytes(end)
+            # Without rounds, an end has measured only the handshake.
+            self.wire.trip = self.first if cuts else self.trips[-1]
+            self.wire.burst(end, self.ends[end].acknowledged, cuts)
         self.send_others()
 
     def padding(self, end):
