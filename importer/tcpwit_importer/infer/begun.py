@@ -49,23 +49,30 @@ def place(connection, wire, captures, clock, before):
 
 
 def timings(connection, captures, ends, least):
-    """Round trips to make up, each time with the time between the last line that is made up and the first packet."""
+    """Round trips to make up, each time with the time between the last line that is made up and the first packet. Those
+    after the first one lead to a longer timeout."""
     start = references(connection)
     own = {end: seen for end in ends if (seen := seen_by(connection, captures, end, start)) is not None}
     trips = [trip for end, seen in own.items() for trip in round_trips(seen, end)]
     usual, timeout = growing(min(LONG, max(SHORT, min(trips, default=SHORT))), least)
     closed = any(state.closed for state in ends.values())
     yield usual, 2 * timeout if closed else MARGIN
-    begun = min(seen[0].packet.moment for seen in own.values())
-    longer = [(max(trips, default=0), begun)]
+    if None in captures or answer_to_syn(connection):
+        return
+    for longer, since in [(max(trips, default=0), 0), *pauses(own, ends)]:
+        if longer > timeout:
+            # A closed window may be probed once the timeout has passed.
+            yield trips_for(longer, least), max(MARGIN, longer * (3 if closed else 1) - since)
+
+
+def pauses(own, ends):
+    """For each end that sent two segments that begin at one position: the timeout that permits the second, and how long
+    after the first packet of its capture it sent the first."""
     for end, seen in own.items():
         if pair := pause(seen, end):
             first, second = (each.packet.moment for each in pair)
-            longer.append(((second - first) // (2 if pair[0].first < ends[end].sent else 1), first))
-    for each, first in longer:
-        if each > timeout and None not in captures:
-            # A closed window may be probed once the timeout has passed.
-            yield trips_for(each, least), max(MARGIN, each * (3 if closed else 1) - (first - begun))
+            # The pause before the second expiry is twice the one before the first.
+            yield (second - first) // (2 if pair[0].first < ends[end].sent else 1), first - seen[0].packet.moment
 
 
 def trips_for(timeout, least):
