@@ -18,8 +18,8 @@ from .streams import streams_of
 ROUNDS, DUPLICATES = 8, 3
 # Nanoseconds between two lines.
 STEP = 10**5
-# The widest window without a shift.
-WIDEST = 65535
+# The largest value of a window field.
+FULL_WINDOW = 65535
 
 
 class MadeUp(Packet):
@@ -73,7 +73,7 @@ class Wire:
             space = space >> state.shift if state.closed or state.narrow else -(-space >> state.shift)
         acknowledgment = self.received[end] % WRAP if flags & ACK else 0
         head = struct.pack("!HHIIBBHHH", *ports, first % WRAP, acknowledgment, (20 + len(given)) // 4 << 4, flags,
-                           min(space, WIDEST), 0, 0)
+                           min(space, FULL_WINDOW), 0, 0)
         self.sent[end] = max(first, stop)
         length = 0 if flags & SYN else stop - first
         return head + given + self.streams[end].bytes_of(first - self.first[end] - 1, length)
@@ -132,10 +132,10 @@ class Wire:
             each = min([stop, self.sent[end] + self.size, *limits])
             yield self.segment(end, each), each
 
-    def syn_options(self, scales):
-        """The options of a SYN of an end."""
+    def syn_options(self, end, scales=True):
+        """The options of an end's SYN."""
         size = struct.pack("!BBH", SIZE, 4, self.size)
-        return lambda end: size + (bytes((SHIFT, 3, self.ends[end].shift, 1)) if scales else b"")
+        return size + (bytes((SHIFT, 3, self.ends[end].shift, 1)) if scales else b"")
 
     def packets(self, name, at):
         """The packets of a capture. `at` says when a moment of a line is by its clock."""
@@ -180,9 +180,8 @@ class Beginning:
     def shake_hands(self):
         """The three segments of the handshake."""
         client, server = self.order
-        given = self.wire.syn_options(True)
-        self.wire.carry(client, self.wire.sent[client] + 1, SYN, given(client))
-        self.wire.carry(server, self.wire.sent[server] + 1, SYN | ACK, given(server))
+        for end, flags in ((client, SYN), (server, SYN | ACK)):
+            self.wire.carry(end, self.wire.sent[end] + 1, flags, self.wire.syn_options(end))
         self.wire.acknowledge(client)
 
     def single_bytes(self, end):
@@ -255,8 +254,8 @@ class AfterSyn:
         client, server = answer.target, answer.source
         wire.start({client: near((answer.acknowledgment - 1) % WRAP, wire.ends[client].low),
                     server: near(answer.number, wire.ends[server].low)})
-        given = wire.syn_options(bool(values(SHIFT, 1, options(answer.segment))))
-        wire.carry(client, wire.sent[client] + 1, SYN, given(client))
+        given = wire.syn_options(client, bool(values(SHIFT, 1, options(answer.segment))))
+        wire.carry(client, wire.sent[client] + 1, SYN, given)
         if self.lacks(server):
             wire.out(server, answer.segment, answer)
         if self.lacks(client):
