@@ -14,11 +14,12 @@ from tcpwit_importer.capture.connections import Connection
 from tcpwit_importer.capture.packets import packets_of
 from tcpwit_importer.capture.segments import ACK, FIN, RST, SYN
 from tcpwit_importer.infer.before import Received, edge_of, pause, sent_before, shift_of, unwrapped
+from tcpwit_importer.infer.begun import growing, trips_for
 from tcpwit_importer.problem import Notes
 
 from .test_judge import WithCaptures, run
 from .test_recordings import DATA
-from .wire import ONE, SECOND, ZERO, Talk, ethernet, ip_packet, packed, packets, segment
+from .wire import ONE, SECOND, ZERO, Talk, ethernet, ip_packet, packed, packets, pcap, segment
 
 OF_CLIENT = ["--host", "client"]
 CLIENT, SERVER = ((packed(address), port) for address, port in (ZERO, ONE))
@@ -246,6 +247,51 @@ class Answers(WithCaptures):
             self.talk.send(1, payload=b"late")
             found = self.answer("--host", "server", hosts=(1,), cut=12)
             self.assertFalse(found.get("answer") == "no", found)
+
+
+@unittest.skipUnless(os.environ.get("TCPWIT_LAB"), "TCPWIT_LAB names no program")
+class Pauses(WithCaptures):
+    """Retransmissions and probes whose pauses were growing when the capture began."""
+
+    def answers(self, rows, cuts):
+        """The answers to the client's capture without its first packets. A row has the moment in seconds, the sender,
+        the number, the acknowledgment, the length and the window."""
+        frames = []
+        for moment, host, number, acknowledgment, size, window in rows:
+            ends = (ZERO, ONE) if host == 0 else (ONE, ZERO)
+            made = segment(*ends, number, acknowledgment, ACK, bytes(size), window=window)
+            frames.append((100 * SECOND + int(moment * SECOND), ethernet(ip_packet(*ends, made))))
+        for place in cuts:
+            pcap(f"{self.folder}/late.pcap", frames[place:])
+            _, out, _ = run(f"{self.folder}/late.pcap", *OF_CLIENT, "--json", "--jobs", "1")
+            found = json.loads(out)
+            yield found["level"], found["answer"]
+
+    def test_retransmissions(self):
+        moments = [0.1 + 0.2 * (2**time - 1) for time in range(8)]
+        rows = [(moment, 0, 1101, 5101, 100, 1000) for moment in moments[:7]]
+        rows += [(moments[7] - 0.05, 1, 5101, 1201, 0, 1000), (moments[7], 0, 1201, 5101, 100, 1000),
+                 (moments[7] + 0.001, 1, 5101, 1301, 0, 1000)]
+        self.assertEqual(set(self.answers(rows, (0, 3, 5, 6))), {("recovery", "yes")})
+
+    def test_probes(self):
+        moments = [0.1 + 0.2 * (2**time - 1) for time in range(7)]
+        rows = []
+        for moment in moments[:6]:
+            rows += [(moment, 0, 2101, 5101, 1, 1000), (moment + 0.001, 1, 5101, 2101, 0, 0)]
+        rows += [(moments[6] - 0.05, 1, 5101, 2101, 0, 1000), (moments[6] - 0.049, 0, 2101, 5101, 100, 1000),
+                 (moments[6] - 0.048, 1, 5101, 2201, 0, 1000)]
+        self.assertEqual(set(self.answers(rows, (0, 1, 8, 9))), {("recovery", "yes")})
+
+
+class Trips(unittest.TestCase):
+    def test_the_timeout_after_them(self):
+        least = 200 * 10**6
+        for timeout in (3 * 10**8, 2 * SECOND, 6 * SECOND, 40 * SECOND):
+            trips = trips_for(timeout, least)
+            self.assertLessEqual(trips[0], 2.7 * SECOND)
+            found = growing(max(trips), least)[1]
+            self.assertTrue(0.9 * timeout < found <= timeout, (timeout, found))
 
 
 @unittest.skipUnless(os.environ.get("TCPWIT_LAB"), "TCPWIT_LAB names no program")

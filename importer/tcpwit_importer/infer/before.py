@@ -208,16 +208,14 @@ def is_closed(seen, own):
     return next((window == 0 for _, window in windows(seen, own)), False)
 
 
-def round_trip(seen, own):
-    """The shortest time between a segment of an end and its acknowledgment; None if there is none."""
-    waiting, shortest = {}, None
+def round_trips(seen, own):
+    """The times between a segment of an end and its acknowledgment."""
+    waiting = {}
     for each in seen:
         if each.packet.source == own and each.stop > each.first:
             waiting.setdefault(each.stop, each.packet.moment)
         elif each.packet.source != own and each.reached in waiting:
-            time = each.packet.moment - waiting.pop(each.reached)
-            shortest = time if shortest is None else min(shortest, time)
-    return shortest
+            yield each.packet.moment - waiting.pop(each.reached)
 
 
 def pause(seen, own):

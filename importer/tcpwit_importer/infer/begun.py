@@ -6,15 +6,16 @@ from ..capture.connections import USUAL_SIZE
 from ..capture.segments import SHORTEST, header_length
 from ..problem import Notes
 from .aligned import align, settle
-from .before import pause, references, round_trip
+from .before import pause, references, round_trips
 from .conversion import put_in_order
-from .opening import with_beginning
+from .opening import ROUNDS, with_beginning
 from .state import answer_to_syn, both_ends, seen_by
 
-# Nanoseconds before the first captured packet, and the shortest and the longest round trip that is made up.
-MARGIN, SHORT, LONG = 20 * 10**6, 10**6, 40 * 10**9
-# After several equal round trips, the timeout is this much longer than one.
-LONGER = 1.27
+# Nanoseconds before the first captured packet, and the shortest and the longest round trip that is made up for one
+# that is seen.
+MARGIN, SHORT, LONG = 20 * 10**6, 10**6, 10**9
+# The longest time for which a SYN may be unacknowledged without being sent again, in nanoseconds.
+FIRST = 3 * 10**9
 # The most bytes of a segment on Ethernet, if no offload enlarged it; and of any segment.
 ETHERNET, LARGEST = 1460, 65495
 
@@ -30,8 +31,8 @@ def beginnings(connection, captures, clock, least):
     flights = align(connection, captures, clock)
     ends = both_ends(connection, captures, flights)
     size = size_of(connection)
-    for trip, before in timings(connection, captures, ends, least):
-        found, wire = with_beginning(connection, captures, ends, size, trip)
+    for trips, before in timings(connection, captures, ends, least):
+        found, wire = with_beginning(connection, captures, ends, size, trips)
         place(found, wire, captures, clock, before)
         yield found
 
@@ -45,28 +46,55 @@ def place(connection, wire, captures, clock, before):
             moment += start
             return 2 * moment - clock.at(moment) if host == 1 else moment
         connection.seen[name] = [*wire.packets(name, at), *connection.seen[name]]
-    for name in captures.values():
-        for packet in connection.seen[name]:
-            connection.initial.setdefault(packet.source, packet.number)
 
 
 def timings(connection, captures, ends, least):
-    """Round trips to make up, each with the time between the last line that is made up and the first packet."""
+    """Round trips to make up, each time with the time between the last line that is made up and the first packet. Those
+    after the first one lead to a longer timeout."""
     start = references(connection)
     own = {end: seen for end in ends if (seen := seen_by(connection, captures, end, start)) is not None}
-    trips = [trip for end, seen in own.items() if (trip := round_trip(seen, end)) is not None]
-    trip = min(LONG, max(SHORT, min(trips, default=SHORT)))
-    timeout = max(least, int(trip * LONGER))
+    trips = [trip for end, seen in own.items() for trip in round_trips(seen, end)]
+    usual, timeout = growing(min(LONG, max(SHORT, min(trips, default=SHORT))), least)
     closed = any(state.closed for state in ends.values())
-    yield trip, 2 * timeout if closed else MARGIN
-    begun = min(packet.moment for seen in own.values() for packet in [seen[0].packet])
+    yield usual, 2 * timeout if closed else MARGIN
+    if None in captures or answer_to_syn(connection):
+        return
+    for longer, since in [(max(trips, default=0), 0), *pauses(own, ends)]:
+        if longer > timeout:
+            # A closed window may be probed once the timeout has passed.
+            yield trips_for(longer, least), max(MARGIN, longer * (3 if closed else 1) - since)
+
+
+def pauses(own, ends):
+    """For each end that sent two segments that begin at one position: the timeout that permits the second, and how long
+    after the first packet of its capture it sent the first."""
     for end, seen in own.items():
         if pair := pause(seen, end):
             first, second = (each.packet.moment for each in pair)
-            was_sent = pair[0].first < ends[end].sent
-            longer = (second - first) // (2 if was_sent else 1)
-            if longer > timeout:
-                yield min(LONG, int(longer / LONGER)), max(MARGIN, longer - (first - begun))
+            # The pause before the second expiry is twice the one before the first.
+            yield (second - first) // (2 if pair[0].first < ends[end].sent else 1), first - seen[0].packet.moment
+
+
+def trips_for(timeout, least):
+    """Round trips after which the retransmission timeout is at most this one, and hardly less."""
+    low, high = 0, timeout
+    while high - low > 10**6:
+        trip = (low + high) // 2
+        low, high = (trip, high) if growing(trip, least)[1] <= timeout else (low, trip)
+    return growing(low, least)[0]
+
+
+def growing(trip, least):
+    """Round trips that reach this one, and the timeout after them (RFC 6298, 2). Each is shorter than the timeout
+    before it."""
+    found, mean, spread, timeout = [], None, 0, FIRST
+    for _ in range(ROUNDS + 1):
+        each = min(trip, timeout * 9 // 10)
+        found.append(each)
+        spread = each // 2 if mean is None else (3 * spread + abs(mean - each)) // 4
+        mean = each if mean is None else (7 * mean + each) // 8
+        timeout = max(least, mean + 4 * spread)
+    return found, timeout
 
 
 def size_of(connection):

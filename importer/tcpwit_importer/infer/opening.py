@@ -18,8 +18,8 @@ from .streams import streams_of
 ROUNDS, DUPLICATES = 8, 3
 # Nanoseconds between two lines.
 STEP = 10**5
-# The widest window without a shift.
-WIDEST = 65535
+# The largest value of a window field.
+FULL_WINDOW = 65535
 
 
 class MadeUp(Packet):
@@ -32,23 +32,25 @@ def is_made_up(packet):
     return isinstance(packet, MadeUp)
 
 
-def with_beginning(connection, captures, ends, size, trip):
+def with_beginning(connection, captures, ends, size, trips):
     """A copy of a connection that gets a beginning after which its ends have these states, and the wire that has it.
-    Segments have at most `size` bytes; the round trips that are made up take `trip` nanoseconds."""
+    Segments have at most `size` bytes; `trips` has the nanoseconds of the handshake's round trip, and of those of the
+    rounds that follow."""
     answer = answer_to_syn(connection)
     found = Connection(connection.client, connection.server, connection.begun)
     if answer:
         found.client, found.server = answer.target, answer.source
     found.hosts, found.sizes = connection.hosts, dict.fromkeys(ends, size)
     found.seen = {name: connection.seen[name] for name in captures.values()}
-    wire = Wire(found, captures, ends, size, trip)
-    (AfterSyn(wire, answer) if answer else Beginning(wire)).write()
+    wire = Wire(found, captures, ends, size, trips[0])
+    (AfterSyn(wire, answer) if answer else Beginning(wire, trips[1:])).write()
     return found, wire
 
 
 class Wire:
     """The segments that are made up, in order. `sent` and `received` have the positions that each end has reached, and
-    `first` the initial ones. `lines` has the moment of each segment, its capture, its sender, and its bytes."""
+    `first` the initial ones; a round trip takes `trip` nanoseconds. `lines` has the moment of each segment, its
+    capture, its sender, and its bytes."""
 
     def __init__(self, connection, captures, ends, size, trip):
         self.connection, self.captures, self.ends, self.size, self.trip = connection, captures, ends, size, trip
@@ -68,10 +70,10 @@ class Wire:
         first, state = self.sent[end], self.ends[end]
         space = max(0, state.edge - self.received[end])
         if not flags & SYN:
-            space = space >> state.shift if state.closed else -(-space >> state.shift)
+            space = space >> state.shift if state.closed or state.narrow else -(-space >> state.shift)
         acknowledgment = self.received[end] % WRAP if flags & ACK else 0
         head = struct.pack("!HHIIBBHHH", *ports, first % WRAP, acknowledgment, (20 + len(given)) // 4 << 4, flags,
-                           min(space, WIDEST), 0, 0)
+                           min(space, FULL_WINDOW), 0, 0)
         self.sent[end] = max(first, stop)
         length = 0 if flags & SYN else stop - first
         return head + given + self.streams[end].bytes_of(first - self.first[end] - 1, length)
@@ -92,9 +94,13 @@ class Wire:
 
     def add(self, owner, sender, segment, like=None):
         """Adds a line, if the host of an end was recorded."""
-        name = self.captures.get(self.connection.hosts[owner], self.captures.get(None))
+        name = self.name(owner)
         if name is not None:
             self.lines.append((self.now, name, sender, segment, like))
+
+    def name(self, end):
+        """The capture of an end's host; None if that wasn't recorded."""
+        return self.captures.get(self.connection.hosts[end], self.captures.get(None))
 
     def carry(self, end, stop, flags=ACK, given=b""):
         """An end sends its next segment, and it arrives half a round trip later."""
@@ -103,6 +109,22 @@ class Wire:
         self.now += self.trip // 2
         self.arrive(end, segment, self.sent[end])
 
+    def burst(self, end, stop, cuts=()):
+        """An end sends all up to a position, which arrives and is acknowledged a round trip later."""
+        segments = list(self.pieces(end, stop, cuts))
+        if not segments:
+            return
+        for segment, _ in segments:
+            self.out(end, segment)
+        self.now += self.trip // 2
+        for segment, reached in segments:
+            self.arrive(end, segment, reached)
+        self.acknowledge(self.connection.other(end))
+
+    def acknowledge(self, end):
+        """An end acknowledges what it has received."""
+        self.carry(end, self.sent[end])
+
     def pieces(self, end, stop, cuts=()):
         """The next segments of an end up to a position, with where each stops, cut also at some positions."""
         while self.sent[end] < stop:
@@ -110,10 +132,10 @@ class Wire:
             each = min([stop, self.sent[end] + self.size, *limits])
             yield self.segment(end, each), each
 
-    def syn_options(self, scales):
-        """The options of a SYN of an end."""
+    def syn_options(self, end, scales=True):
+        """The options of an end's SYN."""
         size = struct.pack("!BBH", SIZE, 4, self.size)
-        return lambda end: size + (bytes((SHIFT, 3, self.ends[end].shift, 1)) if scales else b"")
+        return size + (bytes((SHIFT, 3, self.ends[end].shift, 1)) if scales else b"")
 
     def packets(self, name, at):
         """The packets of a capture. `at` says when a moment of a line is by its clock."""
@@ -127,8 +149,9 @@ class Wire:
 class Beginning:
     """A beginning of a connection whose SYNs no capture has."""
 
-    def __init__(self, wire):
-        self.wire, self.ends, self.connection = wire, wire.ends, wire.connection
+    def __init__(self, wire, trips):
+        self.wire, self.ends, self.connection, self.trips = wire, wire.ends, wire.connection, trips
+        self.first = wire.trip
         self.order = self.connection.client, self.connection.server
         self.flights = {end: sorted(state.flight, key=lambda each: each.reached or 0)
                         for end, state in wire.ends.items()}
@@ -137,11 +160,16 @@ class Beginning:
         """Writes it."""
         self.wire.start({end: self.ends[end].low - ROUNDS - self.padding(end) - 1 for end in self.order})
         self.shake_hands()
-        for _ in range(ROUNDS):
+        for self.wire.trip in self.trips:
             for end in self.order:
-                if not self.ends[self.connection.other(end)].closed:
-                    self.wire.carry(end, self.wire.sent[end] + 1)
-        self.send_acknowledged()
+                closed = self.ends[self.connection.other(end)].closed
+                self.wire.carry(end, self.wire.sent[end] + (0 if closed else 1))
+        self.wire.acknowledge(self.order[0])
+        for end in self.order:
+            cuts = self.single_bytes(end)
+            # Without rounds, an end has measured only the handshake.
+            self.wire.trip = self.first if cuts else self.trips[-1]
+            self.wire.burst(end, self.ends[end].acknowledged, cuts)
         self.send_others()
 
     def padding(self, end):
@@ -152,20 +180,14 @@ class Beginning:
     def shake_hands(self):
         """The three segments of the handshake."""
         client, server = self.order
-        given = self.wire.syn_options(True)
-        self.wire.carry(client, self.wire.sent[client] + 1, SYN, given(client))
-        self.wire.carry(server, self.wire.sent[server] + 1, SYN | ACK, given(server))
-        self.wire.carry(client, self.wire.sent[client])
+        for end, flags in ((client, SYN), (server, SYN | ACK)):
+            self.wire.carry(end, self.wire.sent[end] + 1, flags, self.wire.syn_options(end))
+        self.wire.acknowledge(client)
 
-    def send_acknowledged(self):
-        """Each end sends what is acknowledged, first as many single bytes as it hasn't sent yet."""
-        for end in self.order:
-            while self.wire.sent[end] < min(self.wire.first[end] + 1 + ROUNDS, self.ends[end].acknowledged):
-                self.wire.carry(end, self.wire.sent[end] + 1)
-            while self.wire.sent[end] < self.ends[end].acknowledged:
-                self.wire.carry(end, min(self.wire.sent[end] + self.wire.size, self.ends[end].acknowledged))
-        for end in self.order:
-            self.wire.carry(end, self.wire.sent[end])
+    def single_bytes(self, end):
+        """Where the first segments of an end stop that has sent nothing yet: the other may acknowledge each."""
+        first = self.wire.first[end] + 1
+        return range(first + 1, first + 1 + ROUNDS) if self.wire.sent[end] == first else ()
 
     def send_others(self):
         """Each end sends what wasn't acknowledged when its capture began. What had arrived does so after all of it was
@@ -220,7 +242,8 @@ class Beginning:
 
 
 class AfterSyn:
-    """A beginning of a connection whose SYN with ACK a capture has: the SYN."""
+    """A beginning of a connection whose SYN with ACK a capture has: the SYN. If a capture has the other one later, such
+    as sent again, it's added there, too."""
 
     def __init__(self, wire, answer):
         self.wire, self.answer = wire, answer
@@ -231,7 +254,17 @@ class AfterSyn:
         client, server = answer.target, answer.source
         wire.start({client: near((answer.acknowledgment - 1) % WRAP, wire.ends[client].low),
                     server: near(answer.number, wire.ends[server].low)})
-        given = wire.syn_options(bool(values(SHIFT, 1, options(answer.segment))))
-        wire.carry(client, wire.sent[client] + 1, SYN, given(client))
+        given = wire.syn_options(client, bool(values(SHIFT, 1, options(answer.segment))))
+        wire.carry(client, wire.sent[client] + 1, SYN, given)
+        if self.lacks(server):
+            wire.out(server, answer.segment, answer)
+        if self.lacks(client):
+            wire.arrive(server, answer.segment)
         for each in wire.ends[server].flight:
-            wire.out(server, each.packet.segment, each.packet)
+            if not each.packet.flags & SYN:
+                wire.out(server, each.packet.segment, each.packet)
+
+    def lacks(self, end):
+        """Whether an end's host was recorded, but its capture doesn't begin with a SYN."""
+        name = self.wire.name(end)
+        return name is not None and not self.wire.connection.seen[name][0].flags & SYN

@@ -21,11 +21,12 @@ from .hosts import Undecided
 class End:
     """One end. `low` is the lowest position in use. `sent` is the one up to which it had sent, and `acknowledged` the
     one up to which it knew that its bytes had arrived. `received` is the one up to which it had received the other's
-    bytes; it had those of `parts`, too. Its window has an `edge` and a `shift`, and may be `closed`. `flight` has the
-    segments that it had sent, and that arrive in the other's capture."""
+    bytes; it had those of `parts`, too. Its window has an `edge` and a `shift`, and may be `closed`; it's `narrow` if
+    its size is rounded down. `flight` has the segments that it had sent, and that arrive in the other's capture."""
     shift: int
     edge: int
     closed: bool
+    narrow: bool
     low: int = 0
     sent: int = 0
     acknowledged: int = 0
@@ -74,7 +75,8 @@ def offering(connection, own, end):
     option = option_of(connection, end)
     shift = shift_of(views[0], end) if option is None else option
     edges = [edge for edge in (edge_of(seen, end, shift) for seen in views) if edge is not None]
-    return End(shift, max(edges), is_closed(views[0], end))
+    closed = is_closed(views[0], end)
+    return End(shift, max(edges), closed, closed and own[connection.other(end)] is None)
 
 
 def option_of(connection, end):
@@ -107,6 +109,7 @@ def agree(end, other):
                             *(each.reached for each in other.flight if each.reached is not None)])
     end.sent = max([end.sent, other.received, *(stop for _, stop in other.parts)])
     other.edge = max(other.edge, end.sent)
+    other.closed = other.closed and end.acknowledged == other.edge
 
 
 def lowest(end, other, address, views):
