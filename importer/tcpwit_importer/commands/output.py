@@ -3,6 +3,7 @@ import json
 
 from ..problem import plain
 from .verdicts import counted
+from .wireshark import SECOND
 
 INFERRED = ("Calls were inferred: their answers aren't judged.",
             "Nor is how soon a host sends what its program gave it (rule start-late).")
@@ -58,13 +59,25 @@ def facts(result):
     if result.verdict == "yes":
         found |= {"lines": answer["lines"], "steps": answer["hidden"]}
     else:
-        found |= {name: answer[name] for name in ("witness_line", "trace_line", "rule", "sentence")}
-        found |= place(result.packets[-1])
-    levels = [level | place(packet) for level, packet in zip(result.levels, result.packets)]
+        found |= {name: answer[name] for name in ("witness_line", "trace_line", "rule")}
+        found |= refused(result.refusals[-1])
+    levels = [level | refused(refusal) for level, refusal in zip(result.levels, result.refusals)]
     found |= {"ways": result.ways} if result.ways else {}
-    return found | {"levels": levels, "said": result.said} | ({"files": result.files} if result.files else {})
+    found |= {"levels": levels, "said": result.said if result.files else result.said_in_packets}
+    return found | ({"files": result.files} if result.files else {})
+
+
+def refused(refusal):
+    """The members that say what was refused, if something was."""
+    if not refusal:
+        return {}
+    found = {"sentence": f"{refusal.sentence}."} | place(refusal.place)
+    if owed := refusal.owed:
+        times = {name: getattr(owed, name) / SECOND for name in ("since", "due", "latest", "late")}
+        found["owed"] = place(owed.place) | {"began": owed.begun_there} | times
+    return found
 
 
 def place(packet):
-    """The members that say where a packet was captured, if there is one."""
-    return {"capture": packet.capture, "packet": packet.count} if packet else {}
+    """The members that say where and when a packet was captured."""
+    return {"capture": packet.capture, "packet": packet.count, "time": packet.time / SECOND}

@@ -1,7 +1,6 @@
 """Judges one connection: reads its packets, infers its calls, and runs `tcpwit_lab judge` on the trace."""
 import json
 import os
-import re
 import subprocess
 from dataclasses import dataclass, field
 from typing import Any
@@ -16,29 +15,29 @@ from ..infer.silence import LATE
 from ..problem import Notes, Problem, decoded, place_of
 from ..remedies import LESS_AT_ONCE
 from . import lab
+from .refusals import refusals_of
+from .wireshark import Captured
 
 # What the line of a verdict has after its first word.
-NUMBERS = {"yes": ("lines", "hidden"), "no": ("witness_line", "trace_line", "rule")}
+NUMBERS = {"yes": ("lines", "hidden"), "no": ("rule",)}
 # The rules by which `judge` says that no duty was late, each time with those that judge inferred calls: all but 48,
 # start-late.
 RULES = {"(rules 40 to 52)": "(rules 40 to 47 and 49 to 52)",
          "(rules 40 to 50 and 52)": "(rules 40 to 47, 49, 50 and 52)",
          "(rules 40 to 49 and 52)": "(rules 40 to 47, 49 and 52)"}
-# How a sentence of `judge` begins if it is about a line of the trace.
-LINE = re.compile(r"^line (\d+)")
 
 
 @dataclass
 class Result:
     """What was found out about a connection: `levels` has the members of `judge --json` for each level tried, and
-    `packets` the packet that each refused, or None; without any, `reason` says why the connection wasn't judged.
-    `ways` has the ways of hosts that `judge --json` names."""
+    `refusals` what each refused, or None; without any, `reason` says why the connection wasn't judged. `ways` has the
+    ways of hosts that `judge --json` names."""
     client: str
     server: str
     begun: int
     segments: int
     levels: list = field(default_factory=list)
-    packets: list = field(default_factory=list)
+    refusals: list = field(default_factory=list)
     ways: list = field(default_factory=list)
     reason: str = ""
     hosts: int = 0
@@ -77,28 +76,20 @@ class Result:
             return f"not judged: {self.reason}"
         numbers = " ".join(str(self.answer[name]) for name in NUMBERS[self.verdict])
         row = f"{self.answer['level']:<10}{self.verdict} {numbers}"
-        failed = [pair for pair in zip(self.levels, self.packets) if pair[0]["answer"] == "no"]
-        if failed:
-            level, packet = failed[-1]
+        if failed := [refusal for refusal in self.refusals if refusal]:
             # A no has named its level already.
-            row += f"; {level['level']}: " if self.verdict == "yes" else "; "
-            row += self.sentence(level, packet)
+            row += f"; {failed[-1].level}: " if self.verdict == "yes" else "; "
+            row += failed[-1].sentence
         return row + (f"   (its first {counted(self.segments, 'segment')})" if self.is_part else "")
 
-    def sentence(self, level, packet):
-        """What a level refused, in the words of `judge`, with the packet instead of its line if there is one."""
-        said = level["sentence"].removesuffix(".")
-        return LINE.sub(self.named(packet), said) if packet else said
-
-    def named(self, packet):
-        """A packet in words, with its capture if there are two."""
-        return f"packet {packet.count}" + (f" of {packet.capture}" if self.captures > 1 else "")
-
     @property
-    def lines_of_packets(self):
-        """A line for each line of the trace that a level refused and that has a packet."""
-        found = [(LINE.match(level["sentence"]), packet) for level, packet in zip(self.levels, self.packets) if packet]
-        return list(dict.fromkeys(f"Line {line[1]} is {self.named(packet)}." for line, packet in found if line))
+    def said_in_packets(self):
+        """What `judge` said, with packets instead of lines of the trace."""
+        said = self.said
+        for level, refusal in zip(self.levels, self.refusals):
+            if refusal:
+                said = [line.replace(level["sentence"], f"{refusal.sentence}.") for line in said]
+        return said
 
 
 class Judge:
@@ -204,7 +195,7 @@ class Judge:
                 process.kill()
                 raise
             out, error = process.communicate()
-        read(found, trace, out, error, process.returncode)
+        self.read(found, trace, out, error, process.returncode)
 
     def report(self, name, trace, found):
         """Judges a trace that is kept in the file with this name, with its case, its picture and the explanation."""
@@ -213,25 +204,25 @@ class Judge:
         words = [self.program, *self.words(), "--case", "./" + os.path.basename(case)]
         done = lab.on_file(words, name, os.path.dirname(name) or ".")
         found.files = [name]
-        read(found, trace, done.stdout, done.stderr, done.returncode)
+        self.read(found, trace, done.stdout, done.stderr, done.returncode)
         lab.draw(self.program, name)
         explained = lab.on_file([self.program, "explain"], case)
-        said = [f"{line}\n".encode() for line in (*found.said, *found.lines_of_packets, "")]
+        refused = [line for line in found.said_in_packets if line not in found.said]
+        said = [f"{line}\n".encode() for line in (*found.said, *refused, "")]
         write_file(text_of(name), [*said, explained.stdout])
         kept = case, name.removesuffix(".trace") + ".svg", text_of(name)
         found.files += [name for name in kept if os.path.exists(name)]
 
-
-def read(found, trace, out, error, status):
-    """Reads the object that `judge` printed for a trace, whose lines were made, into a result."""
-    if status not in (lab.YES, lab.NO):
-        said = "; ".join(said_in(out)[:1] + decoded(error).splitlines()[-1:])
-        raise Problem(said or lab.ended(status), "")
-    judged = json.loads(out)
-    found.levels, found.ways, found.status = judged["levels"], judged.get("ways", []), status
-    lines = [level.get("input_line") for level in found.levels]
-    found.packets = [None if line is None else trace.packet(line) for line in lines]
-    found.said = [inferred(line) for line in judged["said"]]
+    def read(self, found, trace, out, error, status):
+        """Reads the object that `judge` printed for a trace, whose lines were made, into a result."""
+        if status not in (lab.YES, lab.NO):
+            said = "; ".join(said_in(out)[:1] + decoded(error).splitlines()[-1:])
+            raise Problem(said or lab.ended(status), "")
+        judged = json.loads(out)
+        found.levels, found.ways, found.status = judged["levels"], judged.get("ways", []), status
+        captured = Captured(trace, {name: capture.layout.first for name, capture in self.captures.items()})
+        found.refusals = refusals_of(found.levels, captured, found.captures)
+        found.said = [inferred(line) for line in judged["said"]]
 
 
 def said_in(out):

@@ -1,4 +1,6 @@
 """Makes the trace of one connection from its captures."""
+from bisect import bisect_right
+
 from ..capture.clocks import SAME, bounds_of, clock_of
 from ..capture.copies import without_copies
 from ..trace import header as headers
@@ -33,7 +35,7 @@ class Trace:
         script = script_of(connection, captures, streams, last, notes)
         if gives_up:
             add_ends(connection, captures, script)
-        self.may_differ = bool(script.expiries)
+        self.may_differ, self.captures, self.clock = bool(script.expiries), captures, clock
         hosts = 1 if list(captures) == [0] else 2
         self.head = headers.header(hosts, (clock.skew + 999) // 1000, {"extra": ROOM} | chosen)
         ended = min(clock.at(moment) if host == 1 else moment for host, moment in last.items())
@@ -48,6 +50,28 @@ class Trace:
         """The packet of the line with this number, once the lines were made; None if it has none."""
         place = number - len(self.head) - 1
         return self.writer.packets[place] if 0 <= place < len(self.writer.packets) else None
+
+    def packet_from(self, number, letters="OI"):
+        """The first packet from a line on whose line has one of these letters; None if there's none."""
+        wanted = letters.encode()
+        for place in range(max(0, number - len(self.head) - 1), len(self.writer.packets)):
+            if self.writer.letters[place] in wanted:
+                return self.writer.packets[place]
+        return None
+
+    def packet_until(self, time=None):
+        """The last packet up to a time of the trace, or of all, and whether its line has that time; None if there's
+        none."""
+        times = self.writer.times
+        for place in reversed(range(len(times) if time is None else bisect_right(times, time))):
+            if self.writer.packets[place] is not None:
+                return self.writer.packets[place], times[place] == time
+        return None, False
+
+    def moment(self, time, capture):
+        """The moment of a time of the trace, by the clock of the host with this capture."""
+        moment = self.writer.start + time * 1000
+        return self.clock.back(moment) if self.captures.get(1) == capture else moment
 
 
 def script_of(connection, captures, streams, last, notes):
