@@ -270,7 +270,7 @@ class Lines(WithCaptures):
         _, out, _ = run(*self.files(), *self.lab(), "--report", report, "--json")
         names = [os.path.basename(name) for name in json.loads(out)["files"]]
         self.assertEqual(names, [f"1-10.9.0.1_4000-10.9.0.2_80.{end}" for end in ("trace", "case", "svg", "txt")])
-        self.assertEqual(sorted(os.listdir(report)), sorted(names))
+        self.assertEqual(sorted(os.listdir(report)), sorted([*names, "index.html"]))
         self.assertEqual(self.text("kept/" + names[3]), "\n".join(YES["said"]) + "\n\nexplained\n")
         self.assertEqual(self.fails(*self.files(), *self.lab(), "--report", report),
                          f"tcpwit-judge: {report} isn't empty")

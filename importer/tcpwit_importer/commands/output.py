@@ -1,8 +1,8 @@
 """What the command prints: a line for each connection, and a summary."""
 import json
 
-from ..problem import plain
-from .verdicts import counted
+from ..problem import counted, plain
+from .report_page import Page
 from .wireshark import SECOND
 
 INFERRED = ("Calls were inferred: their answers aren't judged.",
@@ -20,6 +20,7 @@ class Output:
     def __init__(self, options, names=()):
         self.options, self.width = options, max(map(len, names), default=0)
         self.count = self.yes = self.no = self.half = self.status = 0
+        self.page = Page(options.report, ", ".join(options.files)) if options.report else None
 
     def add(self, result):
         """Prints a connection's result."""
@@ -28,21 +29,29 @@ class Output:
         self.no += result.verdict == "no"
         self.half += result.hosts == 1
         self.status = max(self.status, result.status)
+        if self.page:
+            self.page.add(result)
         print(json.dumps(facts(result)) if self.options.json else plain(f"{result.name:<{self.width}}   {result.line}"),
               flush=True)
 
     def finish(self):
-        """Prints the summary, unless each line is an object, and returns the exit status."""
+        """Prints the summary, unless each line is an object, writes the report's page, and returns the exit status."""
+        summary = self.summary()
         if not self.options.json:
-            others = self.count - self.yes - self.no
-            counts = f"{self.yes} yes, {self.no} no" + (f", {others} not judged" if others else "")
-            print(f"{counted(self.count, 'connection')}: {counts}. {INFERRED[0]}")
-            print(INFERRED[1])
-            if self.options.between:
-                print("\n".join(BETWEEN))
-            if self.half:
-                print(HALF if self.half == self.yes + self.no else SOME.format(counted(self.half, "connection")))
+            print("\n".join(summary))
+        if self.page:
+            self.page.write(" ".join(summary))
         return self.status if self.yes + self.no else 2
+
+    def summary(self):
+        """The lines of the summary."""
+        others = self.count - self.yes - self.no
+        counts = f"{self.yes} yes, {self.no} no" + (f", {others} not judged" if others else "")
+        lines = [f"{counted(self.count, 'connection')}: {counts}. {INFERRED[0]}", INFERRED[1]]
+        lines += BETWEEN if self.options.between else ()
+        if self.half:
+            lines.append(HALF if self.half == self.yes + self.no else SOME.format(counted(self.half, "connection")))
+        return lines
 
 
 def facts(result):

@@ -61,7 +61,8 @@ def parser():
     words.add_argument("--budget", type=number_within(0, 2**64 - 1), metavar="N",
                        help="how many steps the search spends on going back for one line (default: its own)")
     words.add_argument("--report", type=named_file, metavar="DIR",
-                       help="keep the trace, the case, the picture and the explanation of each connection")
+                       help="make a folder with a page, index.html, and the trace, the case, the picture and the "
+                       "explanation of each connection")
     words.add_argument("--json", action="store_true", help="print a JSON object for each connection")
     words.add_argument("--jobs", type=number_within(1, 1024), default=os.cpu_count() or 1, metavar="N",
                        help="how many connections are judged at once (default: one for each processor)")

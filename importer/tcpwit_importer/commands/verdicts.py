@@ -12,9 +12,10 @@ from ..infer.conversion import Trace
 from ..infer.hosts import Undecided
 from ..infer.midpoint import split
 from ..infer.silence import LATE
-from ..problem import Notes, Problem, decoded, place_of
+from ..problem import Notes, Problem, counted, decoded, place_of
 from ..remedies import LESS_AT_ONCE
 from . import lab
+from .ladder import ladder
 from .refusals import refusals_of
 from .wireshark import Captured
 
@@ -31,13 +32,16 @@ RULES = {"(rules 40 to 52)": "(rules 40 to 47 and 49 to 52)",
 class Result:
     """What was found out about a connection: `levels` has the members of `judge --json` for each level tried, and
     `refusals` what each refused, or None; without any, `reason` says why the connection wasn't judged. `ways` has the
-    ways of hosts that `judge --json` names."""
+    ways of hosts that `judge --json` names. `start` is the time of its first packet; with a report, `ladders` has the
+    packets around each one that a level refused."""
     client: str
     server: str
     begun: int
     segments: int
     levels: list = field(default_factory=list)
     refusals: list = field(default_factory=list)
+    ladders: dict = field(default_factory=dict)
+    start: Any = None
     ways: list = field(default_factory=list)
     reason: str = ""
     hosts: int = 0
@@ -108,6 +112,7 @@ class Judge:
         capture goes on."""
         found = Result(shown(indexed.client), shown(indexed.server), indexed.begun, indexed.count, notes=Notes())
         found.is_part, found.captures = getattr(indexed, "is_part", False), len(self.files)
+        found.start = next((indexed.begun - self.captures[name].layout.first for name in indexed.places), None)
         try:
             if not indexed.whole:
                 raise Undecided(f"it began before the capture ({counted(indexed.count, 'segment')})")
@@ -222,6 +227,9 @@ class Judge:
         found.levels, found.ways, found.status = judged["levels"], judged.get("ways", []), status
         captured = Captured(trace, {name: capture.layout.first for name, capture in self.captures.items()})
         found.refusals = refusals_of(found.levels, captured, found.captures)
+        if self.options.report:
+            found.ladders = {refusal.place: ladder(trace.connection, captured, refusal)
+                             for refusal in found.refusals if refusal}
         found.said = [inferred(line) for line in judged["said"]]
 
 
@@ -248,8 +256,3 @@ def text_of(trace):
 def file_name(number, found):
     """The file of a connection's trace."""
     return f"{number}-{found.client}-{found.server}.trace".replace(":", "_").replace("[", "").replace("]", "")
-
-
-def counted(count, what):
-    """A count with its noun."""
-    return f"{count} {what}" if count == 1 else f"{count} {what}s"

@@ -36,6 +36,7 @@ class Trace:
         if gives_up:
             add_ends(connection, captures, script)
         self.may_differ, self.captures, self.clock = bool(script.expiries), captures, clock
+        self.connection = connection
         hosts = 1 if list(captures) == [0] else 2
         self.head = headers.header(hosts, (clock.skew + 999) // 1000, {"extra": ROOM} | chosen)
         ended = min(clock.at(moment) if host == 1 else moment for host, moment in last.items())
