@@ -2,6 +2,7 @@
 import json
 
 from ..problem import counted, plain
+from .comments import Comments
 from .report_page import Page
 from .wireshark import SECOND
 
@@ -20,6 +21,7 @@ class Output:
     def __init__(self, options, names=()):
         self.options, self.width = options, max(map(len, names), default=0)
         self.count = self.yes = self.no = self.half = self.status = 0
+        self.comments = Comments()
         self.page = Page(options.report, ", ".join(options.files)) if options.report else None
 
     def add(self, result):
@@ -29,6 +31,8 @@ class Output:
         self.no += result.verdict == "no"
         self.half += result.hosts == 1
         self.status = max(self.status, result.status)
+        if self.options.annotate:
+            self.comments.add_result(result)
         if self.page:
             self.page.add(result)
         print(json.dumps(facts(result)) if self.options.json else plain(f"{result.name:<{self.width}}   {result.line}"),

@@ -9,11 +9,12 @@ from ipaddress import ip_address
 from ..capture.clocks import SAME, said
 from ..capture.index import Capture, indexed, plain
 from ..infer.hosts import BETWEEN, BOTH, CLIENT, SERVER, OneCapture, TwoCaptures
-from ..problem import Notes, Parser, Problem, named_file, say, status_of
+from ..problem import Notes, Parser, Problem, counted, named_file, say, status_of
 from ..progress import Part
 from ..remedies import NOTHING_SENT
 from ..trace import header as headers
 from . import lab
+from .annotated import annotate
 from .live import Pool, Reader, Stream, watch
 from .options import add_first_level, number_within, refuse_laxer, slack
 from .output import Output
@@ -63,6 +64,9 @@ def parser():
     words.add_argument("--report", type=named_file, metavar="DIR",
                        help="make a folder with a page, index.html, and the trace, the case, the picture and the "
                        "explanation of each connection")
+    words.add_argument("--annotate", action="append", type=named_file, metavar="OUT.pcapng",
+                       help="write the capture again, with comments on packets: what was refused, and why "
+                       "retransmissions are permitted; for two captures, give it twice, in their order")
     words.add_argument("--json", action="store_true", help="print a JSON object for each connection")
     words.add_argument("--jobs", type=number_within(1, 1024), default=os.cpu_count() or 1, metavar="N",
                        help="how many connections are judged at once (default: one for each processor)")
@@ -117,6 +121,23 @@ def refuse_words(options):
         raise Problem("--between is given with --host or --slack",
                       "leave these out: such a capture shows both hosts, and none of their duties")
     refuse_laxer(options.start, options.level, "--level")
+    if options.annotate:
+        refuse_outputs(options)
+
+
+def refuse_outputs(options):
+    """Refuses names of annotated captures that don't fit the captures."""
+    if STANDARD_INPUT in options.files:
+        raise Problem("--annotate is given with standard input", "write the capture to a file first")
+    if len(options.annotate) != len(options.files):
+        raise Problem(f"--annotate names {counted(len(options.annotate), 'file')} for "
+                      f"{counted(len(options.files), 'capture')}",
+                      "give --annotate once for each capture, in their order: a packet keeps its number")
+    names = [os.path.realpath(name) for name in (*options.files, *options.annotate)]
+    for place, name in enumerate(names):
+        if name in names[:place] and place >= len(options.files):
+            raise Problem(f"--annotate {options.annotate[place - len(options.files)]} would replace another file",
+                          "give a new name")
 
 
 def judge(options):
@@ -167,6 +188,8 @@ def judge_files(options, program, notes):
             for result in found:
                 output.add(result)
                 notes.add(result.notes)
+        for capture, name in zip(captures, options.annotate or ()):
+            annotate(capture, output.comments.of.get(capture.name, {}), name)
     say_notes(options, notes)
     return output.finish()
 

@@ -1,7 +1,9 @@
 """Judges one connection: reads its packets, infers its calls, and runs `tcpwit_lab judge` on the trace."""
+import contextlib
 import json
 import os
 import subprocess
+import tempfile
 from dataclasses import dataclass, field
 from typing import Any
 
@@ -17,6 +19,7 @@ from ..remedies import LESS_AT_ONCE
 from . import lab
 from .ladder import ladder
 from .refusals import refusals_of
+from .retransmissions import Witness
 from .wireshark import Captured
 
 # What the line of a verdict has after its first word.
@@ -33,7 +36,8 @@ class Result:
     """What was found out about a connection: `levels` has the members of `judge --json` for each level tried, and
     `refusals` what each refused, or None; without any, `reason` says why the connection wasn't judged. `ways` has the
     ways of hosts that `judge --json` names. `start` is the time of its first packet; with a report, `ladders` has the
-    packets around each one that a level refused."""
+    packets around each one that a level refused. With annotations, `retransmissions` has what permitted each one, by
+    its capture and number."""
     client: str
     server: str
     begun: int
@@ -41,6 +45,7 @@ class Result:
     levels: list = field(default_factory=list)
     refusals: list = field(default_factory=list)
     ladders: dict = field(default_factory=dict)
+    retransmissions: dict = field(default_factory=dict)
     start: Any = None
     ways: list = field(default_factory=list)
     reason: str = ""
@@ -185,11 +190,19 @@ class Judge:
     def run(self, trace, found):
         """Judges a trace that isn't kept."""
         # With a file for the case, `judge` also says which lines of the trace it has.
-        words = [self.program, *self.words(), "--case", os.devnull]
+        with contextlib.ExitStack() as stack:
+            case = os.devnull
+            if self.options.annotate:
+                case = os.path.join(stack.enter_context(tempfile.TemporaryDirectory(prefix="tcpwit-judge-")), "case")
+            self.read(found, trace, case, *self.answer(trace, [self.program, *self.words(), "--case", case]))
+
+    @staticmethod
+    def answer(trace, words):
+        """What a program that reads a trace prints, on both outputs, and its status."""
         try:
             process = subprocess.Popen(words, stdin=subprocess.PIPE, stdout=subprocess.PIPE, stderr=subprocess.PIPE)
         except OSError as error:
-            raise Problem(f"{self.program}: {error.strerror}", lab.NAME_IT) from error
+            raise Problem(f"{words[0]}: {error.strerror}", lab.NAME_IT) from error
         with process:
             try:
                 process.stdin.writelines(map(str.encode, trace.lines()))
@@ -199,8 +212,7 @@ class Judge:
             except BaseException:
                 process.kill()
                 raise
-            out, error = process.communicate()
-        self.read(found, trace, out, error, process.returncode)
+            return *process.communicate(), process.returncode
 
     def report(self, name, trace, found):
         """Judges a trace that is kept in the file with this name, with its case, its picture and the explanation."""
@@ -209,7 +221,7 @@ class Judge:
         words = [self.program, *self.words(), "--case", "./" + os.path.basename(case)]
         done = lab.on_file(words, name, os.path.dirname(name) or ".")
         found.files = [name]
-        self.read(found, trace, done.stdout, done.stderr, done.returncode)
+        self.read(found, trace, case, done.stdout, done.stderr, done.returncode)
         lab.draw(self.program, name)
         explained = lab.on_file([self.program, "explain"], case)
         refused = [line for line in found.said_in_packets if line not in found.said]
@@ -218,8 +230,9 @@ class Judge:
         kept = case, name.removesuffix(".trace") + ".svg", text_of(name)
         found.files += [name for name in kept if os.path.exists(name)]
 
-    def read(self, found, trace, out, error, status):
-        """Reads the object that `judge` printed for a trace, whose lines were made, into a result."""
+    def read(self, found, trace, case, out, error, status):
+        """Reads the object that `judge` printed for a trace, whose lines were made, into a result. The case is the one
+        that it wrote."""
         if status not in (lab.YES, lab.NO):
             said = "; ".join(said_in(out)[:1] + decoded(error).splitlines()[-1:])
             raise Problem(said or lab.ended(status), "")
@@ -230,6 +243,9 @@ class Judge:
         if self.options.report:
             found.ladders = {refusal.place: ladder(trace.connection, captured, refusal)
                              for refusal in found.refusals if refusal}
+        if self.options.annotate:
+            with open(case, encoding="ascii") as file:
+                found.retransmissions = Witness(file, trace, captured, found.captures).reasons
         found.said = [inferred(line) for line in judged["said"]]
 
 
