@@ -12,6 +12,7 @@ from tcpwit_importer.capture.frames import Layout, frames_of
 from tcpwit_importer.capture.packets import packets_of
 from tcpwit_importer.capture.segments import ACK, FIN, SYN
 from tcpwit_importer.commands.annotated import annotate
+from tcpwit_importer.commands.retransmissions import Witness
 from tcpwit_importer.commands.rules import SECTIONS, described
 from tcpwit_importer.problem import Notes
 
@@ -21,7 +22,7 @@ from .wire import SECOND, SIZE, Talk, ethernet, ip_packet, segment
 
 RULES = os.path.join(os.path.dirname(os.path.realpath(__file__)), "..", "..", "docs", "reference", "rules.md")
 COMMENTS = {1: ["first"], 3: ["à la fin", "twice"], 10**6: ["no such packet"]}
-PERMITTED = "tcpwit-judge: this retransmission is permitted: "
+PERMITTED = "tcpwit-judge: this retransmission is permitted at level full: "
 
 
 def frames(data):
@@ -120,6 +121,21 @@ class Words(WithCaptures):
         self.assertFalse(any(map(os.path.exists, new)))
 
 
+class Witnesses(unittest.TestCase):
+    def test_nothing_is_said_of_what_was_refused(self):
+        packets = [SimpleNamespace(capture="c0", count=count) for count in (1, 2)]
+        head = [f"name {number}" for number in range(10)]
+        trace = SimpleNamespace(head=head, writer=SimpleNamespace(packets=packets, letters=b"OO"))
+        captured = SimpleNamespace(time=lambda time, _: time * 1000)
+        lines = ["1 1 O 0 00", "2 14 T 0 4000 80 rto", "2 1 O 0 00", "witness 5", "1 M 0 4000 80 0 0 S 1000 7",
+                 "1 L 11 1", "2 L 12 1 1", "2 M 0 4000 80 0 0 S 1000", "2 L 13 2"]
+        said = "this retransmission is permitted at level full: the retransmission timer expired at 0.000002 s " \
+            "(RFC 6298, 5.4)"
+        # The fifth line of the witness builds the second segment.
+        for refused, reasons in ((0, {("c0", 2): said}), (5, {})):
+            self.assertEqual(Witness(iter([*head, *lines]), trace, captured, 1, refused).reasons, reasons)
+
+
 @unittest.skipUnless(os.environ.get("TCPWIT_LAB"), "TCPWIT_LAB names no program")
 class Answers(WithCaptures):
     def comments(self, talk, *words, hosts=(0,)):
@@ -175,14 +191,19 @@ class Answers(WithCaptures):
         # Its own time at the other host, which hasn't the lost segment.
         self.assertEqual(self.comments(talk, hosts=(0, 1)), [{7: said[:1]}, {6: said[1:]}])
 
-    def test_the_timeout_of_a_syn(self):
+    def syns(self, *waits):
+        """A connection whose SYN is lost and sent again after each of these times."""
         talk = Talk()
         talk.frames, talk.next, talk.at = {0: [], 1: []}, {0: 1000, 1: 5000}, 100 * SECOND
-        talk.send(0, SYN, options=SIZE, lost=True)
-        talk.next[0], talk.at = 1000, talk.at + SECOND + SECOND // 200
+        for wait in waits:
+            talk.send(0, SYN, options=SIZE, lost=True)
+            talk.next[0], talk.at = 1000, talk.at + wait
         talk.syn(SIZE)
-        self.assertEqual(self.comments(self.ended(talk)),
-                         [{2: [f"{PERMITTED}the retransmission timer expired at 1.007000 s (RFC 6298, 5.4)"]}])
+        return self.ended(talk)
+
+    def test_the_timeout_of_a_syn(self):
+        self.assertEqual(self.comments(self.syns(SECOND)),
+                         [{2: [f"{PERMITTED}the retransmission timer expired at 1.002000 s (RFC 6298, 5.4)"]}])
 
     def send(self, talk, host, payload=b"", window=30000, acknowledgment=None, lost=False):
         """Adds a segment with this window, and perhaps another acknowledgment."""
@@ -222,8 +243,8 @@ class Answers(WithCaptures):
             self.send(talk, 0, b"y")
             talk.next[0] -= 1
             self.send(talk, 1, window=0)
-        probe = "tcpwit-judge: this probe is permitted: the window is closed, and the persist timer expired at {} s " \
-            "(RFC 9293, 3.8.6.1)"
+        probe = "tcpwit-judge: this probe is permitted at level full: the window is closed, and the persist timer " \
+            "expired at {} s (RFC 9293, 3.8.6.1)"
         self.assertEqual(self.comments(talk), [{6: [probe.format("0.260000")], 8: [probe.format("0.764000")]}])
 
     def test_what_was_refused(self):

@@ -71,6 +71,9 @@ class Sentences(WithCaptures):
                             ("line 999 sends 9 bytes", "a segment sends 9 bytes")):
             self.assertEqual(self.said(text), f"after packet 8 (2.513000 s), the last one: {words}")
 
+    def test_a_sentence_of_another_kind(self):
+        self.assertEqual(self.said("it is wrong"), "after packet 8 (2.513000 s), the last one: it is wrong")
+
     def test_positions(self):
         for said, words in (
                 ("position 414, and everything below 415 is acknowledged already",

@@ -22,7 +22,8 @@ class Output:
         self.options, self.width = options, max(map(len, names), default=0)
         self.count = self.yes = self.no = self.half = self.status = 0
         self.comments = Comments()
-        self.page = Page(options.report, ", ".join(options.files)) if options.report else None
+        title = "standard input" if options.files == ["-"] else ", ".join(options.files)
+        self.page = Page(options.report, title) if options.report else None
 
     def add(self, result):
         """Prints a connection's result."""

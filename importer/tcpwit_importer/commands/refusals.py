@@ -64,14 +64,14 @@ def refusal_of(level, captured, captures):
     """What a level refused."""
     said = level["sentence"].removesuffix(".")
     begin = BEGIN.match(said)
-    rest = said[begin.end():]
-    packet, before, after = subject(level.get("input_line") or begin[1], rest, captured.trace)
+    rest, line = (said[begin.end():], begin[1]) if begin else (f": {said}", None)
+    packet, before, after = subject(level.get("input_line") or line, rest, captured.trace)
     if before and not rest.startswith(":"):
         rest = f": a segment{rest}"
     place, owed = captured.place(packet), owed_in(rest, captured)
     words = POSITION.sub(in_numbers, LATE.sub("", rest))
     if owed:
-        words += owed.words(captures, not begin[1])
+        words += owed.words(captures, line is None)
     return Refusal(level["level"], level["rule"], f"{before}{timed(place, captures)}{after}", words, place,
                    not before, owed)
 

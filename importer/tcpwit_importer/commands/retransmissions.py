@@ -11,17 +11,16 @@ from .wireshark import named, seconds
 # The search adds lines of timeouts to a trace, which has only those of hosts that give up.
 OWN = "giveup"
 ADDED = -1
-RTO, PERSIST, RECOVERY, OPENED, ANSWER, UNJUDGED = "rto", "persist", "recovery", "opened", "answer", "unjudged"
+RTO, PERSIST, RECOVERY, OPENED, ANSWER = "rto", "persist", "recovery", "opened", "answer"
 # What permits a retransmission, with a time or a packet.
 REASONS = {
-    RTO: "this retransmission is permitted: the retransmission timer expired at {} (RFC 6298, 5.4)",
-    PERSIST: "this probe is permitted: the window is closed, and the persist timer expired at {} (RFC 9293, 3.8.6.1)",
-    RECOVERY: "this retransmission is permitted: three duplicate acknowledgments came, the last one in {} "
-              "(RFC 5681, 3.2)",
-    OPENED: "this retransmission is permitted: the closed window opened, in {} (RFC 9293, 3.8.6.1)",
-    ANSWER: "this retransmission is permitted: a SYN is answered again (RFC 9293, 3.10.7.4)",
-    UNJUDGED: "this is a retransmission; at level none, it isn't judged whether it's permitted",
+    RTO: "the retransmission timer expired at {} (RFC 6298, 5.4)",
+    PERSIST: "the window is closed, and the persist timer expired at {} (RFC 9293, 3.8.6.1)",
+    RECOVERY: "three duplicate acknowledgments came, the last one in {} (RFC 5681, 3.2)",
+    OPENED: "the closed window opened, in {} (RFC 9293, 3.8.6.1)",
+    ANSWER: "a SYN is answered again (RFC 9293, 3.10.7.4)",
 }
+UNJUDGED = "this is a retransmission; at level none, it isn't judged whether it's permitted"
 
 
 @dataclass
@@ -37,18 +36,21 @@ class Endpoint:
 
 
 class Witness:
-    """Reads a case of a trace, which is an iterator of lines. `reasons` has in words what permitted each
-    retransmission, by its capture and number."""
+    """Reads a case of a trace, which is an iterator of lines, up to the refused line of the witness, if there is one.
+    `reasons` has in words what permitted each retransmission, by its capture and number."""
 
-    def __init__(self, case, trace, captured, captures):
+    def __init__(self, case, trace, captured, captures, refused=0):
         self.trace, self.captured, self.captures = trace, captured, captures
-        self.endpoints, self.built, self.reasons = {}, [], {}
-        # The place of each event line in the trace, or ADDED; the words of each timeout's line; and what permitted the
-        # segments of O lines that are retransmissions.
+        self.endpoints, self.built, self.reasons = {}, {}, {}
+        # `built` has what permitted each built segment, by its number, if it's a retransmission; `causes` the same of
+        # lines. The other two have the place of each event line in the trace, or ADDED, and the words of timeouts.
         self.places, self.timeouts, self.causes = array("q"), {}, {}
         self.read_trace(case)
-        for line in case:
-            self.step(line.split())
+        # Line 1 names the version.
+        for number, line in enumerate(case, 2):
+            if number == refused:
+                break
+            self.step(*line.split()[1:])
 
     def read_trace(self, case):
         """Reads the header and the events."""
@@ -67,15 +69,14 @@ class Witness:
             else:
                 self.places.append(next(places))
 
-    def step(self, words):
-        """Reads a step: a time, a letter and fields."""
-        time, letter, fields = int(words[0]), words[1], words[2:]
+    def step(self, letter, *fields):
+        """Reads a step after its time: a letter and fields."""
         if letter == "L":
             self.line(int(fields[0]), fields[1:])
         elif letter == "M":
             self.builds(fields)
         elif letter == "R":
-            self.built.append(None)
+            self.built[len(self.built) + 1] = None
         elif letter == "T":
             self.arrives(fields[0], int(fields[1]))
         elif letter == "F":
@@ -88,8 +89,8 @@ class Witness:
 
     def packet(self, number):
         """The packet of a line of the case, and the letter of the line; None if it has no packet."""
-        place = self.places[number - self.first] if number - self.first < len(self.places) else ADDED
-        writer = self.trace.writer
+        at, writer = number - self.first, self.trace.writer
+        place = self.places[at] if 0 <= at < len(self.places) else ADDED
         if not 0 <= place < len(writer.packets):
             return None, ""
         return writer.packets[place], chr(writer.letters[place])
@@ -105,8 +106,9 @@ class Witness:
         packet, letter = self.packet(number)
         if packet is None or not extra:
             return
-        # A segment that was sent has the number of a built one; one that was received, that of its line as sent.
-        cause = self.built[int(extra[0]) - 1] if letter == "O" else self.causes.get(int(extra[0]))
+        # A segment that was sent has the number of a built one; one that was received, that of its line as sent. A
+        # refused step may have any number.
+        cause = (self.built if letter == "O" else self.causes).get(int(extra[0]))
         if cause:
             self.causes[number] = cause
             self.reasons.setdefault((packet.capture, packet.count), self.words(cause, packet.capture))
@@ -120,7 +122,7 @@ class Witness:
         cause = endpoint.cause if repeats or (endpoint.is_probing and start < end) else None
         if repeats and not cause and "S" in flags:
             cause = ANSWER, None
-        self.built.append(cause)
+        self.built[len(self.built) + 1] = cause
         endpoint.sent, endpoint.is_probing = max(endpoint.sent, end), False
 
     def arrives(self, host, number):
@@ -137,7 +139,10 @@ class Witness:
         """What permitted a retransmission in this capture."""
         kind, since = cause
         if kind == RECOVERY and self.level == LEVELS[-1]:
-            kind = UNJUDGED
+            return UNJUDGED
         if kind in (RTO, PERSIST):
-            return REASONS[kind].format(seconds(self.captured.time(since, capture)))
-        return REASONS[kind].format(since and named(self.captured.place(since), self.captures))
+            when = seconds(self.captured.time(since, capture))
+        else:
+            when = since and named(self.captured.place(since), self.captures)
+        what = "probe" if kind == PERSIST else "retransmission"
+        return f"this {what} is permitted at level {self.level}: {REASONS[kind].format(when)}"

@@ -245,7 +245,8 @@ class Judge:
                              for refusal in found.refusals if refusal}
         if self.options.annotate:
             with open(case, encoding="ascii") as file:
-                found.retransmissions = Witness(file, trace, captured, found.captures).reasons
+                refused = found.answer.get("witness_line", 0)
+                found.retransmissions = Witness(file, trace, captured, found.captures, refused).reasons
         found.said = [inferred(line) for line in judged["said"]]
 
 
