@@ -98,6 +98,10 @@ def status_of(command, act):
 
 
 
+def counted(count, what):
+    """A count with its noun."""
+    return f"{count} {what}" if count == 1 else f"{count} {what}s"
+
 
 def place_of(error):
     """The line of the program that raised an error."""

@@ -123,12 +123,14 @@ class Lines(WithCaptures):
         status, out, _ = run(*self.files(), *self.lab(NO, 1))
         self.assertEqual(status, 1)
         self.assertEqual(out.splitlines()[0],
-                         "10.9.0.1:4000 -> 10.9.0.2:80   none      no 7 8 ack-late; line 8: none is late")
+                         "10.9.0.1:4000 -> 10.9.0.2:80   none      no ack-late; before packet 1 of "
+                         f"{self.folder}/c0.pcap (0.000000 s): none is late")
         self.assertIn("1 connection: 0 yes, 1 no. ", out)
 
     def test_the_packet_of_a_no(self):
-        for line, place in ((13, "packet 1 of FOLDER/c0.pcap"), (12, "line 8"), (10, "line 8"), (999, "line 8"),
-                            (None, "line 8")):
+        first = "packet 1 of FOLDER/c0.pcap (0.000000 s)"
+        for line, place in ((13, first), (12, f"before {first}"), (10, f"before {first}"), (None, f"before {first}"),
+                            (999, "after packet 7 of FOLDER/c0.pcap (0.013000 s), the last one")):
             _, out, _ = run(*self.files(), *self.lab(no(**{} if line is None else {"input_line": line}), 1))
             self.assertEqual(out.splitlines()[0].replace(self.folder, "FOLDER").split("ack-late")[1],
                              f"; {place}: none is late")
@@ -138,9 +140,10 @@ class Lines(WithCaptures):
 
     def test_what_a_stricter_level_refused(self):
         begin = "10.9.0.1:4000 -> 10.9.0.2:80   none      yes 57 88; recovery: "
-        for given, words, place in (({}, self.files(), "line 14"),
-                                    ({"input_line": 13}, self.files(), "packet 1 of FOLDER/c0.pcap"),
-                                    ({"input_line": 13}, [*self.files(hosts=(0,)), "--host", "client"], "packet 1")):
+        for given, words, place in (({}, self.files(), "packet 2 of FOLDER/c1.pcap (0.001000 s)"),
+                                    ({"input_line": 13}, self.files(), "packet 1 of FOLDER/c0.pcap (0.000000 s)"),
+                                    ({"input_line": 13}, [*self.files(hosts=(0,)), "--host", "client"],
+                                     "packet 1 (0.000000 s)")):
             status, out, _ = run(*words, *self.lab(laxer(**given)))
             self.assertEqual((status, out.splitlines()[0].replace(self.folder, "FOLDER")),
                              (0, f"{begin}{place} retransmits data (old-data)"))
@@ -151,11 +154,15 @@ class Lines(WithCaptures):
         _, out, _ = run(*self.files(), *self.lab(answer), "--report", report, "--json")
         found, capture = json.loads(out), f"{self.folder}/c0.pcap"
         full, recovery, none = answer["levels"]
-        self.assertEqual(found["levels"], [full, recovery | {"capture": capture, "packet": 1}, none])
+        first = f"packet 1 of {capture} (0.000000 s)"
+        place = {"capture": capture, "packet": 1, "time": 0.0}
+        self.assertEqual(found["levels"], [full | place | {"sentence": f"{first} sends 9 bytes (congestion)."},
+                                           recovery | place | {"sentence": f"{first} retransmits data (old-data)."},
+                                           none])
         self.assertEqual((found["level"], found["answer"], found["lines"], found["steps"]), ("none", "yes", 57, 88))
         self.assertFalse({"capture", "packet"} & found.keys())
         self.assertEqual(self.text(os.path.relpath(found["files"][3], self.folder)).splitlines(),
-                         [*answer["said"], f"Line 14 is packet 1 of {capture}.", "", "explained"])
+                         [*answer["said"], f"Under recovery: {first} retransmits data (old-data).", "", "explained"])
 
     def test_options_of_judge(self):
         run(*self.files(), *self.lab(), "--level", "none", "--slack", "any", "--budget", "7")
@@ -229,10 +236,14 @@ class Lines(WithCaptures):
 
     def test_json(self):
         _, out, _ = run(*self.files(), *self.lab(NO, 1), "--json")
-        self.assertEqual(json.loads(out), {
+        first = {"capture": f"{self.folder}/c0.pcap", "packet": 1, "time": 0.0}
+        said = f"before packet 1 of {self.folder}/c0.pcap (0.000000 s): {{}} is late."
+        levels = [level | first | {"sentence": said.format(level["level"])} for level in NO["levels"]]
+        self.assertEqual(json.loads(out), first | {
             "client": "10.9.0.1:4000", "server": "10.9.0.2:80", "begun": 100.0, "segments": 14, "judged": True,
             "hosts": 2, "level": "none", "answer": "no", "status": 1, "witness_line": 7, "trace_line": 8,
-            "rule": "ack-late", "sentence": "line 8: none is late.", "levels": NO["levels"], "said": NO["said"]})
+            "rule": "ack-late", "sentence": said.format("none"), "levels": levels,
+            "said": [NO["said"][0], f"Under none: {said.format('none')}"]})
         _, out, _ = run(*self.files(), *self.lab(), "--json")
         self.assertEqual((json.loads(out)["lines"], json.loads(out)["steps"]), (57, 88))
         ways = [{"host": 0, "way": "bytes", "does": "counts acknowledged bytes"}]
@@ -244,7 +255,7 @@ class Lines(WithCaptures):
         _, out, _ = run(*self.files(), *self.lab(), "--report", report, "--json")
         names = [os.path.basename(name) for name in json.loads(out)["files"]]
         self.assertEqual(names, [f"1-10.9.0.1_4000-10.9.0.2_80.{end}" for end in ("trace", "case", "svg", "txt")])
-        self.assertEqual(sorted(os.listdir(report)), sorted(names))
+        self.assertEqual(sorted(os.listdir(report)), sorted([*names, "index.html"]))
         self.assertEqual(self.text("kept/" + names[3]), "\n".join(YES["said"]) + "\n\nexplained\n")
         self.assertEqual(self.fails(*self.files(), *self.lab(), "--report", report),
                          f"tcpwit-judge: {report} isn't empty")

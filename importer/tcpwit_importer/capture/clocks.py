@@ -20,6 +20,10 @@ class Clock(NamedTuple):
         """A moment of host 1 on host 0's clock."""
         return moment - self.shift - round(self.rate * (moment - self.start))
 
+    def back(self, moment):
+        """A moment of host 0 on host 1's clock."""
+        return self.start + round((moment - self.start + self.shift) / (1 - self.rate))
+
 
 SAME = Clock(0, 0.0, 0, 0)
 

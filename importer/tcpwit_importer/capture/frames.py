@@ -55,11 +55,11 @@ class Section:
 
 
 class Layout:
-    """What reading a file showed: where its sections begin, to read frames again; how many frames it has; and between
-    which addresses there were fragments."""
+    """What reading a file showed: where its sections begin, to read frames again; how many frames it has; the moment
+    of the first one; and between which addresses there were fragments."""
 
     def __init__(self):
-        self.starts, self.sections, self.frames, self.fragmented = [], [], 0, set()
+        self.starts, self.sections, self.frames, self.first, self.fragmented = [], [], 0, None, set()
         self.described = 0
 
     def add(self, start, section):

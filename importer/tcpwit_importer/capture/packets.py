@@ -13,19 +13,20 @@ from .segments import ACK, FLAGS_END, SHORTEST, SYN, acknowledgment, flags, head
 
 class Packet:
     """A captured segment: its moment in nanoseconds, its source and destination, and its bytes from the TCP header on.
-    There, the checksum is 0, since offloads leave it unfinished; `checksum` has it.
+    There, the checksum is 0, since offloads leave it unfinished; `checksum` has it. `captured` is the moment that the
+    capture has, also if another one is estimated.
 
     `outgoing` states whether the capture marked it as sent by its host; None if the file doesn't show it. `missing` is
     how many bytes at the segment's end were not captured: they are zeros in `segment`. `offset` is where its record
     begins in the file; None if the file can't be read again. `identification` is that of IPv4, else 0; `lifetime` is
     the TTL or hop limit; `interface` is the number of the interface, if the file shows it.
     """
-    __slots__ = ("moment", "source", "target", "segment", "outgoing", "capture", "count", "missing", "offset",
-                 "identification", "lifetime", "interface", "checksum")
+    __slots__ = ("moment", "captured", "source", "target", "segment", "outgoing", "capture", "count", "missing",
+                 "offset", "identification", "lifetime", "interface", "checksum")
 
     def __init__(self, moment, source, target, segment, outgoing, capture="", count=0, missing=0, offset=None,
                  identification=0, interface=None, lifetime=None):
-        self.moment, self.source, self.target = moment, source, target
+        self.moment, self.captured, self.source, self.target = moment, moment, source, target
         segment += bytes(missing)
         self.segment, self.outgoing = segment[:16] + b"\0\0" + segment[18:], outgoing
         self.checksum = int.from_bytes(segment[16:18], "big")
@@ -107,6 +108,7 @@ def packets_of(name, file, notes, layout=None, whole=False, lenient=False):
     try:
         for frame in frames_of(name, file, layout):
             layout.frames += 1
+            layout.first = frame.moment if layout.first is None else layout.first
             try:
                 packet = _packet(frame, name, layout.frames, whole, lenient)
             except LeftOut as reason:

@@ -1,8 +1,10 @@
 """What the command prints: a line for each connection, and a summary."""
 import json
 
-from ..problem import plain
-from .verdicts import counted
+from ..problem import counted, plain
+from .comments import Comments
+from .report_page import Page
+from .wireshark import SECOND
 
 INFERRED = ("Calls were inferred: their answers aren't judged.",
             "Nor is how soon a host sends what its program gave it (rule start-late).")
@@ -18,6 +20,9 @@ class Output:
     def __init__(self, options, names=()):
         self.options, self.width = options, max(map(len, names), default=0)
         self.count = self.yes = self.no = self.half = self.between = self.status = 0
+        self.comments = Comments()
+        title = "standard input" if options.files == ["-"] else ", ".join(options.files)
+        self.page = Page(options.report, title) if options.report else None
 
     def add(self, result):
         """Prints a connection's result."""
@@ -27,23 +32,34 @@ class Output:
         self.half += result.hosts == 1
         self.between += result.is_between and result.verdict is not None
         self.status = max(self.status, result.status)
+        if self.options.annotate:
+            self.comments.add_result(result)
+        if self.page:
+            self.page.add(result)
         print(json.dumps(facts(result)) if self.options.json else plain(f"{result.name:<{self.width}}   {result.line}"),
               flush=True)
 
     def finish(self):
-        """Prints the summary, unless each line is an object, and returns the exit status."""
+        """Prints the summary, unless each line is an object, writes the report's page, and returns the exit status."""
+        summary = self.summary()
         if not self.options.json:
-            others = self.count - self.yes - self.no
-            counts = f"{self.yes} yes, {self.no} no" + (f", {others} not judged" if others else "")
-            print(f"{counted(self.count, 'connection')}: {counts}. {INFERRED[0]}")
-            print(INFERRED[1])
-            if self.between:
-                where = ("The capture was made between the hosts:" if self.between == self.yes + self.no else
-                         f"Captured between the hosts: {counted(self.between, 'connection')}. There")
-                print("\n".join(BETWEEN).format(where))
-            if self.half:
-                print(HALF if self.half == self.yes + self.no else SOME.format(counted(self.half, "connection")))
+            print("\n".join(summary))
+        if self.page:
+            self.page.write(" ".join(summary))
         return self.status if self.yes + self.no else 2
+
+    def summary(self):
+        """The lines of the summary."""
+        others = self.count - self.yes - self.no
+        counts = f"{self.yes} yes, {self.no} no" + (f", {others} not judged" if others else "")
+        lines = [f"{counted(self.count, 'connection')}: {counts}. {INFERRED[0]}", INFERRED[1]]
+        if self.between:
+            where = ("The capture was made between the hosts:" if self.between == self.yes + self.no else
+                     f"Captured between the hosts: {counted(self.between, 'connection')}. There")
+            lines += [line.format(where) for line in BETWEEN]
+        if self.half:
+            lines.append(HALF if self.half == self.yes + self.no else SOME.format(counted(self.half, "connection")))
+        return lines
 
 
 def facts(result):
@@ -63,14 +79,26 @@ def facts(result):
     if result.verdict == "yes":
         found |= {"lines": answer["lines"], "steps": answer["hidden"]}
     else:
-        found |= {name: answer[name] for name in ("witness_line", "trace_line", "rule", "sentence")}
-        found |= place(result.packets[-1])
+        found |= {name: answer[name] for name in ("witness_line", "trace_line", "rule")}
+        found |= refused(result.refusals[-1])
     found |= {"place": result.place} if result.place else {}
-    levels = [level | place(packet) for level, packet in zip(result.levels, result.packets)]
+    levels = [level | refused(refusal) for level, refusal in zip(result.levels, result.refusals)]
     found |= {"ways": result.ways} if result.ways else {}
-    return found | {"levels": levels, "said": result.said} | ({"files": result.files} if result.files else {})
+    found |= {"levels": levels, "said": result.said if result.files else result.said_in_packets}
+    return found | ({"files": result.files} if result.files else {})
+
+
+def refused(refusal):
+    """The members that say what was refused, if something was."""
+    if not refusal:
+        return {}
+    found = {"sentence": f"{refusal.sentence}."} | place(refusal.place)
+    if owed := refusal.owed:
+        times = {name: getattr(owed, name) / SECOND for name in ("since", "due", "latest", "late")}
+        found["owed"] = place(owed.place) | {"began": owed.begun_there} | times
+    return found
 
 
 def place(packet):
-    """The members that say where a packet was captured, if there is one."""
-    return {"capture": packet.capture, "packet": packet.count} if packet else {}
+    """The members that say where and when a packet was captured."""
+    return {"capture": packet.capture, "packet": packet.count, "time": packet.time / SECOND}

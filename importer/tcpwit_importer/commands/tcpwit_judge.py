@@ -11,11 +11,12 @@ from ..capture.index import Capture, indexed, plain
 from ..capture.layers import CUT
 from ..infer.hosts import BOTH, CLIENT, SERVER, OneCapture, TwoCaptures
 from ..infer.place import BETWEEN, Places
-from ..problem import Notes, Parser, Problem, named_file, say, status_of
+from ..problem import Notes, Parser, Problem, counted, named_file, say, status_of
 from ..progress import Part
 from ..remedies import NOTHING_SENT, WIDER
 from ..trace import header as headers
 from . import lab
+from .annotated import annotate
 from .live import Pool, Reader, Stream, watch
 from .options import add_first_level, number_within, refuse_laxer, slack
 from .output import Output
@@ -67,7 +68,11 @@ def parser():
     words.add_argument("--budget", type=number_within(0, 2**64 - 1), metavar="N",
                        help="how many steps the search spends on going back for one line (default: its own)")
     words.add_argument("--report", type=named_file, metavar="DIR",
-                       help="keep the trace, the case, the picture and the explanation of each connection")
+                       help="make a folder with a page, index.html, and the trace, the case, the picture and the "
+                       "explanation of each connection")
+    words.add_argument("--annotate", action="append", type=named_file, metavar="OUT.pcapng",
+                       help="write the capture again, with comments on packets: what was refused, and why "
+                       "retransmissions are permitted; for two captures, give it twice, in their order")
     words.add_argument("--json", action="store_true", help="print a JSON object for each connection")
     words.add_argument("--jobs", type=number_within(1, 1024), default=os.cpu_count() or 1, metavar="N",
                        help="how many connections are judged at once (default: one for each processor)")
@@ -122,6 +127,23 @@ def refuse_words(options):
         raise Problem("--between is given with --host or --slack",
                       "leave these out: such a capture shows both hosts, and none of their duties")
     refuse_laxer(options.start, options.level, "--level")
+    if options.annotate:
+        refuse_outputs(options)
+
+
+def refuse_outputs(options):
+    """Refuses names of annotated captures that don't fit the captures."""
+    if STANDARD_INPUT in options.files:
+        raise Problem("--annotate is given with standard input", "write the capture to a file first")
+    if len(options.annotate) != len(options.files):
+        raise Problem(f"--annotate names {counted(len(options.annotate), 'file')} for "
+                      f"{counted(len(options.files), 'capture')}",
+                      "give --annotate once for each capture, in their order: a packet keeps its number")
+    names = [os.path.realpath(name) for name in (*options.files, *options.annotate)]
+    for place, name in enumerate(names):
+        if name in names[:place] and place >= len(options.files):
+            raise Problem(f"--annotate {options.annotate[place - len(options.files)]} would replace another file",
+                          "give a new name")
 
 
 def judge(options):
@@ -181,6 +203,8 @@ def judge_files(options, program, notes):
             for result in found:
                 output.add(result)
                 notes.add(result.notes)
+        for capture, name in zip(captures, options.annotate or ()):
+            annotate(capture, output.comments.of.get(capture.name, {}), name)
     say_notes(options, notes)
     return output.finish()
 

@@ -1,8 +1,10 @@
 """Judges one connection: reads its packets, infers its calls, and runs `tcpwit_lab judge` on the trace."""
+import contextlib
 import json
 import os
 import re
 import subprocess
+import tempfile
 from dataclasses import dataclass, field
 from itertools import filterfalse
 from typing import Any
@@ -18,21 +20,23 @@ from ..infer.opening import is_made_up
 from ..infer.place import BETWEEN
 from ..infer.silence import LATE
 from ..infer.unjudged import extension, refuse
-from ..problem import Notes, Problem, decoded, place_of
+from ..problem import Notes, Problem, counted, decoded, place_of
 from ..remedies import LESS_AT_ONCE
 from ..trace import header as headers
 from ..trace.header import FULL, LEVELS, VALUES
 from . import lab
+from .ladder import ladder
+from .refusals import refusals_of
+from .retransmissions import Witness
+from .wireshark import Captured, named
 
 # What the line of a verdict has after its first word.
-NUMBERS = {"yes": ("lines", "hidden"), "no": ("witness_line", "trace_line", "rule")}
+NUMBERS = {"yes": ("lines", "hidden"), "no": ("rule",)}
 # The rules by which `judge` says that no duty was late, each time with those that judge inferred calls: all but 48,
 # start-late.
 RULES = {"(rules 40 to 52)": "(rules 40 to 47 and 49 to 52)",
          "(rules 40 to 50 and 52)": "(rules 40 to 47, 49, 50 and 52)",
          "(rules 40 to 49 and 52)": "(rules 40 to 47, 49 and 52)"}
-# How a sentence of `judge` begins if it is about a line of the trace.
-LINE = re.compile(r"^line (\d+)")
 # What it says of a trace with a fault: the line and the kind. Only moments are numbers that may be too large.
 FAULT, TOO_LONG, NUMBER = re.compile(r"bad trace (\d+) \d+ \d+ (.+)"), "too-many-lines", "number"
 # The strictest level of a connection that began before the capture: its congestion window isn't known.
@@ -44,14 +48,19 @@ BEST = (False, LEVELS.index(STRICTEST))
 @dataclass
 class Result:
     """What was found out about a connection: `levels` has the members of `judge --json` for each level tried, and
-    `packets` the packet that each refused, or None; without any, `reason` says why the connection wasn't judged.
-    `ways` has the ways of hosts that `judge --json` names."""
+    `refusals` what each refused, or None; without any, `reason` says why the connection wasn't judged. `ways` has the
+    ways of hosts that `judge --json` names. `start` is the time of its first packet; with a report, `ladders` has the
+    packets around each one that a level refused. With annotations, `retransmissions` has what permitted each one, by
+    its capture and number."""
     client: str
     server: str
     begun: int
     segments: int
     levels: list = field(default_factory=list)
-    packets: list = field(default_factory=list)
+    refusals: list = field(default_factory=list)
+    ladders: dict = field(default_factory=dict)
+    retransmissions: dict = field(default_factory=dict)
+    start: Any = None
     ways: list = field(default_factory=list)
     reason: str = ""
     hosts: int = 0
@@ -105,36 +114,30 @@ class Result:
             return f"not judged: {self.reason}"
         numbers = " ".join(str(self.answer[name]) for name in NUMBERS[self.verdict])
         row = f"{self.answer['level']:<10}{self.verdict} {numbers}"
-        failed = [pair for pair in zip(self.levels, self.packets) if pair[0]["answer"] == "no"]
-        if failed:
-            level, packet = failed[-1]
+        if failed := [refusal for refusal in self.refusals if refusal]:
             # A no has named its level already.
-            row += f"; {level['level']}: " if self.verdict == "yes" else "; "
-            row += self.sentence(level, packet)
+            row += f"; {failed[-1].level}: " if self.verdict == "yes" else "; "
+            row += failed[-1].sentence
         if self.since:
-            row += f"   (judged from {' and '.join(map(self.named, self.since))} on: it began before the capture)"
+            since = " and ".join(named(packet, self.captures) for packet in self.since)
+            row += f"   (judged from {since} on: it began before the capture)"
         return row + (f"   (its first {counted(self.segments, 'segment')})" if self.is_part else "")
-
-    def sentence(self, level, packet):
-        """What a level refused, in the words of `judge`, with the packet instead of its line if there is one."""
-        said = level["sentence"].removesuffix(".")
-        return LINE.sub(self.named(packet), said) if packet else said
-
-    def named(self, packet):
-        """A packet in words, with its capture if there are two."""
-        return f"packet {packet.count}" + (f" of {packet.capture}" if self.captures > 1 else "")
 
     def forget(self):
         """Removes the answer, and the files that the report has of it."""
         for name in self.files:
             remove(name)
-        self.levels, self.packets, self.ways, self.said, self.files = [], [], [], [], []
+        self.levels, self.refusals, self.ways, self.said, self.files = [], [], [], [], []
+        self.ladders, self.retransmissions = {}, {}
 
     @property
-    def lines_of_packets(self):
-        """A line for each line of the trace that a level refused and that has a packet."""
-        found = [(LINE.match(level["sentence"]), packet) for level, packet in zip(self.levels, self.packets) if packet]
-        return list(dict.fromkeys(f"Line {line[1]} is {self.named(packet)}." for line, packet in found if line))
+    def said_in_packets(self):
+        """What `judge` said, with packets instead of lines of the trace."""
+        said = self.said
+        for level, refusal in zip(self.levels, self.refusals):
+            if refusal:
+                said = [line.replace(level["sentence"], f"{refusal.sentence}.") for line in said]
+        return said
 
     @property
     def lines_made_up(self):
@@ -160,6 +163,7 @@ class Judge:
         capture goes on."""
         found = Result(shown(indexed.client), shown(indexed.server), indexed.begun, indexed.count, notes=Notes())
         found.is_part, found.captures = getattr(indexed, "is_part", False), len(self.files)
+        found.start = next((indexed.begun - self.captures[name].layout.first for name in indexed.places), None)
         try:
             if indexed.client == indexed.server:
                 raise Undecided("it connects a port with itself")
@@ -271,11 +275,19 @@ class Judge:
     def run(self, trace, found):
         """Judges a trace that isn't kept."""
         # With a file for the case, `judge` also says which lines of the trace it has.
-        words = [self.program, *self.words(found), "--case", os.devnull]
+        with contextlib.ExitStack() as stack:
+            case = os.devnull
+            if self.options.annotate:
+                case = os.path.join(stack.enter_context(tempfile.TemporaryDirectory(prefix="tcpwit-judge-")), "case")
+            self.read(found, trace, case, *self.answer(trace, [self.program, *self.words(found), "--case", case]))
+
+    @staticmethod
+    def answer(trace, words):
+        """What a program that reads a trace prints, on both outputs, and its status."""
         try:
             process = subprocess.Popen(words, stdin=subprocess.PIPE, stdout=subprocess.PIPE, stderr=subprocess.PIPE)
         except OSError as error:
-            raise Problem(f"{self.program}: {error.strerror}", lab.NAME_IT) from error
+            raise Problem(f"{words[0]}: {error.strerror}", lab.NAME_IT) from error
         with process:
             try:
                 process.stdin.writelines(map(str.encode, trace.lines()))
@@ -285,8 +297,7 @@ class Judge:
             except BaseException:
                 process.kill()
                 raise
-            out, error = process.communicate()
-        read(found, trace, out, error, process.returncode)
+            return *process.communicate(), process.returncode
 
     def report(self, name, trace, found):
         """Judges a trace that is kept in the file with this name, with its case, its picture and the explanation."""
@@ -295,29 +306,37 @@ class Judge:
         words = [self.program, *self.words(found), "--case", "./" + os.path.basename(case)]
         done = lab.on_file(words, name, os.path.dirname(name) or ".")
         found.files = [name]
-        read(found, trace, done.stdout, done.stderr, done.returncode)
+        self.read(found, trace, case, done.stdout, done.stderr, done.returncode)
         lab.draw(self.program, name)
         explained = lab.on_file([self.program, "explain"], case)
-        said = [f"{line}\n".encode() for line in (*found.said, *found.lines_of_packets, *found.lines_made_up, "")]
+        refused = [line for line in found.said_in_packets if line not in found.said]
+        said = [f"{line}\n".encode() for line in (*found.said, *refused, *found.lines_made_up, "")]
         write_file(text_of(name), [*said, explained.stdout])
         kept = case, name.removesuffix(".trace") + ".svg", text_of(name)
         found.files += [name for name in kept if os.path.exists(name)]
 
+    def read(self, found, trace, case, out, error, status):
+        """Reads the object that `judge` printed for a trace, whose lines were made, into a result. The case is the one
+        that it wrote."""
+        if status not in (lab.YES, lab.NO):
+            said = "; ".join(said_in(out)[:1] + decoded(error).splitlines()[-1:])
+            raise Problem(fault_in(found, trace, said) or said or lab.ended(status), "")
+        judged = json.loads(out)
+        found.levels, found.ways, found.status = judged["levels"], judged.get("ways", []), status
+        captured = Captured(trace, {name: capture.layout.first for name, capture in self.captures.items()})
+        found.refusals = refusals_of(found.levels, captured, found.captures)
+        if self.options.report:
+            found.ladders = {refusal.place: ladder(trace.connection, captured, refusal)
+                             for refusal in found.refusals if refusal}
+        if self.options.annotate:
+            with open(case, encoding="ascii") as file:
+                refused = found.answer.get("witness_line", 0)
+                found.retransmissions = Witness(file, trace, captured, found.captures, refused).reasons
+        found.said = [inferred(line) for line in judged["said"]]
+        found.made_up = trace.made_up()
 
-def read(found, trace, out, error, status):
-    """Reads the object that `judge` printed for a trace, whose lines were made, into a result."""
-    if status not in (lab.YES, lab.NO):
-        said = "; ".join(said_in(out)[:1] + decoded(error).splitlines()[-1:])
-        raise Problem(refused(found, trace, said) or said or lab.ended(status), "")
-    judged = json.loads(out)
-    found.levels, found.ways, found.status = judged["levels"], judged.get("ways", []), status
-    lines = [level.get("input_line") for level in found.levels]
-    found.packets = [None if line is None else trace.packet(line) for line in lines]
-    found.said = [inferred(line) for line in judged["said"]]
-    found.made_up = trace.made_up()
 
-
-def refused(found, trace, said):
+def fault_in(found, trace, said):
     """Why `judge` refused a trace: not a place in it, which nobody has, but the packet there. None if it's no fault of
     the trace."""
     fault = FAULT.match(said)
@@ -327,8 +346,8 @@ def refused(found, trace, said):
     if kind == TOO_LONG:
         return "its trace would have more than 10,000,000 lines"
     if kind == NUMBER and packet:
-        return f"{found.named(packet)} was captured at a moment too far from that of the first packet"
-    where = f" ({found.named(packet)})" if packet else ""
+        return f"{named(packet, found.captures)} was captured at a moment too far from that of the first packet"
+    where = f" ({named(packet, found.captures)})" if packet else ""
     return f"no trace can have this connection{where}: {kind}; this is a bug: report it with the capture"
 
 
@@ -355,8 +374,3 @@ def text_of(trace):
 def file_name(number, found):
     """The file of a connection's trace."""
     return f"{number}-{found.client}-{found.server}.trace".replace(":", "_").replace("[", "").replace("]", "")
-
-
-def counted(count, what):
-    """A count with its noun."""
-    return f"{count} {what}" if count == 1 else f"{count} {what}s"

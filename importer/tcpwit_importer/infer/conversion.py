@@ -1,4 +1,6 @@
 """Makes the trace of one connection from its captures."""
+from bisect import bisect_right
+
 from ..capture.clocks import SAME, bounds_of, clock_of, refuse_distant
 from ..capture.copies import without_copies
 from ..trace import header as headers
@@ -37,7 +39,8 @@ class Trace:
         script = script_of(connection, captures, streams, last, notes)
         if gives_up:
             add_ends(connection, captures, script)
-        self.may_differ = bool(script.expiries)
+        self.may_differ, self.captures, self.clock = bool(script.expiries), captures, clock
+        self.connection = connection
         hosts = 1 if list(captures) == [0] else 2
         self.head = headers.header(hosts, (clock.skew + 999) // 1000, {"extra": ROOM} | chosen)
         ended = min(clock.at(moment) if host == 1 else moment for host, moment in last.items())
@@ -61,6 +64,30 @@ class Trace:
             return range(0)
         first = next(place for place, packet in enumerate(packets) if packet and not is_made_up(packet))
         return range(len(self.head) + 1, len(self.head) + 1 + first)
+
+    def packet_from(self, number, letters="OI"):
+        """The first captured packet from a line on whose line has one of these letters; None if there's none."""
+        wanted = letters.encode()
+        for place in range(max(0, number - len(self.head) - 1), len(self.writer.packets)):
+            packet = self.writer.packets[place]
+            if self.writer.letters[place] in wanted and not is_made_up(packet):
+                return packet
+        return None
+
+    def packet_until(self, time=None):
+        """The last captured packet up to a time of the trace, or of all, and whether its line has that time; None if
+        there's none."""
+        times = self.writer.times
+        for place in reversed(range(len(times) if time is None else bisect_right(times, time))):
+            packet = self.writer.packets[place]
+            if packet is not None and not is_made_up(packet):
+                return packet, times[place] == time
+        return None, False
+
+    def moment(self, time, capture):
+        """The moment of a time of the trace, by the clock of the host with this capture."""
+        moment = self.writer.start + time * 1000
+        return self.clock.back(moment) if self.captures.get(1) == capture else moment
 
 
 def script_of(connection, captures, streams, last, notes):

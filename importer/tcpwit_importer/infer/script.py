@@ -2,6 +2,7 @@
 
 Each line of a call has a place: before or after the line of a segment, at its moment; or a moment of its own.
 """
+from array import array
 from itertools import count
 
 from ..capture.offloads import Flow
@@ -54,20 +55,27 @@ class InferredWriter(Writer):
     def __init__(self, connection, script, streams, captures, clock, end, notes):
         super().__init__(InferredCase(connection, script.endpoints), captures, clock, end, notes)
         self.script, self.streams = script, streams
-        # The packet of each line, None for a line of a call.
-        self.packets = []
+        # Of each line: its packet, None for a call; its letter; its time. `start` is the moment of time 0.
+        self.packets, self.letters, self.times, self.start = [], bytearray(), array("q"), None
 
     def lines(self):
         """All lines in order, with numbers and threads."""
         for endpoint in self.case.endpoints:
             self.numbers[id(endpoint)] = len(self.numbers) + 1
-        start, last = None, 0
+        last = 0
         for line, packet in self.in_order():
-            start, last = line.moment - 10**9 if start is None else start, line.moment
-            self.packets.append(packet)
-            yield f"{(line.moment - start) // 1000} {self.thread(line.thread)} {line.text}\n"
-        for text in LAST_CALL if start is not None else ():
-            yield f"{(max(last, self.end) - start) // 1000} {self.thread(LAST_CALL)} {text}\n"
+            self.start, last = line.moment - 10**9 if self.start is None else self.start, line.moment
+            time = (line.moment - self.start) // 1000
+            self.note(packet, line.text, time)
+            yield f"{time} {self.thread(line.thread)} {line.text}\n"
+        for text in LAST_CALL if self.start is not None else ():
+            yield f"{(max(last, self.end) - self.start) // 1000} {self.thread(LAST_CALL)} {text}\n"
+
+    def note(self, packet, text, time):
+        """Notes what the next line shows."""
+        self.packets.append(packet)
+        self.letters.append(ord(text[0]))
+        self.times.append(time)
 
     def in_order(self):
         """The lines of segments, each with its packet and between those of calls."""
