@@ -64,7 +64,7 @@ class Output(WithCaptures):
     def test_json_and_a_report(self):
         _, out, _ = self.judged("--json", "--report", f"{self.folder}/kept")
         found = json.loads(out)
-        self.assertEqual(found["judged_from"], [{"capture": f"{self.folder}/c0.pcap", "packet": 1}])
+        self.assertEqual(found["judged_from"], [{"capture": f"{self.folder}/c0.pcap", "packet": 1, "time": 0.0}])
         first, last = found["made_up"]
         with open(found["files"][3], encoding="ascii") as file:
             self.assertIn(f"Lines {first} to {last} were made up: the connection began before the capture.\n", file)

@@ -72,7 +72,7 @@ def facts(result):
         return found | {"judged": False, "reason": result.reason, "status": result.status}
     answer = result.answer
     if result.since:
-        found["judged_from"] = [place(packet) for packet in result.since]
+        found["judged_from"] = [place(each) for each in result.since]
         found["made_up"] = [result.made_up[0], result.made_up[-1]]
     found |= {"judged": True, "hosts": result.hosts, "level": answer["level"], "answer": result.verdict,
               "status": result.status}

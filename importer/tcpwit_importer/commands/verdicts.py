@@ -28,7 +28,7 @@ from . import lab
 from .ladder import ladder
 from .refusals import refusals_of
 from .retransmissions import Witness
-from .wireshark import Captured, named
+from .wireshark import Captured, named, placed
 
 # What the line of a verdict has after its first word.
 NUMBERS = {"yes": ("lines", "hidden"), "no": ("rule",)}
@@ -119,7 +119,7 @@ class Result:
             row += f"; {failed[-1].level}: " if self.verdict == "yes" else "; "
             row += failed[-1].sentence
         if self.since:
-            since = " and ".join(named(packet, self.captures) for packet in self.since)
+            since = " and ".join(named(place, self.captures) for place in self.since)
             row += f"   (judged from {since} on: it began before the capture)"
         return row + (f"   (its first {counted(self.segments, 'segment')})" if self.is_part else "")
 
@@ -229,13 +229,18 @@ class Judge:
         for begun in beginnings(connection, captures, self.clock, least):
             self.refuse_lost(begun)
             latest = begun, captures, last, self.chosen
-            found.since = [next(filterfalse(is_made_up, begun.seen[name])) for name in captures.values()]
+            found.since = [self.first_judged(begun.seen[name]) for name in captures.values()]
             self.judge_silent(number, latest, found)
             best = min(best or (found.rank, latest), (found.rank, latest), key=lambda pair: pair[0])
             if found.rank == BEST:
                 return
         if best[1] is not latest:
             self.judge_silent(number, best[1], found)
+
+    def first_judged(self, packets):
+        """The place of the first of a capture's packets that wasn't made up."""
+        packet = next(filterfalse(is_made_up, packets))
+        return placed(packet, self.layouts[packet.capture].first)
 
     def judge_silent(self, number, given, found):
         """Judges a connection whose host may have given up."""

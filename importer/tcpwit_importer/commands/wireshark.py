@@ -20,11 +20,16 @@ class Captured:
 
     def place(self, packet):
         """Where a packet was captured."""
-        return Place(packet.capture, packet.count, packet.captured - self.first[packet.capture])
+        return placed(packet, self.first[packet.capture])
 
     def time(self, time, capture):
         """A time of the trace as this capture has it."""
         return self.trace.moment(time, capture) - self.first[capture]
+
+
+def placed(packet, first):
+    """Where a packet was captured. `first` is the moment of its capture's first packet."""
+    return Place(packet.capture, packet.count, packet.captured - first)
 
 
 def seconds(time):
